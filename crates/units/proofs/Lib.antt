@@ -1,0 +1,3 @@
+pub mod PerByte
+pub mod Group
+pub mod Round

@@ -1,0 +1,104 @@
+// Bytes and clock units, counted apart, and the numbers of a lane: document 01, "Numbers".
+//
+// Units:
+//   Bytes   bytes of records
+//   Clock   clock units (virtual time): the clock V, starts, finishes and slots
+//   Rate    clock units for each byte: c of a lane, 1,024 of the line
+//
+// Bytes and clock units are never added to each other. Only `lane_charge` and `line_charge` turn the first into the second.
+//
+// These are inner functions: a `requires` says what the crates above keep. Ranges (document 01): weight 1 to 1,024, so c is 1,024 to 1,048,576;
+// group index 16 to 31; the clock below 2^62 + 2^42.
+ghost use mathlib.Core.Path.{_≡_};
+ghost use Prim.Native.Nat.{_+_, _*_, _^_, _<_, _≤_, max};
+ghost use Rattle.units.specs.Numbers.{perByte, lineRate, Least, roundDown};
+
+pub struct Bytes(pub u64);
+
+pub struct Clock(pub u64);
+
+pub struct Rate(pub u64);
+
+// Clock units by which one byte of any lane moves the clock.
+pub const LINE_RATE: u64 = 1024;
+
+// The clock units that the whole line's weight, 1,024, gives to one byte of a lane of weight 1: 2^20.
+pub const RATE_OF_WEIGHT_ONE: u64 = 1048576;
+
+// c of a lane: 1,048,576 / weight, rounded up.
+pub fn lane_rate(weight: u64) -> Rate
+    requires { ⌜ (1 ≤ weight) × (weight ≤ 1024) ⌝ }
+    ensures { λ r. ⌜ (r .0 ≡ perByte weight) × (1024 ≤ r .0) × (r .0 ≤ 2 ^ 20) ⌝ }
+{
+    Rate((RATE_OF_WEIGHT_ONE + (weight - 1)) / weight)
+}
+
+// What a record of this length costs its lane.
+pub fn lane_charge(length: Bytes, c: Rate) -> Clock
+    requires { ⌜ (length .0 ≤ 2 ^ 32) × (c .0 ≤ 2 ^ 20) ⌝ }
+    ensures { λ r. ⌜ r .0 ≡ length .0 * c .0 ⌝ }
+{
+    Clock(length.0 * c.0)
+}
+
+// What a record of this length costs the line.
+pub fn line_charge(length: Bytes) -> Clock
+    requires { ⌜ length .0 ≤ 2 ^ 32 ⌝ }
+    ensures { λ r. ⌜ r .0 ≡ lineRate * length .0 ⌝ }
+{
+    Clock(LINE_RATE * length.0)
+}
+
+// The group index of a lane whose longest record costs it `span`: the least i with 2^i at least `span`.
+pub fn group_index(span: Clock) -> u32
+    requires { ⌜ span .0 ≤ 2 ^ 63 ⌝ }
+    ensures { λ r. ⌜ Least (span .0) r × (r ≤ 63) ⌝ }
+{
+    let n = span.0;
+    let mut i: u32 = 0;
+    let mut power: u64 = 1;
+    while power < n {
+        power *= 2;
+        i += 1;
+    }
+    i
+}
+
+// The slot of group `index`.
+pub fn slot(index: u32) -> Clock
+    requires { ⌜ index ≤ 31 ⌝ }
+    ensures { λ r. ⌜ (r .0 ≡ 2 ^ index) × (0 < r .0) × (r .0 ≤ 2 ^ 31) ⌝ }
+{
+    Clock(1u64 << index)
+}
+
+// R: the start with its remainder by the slot of group `index` taken off. By two shifts, for a remainder by a slot would be a division.
+pub fn rounded_start(start: Clock, index: u32) -> Clock
+    requires { ⌜ index ≤ 31 ⌝ }
+    ensures { λ r. ⌜ (r .0 ≡ roundDown (2 ^ index) (start .0)) × (r .0 ≤ start .0) ⌝ }
+{
+    Clock(start.0 >> index << index)
+}
+
+// R + 2s, from R and the group index.
+pub fn rounded_finish(rounded: Clock, index: u32) -> Clock
+    requires { ⌜ (rounded .0 ≤ 2 ^ 63) × (index ≤ 31) ⌝ }
+    ensures { λ r. ⌜ r .0 ≡ rounded .0 + 2 * 2 ^ index ⌝ }
+{
+    Clock(rounded.0 + 2 * slot(index).0)
+}
+
+// A time, some clock units later.
+pub fn plus(time: Clock, units: Clock) -> Clock
+    requires { ⌜ time .0 + units .0 < 2 ^ 64 ⌝ }
+    ensures { λ r. ⌜ r .0 ≡ time .0 + units .0 ⌝ }
+{
+    Clock(time.0 + units.0)
+}
+
+// The greater of two times.
+pub fn later(a: Clock, b: Clock) -> Clock
+    ensures { λ r. ⌜ r .0 ≡ max (a .0) (b .0) ⌝ }
+{
+    if a.0 < b.0 { b } else { a }
+}
