@@ -1,0 +1,183 @@
+-- The calls (document 01, "The plain rules"): what each answers, and the state after it.
+--
+--   Call, Reply, Outcome   a call with its arguments; its answer in document 01's numbers; the answer and the state after it
+--   doPut .. doRestart     the six calls
+--   fresh                  the fresh state of a setup
+--   step                   any call
+--
+-- A refused call leaves the state as it is. Assumes nothing.
+use Prim.Native.Nat.{ℕ, _+_, _*_, _^_, max}
+use mathlib.Core.Bool.{Bool, true, false, not, _&&_, _||_}
+use mathlib.Core.List.{List, [], _∷_, _++_, map}
+use mathlib.Core.Option.{Option, none, some}
+use lib.Dec.{leb, ltb, eqb}
+use lib.IntN.{ℤ, subℕ}
+use lib.ListN.{length, set}
+use Rattle.units.specs.Numbers.{lineRate}
+use Rattle.rules.specs.State.{if_then_else_, Rec, Setting, Lane, State, charge, laneDepth, rate, startR, some?, holds, laneAt, setupOf, anyHolds}
+use Rattle.rules.specs.Choice.{Candidate, choose, leastOf}
+use Rattle.rules.specs.Sets.{ready, ineligibleReady, eligibleBlocked, ineligibleBlocked, setWord}
+
+pub data Call : Type 0 where
+  put : ℕ → ℕ → ℕ → Call
+  take look sets : Call
+  lag : ℕ → Call
+  restart : Call
+
+-- lane, mark and length of a record; the four words; a refusal's number, and its place where the list has one
+pub data Reply : Type 0 where
+  accepted : Reply
+  taken seen : ℕ → ℕ → ℕ → Reply
+  words : ℕ → ℕ → ℕ → ℕ → Reply
+  lagged : ℤ → Reply
+  restarted : Reply
+  refused : ℕ → Option ℕ → Reply
+
+pub record Outcome : Type 0 where
+  pub reply : Reply
+  pub state : State
+
+-- the calls' own refusals, 10 to 16, have no place
+abbrev pub no : ℕ → State → Outcome
+no n s = record { reply = refused n none; state = s }
+
+-- ---- put
+
+-- "Calls: in rising number": 11 lane not in the setup, 12 length 0 or over the lane's longest, 13 lane holds 16, 14 V is 2^62 or more
+unfoldable pub putRefusal : State → ℕ → ℕ → Option ℕ
+putRefusal s j n =
+    let l = laneAt s j in
+    if ltb (l .given .weight) 1 then some 11
+    else if ltb n 1 || ltb (l .given .longest) n then some 12
+    else if leb laneDepth (length (l .queue)) then some 13
+    else if leb (2 ^ 62) (s .clock) then some 14
+    else none
+
+-- "Put appends the record."
+unfoldable pub appended : Lane → Rec → Lane
+appended l r = record { given = l .given; start = l .start; finish = l .finish; queue = l .queue ++ (r ∷ []) }
+
+-- "If the lane was idle: S = the greater of F and V, F = S + length times c."
+unfoldable pub woken : ℕ → Lane → Rec → Lane
+woken v l r =
+    let s = max (l .finish) v in
+    record { given = l .given; start = s; finish = s + charge (l .given) (r .len) * rate (l .given); queue = r ∷ [] }
+
+-- "If no other lane holds a record and V is below R, then V = R." Getting an S puts the lane at the end of the tie order.
+unfoldable pub accept : State → ℕ → Rec → State
+accept s j r =
+    let l = laneAt s j in
+    if holds l then record { clock = s .clock; lanes = set (s .lanes) j (appended l r); order = s .order }
+    else
+    (let l′ = woken (s .clock) l r in
+    record {
+      clock = if not (anyHolds (s .lanes)) && ltb (s .clock) (startR l′) then startR l′ else s .clock;
+      lanes = set (s .lanes) j l′;
+      order = s .order ++ (j ∷ []);
+    })
+
+unfoldable pub putOf : State → ℕ → Rec → Option ℕ → Outcome
+putOf s j r (some n) = no n s
+putOf s j r none = record { reply = accepted; state = accept s j r }
+
+unfoldable pub doPut : State → ℕ → Rec → Outcome
+doPut s j r = putOf s j r (putRefusal s j (r .len))
+
+-- ---- take and look
+
+-- "If the lane holds more, S = F and F = S + next length times c ..; else it is idle and keeps F."
+unfoldable pub served : Lane → List Rec → Lane
+served l [] = record { given = l .given; start = l .start; finish = l .finish; queue = [] }
+served l (r ∷ rs) = record { given = l .given; start = l .finish; finish = l .finish + charge (l .given) (r .len) * rate (l .given); queue = r ∷ rs }
+
+-- "Last, if records are held and no lane is eligible, V becomes the least R." The least R, if any, is that of the lanes that hold records.
+unfoldable pub settledAt : ℕ → Option ℕ → ℕ
+settledAt v none = v
+settledAt v (some r) = if ltb v r then r else v
+
+unfoldable pub settled : ℕ → List Lane → ℕ
+settled v ls = settledAt v (leastOf holds ls)
+
+-- the lane numbers without j
+unfoldable pub without : ℕ → List ℕ → List ℕ
+without j [] = []
+without j (k ∷ ks) = if eqb j k then without j ks else k ∷ without j ks
+
+-- Lane j's first record r is handed out, and rs stay. "V grows by 1,024 times the length." A new S is got now, also where R is the same, so the lane
+-- goes to the end of the tie order.
+unfoldable pub serve : State → ℕ → Rec → List Rec → State
+serve s j r rs =
+    let ls = set (s .lanes) j (served (laneAt s j) rs) in
+    record {
+      clock = settled (s .clock + lineRate * charge ((laneAt s j) .given) (r .len)) ls;
+      lanes = ls;
+      order = without j (s .order) ++ (if some? rs then j ∷ [] else []);
+    }
+
+-- the chosen lane's number, its first record and the records behind it
+pub record Pick : Type 0 where
+  pub lane : ℕ
+  pub first : Rec
+  pub rest : List Rec
+
+unfoldable pub firstOf : ℕ → List Rec → Option Pick
+firstOf j [] = none
+firstOf j (r ∷ rs) = some (record { lane = j; first = r; rest = rs })
+
+unfoldable pub pickOf : State → Option Candidate → Option Pick
+pickOf s none = none
+pickOf s (some c) = firstOf (c .lane) ((laneAt s (c .lane)) .queue)
+
+unfoldable pub picked : State → Option Pick
+picked s = pickOf s (choose s)
+
+-- "Hand out its first record"; 16 with nothing held
+unfoldable pub takeOf : State → Option Pick → Outcome
+takeOf s none = no 16 s
+takeOf s (some p) = record { reply = taken (p .lane) (p .first .mark) (p .first .len); state = serve s (p .lane) (p .first) (p .rest) }
+
+unfoldable pub doTake : State → Outcome
+doTake s = takeOf s (picked s)
+
+-- "Look answers what take would and changes nothing."
+unfoldable pub lookOf : State → Option Pick → Outcome
+lookOf s none = no 16 s
+lookOf s (some p) = record { reply = seen (p .lane) (p .first .mark) (p .first .len); state = s }
+
+unfoldable pub doLook : State → Outcome
+doLook s = lookOf s (picked s)
+
+-- ---- sets, lag, restart
+
+unfoldable pub doSets : State → Outcome
+doSets s = record { reply = words (setWord ready s) (setWord ineligibleReady s) (setWord eligibleBlocked s) (setWord ineligibleBlocked s); state = s }
+
+-- "Lag of a lane is V minus S, a number below, at or above zero; for an idle lane V minus the greater of F and V."
+unfoldable pub lagOf : ℕ → Lane → ℤ
+lagOf v l = subℕ v (if holds l then l .start else max (l .finish) v)
+
+unfoldable pub doLag : State → ℕ → Outcome
+doLag s j =
+    let l = laneAt s j in
+    if ltb (l .given .weight) 1 then no 11 s else record { reply = lagged (lagOf (s .clock) l); state = s }
+
+-- "Fresh: V = 0, each lane idle with F = 0."
+unfoldable pub idle : Setting → Lane
+idle g = record { given = g; start = 0; finish = 0; queue = [] }
+
+unfoldable pub fresh : List Setting → State
+fresh gs = record { clock = 0; lanes = map idle gs; order = [] }
+
+-- "Restart gives the fresh table of the same setup"; 15 while a record is held
+unfoldable pub doRestart : State → Outcome
+doRestart s = if anyHolds (s .lanes) then no 15 s else record { reply = restarted; state = fresh (setupOf s) }
+
+-- ---- any call
+
+unfoldable pub step : State → Call → Outcome
+step s (put j m n) = doPut s j (record { mark = m; len = n })
+step s take = doTake s
+step s look = doLook s
+step s sets = doSets s
+step s (lag j) = doLag s j
+step s restart = doRestart s

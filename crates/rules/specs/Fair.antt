@@ -1,0 +1,51 @@
+-- Demand 3: a lane that holds records gets its share of the line.
+--
+--   bytesSent, bytesSentOf   T and O of a stretch
+--   Holding                  a lane holds a record after these events
+--   Fair M gs                the claim for every list of calls from a fresh table of the setup gs, with M for 1,536,000
+--   Demand3                  the claim as asked
+--
+-- Assumes nothing.
+use Prim.Native.Nat.{ℕ, _+_, _*_, _<_}
+use mathlib.Core.Path.{_≡_}
+use mathlib.Core.List.{List, _++_}
+use mathlib.Core.Option.{Option, none, some}
+use lib.ListN.{length}
+use lib.Dec.{eqb}
+use Rattle.units.specs.Numbers.{lineRate}
+use Rattle.rules.specs.State.{if_then_else_, sum, Setting, settingAt, charge, rate, slot}
+use Rattle.rules.specs.Setup.{Setup}
+use Rattle.rules.specs.Calls.{Call, fresh}
+use Rattle.rules.specs.Runs.{Event, trace, Moving, sentIn, acceptedOf, sentOf}
+
+-- what a record that was sent is charged for, by the setting of its lane
+unfoldable pub charged : List Setting → Option Moving → ℕ
+charged gs none = 0
+charged gs (some x) = charge (settingAt gs (x .lane)) (x .item .len)
+
+unfoldable pub chargedTo : List Setting → ℕ → Option Moving → ℕ
+chargedTo gs k none = 0
+chargedTo gs k (some x) = if eqb (x .lane) k then charge (settingAt gs k) (x .item .len) else 0
+
+-- "T is the sum of the lengths of the records that the stretch's takes handed out, O the sum over those whose answer names this lane."
+abbrev pub bytesSent : List Setting → List Event → ℕ
+bytesSent gs es = sum (λ (e : Event). charged gs (sentIn (e .reply))) es
+
+abbrev pub bytesSentOf : List Setting → ℕ → List Event → ℕ
+bytesSentOf gs k es = sum (λ (e : Event). chargedTo gs k (sentIn (e .reply))) es
+
+-- "A lane holds a record at a point of the list if, up to there, more puts to it were accepted than records of it handed out by take."
+abbrev pub Holding : ℕ → List Event → Type 0
+Holding k es = length (sentOf k es) < length (acceptedOf k es)
+
+-- For any list of calls from a fresh table of the setup gs, any stretch of it (what comes before, the stretch, what follows) and any lane k that holds a
+-- record before the stretch and after each call in it: 1,024 T < c O + 4 slots + M.
+unfoldable pub Fair : ℕ → List Setting → Type 0
+Fair M gs =
+    (calls : List Call) (past stretch rest : List Event) → trace (fresh gs) calls ≡ past ++ stretch ++ rest
+    → (k : ℕ) → ((p q : List Event) → p ++ q ≡ stretch → Holding k (past ++ p))
+    → lineRate * bytesSent gs stretch < rate (settingAt gs k) * bytesSentOf gs k stretch + 4 * slot (settingAt gs k) + M
+
+-- "1,024 T < c O + 4 slots + 1,536,000", from a fresh table of any setup
+unfoldable pub Demand3 : Type 0
+Demand3 = (gs : List Setting) → Setup gs → Fair 1536000 gs

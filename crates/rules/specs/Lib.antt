@@ -1,0 +1,10 @@
+pub mod State
+pub mod Choice
+pub mod Sets
+pub mod Calls
+pub mod Runs
+pub mod Setup
+pub mod Fair
+pub mod Good
+pub mod Order
+pub mod Reads

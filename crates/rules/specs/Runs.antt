@@ -1,0 +1,77 @@
+-- Lists of calls, each on the state that the last one left, and what can be counted from their arguments and answers alone.
+--
+--   after, trace         the state after a list of calls; the calls with their answers
+--   sentIn, acceptedIn   the record that an answer hands out by take; the one that an accepted put brings
+--   sentOf, acceptedOf   those of one lane, in the order of the list
+--
+-- Assumes nothing.
+use Prim.Native.Nat.{ℕ}
+use mathlib.Core.Bool.{Bool, true, false}
+use mathlib.Core.List.{List, [], _∷_, _++_}
+use mathlib.Core.Option.{Option, none, some}
+use lib.Dec.{eqb}
+use Rattle.rules.specs.State.{if_then_else_, Rec, State}
+use Rattle.rules.specs.Calls.{Call, put, take, look, sets, lag, restart, Reply, accepted, taken, seen, words, lagged, restarted, refused, step}
+
+unfoldable pub after : State → List Call → State
+after s [] = s
+after s (c ∷ cs) = after ((step s c) .state) cs
+
+pub record Event : Type 0 where
+  pub call : Call
+  pub reply : Reply
+
+unfoldable pub trace : State → List Call → List Event
+trace s [] = []
+trace s (c ∷ cs) = record { call = c; reply = (step s c) .reply } ∷ trace ((step s c) .state) cs
+
+-- a record that a call put or an answer handed out, with its lane
+pub record Moving : Type 0 where
+  pub lane : ℕ
+  pub item : Rec
+
+-- "Sent means handed out by take." "Refused calls and looks add nothing."
+unfoldable pub sentIn : Reply → Option Moving
+sentIn accepted = none
+sentIn (taken j m n) = some (record { lane = j; item = record { mark = m; len = n } })
+sentIn (seen j m n) = none
+sentIn (words a b c d) = none
+sentIn (lagged z) = none
+sentIn restarted = none
+sentIn (refused n p) = none
+
+-- the record that a call offers
+unfoldable pub offeredIn : Call → Option Moving
+offeredIn (put j m n) = some (record { lane = j; item = record { mark = m; len = n } })
+offeredIn take = none
+offeredIn look = none
+offeredIn sets = none
+offeredIn (lag j) = none
+offeredIn restart = none
+
+unfoldable pub isAccepted : Reply → Bool
+isAccepted accepted = true
+isAccepted (taken j m n) = false
+isAccepted (seen j m n) = false
+isAccepted (words a b c d) = false
+isAccepted (lagged z) = false
+isAccepted restarted = false
+isAccepted (refused n p) = false
+
+-- the record that a call with its answer puts into a queue
+abbrev pub acceptedIn : Event → Option Moving
+acceptedIn e = if isAccepted (e .reply) then offeredIn (e .call) else none
+
+-- lane k's records of it
+unfoldable pub ofLane : ℕ → Option Moving → List Rec
+ofLane k none = []
+ofLane k (some x) = if eqb (x .lane) k then x .item ∷ [] else []
+
+-- the records of lane k that a list of events accepted, and those that it handed out, in order
+unfoldable pub acceptedOf : ℕ → List Event → List Rec
+acceptedOf k [] = []
+acceptedOf k (e ∷ es) = ofLane k (acceptedIn e) ++ acceptedOf k es
+
+unfoldable pub sentOf : ℕ → List Event → List Rec
+sentOf k [] = []
+sentOf k (e ∷ es) = ofLane k (sentIn (e .reply)) ++ sentOf k es

@@ -1,0 +1,103 @@
+-- The four group sets (document 01, "Sets"), and the choice through them.
+--
+--   groupStart     a group's start, if it holds records
+--   blocked        some eligible group of higher index has a strictly smaller finish
+--   ready ..       the tests of the four words
+--   wordOf         the word of the numbers at which a test passes
+--   chooseBySets   the lane that is found through the eligible-ready word
+--
+-- Assumes nothing.
+use Prim.Native.Nat.{ℕ, zero, suc, _+_, _*_, _^_}
+use mathlib.Core.Bool.{Bool, true, false, not, _&&_, _||_}
+use mathlib.Core.List.{List, [], _∷_}
+use mathlib.Core.Option.{Option, none, some}
+use lib.Dec.{leb, ltb, eqb}
+use lib.Count.{trailingZeros}
+use Rattle.rules.specs.State.{if_then_else_, Lane, State, group, startR, holds, laneAt}
+use Rattle.rules.specs.Choice.{leastOf}
+
+-- group indices are below 32, so that one word holds each set
+abbrev pub groups : ℕ
+groups = 32
+
+unfoldable pub inGroup : ℕ → Lane → Bool
+inGroup i l = holds l && eqb (group (l .given)) i
+
+-- "A group's start and finish are the least R and the least R + 2s of its lanes that hold records."
+unfoldable pub groupStart : List Lane → ℕ → Option ℕ
+groupStart ls i = leastOf (inGroup i) ls
+
+unfoldable pub heldStart : Option ℕ → Bool
+heldStart none = false
+heldStart (some r) = true
+
+unfoldable pub reached : ℕ → Option ℕ → Bool
+reached v none = false
+reached v (some r) = leb r v
+
+unfoldable pub finishFrom : ℕ → Option ℕ → ℕ
+finishFrom i none = 0
+finishFrom i (some r) = r + 2 * 2 ^ i
+
+unfoldable pub groupHolds : List Lane → ℕ → Bool
+groupHolds ls i = heldStart (groupStart ls i)
+
+-- "It is eligible when its start is at most V"
+unfoldable pub groupEligible : ℕ → List Lane → ℕ → Bool
+groupEligible v ls i = reached v (groupStart ls i)
+
+unfoldable pub groupFinish : List Lane → ℕ → ℕ
+groupFinish ls i = finishFrom i (groupStart ls i)
+
+-- a test passes at some number below n; the word of the numbers below n at which it passes
+unfoldable pub anyBelow : (ℕ → Bool) → ℕ → Bool
+anyBelow p zero = false
+anyBelow p (suc n) = p n || anyBelow p n
+
+unfoldable pub wordOf : (ℕ → Bool) → ℕ → ℕ
+wordOf p zero = 0
+wordOf p (suc n) = (if p n then 2 ^ n else 0) + wordOf p n
+
+-- "blocked when some eligible group of higher index has a strictly smaller finish"
+unfoldable pub blocks : ℕ → List Lane → ℕ → ℕ → Bool
+blocks v ls i k = ltb i k && (groupEligible v ls k && ltb (groupFinish ls k) (groupFinish ls i))
+
+unfoldable pub blocked : ℕ → List Lane → ℕ → Bool
+blocked v ls i = anyBelow (blocks v ls i) groups
+
+-- "The four words (eligible ready, ineligible ready, eligible blocked, ineligible blocked), bit i standing for group i"
+unfoldable pub ready : ℕ → List Lane → ℕ → Bool
+ready v ls i = groupEligible v ls i && not (blocked v ls i)
+
+unfoldable pub ineligibleReady : ℕ → List Lane → ℕ → Bool
+ineligibleReady v ls i = groupHolds ls i && (not (groupEligible v ls i) && not (blocked v ls i))
+
+unfoldable pub eligibleBlocked : ℕ → List Lane → ℕ → Bool
+eligibleBlocked v ls i = groupEligible v ls i && blocked v ls i
+
+unfoldable pub ineligibleBlocked : ℕ → List Lane → ℕ → Bool
+ineligibleBlocked v ls i = groupHolds ls i && (not (groupEligible v ls i) && blocked v ls i)
+
+abbrev pub setWord : (ℕ → List Lane → ℕ → Bool) → State → ℕ
+setWord p s = wordOf (p (s .clock) (s .lanes)) groups
+
+-- ---- the choice through the sets: first set bit of eligible ready, least R in that group, earliest in the tie order
+
+-- "The first set bit of the eligible-ready word"
+abbrev pub firstGroup : State → ℕ
+firstGroup s = trailingZeros groups (setWord ready s)
+
+-- the lane is of group i and has the rounded start r
+unfoldable pub standsAt : ℕ → ℕ → Lane → Bool
+standsAt i r l = inGroup i l && eqb (startR l) r
+
+unfoldable pub firstIn : (ℕ → Bool) → List ℕ → Option ℕ
+firstIn p [] = none
+firstIn p (k ∷ ks) = if p k then some k else firstIn p ks
+
+unfoldable pub laneOfGroup : State → ℕ → Option ℕ → Option ℕ
+laneOfGroup s i none = none
+laneOfGroup s i (some r) = firstIn (λ k. standsAt i r (laneAt s k)) (s .order)
+
+unfoldable pub chooseBySets : State → Option ℕ
+chooseBySets s = laneOfGroup s (firstGroup s) (groupStart (s .lanes) (firstGroup s))

@@ -1,0 +1,112 @@
+-- What the rules speak of: a state of the scheduler, and the numbers of a lane.
+--
+--   Rec          a waiting record: its mark and its length
+--   Setting      what the setup gives a lane: weight and longest
+--   Lane         a setting, S, F and the queue, first record first
+--   State        the clock V, a lane for each number, and the tie order
+--   charge       what a record of a length costs: its own length
+--   rate         c, the clock units for each byte of a lane
+--   group, slot  the group index i, and s = 2 ^ i
+--   startR       R, the rounded start; finishR: R + 2s, the rounded finish
+--   holds        the lane holds a record; eligible: and its R is at most V
+--
+-- Assumes nothing.
+use Prim.Native.Nat.{ℕ, _+_, _*_, _^_}
+use mathlib.Core.Bool.{Bool, true, false, _&&_, _||_}
+use mathlib.Core.List.{List, [], _∷_, map}
+use lib.Dec.{leb}
+use lib.ListN.{getD}
+use Rattle.units.specs.Numbers.{perByte, leastPower, roundDown}
+
+infix 20 if_then_else_
+abbrev pub if_then_else_ {ℓ} : {A : Type ℓ} → Bool → A → A → A
+if true then a else b = a
+if false then a else b = b
+
+abbrev pub sum : {A : Type 0} → (A → ℕ) → List A → ℕ
+sum f [] = 0
+sum f (x ∷ xs) = f x + sum f xs
+
+-- ---- what a state holds
+
+-- "records as (mark, length) pairs"
+pub record Rec : Type 0 where
+  pub mark : ℕ
+  pub len : ℕ
+
+pub record Setting : Type 0 where
+  pub weight : ℕ
+  pub longest : ℕ
+
+pub record Lane : Type 0 where
+  pub given : Setting
+  pub start : ℕ
+  pub finish : ℕ
+  pub queue : List Rec
+
+-- The lanes stand by number; one that is not in the setup has weight 0. The tie order names the lanes that hold records, the one that got its
+-- present S earliest first. It is a list and no counter, so nothing in it can run out.
+pub record State : Type 0 where
+  pub clock : ℕ
+  pub lanes : List Lane
+  pub order : List ℕ
+
+-- ---- the numbers of a lane
+
+-- "A record's own length is what is charged." The rest of the rules and the proofs know of a charge only that it grows with the length.
+unfoldable pub charge : Setting → ℕ → ℕ
+charge g n = n
+
+-- "Each lane holds at most 16 records, so lanes share no room."
+abbrev pub laneDepth : ℕ
+laneDepth = 16
+
+abbrev pub rate : Setting → ℕ
+rate g = perByte (g .weight)
+
+-- "Group index i: the least i with 2^i at least longest times c."
+unfoldable pub group : Setting → ℕ
+group g = leastPower (charge g (g .longest) * rate g)
+
+-- "Slot s = 2^i."
+unfoldable pub slot : Setting → ℕ
+slot g = 2 ^ group g
+
+-- "Rounded start R is S with its remainder by s taken off; rounded finish is R + 2s."
+abbrev pub startR : Lane → ℕ
+startR l = roundDown (slot (l .given)) (l .start)
+
+abbrev pub finishR : Lane → ℕ
+finishR l = startR l + 2 * slot (l .given)
+
+abbrev pub some? : List Rec → Bool
+some? [] = false
+some? (r ∷ rs) = true
+
+abbrev pub holds : Lane → Bool
+holds l = some? (l .queue)
+
+-- "A lane with a record is eligible when R is at most V."
+unfoldable pub eligible : ℕ → Lane → Bool
+eligible v l = holds l && leb (startR l) v
+
+-- ---- the lanes together
+
+abbrev pub noSetting : Setting
+noSetting = record { weight = 0; longest = 0 }
+
+abbrev pub noLane : Lane
+noLane = record { given = noSetting; start = 0; finish = 0; queue = [] }
+
+abbrev pub settingAt : List Setting → ℕ → Setting
+settingAt gs k = getD gs k noSetting
+
+abbrev pub laneAt : State → ℕ → Lane
+laneAt s k = getD (s .lanes) k noLane
+
+abbrev pub setupOf : State → List Setting
+setupOf s = map (λ (l : Lane). l .given) (s .lanes)
+
+unfoldable pub anyHolds : List Lane → Bool
+anyHolds [] = false
+anyHolds (l ∷ ls) = holds l || anyHolds ls
