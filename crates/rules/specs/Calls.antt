@@ -85,9 +85,9 @@ doPut s j r = putOf s j r (putRefusal s j (r .len))
 
 -- ---- take and look
 
--- "If the lane holds more, S = F and F = S + next length times c ..; else it is idle and keeps F."
+-- "If the lane holds more, S = F and F = S + next length times c ..; else it is idle and keeps F." An idle lane has no S: 0 stands for it.
 unfoldable pub served : Lane → List Rec → Lane
-served l [] = record { given = l .given; start = l .start; finish = l .finish; queue = [] }
+served l [] = record { given = l .given; start = 0; finish = l .finish; queue = [] }
 served l (r ∷ rs) = record { given = l .given; start = l .finish; finish = l .finish + charge (l .given) (r .len) * rate (l .given); queue = r ∷ rs }
 
 -- "Last, if records are held and no lane is eligible, V becomes the least R." The least R, if any, is that of the lanes that hold records.

@@ -53,7 +53,7 @@ abbrev pub reads : Answer → Reply
 reads Accepted = accepted
 reads (Taken r) = taken (r .lane) (r .mark) (r .length .0)
 reads (Seen r) = seen (r .lane) (r .mark) (r .length .0)
-reads (Sets w) = words (w .eligible-ready) (w .ineligible-ready) (w .eligible-blocked) (w .ineligible-blocked)
+reads (Sets w) = words (w .er) (w .ir) (w .eb) (w .ib)
 reads (Lag z) = lagged z
 reads Restarted = restarted
 reads (Refused x) = refused (number x) (placeOf x)

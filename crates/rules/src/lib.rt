@@ -14,12 +14,12 @@ pub struct Record {
     pub length: Bytes,
 }
 
-// The four words of `sets`; bit i stands for group i.
+// The four words of `sets`, by the QFQ report's letters: eligible or ineligible, ready or blocked. Bit i stands for group i.
 pub struct SetWords {
-    pub eligible_ready: u64,
-    pub ineligible_ready: u64,
-    pub eligible_blocked: u64,
-    pub ineligible_blocked: u64,
+    pub er: u64,
+    pub ir: u64,
+    pub eb: u64,
+    pub ib: u64,
 }
 
 // Why something is refused: document 01, "Numbers given back". A case holds its place where the list gives one that is not always 0.
