@@ -1,0 +1,15 @@
+pub mod Bools
+pub mod Lists
+pub mod Lane
+pub mod Claim
+pub mod Serve
+pub mod Moves
+pub mod Bounds
+pub mod Chosen
+pub mod Keep
+pub mod Queues
+pub mod SameSetup
+pub mod Order
+pub mod Track
+pub mod Runs
+pub mod Fair
