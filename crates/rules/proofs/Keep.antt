@@ -20,7 +20,8 @@ use Rattle.rules.proofs.Claim.{Inv, weightOf}
 use Rattle.rules.proofs.Serve.{serve-inv}
 use Rattle.rules.proofs.Moves.{jump, wake, append}
 use Rattle.rules.proofs.Bounds.{SetupOk, fresh-inv}
-use Rattle.rules.proofs.Chosen.{Choice, Chosen, chosen, Low, lowest, none-holds}
+use Rattle.rules.proofs.Lowest.{Low, lowest, none-holds}
+use Rattle.rules.proofs.Chosen.{Choice, Chosen, chosen}
 
 abbrev pub Kept : ℕ → State → Type 0
 Kept M s = Inv M (s .clock) (s .lanes)
@@ -75,7 +76,7 @@ pub pick-is : (s : State) → PickIs s (picked s)
 unfolding picked pickOf choose
 pick-is s = go (chooseFrom (s .clock) (s .order) 0 (s .lanes)) (chosen (s .clock) (s .order) 0 (s .lanes))
   where
-    go : (o : Option Candidate) → Choice (s .clock) 0 (s .lanes) o → PickIs s (pickOf s o)
+    go : (o : Option Candidate) → Choice (s .clock) (s .order) 0 (s .lanes) o → PickIs s (pickOf s o)
     go none h = h
     go (some c) h =
         let e : h .at ≡ c .lane = omega (arith, h .num) in

@@ -5,6 +5,7 @@ pub mod Claim
 pub mod Serve
 pub mod Moves
 pub mod Bounds
+pub mod Lowest
 pub mod Chosen
 pub mod Keep
 pub mod Queues
@@ -13,3 +14,10 @@ pub mod Order
 pub mod Track
 pub mod Runs
 pub mod Fair
+pub mod Range
+pub mod Live
+pub mod Ties
+pub mod AlwaysGood
+pub mod Word
+pub mod GroupRule
+pub mod BySets

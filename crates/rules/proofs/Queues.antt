@@ -17,7 +17,7 @@ use Rattle.rules.specs.Runs.{Moving, sentIn, offeredIn, isAccepted, acce
 use Rattle.rules.proofs.Bools.{if-ind}
 use Rattle.rules.proofs.Lists.{set-cases, getD-map}
 use Rattle.rules.proofs.Claim.{weightOf, in-range}
-use Rattle.rules.proofs.Chosen.{none-holds}
+use Rattle.rules.proofs.Lowest.{none-holds}
 use Rattle.rules.proofs.Bounds.{idle-at}
 use Rattle.rules.proofs.Keep.{Picked, PickIs, pick-is, Allowed, PutOk, put-ok}
 

@@ -17,7 +17,7 @@ use Rattle.rules.specs.Fair.{charged, chargedTo}
 use Rattle.rules.proofs.Bools.{if-ind, and-true}
 use Rattle.rules.proofs.Lists.{set-cases}
 use Rattle.rules.proofs.Claim.{weightOf, Queued, in-range}
-use Rattle.rules.proofs.Chosen.{none-holds}
+use Rattle.rules.proofs.Lowest.{none-holds}
 use Rattle.rules.proofs.Keep.{Kept, Picked, PickIs, pick-is, Allowed, PutOk, put-ok}
 use Rattle.rules.proofs.Queues.{held-inside, served-given}
 use Rattle.rules.proofs.SameSetup.{setting-lane}

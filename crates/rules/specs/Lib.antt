@@ -1,6 +1,7 @@
 pub mod State
 pub mod Choice
 pub mod Sets
+pub mod SetsRule
 pub mod Calls
 pub mod Runs
 pub mod Setup

@@ -85,7 +85,7 @@ setWord p s = wordOf (p (s .clock) (s .lanes)) groups
 
 -- "The first set bit of the eligible-ready word"
 abbrev pub firstGroup : State → ℕ
-firstGroup s = trailingZeros groups (setWord ready s)
+firstGroup s = trailingZeros 64 (setWord ready s)
 
 -- the lane is of group i and has the rounded start r
 unfoldable pub standsAt : ℕ → ℕ → Lane → Bool
