@@ -7,7 +7,7 @@ use mathlib.Core.Bool.{Bool, true, false}
 use mathlib.Core.List.{List, [], _∷_}
 use lib.ListN.{length}
 use Rattle.rules.specs.State.{if_then_else_, Rec, Setting, settingAt, Lane, State, charge, rate, slot, startR, finishR, some?, holds, laneAt, setupOf}
-use Rattle.rules.specs.Setup.{Setup}
+use Rattle.rules.specs.Setup.{Setup, margin}
 use Rattle.rules.specs.Calls.{Call, fresh, step}
 use Rattle.rules.specs.Runs.{after}
 use Rattle.rules.specs.Good.{Lengths, Times, times, Good}
@@ -23,7 +23,7 @@ use Rattle.rules.proofs.Ties.{Tied, fresh-tied, step-tied}
 
 pub record Reached (s : State) : Type 0 where
   pub setup : Setup (setupOf s)
-  pub kept : Kept 1536000 s
+  pub kept : Kept margin s
   pub range : Range s
   pub live : Live s
   pub tied : Tied s
@@ -32,7 +32,7 @@ pub fresh-reached : (gs : List Setting) → Setup gs → Reached (fresh gs)
 unfolding fresh
 fresh-reached gs s = record {
   setup = subst Setup (sym (fresh-setup gs)) s;
-  kept = fresh-inv 1536000 gs (setup-ok gs s);
+  kept = fresh-inv margin gs (setup-ok gs s);
   range = fresh-range gs (omega (arith, s .size)) (λ k. slot-most (settingAt gs k) (longest-most gs s k));
   live = fresh-live gs;
   tied = fresh-tied gs;
@@ -41,8 +41,8 @@ fresh-reached gs s = record {
 pub step-reached : (s : State) (c : Call) → Reached s → Reached ((step s c) .state)
 step-reached s c r = record {
   setup = subst Setup (sym (same-setup s c)) (r .setup);
-  kept = step-kept 1536000 s c (r .kept);
-  range = step-range 1536000 (omega arith) s c (r .kept) (r .range);
+  kept = step-kept margin s c (r .kept);
+  range = step-range margin (omega arith) s c (r .kept) (r .range);
   live = step-live s c (r .live);
   tied = step-tied s c (r .tied);
 }
@@ -62,7 +62,7 @@ lengths g S F (r ∷ rs) h = all (r ∷ rs) (h .2)
     all [] f = tt
     all (x ∷ xs) f = (f .1, f .0, all xs (f .2))
 
-numbers : (v : ℕ) (l : Lane) (q : List Rec) → l .queue ≡ q → LaneOk 1536000 v l → (holds l ≡ true → v < finishR l + 1536000) → Times v l q
+numbers : (v : ℕ) (l : Lane) (q : List Rec) → l .queue ≡ q → LaneOk margin v l → (holds l ≡ true → v < finishR l + margin) → Times v l q
 numbers v l [] e k low = subst (λ (b : Bool). (if b then l .start else l .finish) < v + 2 * slot (l .given)) (ap some? e) (k .below)
 numbers v l (r ∷ rs) e k low = (
   subst (Queued (l .given) (l .start) (l .finish)) e (k .queued) .1,
@@ -77,7 +77,7 @@ reached-good s r = record {
   room = λ k. r .range .lane k .room;
   lengths = λ k. lengths ((laneAt s k) .given) ((laneAt s k) .start) ((laneAt s k) .finish) ((laneAt s k) .queue) (r .kept .ok k .queued);
   clock = omega (arith, r .range .clock);
-  numbers = λ k. numbers (s .clock) (laneAt s k) ((laneAt s k) .queue) refl (r .kept .ok k) (lower 1536000 (s .clock) (s .lanes) (r .kept) k);
+  numbers = λ k. numbers (s .clock) (laneAt s k) ((laneAt s k) .queue) refl (r .kept .ok k) (lower margin (s .clock) (s .lanes) (r .kept) k);
   live = r .live;
   order = r .tied;
 }

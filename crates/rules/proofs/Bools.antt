@@ -8,16 +8,16 @@ pub if-ind {ℓ κ} : {A : Type ℓ} (P : A → Type κ) (b : Bool) (x y : A) �
 if-ind P true x y f g = f refl
 if-ind P false x y f g = g refl
 
-pub and-true : (a b : Bool) → (a && b) ≡ true → (a ≡ true) × (b ≡ true)
-and-true true b e = (refl, e)
-and-true false b e = absurd (false≢true e)
+pub and-parts : (a b : Bool) → (a && b) ≡ true → (a ≡ true) × (b ≡ true)
+and-parts true b e = (refl, e)
+and-parts false b e = absurd (false≢true e)
 
-pub true-and : (a b : Bool) → a ≡ true → b ≡ true → (a && b) ≡ true
-true-and a b p q = simp (p, q)
+pub and-made : (a b : Bool) → a ≡ true → b ≡ true → (a && b) ≡ true
+and-made a b p q = simp (p, q)
 
-pub or-false : (a b : Bool) → (a || b) ≡ false → (a ≡ false) × (b ≡ false)
-or-false true b e = absurd (false≢true (sym e))
-or-false false b e = (refl, e)
+pub or-parts : (a b : Bool) → (a || b) ≡ false → (a ≡ false) × (b ≡ false)
+or-parts true b e = absurd (false≢true (sym e))
+or-parts false b e = (refl, e)
 
 pub or-right : (a b : Bool) → (a || b) ≡ true → a ≡ false → b ≡ true
 or-right true b e f = absurd (false≢true (sym f))

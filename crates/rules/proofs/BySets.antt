@@ -16,7 +16,7 @@ use Rattle.rules.specs.Choice.{place, Candidate, choose, chooseFrom}
 use Rattle.rules.specs.Sets.{groups, inGroup, groupStart, finishFrom, groupFinish, wordOf, ready, setWord, firstGroup, standsAt, firstIn, laneOfGroup, chooseBySets}
 use Rattle.rules.specs.SetsRule.{laneOf, SetsRule}
 use Rattle.rules.specs.Good.{times, Good}
-use Rattle.rules.proofs.Bools.{and-true, true-and, not-passed}
+use Rattle.rules.proofs.Bools.{and-parts, and-made, not-passed}
 use Rattle.rules.proofs.Lane.{group-most}
 use Rattle.rules.proofs.Lowest.{LowOf, LowestOf}
 use Rattle.rules.proofs.Chosen.{Ahead, Chosen, Choice, chosen}
@@ -48,13 +48,13 @@ first-in p (x ∷ xs) j e h least = go (p x) refl (first-in p xs j e)
 stands : (i r : ℕ) (l : Lane) → standsAt i r l ≡ true → (holds l ≡ true) × (group (l .given) ≡ i) × (startR l ≡ r)
 unfolding standsAt
 stands i r l e =
-    let b = and-true (inGroup i l) (eqb (startR l) r) e in
+    let b = and-parts (inGroup i l) (eqb (startR l) r) e in
     let g = in-group i l (b .0) in
     (g .0, g .1, eqb-true (startR l) r (b .1))
 
 is-standing : (l : Lane) → holds l ≡ true → standsAt (group (l .given)) (startR l) l ≡ true
 unfolding standsAt
-is-standing l e = true-and (inGroup (group (l .given)) l) (eqb (startR l) (startR l)) (is-in-group l e) (eq-eqb (startR l) (startR l) refl)
+is-standing l e = and-made (inGroup (group (l .given)) l) (eqb (startR l) (startR l)) (is-in-group l e) (eq-eqb (startR l) (startR l) refl)
 
 module _ (s : State) (good : Good s) where
   pub group-small : (k : ℕ) → group ((laneAt s k) .given) < groups

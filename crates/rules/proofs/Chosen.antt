@@ -12,7 +12,7 @@ use borrow.Author.Tests.{leb-true, leb-false, ltb-true, ltb-false, eqb-true, eqb
 use Rattle.units.specs.Numbers.{roundDown}
 use Rattle.rules.specs.State.{Lane, group, slot, startR, finishR, holds, eligible, noLane, if_then_else_, anyHolds}
 use Rattle.rules.specs.Choice.{place, Candidate, before, best, chooseFrom, least, leastOf}
-use Rattle.rules.proofs.Bools.{if-ind, or-false}
+use Rattle.rules.proofs.Bools.{if-ind, or-parts}
 
 -- ---- the choice
 

@@ -11,7 +11,7 @@ use mathlib.Core.List.{List, [], _∷_, _++_, append-nil}
 use lib.ListN.{length, getD, length-append}
 use Rattle.units.proofs.Round.{round-le}
 use Rattle.rules.specs.State.{Rec, Setting, noSetting, settingAt, State, charge, rate, slot, some?, holds, laneAt, setupOf}
-use Rattle.rules.specs.Setup.{InNumbers, Setup, longestCharge}
+use Rattle.rules.specs.Setup.{InNumbers, Setup, longestCharge, margin}
 use Rattle.rules.specs.Calls.{Call, fresh, step}
 use Rattle.rules.specs.Runs.{Event, after, trace, acceptedOf, sentOf}
 use Rattle.rules.specs.Order.{InOrder}
@@ -123,9 +123,9 @@ longest-most gs s k = go (settingAt gs k) (s .each k)
     go g (inl h) = h .longest-high
     go g (inr e) = omega (arith, ap (λ (x : Setting). x .longest) e)
 
-pub setup-ok : (gs : List Setting) → Setup gs → SetupOk 1536000 gs
+pub setup-ok : (gs : List Setting) → Setup gs → SetupOk margin gs
 setup-ok gs s = record { weights = s .total; short = λ k. omega (arith, charge-le (settingAt gs k) ((settingAt gs k) .longest) (longest-most gs s k)) }
 
 pub demand3 : Demand3
 unfolding Demand3
-demand3 gs s = fair 1536000 gs (setup-ok gs s)
+demand3 gs s = fair margin gs (setup-ok gs s)

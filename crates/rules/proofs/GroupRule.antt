@@ -17,7 +17,7 @@ use Rattle.rules.specs.Choice.{Candidate}
 use Rattle.rules.specs.Sets.{groups, inGroup, groupStart, reached, finishFrom, groupEligible, groupFinish, anyBelow, wordOf, blocks, blocked, ready, ineligibleReady, eligibleBlocked, ineligibleBlocked, groupHolds, heldStart}
 use Rattle.rules.proofs.Lowest.{LowOf, LowestOf, lowest-of}
 use Rattle.rules.specs.SetsRule.{count}
-use Rattle.rules.proofs.Bools.{and-true, true-and, or-false, not-passed}
+use Rattle.rules.proofs.Bools.{and-parts, and-made, or-parts, not-passed}
 use Rattle.rules.proofs.Lowest.{}
 use Rattle.rules.proofs.Chosen.{Ahead, Chosen}
 use Rattle.rules.proofs.Keep.{eligible-is, is-eligible}
@@ -29,8 +29,8 @@ anyBelow-at p zero k e h = absurd (not-suc-le-zero h)
 anyBelow-at p (suc n) k e h = go (eq-or-lt-of-le (le-of-suc-le-suc h)) (anyBelow-at p n k)
   where
     go : (k ≡ n) ⊎ (k < n) → (anyBelow p n ≡ false → k < n → p k ≡ false) → p k ≡ false
-    go (inl q) r = ap p q ∙ or-false (p n) (anyBelow p n) e .0
-    go (inr q) r = r (or-false (p n) (anyBelow p n) e .1) q
+    go (inl q) r = ap p q ∙ or-parts (p n) (anyBelow p n) e .0
+    go (inr q) r = r (or-parts (p n) (anyBelow p n) e .1) q
 
 anyBelow-none : (p : ℕ → Bool) (n : ℕ) → ((k : ℕ) → p k ≡ false) → anyBelow p n ≡ false
 unfolding anyBelow
@@ -39,11 +39,11 @@ anyBelow-none p (suc n) f = simp (f n, anyBelow-none p n f)
 
 pub in-group : (i : ℕ) (l : Lane) → inGroup i l ≡ true → (holds l ≡ true) × (group (l .given) ≡ i)
 unfolding inGroup
-in-group i l e = let b = and-true (holds l) (eqb (group (l .given)) i) e in (b .0, eqb-true (group (l .given)) i (b .1))
+in-group i l e = let b = and-parts (holds l) (eqb (group (l .given)) i) e in (b .0, eqb-true (group (l .given)) i (b .1))
 
 pub is-in-group : (l : Lane) → holds l ≡ true → inGroup (group (l .given)) l ≡ true
 unfolding inGroup
-is-in-group l e = true-and (holds l) (eqb (group (l .given)) (group (l .given))) e (eq-eqb (group (l .given)) (group (l .given)) refl)
+is-in-group l e = and-made (holds l) (eqb (group (l .given)) (group (l .given))) e (eq-eqb (group (l .given)) (group (l .given)) refl)
 
 pub group-low : (ls : List Lane) (i : ℕ) → LowOf (inGroup i) ls (groupStart ls i)
 unfolding inGroup groupStart
@@ -101,13 +101,13 @@ module _ (v : ℕ) (ls : List Lane) where
       ltb-false (groupFinish ls k) (groupFinish ls i)
       (not-passed (ltb (groupFinish ls k) (groupFinish ls i)) (λ t.
       false≢true (sym (anyBelow-at (blocks v ls i) groups k f small)
-      ∙ true-and (ltb i k) (groupEligible v ls k && ltb (groupFinish ls k) (groupFinish ls i)) (lt-ltb i k lt) (true-and (groupEligible v ls k) (ltb (groupFinish ls k) (groupFinish ls i)) e t))))
+      ∙ and-made (ltb i k) (groupEligible v ls k && ltb (groupFinish ls k) (groupFinish ls i)) (lt-ltb i k lt) (and-made (groupEligible v ls k) (ltb (groupFinish ls k) (groupFinish ls i)) e t))))
 
   -- finishes never fall along the eligible-ready word
   pub never-fall : (i k : ℕ) → i < k → k < groups → ready v ls i ≡ true → ready v ls k ≡ true → groupFinish ls i ≤ groupFinish ls k
   unfolding ready
   never-fall i k lt small p q =
-      free-order i k (not-true (blocked v ls i) (and-true (groupEligible v ls i) (not (blocked v ls i)) p .1)) (and-true (groupEligible v ls k) (not (blocked v ls k)) q .0) lt small
+      free-order i k (not-true (blocked v ls i) (and-parts (groupEligible v ls i) (not (blocked v ls i)) p .1)) (and-parts (groupEligible v ls k) (not (blocked v ls k)) q .0) lt small
 
   module _ (order : List ℕ) (j : ℕ) (c : Candidate) (h : Chosen v order j ls c) where
     own : (groupEligible v ls (c .group) ≡ true) × (groupFinish ls (c .group) ≤ c .finish)
@@ -124,16 +124,16 @@ module _ (v : ℕ) (ls : List Lane) where
     chosen-ready : ready v ls (c .group) ≡ true
     unfolding ready blocked blocks
     chosen-ready =
-        true-and (groupEligible v ls (c .group)) (not (blocked v ls (c .group))) (own .0)
+        and-made (groupEligible v ls (c .group)) (not (blocked v ls (c .group))) (own .0)
         (ap not (anyBelow-none (blocks v ls (c .group)) groups (λ k. not-passed (blocks v ls (c .group) k) (λ e.
-        let b = and-true (ltb (c .group) k) (groupEligible v ls k && ltb (groupFinish ls k) (groupFinish ls (c .group))) e in
-        let d = and-true (groupEligible v ls k) (ltb (groupFinish ls k) (groupFinish ls (c .group))) (b .1) in
+        let b = and-parts (ltb (c .group) k) (groupEligible v ls k && ltb (groupFinish ls k) (groupFinish ls (c .group))) e in
+        let d = and-parts (groupEligible v ls k) (ltb (groupFinish ls k) (groupFinish ls (c .group))) (b .1) in
         omega (arith, no-less k (d .0), own .1, ltb-true (groupFinish ls k) (groupFinish ls (c .group)) (d .1))))))
 
     chosen-first : c .group < groups → (i : ℕ) → i < c .group → ready v ls i ≡ false
     unfolding ready
     chosen-first small i lt = not-passed (ready v ls i) (λ e.
-        let b = and-true (groupEligible v ls i) (not (blocked v ls i)) e in
+        let b = and-parts (groupEligible v ls i) (not (blocked v ls i)) e in
         let m = lead i (b .0) in
         let le : groupFinish ls i ≤ c .finish = omega (arith, free-order i (c .group) (not-true (blocked v ls i) (b .1)) (own .0) lt small, own .1) in
         omega (arith, h .least (m .at) (m .is) .grp (omega (arith, m .fin)), m .of))

@@ -14,7 +14,7 @@ use Rattle.rules.specs.State.{sum, Setting, noSetting, setupOf, Lane, Re
 use Rattle.rules.specs.Choice.{Candidate, choose, chooseFrom, leastOf}
 use Rattle.rules.specs.Calls.{Pick, Call, Outcome, put, take, look, sets, lag, restart, refused, taken, seen, served, woken, appended, settled, settledAt, serve, firstOf, pickOf, takeOf, lookOf, picked, doTake, putRefusal, accept, putOf, doPut, doLook, doLag, doSets, doRestart, fresh, step}
 use Rattle.rules.specs.Runs.{after}
-use Rattle.rules.proofs.Bools.{if-ind, and-true, or-false}
+use Rattle.rules.proofs.Bools.{if-ind, and-parts, or-parts}
 use Rattle.rules.proofs.Lists.{set-all, getD-map}
 use Rattle.rules.proofs.Claim.{Inv, weightOf}
 use Rattle.rules.proofs.Serve.{serve-inv}
@@ -116,7 +116,7 @@ put-ok s j n =
     if-ind (PutOk s j n) (ltb n 1 || ltb ((laneAt s j) .given .longest) n) _ _ (λ e. tt) λ e₂.
     if-ind (PutOk s j n) (leb 16 (length ((laneAt s j) .queue))) _ _ (λ e. tt) λ e₃.
     if-ind (PutOk s j n) (leb (2 ^ 62) (s .clock)) _ _ (λ e. tt) λ e₄.
-    let b = or-false (ltb n 1) (ltb ((laneAt s j) .given .longest) n) e₂ in
+    let b = or-parts (ltb n 1) (ltb ((laneAt s j) .given .longest) n) e₂ in
     record {
       has = ltb-false (weightOf (laneAt s j)) 1 e₁;
       some-bytes = ltb-false n 1 (b .0);
@@ -136,7 +136,7 @@ accept-kept M s j r inv a =
     let w = wake M (s .clock) (s .lanes) inv j r e (a .has) (a .fits) (a .some-bytes) in
     if-ind (λ (u : ℕ). Inv M u (set (s .lanes) j l′)) (not (anyHolds (s .lanes)) && ltb (s .clock) (startR l′)) _ _
     (λ b.
-    let p = and-true (not (anyHolds (s .lanes))) (ltb (s .clock) (startR l′)) b in
+    let p = and-parts (not (anyHolds (s .lanes))) (ltb (s .clock) (startR l′)) b in
     jump M (s .clock) (set (s .lanes) j l′) w (startR l′) (omega (arith, ltb-true (s .clock) (startR l′) (p .1)))
     (set-all (λ (m : Lane). holds m ≡ true → startR l′ ≤ startR m) (s .lanes) j l′ noLane (λ h. le-refl (startR l′))
     (λ k h. absurd (false≢true (sym (none-holds (s .lanes) (not-true (anyHolds (s .lanes)) (p .0)) k) ∙ h)))))

@@ -21,3 +21,7 @@ pub mod AlwaysGood
 pub mod Word
 pub mod GroupRule
 pub mod BySets
+pub mod GoodTest
+pub mod GoodAgrees
+pub mod Computes
+pub mod Examples

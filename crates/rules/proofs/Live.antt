@@ -4,7 +4,7 @@ use Prim.Native.Nat.{ℕ, zero, suc, _+_, _*_, _≤_, _<_}
 use native.Mathlib.Omega.{arith}
 use native.Mathlib.Nat.{le-refl}
 use mathlib.Core.Path.{_≡_, refl, sym, ap, subst, _∙_}
-use mathlib.Core.Bool.{Bool, true, false, not, _&&_, _||_, false≢true}
+use mathlib.Core.Bool.{Bool, true, false, not, _&&_, _||_, false≢true, or-true}
 use mathlib.Core.Option.{Option, none, some}
 use mathlib.Core.List.{List, [], _∷_, _++_, map}
 use lib.Dec.{ltb}
@@ -54,6 +54,12 @@ some-holds (l ∷ ls) e = go (holds l) refl (some-holds ls)
     go : (b : Bool) → holds l ≡ b → (anyHolds ls ≡ true → (k : ℕ) × (holds (getD ls k noLane) ≡ true)) → (k : ℕ) × (holds (getD (l ∷ ls) k noLane) ≡ true)
     go true f r = (0, f)
     go false f r = let i = r (or-right (holds l) (anyHolds ls) e f) in (suc (i .0), i .1)
+
+pub holds-some : (ls : List Lane) (k : ℕ) → holds (getD ls k noLane) ≡ true → anyHolds ls ≡ true
+unfolding anyHolds
+holds-some [] k e = absurd (false≢true e)
+holds-some (l ∷ ls) zero e = simp e
+holds-some (l ∷ ls) (suc k) e = simp (holds-some ls k e, or-true (holds l))
 
 module _ (s : State) (j : ℕ) (r : Rec) (a : Allowed s j (r .len)) (live : (k : ℕ) → holds (laneAt s k) ≡ true → (i : ℕ) × (eligible (s .clock) (laneAt s i) ≡ true)) where
   inside : j < length (s .lanes)

@@ -11,7 +11,7 @@ use lib.ListN.{getD}
 use borrow.Author.Tests.{leb-true, leb-false}
 use Rattle.rules.specs.State.{Lane, startR, holds, noLane, anyHolds}
 use Rattle.rules.specs.Choice.{least, leastOf}
-use Rattle.rules.proofs.Bools.{if-ind, or-false}
+use Rattle.rules.proofs.Bools.{if-ind, or-parts}
 
 pub record LowestOf (p : Lane → Bool) (ls : List Lane) (r : ℕ) : Type 0 where
   pub at : ℕ
@@ -54,5 +54,5 @@ lowest = lowest-of holds refl
 pub none-holds : (ls : List Lane) → anyHolds ls ≡ false → (k : ℕ) → holds (getD ls k noLane) ≡ false
 unfolding anyHolds
 none-holds [] e k = refl
-none-holds (l ∷ ls) e zero = or-false (holds l) (anyHolds ls) e .0
-none-holds (l ∷ ls) e (suc k) = none-holds ls (or-false (holds l) (anyHolds ls) e .1) k
+none-holds (l ∷ ls) e zero = or-parts (holds l) (anyHolds ls) e .0
+none-holds (l ∷ ls) e (suc k) = none-holds ls (or-parts (holds l) (anyHolds ls) e .1) k

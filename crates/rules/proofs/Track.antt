@@ -14,7 +14,7 @@ use Rattle.rules.specs.Choice.{leastOf}
 use Rattle.rules.specs.Calls.{Call, put, take, look, sets, lag, restart, Reply, accepted, seen, lagged, refused, Outcome, no, putRefusal, appended, woken, accept, putOf, doPut, served, settledAt, settled, serve, Pick, picked, takeOf, doTake, lookOf, doLook, doSets, lagOf, doLag, fresh, doRestart, step}
 use Rattle.rules.specs.Runs.{Moving, sentIn}
 use Rattle.rules.specs.Fair.{charged, chargedTo}
-use Rattle.rules.proofs.Bools.{if-ind, and-true}
+use Rattle.rules.proofs.Bools.{if-ind, and-parts}
 use Rattle.rules.proofs.Lists.{set-cases}
 use Rattle.rules.proofs.Claim.{weightOf, Queued, in-range}
 use Rattle.rules.proofs.Lowest.{none-holds}
@@ -86,7 +86,7 @@ module _ (k : ℕ) (s : State) (j : ℕ) (r : Rec) (a : Allowed s j (r .len)) wh
   jump-up : (b : Bool) (u : ℕ) → s .clock ≤ (if b && ltb (s .clock) u then u else s .clock)
   jump-up b u =
       if-ind (λ (v : ℕ). s .clock ≤ v) (b && ltb (s .clock) u) u (s .clock)
-      (λ e. omega (arith, ltb-true (s .clock) u (and-true b (ltb (s .clock) u) e .1))) (λ e. le-refl (s .clock))
+      (λ e. omega (arith, ltb-true (s .clock) u (and-parts b (ltb (s .clock) u) e .1))) (λ e. le-refl (s .clock))
 
   accept-moved : Moved k s (record { reply = accepted; state = accept s j r })
   unfolding accept appended
