@@ -28,7 +28,7 @@ times-append : (k : ℕ) (a b : List ℕ) → times k (a ++ b) ≡ times k a + t
 times-append k [] b = omega arith
 times-append k (j ∷ js) b = omega (arith, times-append k js b)
 
-times-same : (j : ℕ) (js : List ℕ) → times j (without j js) ≡ 0
+pub times-same : (j : ℕ) (js : List ℕ) → times j (without j js) ≡ 0
 unfolding without
 times-same j [] = refl
 times-same j (i ∷ is) =
@@ -38,7 +38,7 @@ times-same j (i ∷ is) =
     go true e h = h
     go false e h = simp (ne-eqb i j (λ q. false≢true (sym e ∙ eq-eqb j i (sym q)))) (omega arith)
 
-times-other : (j k : ℕ) (js : List ℕ) → (j ≡ k → ⊥) → times k (without j js) ≡ times k js
+pub times-other : (j k : ℕ) (js : List ℕ) → (j ≡ k → ⊥) → times k (without j js) ≡ times k js
 unfolding without
 times-other j k [] n = refl
 times-other j k (i ∷ is) n =

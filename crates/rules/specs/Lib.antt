@@ -8,4 +8,5 @@ pub mod Setup
 pub mod Fair
 pub mod Good
 pub mod Order
+pub mod Alike
 pub mod Reads
