@@ -1,16 +1,15 @@
 -- No state that calls make from a fresh one is ever found not good. `Reached` is what every call keeps and a fresh state has; it gives `Good`, and is stronger:
 -- not every call on every good state leaves a good one. Assumes nothing.
-use Prim.Native.Nat.{ℕ, _+_, _*_, _^_, _≤_, _<_}
+use Prim.Native.Nat.{ℕ, _+_, _*_, _<_}
 use native.Mathlib.Omega.{arith}
-use mathlib.Core.Path.{_≡_, refl, sym, ap, subst, _∙_}
-use mathlib.Core.Bool.{Bool, true, false}
+use mathlib.Core.Path.{_≡_, refl, sym, ap, subst}
+use mathlib.Core.Bool.{Bool, true}
 use mathlib.Core.List.{List, [], _∷_}
-use lib.ListN.{length}
-use Rattle.rules.specs.State.{if_then_else_, Rec, Setting, settingAt, Lane, State, charge, rate, slot, startR, finishR, some?, holds, laneAt, setupOf}
+use Rattle.rules.specs.State.{if_then_else_, Rec, Setting, settingAt, Lane, State, slot, finishR, some?, holds, laneAt, setupOf}
 use Rattle.rules.specs.Setup.{Setup, margin}
 use Rattle.rules.specs.Calls.{Call, fresh, step}
 use Rattle.rules.specs.Runs.{after}
-use Rattle.rules.specs.Good.{Lengths, Times, times, Good}
+use Rattle.rules.specs.Good.{Lengths, Times, Good}
 use Rattle.rules.proofs.Lane.{slot-most}
 use Rattle.rules.proofs.Claim.{LaneOk, Queued, Fits}
 use Rattle.rules.proofs.Bounds.{fresh-inv, lower}

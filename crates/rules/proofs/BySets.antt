@@ -1,29 +1,48 @@
 -- What the four words mean, of every good state; and the choice through them (first set bit of eligible ready, least R in that group, earliest in the tie
 -- order) is the plain choice. Assumes nothing.
-use Prim.Native.Nat.{ℕ, zero, suc, _+_, _*_, _^_, _≤_, _<_}
+use Prim.Native.Nat.{ℕ, suc, _+_, _*_, _^_, _≤_, _<_}
 use native.Mathlib.Nat.{zero-add}
 use native.Mathlib.Omega.{arith}
 use mathlib.Core.Path.{_≡_, refl, sym, ap, subst, _∙_}
-use mathlib.Core.Bool.{Bool, true, false, not, _&&_, false≢true}
+use mathlib.Core.Bool.{Bool, true, false, _&&_, false≢true}
 use mathlib.Core.Option.{Option, none, some}
 use mathlib.Core.List.{List, [], _∷_}
-use lib.Dec.{leb, eqb}
-use lib.ListN.{getD}
-use lib.Count.{trailingZeros}
-use borrow.Author.Tests.{eqb-true, eqb-false, eq-eqb, ne-eqb}
-use Rattle.rules.specs.State.{if_then_else_, Setting, settingAt, Lane, State, group, slot, startR, finishR, holds, eligible, noLane, laneAt, setupOf}
-use Rattle.rules.specs.Choice.{place, Candidate, choose, chooseFrom}
-use Rattle.rules.specs.Sets.{groups, inGroup, groupStart, finishFrom, groupFinish, wordOf, ready, setWord, firstGroup, standsAt, firstIn, laneOfGroup, chooseBySets}
-use Rattle.rules.specs.SetsRule.{laneOf, SetsRule}
+use lib.Dec.{eqb}
+use borrow.Author.Tests.{eqb-true, eq-eqb, ne-eqb}
+use Rattle.rules.specs.State.{if_then_else_, Setting, Lane, State, group, slot, startR, finishR, holds, eligible, laneAt, setupOf}
+use Rattle.rules.specs.Choice.{place, Candidate, choose}
+use Rattle.rules.specs.Sets.{groups, inGroup, groupStart, finishFrom, groupFinish, firstGroup, SetsRule}
 use Rattle.rules.specs.Good.{times, Good}
-use Rattle.rules.proofs.Bools.{and-parts, and-made, not-passed}
+use Rattle.rules.proofs.Bools.{and-parts, and-made}
 use Rattle.rules.proofs.Lane.{group-most}
-use Rattle.rules.proofs.Lowest.{LowOf, LowestOf}
-use Rattle.rules.proofs.Chosen.{Ahead, Chosen, Choice, chosen}
+use Rattle.rules.proofs.Lowest.{LowOf}
+use Rattle.rules.proofs.Chosen.{Chosen, Choice, chosen}
 use Rattle.rules.proofs.Keep.{eligible-is, is-eligible}
 use Rattle.rules.proofs.SameSetup.{setting-lane}
 use Rattle.rules.proofs.Fair.{longest-most}
 use Rattle.rules.proofs.GroupRule.{in-group, is-in-group, group-low, never-fall, chosen-finish, first-bit-group, parted}
+
+-- ---- the choice through the sets
+
+-- the lane is of group i and has the rounded start r
+unfoldable pub standsAt : ℕ → ℕ → Lane → Bool
+standsAt i r l = inGroup i l && eqb (startR l) r
+
+unfoldable pub firstIn : (ℕ → Bool) → List ℕ → Option ℕ
+firstIn p [] = none
+firstIn p (k ∷ ks) = if p k then some k else firstIn p ks
+
+unfoldable pub laneOfGroup : State → ℕ → Option ℕ → Option ℕ
+laneOfGroup s i none = none
+laneOfGroup s i (some r) = firstIn (λ k. standsAt i r (laneAt s k)) (s .order)
+
+unfoldable pub chooseBySets : State → Option ℕ
+chooseBySets s = laneOfGroup s (firstGroup s) (groupStart (s .lanes) (firstGroup s))
+
+-- the lane that is chosen, if one is
+abbrev pub laneOf : Option Candidate → Option ℕ
+laneOf none = none
+laneOf (some c) = some (c .lane)
 
 -- ---- the first in a list of a test: the one of least place
 
@@ -149,5 +168,9 @@ module _ (s : State) (good : Good s) where
     parted = parted (s .clock) (s .lanes);
     first = first-is (choose s) (chosen (s .clock) (s .order) 0 (s .lanes));
     rising = never-fall (s .clock) (s .lanes);
-    same = by-sets (choose s) (chosen (s .clock) (s .order) 0 (s .lanes));
   }
+
+  -- the choice through the sets is the plain choice
+  pub same-choice : chooseBySets s ≡ laneOf (choose s)
+  unfolding choose
+  same-choice = by-sets (choose s) (chosen (s .clock) (s .order) 0 (s .lanes))

@@ -1,18 +1,17 @@
 -- What the plain choice is: an eligible lane, and no eligible lane is ahead of it by finish, then group, then place in the tie order. Assumes nothing.
-use Prim.Native.Nat.{ℕ, zero, suc, _+_, _≤_, _<_}
+use Prim.Native.Nat.{ℕ, zero, suc, _+_, _≤_}
 use native.Mathlib.Omega.{arith}
-use native.Mathlib.Nat.{le-refl, add-suc, suc-add, add-zero}
-use mathlib.Core.Path.{_≡_, refl, sym, ap, subst, _∙_}
-use mathlib.Core.Bool.{Bool, true, false, not, _&&_, _||_, false≢true}
+use native.Mathlib.Nat.{add-suc, suc-add, add-zero}
+use mathlib.Core.Path.{_≡_, refl, sym, _∙_}
+use mathlib.Core.Bool.{Bool, true, false, _&&_, _||_, false≢true}
 use mathlib.Core.Option.{Option, none, some}
 use mathlib.Core.List.{List, [], _∷_}
-use lib.Dec.{leb, ltb, eqb}
-use lib.ListN.{length, getD}
-use borrow.Author.Tests.{leb-true, leb-false, ltb-true, ltb-false, eqb-true, eqb-false}
-use Rattle.units.specs.Numbers.{roundDown}
-use Rattle.rules.specs.State.{Lane, group, slot, startR, finishR, holds, eligible, noLane, if_then_else_, anyHolds}
-use Rattle.rules.specs.Choice.{place, Candidate, before, best, chooseFrom, least, leastOf}
-use Rattle.rules.proofs.Bools.{if-ind, or-parts}
+use lib.Dec.{ltb, eqb}
+use lib.ListN.{getD}
+use borrow.Author.Tests.{ltb-true, ltb-false, eqb-true, eqb-false}
+use Rattle.rules.specs.State.{Lane, group, finishR, eligible, noLane}
+use Rattle.rules.specs.Choice.{place, Candidate, before, best, chooseFrom, least}
+use Rattle.rules.proofs.Bools.{if-ind}
 
 -- ---- the choice
 

@@ -4,13 +4,13 @@
 use Prim.Native.Nat.{ℕ, zero, suc, _+_, _-_, _*_, _≤_, _<_, max}
 use native.Mathlib.Nat.{le-refl, mul-le-mul-left, mul-le-mul-right, sub-le-sub-left, zero-lt-suc, lt-irrefl}
 use native.Mathlib.Omega.{arith}
-use mathlib.Core.Path.{_≡_, refl, sym, subst, ap}
+use mathlib.Core.Path.{_≡_}
 use mathlib.Core.Bool.{Bool, true, false}
 use mathlib.Core.List.{List, [], _∷_}
 use lib.Dec.{leb}
 use lib.ListN.{length, getD, set}
-use borrow.Author.Tests.{leb-true, leb-false, le-leb, lt-leb}
-use Rattle.rules.specs.State.{sum, Setting, Lane, Rec, rate, slot, charge, startR, finishR, holds, noLane, if_then_else_}
+use borrow.Author.Tests.{leb-true, le-leb}
+use Rattle.rules.specs.State.{sum, Setting, Lane, Rec, rate, slot, charge, finishR, holds, noLane, if_then_else_}
 use Rattle.rules.proofs.Lists.{sum-set, sum-mono, sum-scale}
 use Rattle.rules.proofs.Bools.{if-ind}
 

@@ -1,15 +1,15 @@
 -- Document 01's session, computed, and its sentence on the waiting lane 0. Assumes nothing.
-use Prim.Native.Nat.{ℕ, zero, suc, _+_, _*_, _≤_, _<_}
+use Prim.Native.Nat.{ℕ, zero, suc, _*_, _≤_, _<_}
 use native.Mathlib.Omega.{arith}
-use mathlib.Core.Path.{_≡_, refl, sym, ap, subst, _∙_}
+use mathlib.Core.Path.{_≡_, refl, ap}
 use mathlib.Core.Logic.{_⊎_, inl, inr}
 use mathlib.Core.List.{List, [], _∷_, _++_, map}
-use mathlib.Core.Option.{Option, none, some}
+use mathlib.Core.Option.{none}
 use lib.Dec.{lit≤}
 use lib.ListN.{replicate}
 use Rattle.rules.specs.State.{Setting, noSetting, settingAt, rate, slot}
 use Rattle.rules.specs.Setup.{InNumbers, Setup}
-use Rattle.rules.specs.Calls.{Call, put, take, look, sets, lag, restart, Reply, accepted, taken, words, refused, fresh}
+use Rattle.rules.specs.Calls.{Call, put, take, sets, Reply, accepted, taken, words, refused, fresh}
 use Rattle.rules.specs.Runs.{Event, trace}
 use Rattle.rules.specs.Fair.{bytesSent, bytesSentOf, Holding, Fair, Demand3}
 use Rattle.rules.proofs.Computes.{rules}

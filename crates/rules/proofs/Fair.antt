@@ -1,20 +1,19 @@
 -- Demand 3, proved: first with 1,024 times the setup's greatest charge, from which the figure 1,536,000 follows.
 -- Over a stretch the clock moves by 1,024 T or more and the lane's S by c O. S is below V + 2s where the stretch begins, and V below S + 2s + M where it ends.
 -- Assumes nothing.
-use Prim.Native.Nat.{ℕ, zero, suc, _+_, _*_, _≤_, _<_, max}
+use Prim.Native.Nat.{ℕ, zero, suc, _+_, _*_, _≤_, _<_}
 use native.Mathlib.Omega.{arith}
-use native.Mathlib.Nat.{mul-le-mul-left, le-trans}
+use native.Mathlib.Nat.{mul-le-mul-left}
 use mathlib.Core.Path.{_≡_, refl, sym, ap, subst, _∙_}
-use mathlib.Core.Bool.{Bool, true, false}
+use mathlib.Core.Bool.{true}
 use mathlib.Core.Logic.{_⊎_, inl, inr}
 use mathlib.Core.List.{List, [], _∷_, _++_, append-nil}
-use lib.ListN.{length, getD, length-append}
+use lib.ListN.{length, length-append}
 use Rattle.units.proofs.Round.{round-le}
 use Rattle.rules.specs.State.{Rec, Setting, noSetting, settingAt, State, charge, rate, slot, some?, holds, laneAt, setupOf}
 use Rattle.rules.specs.Setup.{InNumbers, Setup, longestCharge, margin}
 use Rattle.rules.specs.Calls.{Call, fresh, step}
-use Rattle.rules.specs.Runs.{Event, after, trace, acceptedOf, sentOf}
-use Rattle.rules.specs.Order.{InOrder}
+use Rattle.rules.specs.Runs.{Event, after, trace, sentOf, InOrder}
 use Rattle.rules.specs.Fair.{bytesSent, bytesSentOf, Holding, Fair, Demand3}
 use Rattle.rules.proofs.Lane.{charge-le}
 use Rattle.rules.proofs.Bounds.{SetupOk, fresh-inv, lower, upper}
@@ -22,7 +21,7 @@ use Rattle.rules.proofs.Keep.{Kept, kept, step-kept}
 use Rattle.rules.proofs.SameSetup.{setting-lane, same-setup, setup-kept, fresh-setup}
 use Rattle.rules.proofs.Order.{in-order}
 use Rattle.rules.proofs.Track.{step-moved}
-use Rattle.rules.proofs.Runs.{after-append, trace-append, Split, split}
+use Rattle.rules.proofs.Runs.{after-append, trace-append, split}
 
 -- ---- the stretch
 

@@ -1,25 +1,25 @@
 -- The group rule, once over the index: the chosen lane's group is the first of the eligible groups that are not blocked, finishes never fall along these,
 -- and the four tests part the groups that hold records. Assumes nothing.
-use Prim.Native.Nat.{ℕ, zero, suc, _+_, _*_, _^_, _≤_, _<_}
+use Prim.Native.Nat.{ℕ, zero, suc, _+_, _^_, _≤_, _<_}
 use native.Mathlib.Omega.{arith}
 use native.Mathlib.Nat.{eq-or-lt-of-le, le-of-suc-le-suc, not-suc-le-zero, le-antisymm}
-use mathlib.Core.Path.{_≡_, refl, sym, ap, subst, _∙_}
-use mathlib.Core.Bool.{Bool, true, false, not, _&&_, _||_, false≢true}
+use mathlib.Core.Path.{_≡_, refl, sym, ap, _∙_}
+use mathlib.Core.Bool.{Bool, true, false, not, _&&_, false≢true}
 use mathlib.Core.Logic.{_⊎_, inl, inr}
 use mathlib.Core.Option.{Option, none, some}
-use mathlib.Core.List.{List, [], _∷_}
+use mathlib.Core.List.{List}
 use lib.Dec.{leb, ltb, eqb}
 use lib.ListN.{getD}
 use lib.Count.{trailingZeros}
-use borrow.Author.Tests.{leb-true, le-leb, ltb-true, ltb-false, lt-ltb, le-ltb, eqb-true, eq-eqb, not-true}
-use Rattle.rules.specs.State.{Lane, group, slot, startR, finishR, holds, eligible, noLane, if_then_else_}
+use borrow.Author.Tests.{leb-true, le-leb, ltb-true, ltb-false, lt-ltb, eqb-true, eq-eqb, not-true}
+use Rattle.rules.specs.State.{Lane, group, slot, startR, finishR, holds, eligible, noLane}
 use Rattle.rules.specs.Choice.{Candidate}
 use Rattle.rules.specs.Sets.{groups, inGroup, groupStart, reached, finishFrom, groupEligible, groupFinish, anyBelow, wordOf, blocks, blocked, ready, ineligibleReady, eligibleBlocked, ineligibleBlocked, groupHolds, heldStart}
-use Rattle.rules.proofs.Lowest.{LowOf, LowestOf, lowest-of}
-use Rattle.rules.specs.SetsRule.{count}
+use Rattle.rules.proofs.Lowest.{LowOf, lowest-of}
+use Rattle.rules.specs.Sets.{count}
 use Rattle.rules.proofs.Bools.{and-parts, and-made, or-parts, not-passed}
 use Rattle.rules.proofs.Lowest.{}
-use Rattle.rules.proofs.Chosen.{Ahead, Chosen}
+use Rattle.rules.proofs.Chosen.{Chosen}
 use Rattle.rules.proofs.Keep.{eligible-is, is-eligible}
 use Rattle.rules.proofs.Word.{first-bit}
 

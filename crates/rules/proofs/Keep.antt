@@ -1,18 +1,18 @@
 -- Every call of the model keeps the invariant.
 -- Assumes nothing.
-use Prim.Native.Nat.{ℕ, zero, suc, _+_, _*_, _^_, _≤_, _<_}
+use Prim.Native.Nat.{ℕ, _+_, _*_, _^_, _≤_, _<_}
 use native.Mathlib.Omega.{arith}
-use native.Mathlib.Nat.{le-refl, zero-add}
+use native.Mathlib.Nat.{le-refl}
 use mathlib.Core.Path.{_≡_, refl, sym, ap, subst, _∙_}
 use mathlib.Core.Bool.{Bool, true, false, not, _&&_, _||_, false≢true}
 use mathlib.Core.Option.{Option, none, some}
-use mathlib.Core.List.{List, [], _∷_, _++_, map}
-use lib.Dec.{leb, ltb, eqb}
-use lib.ListN.{length, getD, set}
-use borrow.Author.Tests.{le-leb, leb-true, leb-false, ltb-true, ltb-false, eqb-true, not-true}
-use Rattle.rules.specs.State.{sum, Setting, noSetting, setupOf, Lane, Rec, State, charge, slot, startR, finishR, holds, some?, eligible, noLane, laneAt, if_then_else_, anyHolds}
+use mathlib.Core.List.{List, [], _∷_, map}
+use lib.Dec.{leb, ltb}
+use lib.ListN.{length, set}
+use borrow.Author.Tests.{le-leb, leb-true, leb-false, ltb-true, ltb-false, not-true}
+use Rattle.rules.specs.State.{sum, Setting, noSetting, setupOf, Lane, Rec, State, charge, startR, finishR, holds, some?, eligible, noLane, laneAt, anyHolds}
 use Rattle.rules.specs.Choice.{Candidate, choose, chooseFrom, leastOf}
-use Rattle.rules.specs.Calls.{Pick, Call, Outcome, put, take, look, sets, lag, restart, refused, taken, seen, served, woken, appended, settled, settledAt, serve, firstOf, pickOf, takeOf, lookOf, picked, doTake, putRefusal, accept, putOf, doPut, doLook, doLag, doSets, doRestart, fresh, step}
+use Rattle.rules.specs.Calls.{Pick, Call, Outcome, put, take, look, sets, lag, restart, served, woken, settled, settledAt, serve, firstOf, pickOf, takeOf, lookOf, picked, doTake, putRefusal, accept, putOf, doPut, doLook, doLag, doSets, doRestart, fresh, step}
 use Rattle.rules.specs.Runs.{after}
 use Rattle.rules.proofs.Bools.{if-ind, and-parts, or-parts}
 use Rattle.rules.proofs.Lists.{set-all, getD-map}
@@ -21,7 +21,7 @@ use Rattle.rules.proofs.Serve.{serve-inv}
 use Rattle.rules.proofs.Moves.{jump, wake, append}
 use Rattle.rules.proofs.Bounds.{SetupOk, fresh-inv}
 use Rattle.rules.proofs.Lowest.{Low, lowest, none-holds}
-use Rattle.rules.proofs.Chosen.{Choice, Chosen, chosen}
+use Rattle.rules.proofs.Chosen.{Choice, chosen}
 
 abbrev pub Kept : ℕ → State → Type 0
 Kept M s = Inv M (s .clock) (s .lanes)

@@ -4,8 +4,8 @@
 --   (C) R ≤ S < R + s (units/proofs/Round.antt);
 --   (D) rounding down keeps the order (there too).
 -- And what the rest knows of a charge: it grows with the length, and is at most `most` for the longest record of all. Assumes nothing.
-use Prim.Native.Nat.{ℕ, _+_, _*_, _^_, _≤_, _<_}
-use native.Mathlib.Nat.{le-trans, mul-le-mul-right, mul-comm}
+use Prim.Native.Nat.{ℕ, _*_, _^_, _≤_, _<_}
+use native.Mathlib.Nat.{le-trans, mul-le-mul-right}
 use native.Mathlib.Omega.{arith}
 use lib.Pow.{pow-pos, pow-mono}
 use Rattle.units.proofs.PerByte.{rate-weight-ge}

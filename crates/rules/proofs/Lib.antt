@@ -25,6 +25,3 @@ pub mod GoodTest
 pub mod GoodAgrees
 pub mod Computes
 pub mod Examples
-pub mod Places
-pub mod SameChoice
-pub mod Alike

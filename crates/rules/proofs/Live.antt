@@ -4,23 +4,21 @@ use Prim.Native.Nat.{ℕ, zero, suc, _+_, _*_, _≤_, _<_}
 use native.Mathlib.Omega.{arith}
 use native.Mathlib.Nat.{le-refl}
 use mathlib.Core.Path.{_≡_, refl, sym, ap, subst, _∙_}
-use mathlib.Core.Bool.{Bool, true, false, not, _&&_, _||_, false≢true, or-true}
+use mathlib.Core.Bool.{Bool, true, false, not, _&&_, false≢true, or-true}
 use mathlib.Core.Option.{Option, none, some}
-use mathlib.Core.List.{List, [], _∷_, _++_, map}
+use mathlib.Core.List.{List, [], _∷_}
 use lib.Dec.{ltb}
 use lib.ListN.{length, getD, set}
-use borrow.Author.Tests.{ltb-true, ltb-false}
-use Rattle.rules.specs.State.{Setting, noSetting, setupOf, Lane, Rec, State, charge, slot, startR, holds, some?, noLane, laneAt, if_then_else_, eligible, anyHolds}
-use Rattle.rules.specs.Choice.{Candidate, leastOf, choose, chooseFrom}
-use Rattle.rules.specs.Calls.{Pick, Call, Outcome, put, take, look, sets, lag, restart, served, woken, appended, settled, settledAt, serve, takeOf, lookOf, pickOf, firstOf, picked, doTake, putRefusal, accept, putOf, doPut, doLook, doLag, doSets, doRestart, idle, fresh, step}
-use Rattle.rules.specs.Runs.{after}
+use borrow.Author.Tests.{ltb-false}
+use Rattle.rules.specs.State.{Setting, setupOf, Lane, Rec, State, charge, startR, holds, noLane, laneAt, if_then_else_, eligible, anyHolds}
+use Rattle.rules.specs.Choice.{leastOf}
+use Rattle.rules.specs.Calls.{Pick, Call, Outcome, put, take, look, sets, lag, restart, served, woken, appended, settled, settledAt, serve, takeOf, picked, doTake, putRefusal, accept, putOf, doPut, doLook, doSets, doRestart, idle, fresh, step}
 use Rattle.rules.proofs.Bools.{if-ind, or-right}
 use Rattle.rules.proofs.Lists.{set-cases}
-use Rattle.rules.proofs.Claim.{weightOf, in-range}
+use Rattle.rules.proofs.Claim.{in-range}
 use Rattle.rules.proofs.Moves.{appended-holds}
 use Rattle.rules.proofs.Bounds.{idle-at}
-use Rattle.rules.proofs.Lowest.{Low, lowest, none-holds}
-use Rattle.rules.proofs.Chosen.{Choice, Chosen, chosen}
+use Rattle.rules.proofs.Lowest.{Low, lowest}
 use Rattle.rules.proofs.Keep.{eligible-is, is-eligible, PickIs, Allowed, PutOk, put-ok, look-same, lag-same}
 
 unfoldable pub Live : State → Type 0

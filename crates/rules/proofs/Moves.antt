@@ -1,22 +1,21 @@
 -- A jump of the clock to the least R, a put on an idle lane and a put on a holding lane keep the invariant. Assumes nothing.
-use Prim.Native.Nat.{ℕ, zero, suc, _+_, _-_, _*_, _^_, _≤_, _<_, max}
+use Prim.Native.Nat.{ℕ, _+_, _-_, _*_, _≤_, _<_, max}
 use native.Mathlib.Omega.{arith}
-use native.Mathlib.Nat.{le-of-eq, le-refl, sub-self, mul-le-mul-right}
-use mathlib.Core.Path.{_≡_, refl, sym, subst, ap, _∙_}
+use native.Mathlib.Nat.{le-of-eq, sub-self}
+use mathlib.Core.Path.{_≡_, refl, sym, subst, ap}
 use mathlib.Core.Bool.{Bool, true, false, not, _&&_, false≢true}
 use mathlib.Core.Logic.{_⊎_, inl, inr}
-use mathlib.Core.List.{List, [], _∷_, _++_, map}
+use mathlib.Core.List.{List, [], _∷_, _++_}
 use lib.Dec.{T, leb}
-use lib.ListN.{length, getD, set, List·getD-map}
-use borrow.Author.Tests.{leb-true, leb-false, le-leb, lt-leb}
-use Rattle.units.specs.Numbers.{roundDown}
-use Rattle.rules.specs.State.{sum, Setting, Lane, Rec, rate, slot, charge, startR, finishR, holds, some?, noLane, if_then_else_, noSetting}
+use lib.ListN.{getD, set}
+use borrow.Author.Tests.{leb-true, le-leb}
+use Rattle.rules.specs.State.{sum, Setting, Lane, Rec, slot, startR, finishR, holds, some?, noLane, if_then_else_}
 use Rattle.rules.specs.Calls.{woken, appended, idle}
 use Rattle.units.proofs.Round.{round-le, lt-round-slot}
 use Rattle.rules.proofs.Bools.{if-ind}
-use Rattle.rules.proofs.Lists.{sum-set, sum-mono, le-sum, set-all, any-or-none, getD-map}
+use Rattle.rules.proofs.Lists.{sum-set, set-all, any-or-none}
 use Rattle.rules.proofs.Lane.{slot-pos}
-use Rattle.rules.proofs.Claim.{from, from-ge, from-due, claim, spread, weightOf, Fits, Queued, LaneOk, Inv, in-range, same-weights}
+use Rattle.rules.proofs.Claim.{from, from-ge, claim, spread, weightOf, Fits, Queued, LaneOk, Inv, in-range, same-weights}
 use Rattle.rules.proofs.Serve.{later-ok}
 
 -- ---- the jump: the clock moves up to u, and no holding lane has its rounded start before u

@@ -1,12 +1,11 @@
 -- Each accepted record is handed out once, in its lane's order, or is still held: for every list of calls from a fresh table of any settings.
 -- Assumes nothing.
 use Prim.Native.Nat.{ℕ}
-use mathlib.Core.Path.{_≡_, refl, sym, ap, _∙_}
+use mathlib.Core.Path.{_≡_, sym, ap, _∙_}
 use mathlib.Core.List.{List, [], _∷_, _++_, append-assoc, append-nil}
 use Rattle.rules.specs.State.{Rec, Setting, State, laneAt}
 use Rattle.rules.specs.Calls.{Call, idle, fresh, step}
-use Rattle.rules.specs.Runs.{after, trace, acceptedIn, ofLane, sentIn, acceptedOf, sentOf}
-use Rattle.rules.specs.Order.{InOrder}
+use Rattle.rules.specs.Runs.{after, trace, acceptedIn, ofLane, sentIn, acceptedOf, sentOf, InOrder}
 use Rattle.rules.proofs.Bounds.{idle-at}
 use Rattle.rules.proofs.Queues.{step-passed}
 

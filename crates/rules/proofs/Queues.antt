@@ -4,22 +4,21 @@ use Prim.Native.Nat.{ℕ, zero, suc, _<_}
 use native.Mathlib.Nat.{zero-lt-suc}
 use native.Mathlib.Omega.{arith}
 use mathlib.Core.Path.{_≡_, refl, sym, ap, _∙_}
-use mathlib.Core.Bool.{Bool, true, false, not, _&&_, false≢true}
+use mathlib.Core.Bool.{false, false≢true}
 use mathlib.Core.Option.{Option, none, some}
-use mathlib.Core.List.{List, [], _∷_, _++_, map, append-nil}
+use mathlib.Core.List.{List, [], _∷_, _++_, append-nil}
 use lib.Dec.{ltb, eqb}
-use lib.ListN.{length, getD, set, length-map, length-set}
-use lib.Seq.{ext-getD}
+use lib.ListN.{length, getD, set}
 use borrow.Author.Tests.{eq-eqb, ne-eqb}
-use Rattle.rules.specs.State.{if_then_else_, Rec, Setting, noSetting, Lane, noLane, State, startR, some?, holds, laneAt, setupOf, anyHolds}
-use Rattle.rules.specs.Calls.{Call, put, take, look, sets, lag, restart, Reply, accepted, taken, seen, refused, lagged, Outcome, no, putRefusal, appended, woken, accept, putOf, doPut, served, serve, Pick, picked, takeOf, doTake, lookOf, doLook, doSets, lagOf, doLag, idle, fresh, doRestart, step}
-use Rattle.rules.specs.Runs.{Moving, sentIn, offeredIn, isAccepted, acceptedIn, ofLane}
+use Rattle.rules.specs.State.{if_then_else_, Rec, noSetting, Lane, noLane, State, some?, holds, laneAt, setupOf, anyHolds}
+use Rattle.rules.specs.Calls.{Call, put, take, look, sets, lag, restart, Reply, accepted, seen, refused, lagged, Outcome, no, putRefusal, appended, woken, accept, putOf, doPut, served, serve, Pick, picked, takeOf, doTake, lookOf, doLook, doSets, lagOf, doLag, idle, fresh, doRestart, step}
+use Rattle.rules.specs.Runs.{sentIn, offeredIn, isAccepted, acceptedIn, ofLane}
 use Rattle.rules.proofs.Bools.{if-ind}
 use Rattle.rules.proofs.Lists.{set-cases, getD-map}
 use Rattle.rules.proofs.Claim.{weightOf, in-range}
 use Rattle.rules.proofs.Lowest.{none-holds}
 use Rattle.rules.proofs.Bounds.{idle-at}
-use Rattle.rules.proofs.Keep.{Picked, PickIs, pick-is, Allowed, PutOk, put-ok}
+use Rattle.rules.proofs.Keep.{PickIs, pick-is, Allowed, PutOk, put-ok}
 
 -- a lane that holds a record is in the list
 pub held-inside : (ls : List Lane) (j : ℕ) (r : Rec) (rs : List Rec) → (getD ls j noLane) .queue ≡ r ∷ rs → j < length ls

@@ -1,28 +1,27 @@
 -- The clock stays below 2 ^ 62 + 2 ^ 42. The potential: V and 2 ^ 32 for each record held. A put is accepted below 2 ^ 62 only; a take moves V by less than
 -- 2 ^ 32, and one record fewer is held then. Assumes nothing.
-use Prim.Native.Nat.{ℕ, zero, suc, _+_, _*_, _^_, _≤_, _<_, max}
+use Prim.Native.Nat.{ℕ, suc, _+_, _*_, _^_, _≤_, _<_, max}
 use native.Mathlib.Omega.{arith}
-use native.Mathlib.Nat.{le-refl, mul-le-mul-right, mul-le-mul-left}
-use mathlib.Core.Path.{_≡_, refl, sym, ap, subst, _∙_}
+use native.Mathlib.Nat.{le-refl}
+use mathlib.Core.Path.{_≡_, refl, sym, ap, subst}
 use mathlib.Core.Bool.{Bool, true, false, not, _&&_, false≢true}
 use mathlib.Core.Option.{Option, none, some}
 use mathlib.Core.List.{List, [], _∷_, _++_, map}
-use lib.Dec.{leb, ltb}
+use lib.Dec.{ltb}
 use lib.ListN.{length, getD, set, length-append, length-set, length-map}
-use borrow.Author.Tests.{ltb-true}
-use Rattle.rules.specs.State.{sum, laneDepth, Setting, noSetting, setupOf, Lane, Rec, State, charge, slot, startR, holds, some?, noLane, laneAt, if_then_else_, anyHolds}
+use Rattle.rules.specs.State.{sum, laneDepth, Setting, noSetting, setupOf, Lane, Rec, State, charge, slot, startR, holds, noLane, laneAt, if_then_else_, anyHolds}
 use Rattle.rules.specs.Choice.{leastOf}
-use Rattle.rules.specs.Calls.{Pick, Call, Outcome, put, take, look, sets, lag, restart, served, woken, appended, settled, settledAt, serve, takeOf, lookOf, picked, doTake, putRefusal, accept, putOf, doPut, doLook, doLag, doSets, doRestart, idle, fresh, step}
+use Rattle.rules.specs.Calls.{Pick, Call, Outcome, put, take, look, sets, lag, restart, served, woken, appended, settled, settledAt, serve, takeOf, picked, doTake, putRefusal, accept, putOf, doPut, doLook, doSets, doRestart, idle, fresh, step}
 use Rattle.rules.specs.Runs.{after}
 use Rattle.units.proofs.Round.{round-le}
 use Rattle.rules.proofs.Bools.{if-ind}
 use Rattle.rules.proofs.Lists.{sum-set, sum-bound, sum-zero, set-all, getD-map}
 use Rattle.rules.proofs.Lane.{charge-mono, slot-pos}
-use Rattle.rules.proofs.Claim.{Inv, LaneOk, Queued, weightOf, in-range}
+use Rattle.rules.proofs.Claim.{LaneOk, Queued, in-range}
 use Rattle.rules.proofs.Serve.{served-ok}
 use Rattle.rules.proofs.Bounds.{idle-at}
 use Rattle.rules.proofs.Lowest.{Low, lowest, none-holds}
-use Rattle.rules.proofs.Keep.{Kept, kept, step-kept, Picked, PickIs, pick-is, Allowed, PutOk, put-ok, look-same, lag-same}
+use Rattle.rules.proofs.Keep.{Kept, step-kept, Picked, PickIs, pick-is, Allowed, PutOk, put-ok, look-same, lag-same}
 use Rattle.rules.proofs.Queues.{served-queue, served-given, idle-queue}
 
 abbrev pub heldIn : Lane → ℕ

@@ -2,10 +2,10 @@
 use Prim.Native.Nat.{ℕ}
 use mathlib.Core.Path.{_≡_, refl, sym, ap, _∙_}
 use mathlib.Core.Option.{Option, none, some}
-use mathlib.Core.List.{List, [], _∷_, map}
+use mathlib.Core.List.{List, [], _∷_}
 use lib.ListN.{length, length-map, length-set}
 use lib.Seq.{ext-getD}
-use Rattle.rules.specs.State.{if_then_else_, Rec, Setting, noSetting, Lane, noLane, State, settingAt, holds, laneAt, setupOf, anyHolds}
+use Rattle.rules.specs.State.{Rec, Setting, noSetting, Lane, noLane, State, settingAt, holds, laneAt, setupOf, anyHolds}
 use Rattle.rules.specs.Calls.{Call, put, take, look, sets, lag, restart, Outcome, putRefusal, accept, putOf, doPut, serve, Pick, picked, takeOf, doTake, doLook, doSets, idle, fresh, doRestart, step}
 use Rattle.rules.specs.Runs.{after}
 use Rattle.rules.proofs.Bools.{if-ind}

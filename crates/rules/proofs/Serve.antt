@@ -1,21 +1,20 @@
 -- A take of any eligible lane of least rounded finish keeps the invariant. Which of several such lanes is served plays no part, so tie rules do not matter.
 -- Step 1: for a deadline D by which the lane is due, the clock rises by what the lane's claim falls. Step 2: for an earlier D no due lane is eligible, so
 -- every claim starts at the clock or later. Assumes nothing.
-use Prim.Native.Nat.{ℕ, zero, suc, _+_, _-_, _*_, _^_, _≤_, _<_, max}
+use Prim.Native.Nat.{ℕ, _+_, _-_, _*_, _^_, _≤_, _<_}
 use native.Mathlib.Omega.{arith}
 use native.Mathlib.Decide.{decLe}
 use native.Mathlib.Nat.{mul-le-mul-left}
-use mathlib.Core.Path.{_≡_, refl, sym, subst, ap}
-use mathlib.Core.Bool.{Bool, true, false, false≢true}
+use mathlib.Core.Path.{_≡_, refl, subst, ap}
+use mathlib.Core.Bool.{true, false, false≢true}
 use mathlib.Core.List.{List, [], _∷_}
-use lib.ListN.{length, getD, set}
-use Rattle.units.specs.Numbers.{roundDown}
-use Rattle.rules.specs.State.{sum, Setting, Lane, Rec, rate, slot, charge, startR, finishR, holds, some?, noLane, if_then_else_}
+use lib.ListN.{getD, set}
+use Rattle.rules.specs.State.{sum, Lane, Rec, rate, slot, charge, startR, finishR, holds, some?, noLane}
 use Rattle.rules.specs.Calls.{served}
 use Rattle.units.proofs.Round.{round-le, lt-round-slot, round-mono}
-use Rattle.rules.proofs.Lists.{sum-set, sum-mono, set-all}
+use Rattle.rules.proofs.Lists.{sum-set, set-all}
 use Rattle.rules.proofs.Lane.{weight-rate, charge-mono, charge-slot, slot-pos}
-use Rattle.rules.proofs.Claim.{claim-drops, from, from-ge, from-due, claim, claims-mono, spread, weightOf, Fits, Queued, LaneOk, Inv, in-range, same-weights}
+use Rattle.rules.proofs.Claim.{claim-drops, from, from-ge, from-due, claim, claims-mono, spread, weightOf, Queued, LaneOk, Inv, in-range, same-weights}
 
 -- after a take the lane starts at F or later
 served-from : (v D : ℕ) (l : Lane) (rs : List Rec) → l .finish ≤ D → l .finish ≤ from v D (served l rs)

@@ -1,24 +1,22 @@
 -- The tie order names each lane that holds records once, and no other.
 -- Assumes nothing.
-use Prim.Native.Nat.{ℕ, zero, suc, _+_, _*_, _≤_, _<_}
+use Prim.Native.Nat.{ℕ, _+_}
 use native.Mathlib.Omega.{arith}
-use mathlib.Core.Path.{_≡_, refl, sym, ap, subst, _∙_}
-use mathlib.Core.Bool.{Bool, true, false, not, _&&_, false≢true}
+use mathlib.Core.Path.{_≡_, refl, sym, subst, _∙_}
+use mathlib.Core.Bool.{Bool, true, false, false≢true}
 use mathlib.Core.Option.{Option, none, some}
-use mathlib.Core.List.{List, [], _∷_, _++_, map}
+use mathlib.Core.List.{List, [], _∷_, _++_}
 use lib.Dec.{eqb}
-use lib.ListN.{length, getD, set}
 use borrow.Author.Tests.{eqb-true, eq-eqb, ne-eqb}
 use Rattle.rules.specs.State.{Setting, setupOf, Lane, Rec, State, holds, some?, noLane, laneAt, if_then_else_, anyHolds}
-use Rattle.rules.specs.Calls.{Pick, Call, Outcome, put, take, look, sets, lag, restart, served, woken, appended, without, serve, takeOf, lookOf, picked, doTake, putRefusal, accept, putOf, doPut, doLook, doLag, doSets, doRestart, idle, fresh, step}
-use Rattle.rules.specs.Runs.{after}
+use Rattle.rules.specs.Calls.{Pick, Call, Outcome, put, take, look, sets, lag, restart, served, woken, appended, without, serve, takeOf, picked, doTake, putRefusal, accept, putOf, doPut, doLook, doSets, doRestart, idle, fresh, step}
 use Rattle.rules.specs.Good.{times}
 use Rattle.rules.proofs.Bools.{if-ind}
 use Rattle.rules.proofs.Lists.{set-cases}
 use Rattle.rules.proofs.Claim.{in-range}
 use Rattle.rules.proofs.Moves.{appended-holds}
 use Rattle.rules.proofs.Bounds.{idle-at}
-use Rattle.rules.proofs.Keep.{Picked, PickIs, pick-is, Allowed, PutOk, put-ok, look-same, lag-same}
+use Rattle.rules.proofs.Keep.{PickIs, pick-is, Allowed, PutOk, put-ok, look-same, lag-same}
 use Rattle.rules.proofs.Queues.{held-inside, served-queue}
 
 unfoldable pub Tied : State → Type 0

@@ -9,17 +9,17 @@ use mathlib.Core.List.{List, [], _∷_}
 use lib.Dec.{ltb, eqb}
 use lib.ListN.{set}
 use borrow.Author.Tests.{ltb-true, eq-eqb, ne-eqb}
-use Rattle.rules.specs.State.{if_then_else_, Rec, Setting, Lane, noLane, State, charge, rate, startR, holds, laneAt, setupOf, anyHolds}
+use Rattle.rules.specs.State.{if_then_else_, Rec, Lane, noLane, State, charge, rate, startR, holds, laneAt, setupOf, anyHolds}
 use Rattle.rules.specs.Choice.{leastOf}
-use Rattle.rules.specs.Calls.{Call, put, take, look, sets, lag, restart, Reply, accepted, seen, lagged, refused, Outcome, no, putRefusal, appended, woken, accept, putOf, doPut, served, settledAt, settled, serve, Pick, picked, takeOf, doTake, lookOf, doLook, doSets, lagOf, doLag, fresh, doRestart, step}
-use Rattle.rules.specs.Runs.{Moving, sentIn}
+use Rattle.rules.specs.Calls.{Call, put, take, look, sets, lag, restart, Reply, accepted, seen, lagged, refused, Outcome, no, putRefusal, appended, woken, accept, putOf, doPut, served, settledAt, settled, serve, Pick, picked, takeOf, doTake, lookOf, doLook, doSets, lagOf, doLag, doRestart, step}
+use Rattle.rules.specs.Runs.{sentIn}
 use Rattle.rules.specs.Fair.{charged, chargedTo}
 use Rattle.rules.proofs.Bools.{if-ind, and-parts}
 use Rattle.rules.proofs.Lists.{set-cases}
 use Rattle.rules.proofs.Claim.{weightOf, Queued, in-range}
 use Rattle.rules.proofs.Lowest.{none-holds}
-use Rattle.rules.proofs.Keep.{Kept, Picked, PickIs, pick-is, Allowed, PutOk, put-ok}
-use Rattle.rules.proofs.Queues.{held-inside, served-given}
+use Rattle.rules.proofs.Keep.{Kept, PickIs, pick-is, Allowed, PutOk, put-ok}
+use Rattle.rules.proofs.Queues.{held-inside}
 use Rattle.rules.proofs.SameSetup.{setting-lane}
 
 -- From s, a call gives the outcome o. While lane k holds records the clock moves by 1,024 times what is sent or more, and the lane's start by c times what

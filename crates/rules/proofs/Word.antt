@@ -2,14 +2,14 @@
 use Prim.Native.Nat.{ℕ, zero, suc, _+_, _*_, _/_, _%_, _^_, _≤_, _<_}
 use native.Mathlib.Omega.{arith}
 use native.Mathlib.Nat.{pow-succ', mul-assoc, le-of-suc-le-suc, not-suc-le-zero, le-dest, add-suc, add-zero, add-mul-div-right, two-pow-succ, eq-or-lt-of-le}
-use mathlib.Core.Path.{_≡_, refl, sym, ap, subst, _∙_}
+use mathlib.Core.Path.{_≡_, refl, sym, ap, _∙_}
 use mathlib.Core.Bool.{Bool, true, false}
 use lib.Count.{trailingZeros}
 use lib.Pow.{pow-add, pow-pos, high}
 use mathlib.Core.Logic.{_⊎_, inl, inr}
 use Rattle.rules.specs.State.{if_then_else_}
 use Rattle.rules.specs.Sets.{wordOf}
-use Rattle.rules.specs.SetsRule.{count}
+use Rattle.rules.specs.Sets.{count}
 use Rattle.rules.proofs.Bools.{if-ind}
 
 none-set : (p : ℕ → Bool) (m : ℕ) → ((i : ℕ) → i < m → p i ≡ false) → wordOf p m ≡ 0

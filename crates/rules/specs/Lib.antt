@@ -1,12 +1,9 @@
 pub mod State
 pub mod Choice
 pub mod Sets
-pub mod SetsRule
 pub mod Calls
 pub mod Runs
 pub mod Setup
 pub mod Fair
 pub mod Good
-pub mod Order
-pub mod Alike
 pub mod Reads

@@ -1,26 +1,24 @@
 -- Every call respects `Alike`: from two states with tie orders that differ only where it is never looked at, a call gives the same reply, and two such
 -- states again. Assumes nothing.
-use Prim.Native.Nat.{ℕ, suc, _<_}
-use native.Mathlib.Omega.{arith}
+use Prim.Native.Nat.{ℕ, _<_}
 use mathlib.Core.Path.{_≡_, refl, sym, ap, subst, _∙_}
-use mathlib.Core.Bool.{Bool, true, false, not, _&&_, false≢true}
+use mathlib.Core.Bool.{Bool, true, false, false≢true}
 use mathlib.Core.Option.{Option, none, some}
 use mathlib.Core.List.{List, [], _∷_, _++_, append-nil}
 use lib.Dec.{ltb}
 use lib.ListN.{length, getD, set}
 use Rattle.rules.specs.State.{if_then_else_, Rec, Lane, noLane, State, group, startR, some?, holds, setupOf, anyHolds}
 use Rattle.rules.specs.Calls.{Call, put, take, look, sets, lag, restart, Outcome, no, putRefusal, appended, woken, accept, putOf, doPut, served, without, serve, Pick, picked, takeOf, doTake, lookOf, doLook, doSets, lagOf, lagged, doLag, fresh, restarted, doRestart, step}
-use Rattle.rules.specs.Good.{times, Good}
-use Rattle.rules.specs.Alike.{Ties, Alike}
-use Rattle.rules.proofs.Bools.{if-ind}
+use Rattle.rules.specs.Good.{Good}
+use Rattle.alike.specs.Alike.{Alike}
 use Rattle.rules.proofs.Lists.{set-cases}
 use Rattle.rules.proofs.Claim.{weightOf, in-range}
 use Rattle.rules.proofs.Moves.{appended-holds}
 use Rattle.rules.proofs.Keep.{PickIs, pick-is, Allowed, PutOk, put-ok}
 use Rattle.rules.proofs.Queues.{held-inside, served-queue}
 use Rattle.rules.proofs.Ties.{times-same, times-other}
-use Rattle.rules.proofs.Places.{place-without}
-use Rattle.rules.proofs.SameChoice.{Names, Agree, same-picked, tied-before, agree-last}
+use Rattle.alike.proofs.Places.{place-without}
+use Rattle.alike.proofs.SameChoice.{Names, Agree, same-picked, tied-before, agree-last}
 
 pub alike-refl : (s : State) → Alike s s
 alike-refl s = record { clock = refl; lanes = refl; order = λ j k h. refl }

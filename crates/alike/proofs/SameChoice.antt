@@ -1,31 +1,25 @@
 -- Two tie orders of the same lanes that agree on all ties give the same choice, and still agree after a lane gets a new S. Assumes nothing.
-use Prim.Native.Nat.{ℕ, zero, suc, _+_, _*_, _^_, _≤_, _<_}
+use Prim.Native.Nat.{ℕ, _^_, _≤_, _<_}
 use native.Mathlib.Nat.{le-antisymm, zero-add}
 use native.Mathlib.Omega.{arith}
-use native.Mathlib.Decide.{ℕ-discrete}
 use mathlib.Core.Path.{_≡_, refl, sym, ap, subst, _∙_}
-use mathlib.Core.Bool.{Bool, true, false, not, _&&_, false≢true}
+use mathlib.Core.Bool.{Bool, true, false, false≢true}
 use mathlib.Core.Logic.{_⊎_, inl, inr}
 use mathlib.Core.Option.{Option, none, some}
-use mathlib.Core.List.{List, [], _∷_, _++_, append-nil}
-use lib.Dec.{ltb, eqb}
+use mathlib.Core.List.{List, [], _∷_, _++_}
+use lib.Dec.{ltb}
 use lib.ListN.{length, getD, set}
-use borrow.Author.Tests.{ltb-true, ltb-false, lt-ltb}
-use Rattle.rules.specs.State.{if_then_else_, Rec, Lane, noLane, State, group, slot, startR, finishR, some?, holds, eligible, laneAt, setupOf, anyHolds}
-use Rattle.rules.specs.Choice.{place, Candidate, chooseFrom, choose}
-use Rattle.rules.specs.SetsRule.{laneOf}
-use Rattle.rules.specs.Calls.{Call, put, take, look, sets, lag, restart, Outcome, no, putRefusal, appended, woken, accept, putOf, doPut, served, without, serve, Pick, firstOf, pickOf, picked, takeOf, doTake, lookOf, doLook, doSets, doLag, doRestart, step}
-use Rattle.rules.specs.Good.{times, Good}
-use Rattle.rules.specs.Alike.{Ties, Alike}
-use Rattle.rules.proofs.Bools.{if-ind}
+use borrow.Author.Tests.{ltb-true, ltb-false}
+use Rattle.rules.specs.State.{if_then_else_, Lane, noLane, State, group, slot, finishR, holds}
+use Rattle.rules.specs.Choice.{place, Candidate, choose}
+use Rattle.rules.proofs.BySets.{laneOf}
+use Rattle.rules.specs.Calls.{firstOf, pickOf, picked}
+use Rattle.rules.specs.Good.{times}
+use Rattle.alike.specs.Alike.{Ties}
 use Rattle.rules.proofs.Lists.{set-cases}
-use Rattle.rules.proofs.Claim.{weightOf, in-range}
-use Rattle.rules.proofs.Moves.{appended-holds}
-use Rattle.rules.proofs.Chosen.{Ahead, Chosen, Choice, chosen}
-use Rattle.rules.proofs.Keep.{eligible-is, Picked, PickIs, pick-is, Allowed, PutOk, put-ok}
-use Rattle.rules.proofs.Queues.{held-inside, served-queue}
-use Rattle.rules.proofs.Ties.{times-same, times-other}
-use Rattle.rules.proofs.Places.{place-unique, place-without, place-last}
+use Rattle.rules.proofs.Chosen.{Chosen, Choice, chosen}
+use Rattle.rules.proofs.Keep.{eligible-is}
+use Rattle.alike.proofs.Places.{place-unique, place-last}
 
 -- what a tie order of these lanes is
 abbrev pub Names : List Lane → List ℕ → Type 0

@@ -1,18 +1,17 @@
 -- Laws of places in a list of lane numbers. Assumes nothing.
-use Prim.Native.Nat.{ℕ, zero, suc, _+_, _≤_, _<_}
+use Prim.Native.Nat.{ℕ, suc, _+_, _≤_, _<_}
 use native.Mathlib.Omega.{arith}
 use mathlib.Core.Path.{_≡_, refl, sym, ap, _∙_}
-use mathlib.Core.Bool.{Bool, true, false, false≢true}
+use mathlib.Core.Bool.{Bool, true, false}
 use mathlib.Core.Logic.{_⊎_, inl, inr}
 use mathlib.Core.List.{List, [], _∷_, _++_}
 use lib.Dec.{ltb, eqb, leb·suc-suc}
 use lib.ListN.{length}
 use borrow.Author.Tests.{eqb-true, eqb-false, eq-eqb, ne-eqb, lt-ltb, le-ltb}
 use Rattle.rules.specs.State.{if_then_else_}
 use Rattle.rules.specs.Choice.{place}
 use Rattle.rules.specs.Calls.{without}
 use Rattle.rules.specs.Good.{times}
-use Rattle.rules.proofs.Bools.{if-ind}
 
 -- a number that stands in a list has its place there, whatever follows
 pub place-append : (j : ℕ) (xs ys : List ℕ) → 0 < times j xs → place j (xs ++ ys) ≡ place j xs
