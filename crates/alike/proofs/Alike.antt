@@ -7,29 +7,70 @@ use mathlib.Core.Option.{Option, none, some}
 use mathlib.Core.List.{List, [], _∷_, _++_, append-nil}
 use lib.Dec.{ltb}
 use lib.ListN.{length, getD, set}
-use Rattle.rules.specs.State.{if_then_else_, Rec, Lane, noLane, State, group, startR, some?, holds, setupOf, anyHolds}
+use Rattle.rules.specs.State.{if_then_else_, Rec, Lane, noLane, State, group, startR, some?, holds, setupOf, anyHolds, laneAt}
+use Rattle.rules.specs.Choice.{place}
 use Rattle.rules.specs.Calls.{Call, put, take, look, sets, lag, restart, Outcome, no, putRefusal, appended, woken, accept, putOf, doPut, served, without, serve, Pick, picked, takeOf, doTake, lookOf, doLook, doSets, lagOf, lagged, doLag, fresh, restarted, doRestart, step}
 use Rattle.rules.specs.Good.{Good}
-use Rattle.alike.specs.Alike.{Alike}
+use Rattle.alike.specs.Alike.{Ties, Alike}
 use Rattle.rules.proofs.Lists.{set-cases}
 use Rattle.rules.proofs.Claim.{weightOf, in-range}
 use Rattle.rules.proofs.Moves.{appended-holds}
 use Rattle.rules.proofs.Keep.{PickIs, pick-is, Allowed, PutOk, put-ok}
 use Rattle.rules.proofs.Queues.{held-inside, served-queue}
-use Rattle.rules.proofs.Ties.{times-same, times-other}
+use Rattle.rules.proofs.Ties.{Tied, step-tied, times-same, times-other}
 use Rattle.alike.proofs.Places.{place-without}
 use Rattle.alike.proofs.SameChoice.{Names, Agree, same-picked, tied-before, agree-last}
 
+same-parts : (s t : State) → s .clock ≡ t .clock → s .lanes ≡ t .lanes → _≡_ {A = State} (record { clock = s .clock; lanes = s .lanes; order = t .order }) t
+same-parts s t c l =
+    ap (λ (v : ℕ). record { clock = v; lanes = s .lanes; order = t .order }) c ∙ ap (λ (ls : List Lane). record { clock = t .clock; lanes = ls; order = t .order }) l
+
 pub alike-refl : (s : State) → Alike s s
-alike-refl s = record { clock = refl; lanes = refl; order = λ j k h. refl }
+alike-refl s = record { clock = refl; lanes = refl; names = λ k. refl; turns = λ j k h. refl }
+
+pub alike-sym : (s t : State) → Alike s t → Alike t s
+alike-sym s t a = record {
+  clock = sym (a .clock);
+  lanes = sym (a .lanes);
+  names = λ k. sym (a .names k);
+  turns = λ j k h. sym (a .turns j k (subst (λ (ls : List Lane). Ties (getD ls j noLane) (getD ls k noLane)) (sym (a .lanes)) h));
+}
+
+pub alike-trans : (s t u : State) → Alike s t → Alike t u → Alike s u
+alike-trans s t u a b = record {
+  clock = a .clock ∙ b .clock;
+  lanes = a .lanes ∙ b .lanes;
+  names = λ k. a .names k ∙ b .names k;
+  turns = λ j k h. a .turns j k h ∙ b .turns j k (subst (λ (ls : List Lane). Ties (getD ls j noLane) (getD ls k noLane)) (a .lanes) h);
+}
+
+-- a state alike a good one is good
+pub alike-good : (s t : State) → Alike s t → Good s → Good t
+alike-good s t a g =
+    let e : record { clock = s .clock; lanes = s .lanes; order = t .order } ≡ t = same-parts s t (a .clock) (a .lanes) in
+    subst Good e (record {
+      setup = g .setup;
+      room = g .room;
+      lengths = g .lengths;
+      clock = g .clock;
+      numbers = g .numbers;
+      live = g .live;
+      order = λ k. sym (a .names k) ∙ g .order k;
+    })
+
+-- alike but for the names, which the tie orders of two good states share anyway
+record Turns (s t : State) : Type 0 where
+  clock : s .clock ≡ t .clock
+  lanes : s .lanes ≡ t .lanes
+  turns : (j k : ℕ) → Ties (laneAt s j) (laneAt s k) → ltb (place j (s .order)) (place k (s .order)) ≡ ltb (place j (t .order)) (place k (t .order))
 
 -- the same reply, and states alike
-pub record Same (x y : Outcome) : Type 0 where
-  pub reply : x .reply ≡ y .reply
-  pub state : Alike (x .state) (y .state)
+record Same (x y : Outcome) : Type 0 where
+  reply : x .reply ≡ y .reply
+  state : Turns (x .state) (y .state)
 
 same-refl : (x : Outcome) → Same x x
-same-refl x = record { reply = refl; state = alike-refl (x .state) }
+same-refl x = record { reply = refl; state = record { clock = refl; lanes = refl; turns = λ j k h. refl } }
 
 appended-given : (l : Lane) (r : Rec) → (appended l r) .given ≡ l .given
 unfolding appended
@@ -46,8 +87,8 @@ module _ (v : ℕ) (ls : List Lane) (o o′ : List ℕ) (n : Names ls o) (n′ :
   abbrev t : State
   t = record { clock = v; lanes = ls; order = o′ }
 
-  unmoved : Alike s t
-  unmoved = record { clock = refl; lanes = refl; order = same }
+  unmoved : Turns s t
+  unmoved = record { clock = refl; lanes = refl; turns = same }
 
   -- ---- take and look
 
@@ -75,7 +116,7 @@ module _ (v : ℕ) (ls : List Lane) (o o′ : List ℕ) (n : Names ls o) (n′ :
   take-same none h = record { reply = refl; state = unmoved }
   take-same (some p) h = record {
     reply = refl;
-    state = record { clock = refl; lanes = refl; order = serve-order (p .lane) (p .rest) (held-inside ls (p .lane) (p .first) (p .rest) (h .queue)) };
+    state = record { clock = refl; lanes = refl; turns = serve-order (p .lane) (p .rest) (held-inside ls (p .lane) (p .first) (p .rest) (h .queue)) };
   }
 
   look-same : (p : Option Pick) → Same (lookOf s p) (lookOf t p)
@@ -112,13 +153,13 @@ module _ (v : ℕ) (ls : List Lane) (o o′ : List ℕ) (n : Names ls o) (n′ :
     wake-order e =
         agree-last v ls o o′ n n′ same j (woken v l r) o o′ inside (simp e at (n j)) (simp e at (n′ j)) (λ k ne. (refl, refl)) (λ a b na nb. (refl, refl))
 
-    accept-same : Alike (accept s j r) (accept t j r)
+    accept-same : Turns (accept s j r) (accept t j r)
     unfolding accept
     accept-same = go (holds l) refl
       where
-        go : (b : Bool) → holds l ≡ b → Alike (accept s j r) (accept t j r)
-        go true e = simp e (record { clock = refl; lanes = refl; order = append-order e })
-        go false e = simp e (record { clock = refl; lanes = refl; order = wake-order e })
+        go : (b : Bool) → holds l ≡ b → Turns (accept s j r) (accept t j r)
+        go true e = simp e (record { clock = refl; lanes = refl; turns = append-order e })
+        go false e = simp e (record { clock = refl; lanes = refl; turns = wake-order e })
 
   put-same : (j : ℕ) (r : Rec) (p : Option ℕ) → PutOk s j (r .len) p → Same (putOf s j r p) (putOf t j r p)
   unfolding putOf
@@ -152,11 +193,24 @@ module _ (v : ℕ) (ls : List Lane) (o o′ : List ℕ) (n : Names ls o) (n′ :
   step-same (lag j) = lag-same j
   step-same restart = restart-same
 
--- ---- states alike, of which both are good
+-- ---- states alike, of which one is good (so that both are)
 
-pub step-alike : (s t : State) → Good s → Good t → Alike s t → (c : Call) → Same (step s c) (step t c)
-step-alike s t g g′ a c =
-    let t′ : State = record { clock = s .clock; lanes = s .lanes; order = t .order } in
-    let e : t′ ≡ t = ap (λ (v : ℕ). record { clock = v; lanes = s .lanes; order = t .order }) (a .clock) ∙ ap (λ (ls : List Lane). record { clock = t .clock; lanes = ls; order = t .order }) (a .lanes) in
-    subst (λ (x : State). Same (step s c) (step x c)) e
-    (step-same (s .clock) (s .lanes) (s .order) (t .order) (g .order) (λ k. g′ .order k ∙ ap (λ (ls : List Lane). if holds (getD ls k noLane) then 1 else 0) (sym (a .lanes))) (a .order) c)
+pub record Respects (x y : Outcome) : Type 0 where
+  pub reply : x .reply ≡ y .reply
+  pub state : Alike (x .state) (y .state)
+
+pub step-alike : (s t : State) → Good s → Alike s t → (c : Call) → Respects (step s c) (step t c)
+unfolding Tied
+step-alike s t g a c =
+    let same : Same (step s c) (step t c)
+    = subst (λ (x : State). Same (step s c) (step x c)) (same-parts s t (a .clock) (a .lanes))
+    (step-same (s .clock) (s .lanes) (s .order) (t .order) (g .order) (λ k. sym (a .names k) ∙ g .order k) (a .turns) c) in
+    record {
+      reply = same .reply;
+      state = record {
+        clock = same .state .clock;
+        lanes = same .state .lanes;
+        names = λ k. step-tied s c (g .order) k ∙ ap (λ (ls : List Lane). if holds (getD ls k noLane) then 1 else 0) (same .state .lanes) ∙ sym (step-tied t c (alike-good s t a g .order) k);
+        turns = same .state .turns;
+      };
+    }
