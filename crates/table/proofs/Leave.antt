@@ -34,3 +34,7 @@ leave-order t t′ u o n x e =
       beside = λ b. rw (n .words) (beside-kept (cells t) u (record { present = x .present; setting = λ k h. x .above (laneWord k) (omega arith) }) b);
       rest = n .rest;
     }
+
+-- what the next function rests on
+pub sound-after : {t t′ : List ℕ} {s : State} → Sound t → Leaves t t′ s → length t′ ≡ length t → length (s .order) ≤ 64 → Sound t′
+sound-after a l e few = record { room = omega (arith, a .room); few = rw (l .state) few; beside = l .beside (a .beside) }

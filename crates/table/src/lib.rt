@@ -65,7 +65,7 @@ pub fn set_cell(t: &mut [u8], i: usize, v: u64)
 // Lane `k`'s words, taken apart.
 pub fn row(t: &[u8], k: usize) -> LaneRow
     requires { ⌜ Room (now t) × (k < 64) ⌝ }
-    ensures { λ r. ⌜ (r ≡ rowAt (cells (now (t .entry))) k) × (r .head < 16) ⌝ }
+    ensures { λ r. ⌜ (r ≡ rowAt (cells (now (t .entry))) k) × (r .head < 16) × (r .rate .0 < 2 ^ 24) ⌝ }
 {
     let base = 80 + 4 * k;
     let setting = cell(t, base);

@@ -31,7 +31,7 @@ cast-t14 c = search needs
 
 returns : tie.Need-returns
 unfolding rowAt
-returns c = (rowOf-eq _ _ _ _ _ _ (c .before .before .cell .ensures) (c .before .cell2 .ensures) (c .cell3 .ensures), omega arith)
+returns c = (rowOf-eq _ _ _ _ _ _ (c .before .before .cell .ensures) (c .before .cell2 .ensures) (c .cell3 .ensures), omega arith, omega arith)
 
 pub row-spec : {M : Type 1} → statement M
 row-spec =
