@@ -1,0 +1,89 @@
+use Rattle.lane_test.proofs.Lane.{lane-made, lane-room, lane-time, lane-lengths}
+use Rattle.lane_test.proofs.Setting.{says-yes, says-no, group-at-most}
+use Rattle.lane_test.specs.Says.{TimeGood}
+use Rattle.table.specs.declared.LaneRow.{LaneRow}
+use Rattle.table.specs.Means.{RowAgrees, ringOf, givenOf}
+use Rattle.table.specs.Layout.{cells}
+use Rattle.rules.specs.Good.{Lengths}
+use Prim.Native.Nat.{_≤_}
+use mathlib.Core.Path.{sym, subst}
+use native.Mathlib.Omega.{arith}
+use borrow.Author.Needs.{needs}
+use Rattle.lane_test.proofs.lane_good.Statement.{statement}
+use Rattle.lane_test.proofs.lane_good.Tie as tie
+
+setting-good-requires : tie.Need-setting-good-requires
+setting-good-requires c κs = search needs
+
+returns : tie.Need-returns
+returns c =
+    let s = c .before .before .before in
+    let e = s .pre .3 in
+    let w = cells (s .args .t .now) in
+    let k = s .args .k in
+    let v = s .args .v .0 in
+    λ g. says-no (c .before .setting-good .result) (c .before .setting-good .ensures) (c .if1 .taken) (subst (λ (l : LaneRow). RowAgrees l) (sym e) (g .agrees))
+
+returns-2 : tie.Need-returns-2
+returns-2 c =
+    let s = c .before .before .before .before .before in
+    let e = s .pre .3 in
+    let w = cells (s .args .t .now) in
+    let k = s .args .k in
+    let v = s .args .v .0 in
+    λ g. let few : s .args .l .count ≤ 16 = subst (λ (l : LaneRow). l .count ≤ 16) (sym e) (lane-room v w k (s .pre .2) g) in omega (arith, few, c .if2 .taken)
+
+time-good-requires : tie.Need-time-good-requires
+time-good-requires c κs =
+    let s = c .before .before .before .before .before in
+    let e = s .pre .3 in
+    let w = cells (s .args .t .now) in
+    let k = s .args .k in
+    let v = s .args .v .0 in
+    let a = says-yes (c .before .before .before .setting-good .result) (c .before .before .before .setting-good .ensures) (c .before .before .if1 .left) in
+    (group-at-most (s .args .l) (a .rated) (a .numbers .longest-high) (a .grouped), s .pre .6)
+
+returns-3 : tie.Need-returns-3
+returns-3 c =
+    let s = c .before .before .before .before .before .before .before in
+    let e = s .pre .3 in
+    let w = cells (s .args .t .now) in
+    let k = s .args .k in
+    let v = s .args .v .0 in
+    λ g. says-no (c .before .time-good .result) (c .before .time-good .ensures) (c .if3 .taken) (subst (λ (l : LaneRow). TimeGood v l) (sym e) (lane-time v w k (s .pre .2) g))
+
+lengths-good-requires : tie.Need-lengths-good-requires
+lengths-good-requires c κs = search needs
+
+returns-4 : tie.Need-returns-4
+returns-4 c =
+    let s = c .before .before .before .before .before .before .before .before .before in
+    let e = s .pre .3 in
+    let w = cells (s .args .t .now) in
+    let k = s .args .k in
+    let v = s .args .v .0 in
+    λ g. says-no (c .before .lengths-good .result) (c .before .lengths-good .ensures) (c .if4 .taken) (subst (λ (l : LaneRow). Lengths (givenOf l) (ringOf w k (l .head) (l .count))) (sym e) (lane-lengths v w k (s .pre .2) g))
+
+returns-5 : tie.Need-returns-5
+returns-5 c =
+    let s = c .before .before .before .before .before .before .before .before .before in
+    let e = s .pre .3 in
+    let w = cells (s .args .t .now) in
+    let k = s .args .k in
+    let v = s .args .v .0 in
+    let a = says-yes (c .before .before .before .before .before .before .before .setting-good .result) (c .before .before .before .before .before .before .before .setting-good .ensures) (c .before .before .before .before .before .before .if1 .left) in
+    lane-made v w k (s .pre .2) (subst (λ (l : LaneRow). RowAgrees l) e a) (subst (λ (l : LaneRow). l .count ≤ 16) e (c .before .before .before .before .if2 .left)) (subst (λ (l : LaneRow). TimeGood v l) e (says-yes (c .before .before .before .time-good .result) (c .before .before .before .time-good .ensures) (c .before .before .if3 .left)))
+    (subst (λ (l : LaneRow). Lengths (givenOf l) (ringOf w k (l .head) (l .count))) e (says-yes (c .before .lengths-good .result) (c .before .lengths-good .ensures) (c .if4 .left)))
+
+pub lane-good-spec : {M : Type 1} → statement M
+lane-good-spec =
+    tie.close
+    (tie.spec
+    setting-good-requires
+    returns
+    returns-2
+    time-good-requires
+    returns-3
+    lengths-good-requires
+    returns-4
+    returns-5)

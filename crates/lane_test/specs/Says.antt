@@ -1,0 +1,33 @@
+-- What a test of one lane says.
+--
+--   Says       a Bool that is true exactly if a statement holds
+--   TimeGood   the conditions on S, F and R, over a lane's row
+--   LaneGood   what the good-table rule asks of a lane that is in the setup
+--
+-- Assumes nothing.
+use mathlib.Core.Path.{_≡_}
+use mathlib.Core.Bool.{Bool, true, false}
+use Prim.Native.Nat.{ℕ, _+_, _*_, _^_, _≤_, _<_}
+use mathlib.Core.List.{List}
+use lib.ListN.{length}
+use Rattle.units.specs.Numbers.{roundDown}
+use Rattle.rules.specs.State.{Lane, laneDepth}
+use Rattle.rules.specs.Good.{Lengths, Times}
+use Rattle.table.specs.Layout.{rowAt}
+use Rattle.table.specs.Means.{RowAgrees, laneOf}
+use Rattle.table.specs.declared.LaneRow.{LaneRow}
+
+abbrev pub Says : Bool → Type 0 → Type 0
+Says true P = P
+Says false P = P → ⊥
+
+-- "for a holding lane .. S below V + 2s, R above V - 2s - 1,536,000; for an idle lane F below V + 2s": one clock word serves the first and the last
+pub record TimeGood (v : ℕ) (l : LaneRow) : Type 0 where
+  pub below : l .time .0 < v + 2 * 2 ^ (l .group)
+  pub above : 0 < l .count → v < roundDown (2 ^ (l .group)) (l .time .0) + 2 * 2 ^ (l .group) + 1536000
+
+pub record LaneGood (v : ℕ) (w : List ℕ) (k : ℕ) : Type 0 where
+  pub agrees : RowAgrees (rowAt w k)
+  pub room : length (laneOf w k .queue) ≤ laneDepth
+  pub lengths : Lengths (laneOf w k .given) (laneOf w k .queue)
+  pub numbers : Times v (laneOf w k) (laneOf w k .queue)

@@ -1,0 +1,150 @@
+// The good-table test of one lane: document 01, "A good table".
+//
+// Each function answers true exactly if the statement in its contract holds (`Says`). No call divides: c is tested by the two bounds that only it
+// meets, the group by equality with the least power, and R is found by shifting. An idle lane has no record to look at.
+ghost use mathlib.Core.Path.{_≡_};
+ghost use mathlib.Core.Bool.{true};
+ghost use Prim.Native.Nat.{_+_, _*_, _^_, _<_, _≤_};
+ghost use Rattle.units.specs.Numbers.{perByte};
+ghost use Rattle.rules.specs.State.{group};
+ghost use Rattle.rules.specs.Good.{Lengths};
+ghost use Rattle.table.specs.Layout.{Room, cells, rowAt};
+ghost use Rattle.table.specs.Means.{RowAgrees, givenOf, ringOf, presentAt};
+ghost use Rattle.lane_test.specs.Says.{Says, TimeGood, LaneGood};
+use table::LaneRow;
+use table::charged;
+use table::record_at;
+use units::Clock;
+use units::lane_charge;
+use units::rounded_start;
+use units::slot;
+
+// 1,024 times the longest record of any lane: how far the clock may run ahead in one take.
+const REACH: u64 = 1536000;
+
+// Whether c is 1,048,576 / weight, rounded up: the only number with 2^20 <= c w < 2^20 + w.
+fn rate_good(l: LaneRow) -> bool
+    requires { ⌜ (1 ≤ l .weight) × (l .weight ≤ 1024) × (l .rate .0 < 2 ^ 24) ⌝ }
+    ensures { λ r. ⌜ Says r (l .rate .0 ≡ perByte (l .weight)) ⌝ }
+{
+    let product = l.rate.0 * l.weight;
+    if product < 1048576 {
+        return false;
+    }
+    if product >= 1048576 + l.weight {
+        return false;
+    }
+    true
+}
+
+// Whether the group is the least i with 2^i at least longest times c.
+fn group_good(l: LaneRow) -> bool
+    requires { ⌜ (64 ≤ l .longest .0) × (l .longest .0 ≤ 1500) × (l .rate .0 ≡ perByte (l .weight)) × (1 ≤ l .weight) × (l .weight ≤ 1024) ⌝ }
+    ensures { λ r. ⌜ Says r (l .group ≡ group (givenOf l)) ⌝ }
+{
+    let index = l.group;
+    if index > 31 {
+        return false;
+    }
+    let span = lane_charge(charged(l, l.longest), l.rate).0;
+    let slot = slot(index).0;
+    if slot < span {
+        return false;
+    }
+    if 2 * span <= slot {
+        return false;
+    }
+    true
+}
+
+// Whether a lane's setting is within the numbers, and its c and group are those of its setting.
+fn setting_good(l: LaneRow) -> bool
+    requires { ⌜ l .rate .0 < 2 ^ 24 ⌝ }
+    ensures { λ r. ⌜ Says r (RowAgrees l) ⌝ }
+{
+    if l.weight < 1 {
+        return false;
+    }
+    if l.weight > 1024 {
+        return false;
+    }
+    if l.longest.0 < 64 {
+        return false;
+    }
+    if l.longest.0 > 1500 {
+        return false;
+    }
+    let rated = rate_good(l);
+    if !rated {
+        return false;
+    }
+    let grouped = group_good(l);
+    if !grouped {
+        return false;
+    }
+    true
+}
+
+// Whether a lane's clock word is near enough to V.
+fn time_good(l: LaneRow, v: Clock) -> bool
+    requires { ⌜ (l .group ≤ 31) × (v .0 < 2 ^ 63) ⌝ }
+    ensures { λ r. ⌜ Says r (TimeGood (v .0) l) ⌝ }
+{
+    let window = 2 * slot(l.group).0;
+    if l.time.0 >= v.0 + window {
+        return false;
+    }
+    if l.count == 0 {
+        return true;
+    }
+    let rounded = rounded_start(l.time, l.group).0;
+    if v.0 >= rounded + window + REACH {
+        return false;
+    }
+    true
+}
+
+// Whether each record of a lane's queue has a length of 1 to the lane's longest.
+fn lengths_good(t: &[u8], k: usize, l: LaneRow) -> bool
+    requires { ⌜ Room (now t) × (k < 64) × (l .head < 16) × (l .count ≤ 16) ⌝ }
+    ensures { λ r. ⌜ Says r (Lengths (givenOf l) (ringOf (cells (now (t .entry))) k (l .head) (l .count))) ⌝ }
+{
+    let head = l.head;
+    let count = l.count;
+    let longest = l.longest.0;
+    let mut i = 0;
+    while i < count {
+        let length = record_at(t, k, head + i).length.0;
+        if length < 1 {
+            return false;
+        }
+        if length > longest {
+            return false;
+        }
+        i += 1;
+    }
+    true
+}
+
+// Whether lane `k`, which is in the setup and has the row `l`, is good.
+pub fn lane_good(t: &[u8], k: usize, l: LaneRow, v: Clock) -> bool
+    requires { ⌜ Room (now t) × (k < 64) × (presentAt (cells (now t)) k ≡ true) × (l ≡ rowAt (cells (now t)) k) × (l .head < 16) × (l .rate .0 < 2 ^ 24) × (v .0 < 2 ^ 63) ⌝ }
+    ensures { λ r. ⌜ Says r (LaneGood (v .0) (cells (now (t .entry))) k) ⌝ }
+{
+    let agrees = setting_good(l);
+    if !agrees {
+        return false;
+    }
+    if l.count > 16 {
+        return false;
+    }
+    let timed = time_good(l, v);
+    if !timed {
+        return false;
+    }
+    let lengths = lengths_good(t, k, l);
+    if !lengths {
+        return false;
+    }
+    true
+}

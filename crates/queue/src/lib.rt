@@ -1,0 +1,75 @@
+// The queues of a table's lanes: document 01's "Put appends the record" and "Hand out its first record", each with what it does to S and F.
+//
+// A queue is a ring of 16 places. Each function leaves one lane changed as `rules` says (`appended`, `woken`, `served`) and all else as it was.
+// These are inner functions: a `requires` says what a good state gives.
+ghost use mathlib.Core.Path.{_≡_};
+ghost use mathlib.Core.Bool.{true, false};
+ghost use Prim.Native.Nat.{_+_, _*_, _^_, _<_, _≤_, max};
+ghost use lib.ListN.{length};
+ghost use Rattle.rules.specs.State.{laneAt, holds, laneDepth};
+ghost use Rattle.rules.specs.Calls.{appended, woken};
+ghost use Rattle.table.specs.Means.{meant, Sound, Leaves, withLane};
+ghost use Rattle.queue.specs.Queue.{waiting, First, Takes};
+use table::Entry;
+use table::charged;
+use table::record_at;
+use table::row;
+use table::set_record;
+use table::set_row;
+use units::Clock;
+use units::lane_charge;
+use units::plus;
+
+// Appends a record to lane `k`, which holds records and has room.
+pub fn append(t: &mut [u8], k: usize, e: Entry)
+    requires { ⌜ Sound (now t) × (k < 64) × (e .length .0 < 2 ^ 32) × (holds (laneAt (meant (now t)) k) ≡ true) × (length (laneAt (meant (now t)) k .queue) < laneDepth) ⌝ }
+    ensures { λ _. ⌜ Leaves (now (t .entry)) (now (t .exit)) (withLane (meant (now (t .entry))) k (appended (laneAt (meant (now (t .entry))) k) (waiting e))) ⌝ }
+{
+    let l = row(t, k);
+    let head = l.head;
+    let count = l.count;
+    set_record(t, k, head + count, e);
+    let mut next = l;
+    next.count = count + 1;
+    set_row(t, k, next);
+}
+
+// Puts the first record into lane `k`, which is in the setup and idle. `start` is its S: the greater of F and V.
+pub fn wake(t: &mut [u8], k: usize, start: Clock, e: Entry)
+    requires { ⌜ Sound (now t) × (k < 64) × (e .length .0 < 2 ^ 32) × (0 < laneAt (meant (now t)) k .given .weight) × (holds (laneAt (meant (now t)) k) ≡ false) × (start .0 ≡ max (laneAt (meant (now t)) k .finish) (meant (now t) .clock)) ⌝ }
+    ensures { λ _. ⌜ Leaves (now (t .entry)) (now (t .exit)) (withLane (meant (now (t .entry))) k (woken (meant (now (t .entry)) .clock) (laneAt (meant (now (t .entry))) k) (waiting e))) ⌝ }
+{
+    let l = row(t, k);
+    let head = l.head;
+    set_record(t, k, head, e);
+    let mut next = l;
+    next.time = start;
+    next.count = 1;
+    set_row(t, k, next);
+}
+
+// The first record of lane `k`, which holds records.
+pub fn first(t: &[u8], k: usize) -> Entry
+    requires { ⌜ Sound (now t) × (k < 64) × (holds (laneAt (meant (now t)) k) ≡ true) ⌝ }
+    ensures { λ r. ⌜ First (laneAt (meant (now (t .entry))) k) r ⌝ }
+{
+    let l = row(t, k);
+    record_at(t, k, l.head)
+}
+
+// Takes the first record of lane `k`, which holds records. Its new clock word is F: the next S, or the F that an idle lane keeps.
+pub fn take_first(t: &mut [u8], k: usize) -> Entry
+    requires { ⌜ Sound (now t) × (k < 64) × (holds (laneAt (meant (now t)) k) ≡ true) × (length (laneAt (meant (now t)) k .queue) ≤ laneDepth) × (laneAt (meant (now t)) k .finish < 2 ^ 64) ⌝ }
+    ensures { λ r. ⌜ Takes (now (t .entry)) (now (t .exit)) k r ⌝ }
+{
+    let l = row(t, k);
+    let head = l.head;
+    let e = record_at(t, k, head);
+    let finish = plus(l.time, lane_charge(charged(l, e.length), l.rate));
+    let mut next = l;
+    next.time = finish;
+    next.head = (head + 1) % 16;
+    next.count = l.count - 1;
+    set_row(t, k, next);
+    e
+}

@@ -1,0 +1,5 @@
+pub mod Stores
+pub mod Footprint
+pub mod Leave
+pub mod Rows
+pub mod Timed

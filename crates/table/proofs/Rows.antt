@@ -1,0 +1,95 @@
+-- What a store to a lane's row or ring does to the lane. Assumes nothing.
+use mathlib.Core.Path.{_≡_, refl, sym, ap, _∙_}
+use mathlib.Core.Bool.{Bool, true, false}
+use Prim.Native.Nat.{ℕ, zero, suc, _+_, _*_, _/_, _%_, _≤_, _<_}
+use mathlib.Core.List.{List, [], _∷_}
+use native.Mathlib.Omega.{arith}
+use lib.ListN.{length, getD, set, length-set}
+use lib.Seq.{getD-set-same, getD-set-other}
+use Rattle.rules.specs.State.{if_then_else_, Rec, Lane, State, laneAt, holds, some?, noLane}
+use Rattle.table.specs.Layout.{presentWord, laneWord, placeWord, rowOf, rowAt, putRow}
+use Rattle.table.specs.Means.{presentAt, recOf, ringOf, givenOf, timed, rowLane, laneOf, stateOf}
+use Rattle.table.specs.declared.LaneRow.{LaneRow}
+use Rattle.table.proofs.Footprint.{Outside, present-kept, row-kept, ring-kept, lane-is}
+
+-- ---- where the stores lie
+
+pub outside-trans : (w u v : List ℕ) (k : ℕ) → Outside w u k → Outside u v k → Outside w v k
+outside-trans w u v k a b = record { kept = λ i p q. b .kept i p q ∙ a .kept i p q }
+
+pub outside-row : (w : List ℕ) (k : ℕ) (l : LaneRow) → Outside w (putRow w k l) k
+unfolding putRow
+outside-row w k l =
+    record {
+      kept = λ i p q.
+          getD-set-other (set w (laneWord k + 1) (l .time .0)) (laneWord k + 2) i (l .head + 16 * l .count) 0 (λ e. p (omega arith) (omega arith))
+          ∙ getD-set-other w (laneWord k + 1) i (l .time .0) 0 (λ e. p (omega arith) (omega arith));
+    }
+
+pub outside-place : (w : List ℕ) (k i e : ℕ) → Outside w (set w (placeWord k i) e) k
+outside-place w k i e = record { kept = λ j p q. getD-set-other w (placeWord k i) j e 0 (λ x. q (omega arith) (omega arith)) }
+
+-- ---- a row stored and read again
+
+-- a row with its clock and its ring changed
+abbrev pub retimed : LaneRow → ℕ → ℕ → ℕ → LaneRow
+retimed l x h n = record { longest = l .longest; weight = l .weight; group = l .group; rate = l .rate; time = record { 0 = x }; head = h; count = n }
+
+pub row-put : (w : List ℕ) (k x h n : ℕ) → length w ≡ 1360 → k < 64 → h < 16 → rowAt (putRow w k (retimed (rowAt w k) x h n)) k ≡ retimed (rowAt w k) x h n
+unfolding rowAt putRow
+row-put w k x h n len hk small =
+    let u = set w (laneWord k + 1) x in
+    let first : getD (set u (laneWord k + 2) (h + 16 * n)) (laneWord k) 0 ≡ getD w (laneWord k) 0 = getD-set-other u (laneWord k + 2) (laneWord k) (h + 16 * n) 0 (omega arith) ∙ getD-set-other w (laneWord k + 1) (laneWord k) x 0 (omega arith) in
+    let second : getD (set u (laneWord k + 2) (h + 16 * n)) (laneWord k + 1) 0 ≡ x = getD-set-other u (laneWord k + 2) (laneWord k + 1) (h + 16 * n) 0 (omega arith) ∙ getD-set-same w (laneWord k + 1) x 0 (omega arith) in
+    let third : getD (set u (laneWord k + 2) (h + 16 * n)) (laneWord k + 2) 0 ≡ h + 16 * n = getD-set-same u (laneWord k + 2) (h + 16 * n) 0 (rw length-set (omega arith)) in
+    let low : (h + 16 * n) % 16 ≡ h = omega arith in
+    let high : (h + 16 * n) / 16 ≡ n = omega arith in
+    rw (first, second, third, low, high)
+
+pub present-put : (w : List ℕ) (k : ℕ) (l : LaneRow) → presentAt (putRow w k l) k ≡ presentAt w k
+present-put w k l =
+    present-kept w (putRow w k l) k (outside-row w k l .kept presentWord (λ p q. omega arith) (λ p q. omega arith))
+
+ring-put : (w : List ℕ) (k h n : ℕ) (l : LaneRow) → k < 64 → ringOf (putRow w k l) k h n ≡ ringOf w k h n
+unfolding putRow
+ring-put w k h n l hk =
+    ring-kept w (putRow w k l) k h n (λ i p q. getD-set-other (set w (laneWord k + 1) (l .time .0)) (laneWord k + 2) i (l .head + 16 * l .count) 0 (omega arith) ∙ getD-set-other w (laneWord k + 1) i (l .time .0) 0 (omega arith))
+
+-- the lane, once its row is stored
+pub lane-put : (w : List ℕ) (k x h n : ℕ) → length w ≡ 1360 → k < 64 → h < 16 → presentAt w k ≡ true → laneOf (putRow w k (retimed (rowAt w k) x h n)) k ≡ timed (givenOf (rowAt w k)) x (ringOf w k h n)
+unfolding laneOf rowLane
+lane-put w k x h n len hk small p =
+    rw (present-put w k (retimed (rowAt w k) x h n), p, row-put w k x h n len hk small, ring-put w k h n (retimed (rowAt w k) x h n) hk)
+
+-- a record stored in a ring leaves its lane's row
+pub row-place : (w : List ℕ) (k i e : ℕ) → k < 64 → rowAt (set w (placeWord k i) e) k ≡ rowAt w k
+row-place w k i e hk = row-kept w (set w (placeWord k i) e) k (λ j p q. getD-set-other w (placeWord k i) j e 0 (omega arith))
+
+-- ---- lanes by their rows
+
+pub present-place : (w : List ℕ) (k i e : ℕ) → presentAt (set w (placeWord k i) e) k ≡ presentAt w k
+present-place w k i e = present-kept w (set w (placeWord k i) e) k (getD-set-other w (placeWord k i) presentWord e 0 (omega arith))
+
+pub lane-present : (w : List ℕ) (k : ℕ) → presentAt w k ≡ true → laneOf w k ≡ timed (givenOf (rowAt w k)) (rowAt w k .time .0) (ringOf w k (rowAt w k .head) (rowAt w k .count))
+unfolding laneOf rowLane
+lane-present w k p = rw p
+
+pub lane-absent : (w : List ℕ) (k : ℕ) → presentAt w k ≡ false → laneOf w k ≡ noLane
+unfolding laneOf
+lane-absent w k p = rw p
+
+by-present : (w : List ℕ) (k : ℕ) (b : Bool) → presentAt w k ≡ b → 0 < laneOf w k .given .weight → b ≡ true
+by-present w k true e h = refl
+by-present w k false e h = absurd (omega (arith, ap (λ (l : Lane). l .given .weight) (lane-absent w k e)))
+
+-- a lane with a weight is in the setup
+pub weight-present : (w : List ℕ) (k : ℕ) → k < 64 → 0 < laneAt (stateOf w) k .given .weight → presentAt w k ≡ true
+weight-present w k hk h = by-present w k (presentAt w k) refl (rw (lane-is w k hk) at h)
+
+by-holds : (w : List ℕ) (k : ℕ) (b : Bool) → presentAt w k ≡ b → holds (laneOf w k) ≡ true → b ≡ true
+by-holds w k true e h = refl
+by-holds w k false e h = sym (ap holds (lane-absent w k e)) ∙ h
+
+-- and so is one that holds records
+pub holds-present : (w : List ℕ) (k : ℕ) → k < 64 → holds (laneAt (stateOf w) k) ≡ true → presentAt w k ≡ true
+holds-present w k hk h = by-holds w k (presentAt w k) refl (rw (lane-is w k hk) at h)

@@ -1,0 +1,40 @@
+-- Laws of a lane by its one clock word: each change that a call makes to a lane is a new clock word and a new queue. Assumes nothing.
+use mathlib.Core.Path.{_≡_, refl}
+use mathlib.Core.Bool.{Bool, true, false, false≢true}
+use Prim.Native.Nat.{ℕ, zero, suc, _+_, _*_, max}
+use mathlib.Core.List.{List, [], _∷_, _++_}
+use Rattle.rules.specs.State.{Rec, Setting, Lane, charge, rate, some?}
+use Rattle.rules.specs.Calls.{appended, woken, served, idle}
+use Rattle.table.specs.Means.{timed}
+
+pub timed-given : (g : Setting) (x : ℕ) (q : List Rec) → timed g x q .given ≡ g
+unfolding timed
+timed-given g x [] = refl
+timed-given g x (r ∷ rs) = refl
+
+pub timed-queue : (g : Setting) (x : ℕ) (q : List Rec) → timed g x q .queue ≡ q
+unfolding timed
+timed-queue g x [] = refl
+timed-queue g x (r ∷ rs) = refl
+
+-- put on a holding lane
+pub timed-appended : (g : Setting) (x : ℕ) (q : List Rec) (r : Rec) → some? q ≡ true → appended (timed g x q) r ≡ timed g x (q ++ r ∷ [])
+unfolding timed appended
+timed-appended g x [] r h = absurd (false≢true h)
+timed-appended g x (r′ ∷ rs) r h = refl
+
+-- put on an idle lane
+pub timed-woken : (g : Setting) (v x : ℕ) (r : Rec) → woken v (timed g x []) r ≡ timed g (max x v) (r ∷ [])
+unfolding timed woken
+timed-woken g v x r = refl
+
+-- take: the new clock word is F, whether the lane holds more or not
+pub timed-served : (g : Setting) (x : ℕ) (r : Rec) (rs : List Rec) → served (timed g x (r ∷ rs)) rs ≡ timed g (x + charge g (r .len) * rate g) rs
+unfolding timed served
+timed-served g x r [] = refl
+timed-served g x r (r′ ∷ rs) = refl
+
+-- fresh
+pub timed-idle : (g : Setting) → idle g ≡ timed g 0 []
+unfolding timed idle
+timed-idle g = refl

@@ -1,0 +1,27 @@
+use native.Mathlib.Omega.{arith}
+use Rattle.table.specs.Layout.{entryOf}
+use mathlib.Core.Path.{ap}
+use borrow.Author.Needs.{needs}
+use Rattle.table.proofs.record_at.Statement.{statement}
+use Rattle.table.proofs.record_at.Tie as tie
+
+mul-cell : tie.Need-mul-cell
+mul-cell c = search needs
+
+add-cell : tie.Need-add-cell
+add-cell c = search needs
+
+add-cell-2 : tie.Need-add-cell-2
+add-cell-2 c = search needs
+
+cell-requires : tie.Need-cell-requires
+cell-requires c κs = search needs
+
+cast-t10 : tie.Need-cast-t10
+cast-t10 c = search needs
+
+returns : tie.Need-returns
+returns c = (ap entryOf (c .cell .ensures), search needs)
+
+pub record-at-spec : {M : Type 1} → statement M
+record-at-spec = tie.close (tie.spec mul-cell add-cell add-cell-2 cell-requires cast-t10 returns)

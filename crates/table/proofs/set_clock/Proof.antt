@@ -1,0 +1,29 @@
+use Rattle.table.proofs.Leave.{sound-few}
+use Rattle.table.proofs.Footprint.{clock-changed, beside-kept, clock-settings}
+use Rattle.table.proofs.Stores.{length-cells}
+use Rattle.table.specs.Layout.{cells}
+use mathlib.Core.Path.{_∙_}
+use borrow.Author.Needs.{needs}
+use Rattle.table.proofs.set_clock.Statement.{statement}
+use Rattle.table.proofs.set_clock.Tie as tie
+
+set-cell-requires : tie.Need-set-cell-requires
+set-cell-requires c κs = search needs
+
+same-length : tie.Need-same-length
+same-length c = search needs
+
+returns : tie.Need-returns
+returns c =
+    let s = c .before .before .before .before .before in
+    let w = cells (s .args .t .now) in
+    let v = s .args .v .0 in
+    let n = c .before .before .set-cell .ensures in
+    record {
+      state = rw (n .words) (clock-changed w v (length-cells (s .args .t .now)) (sound-few (s .args .t .now) (s .pre)));
+      beside = λ b. rw (n .words) (beside-kept w _ (clock-settings w v) b);
+      rest = n .rest;
+    }
+
+pub set-clock-spec : {M : Type 1} → statement M
+set-clock-spec = tie.close (tie.spec set-cell-requires same-length returns)

@@ -1,0 +1,80 @@
+-- Where a table's parts lie, in 64-bit words (docs/TABLE.md), and what a store leaves.
+--
+--   WORDS, Room      the number of words; bytes that are long enough for them
+--   cells            the words of a table's bytes
+--   Now              what a store leaves: the words, and the bytes past the table
+--   laneWord         the first of lane k's words: setting, clock, ring
+--   placeWord        the word of lane k's place i, i counted on past the ring's end
+--   rowOf, rowAt     a lane's three words, taken apart
+--   entryOf          a record's word, taken apart
+--
+-- Assumes nothing.
+use mathlib.Core.Path.{_≡_}
+use Prim.Native.Nat.{ℕ, _+_, _*_, _/_, _%_, _^_, _≤_}
+use mathlib.Core.List.{List}
+use lib.ListN.{length, drop, getD, set}
+use Rattle.words.specs.Words.{wordsOf}
+use Rattle.rules.specs.State.{laneDepth}
+use Rattle.table.specs.declared.LaneRow.{LaneRow}
+use Rattle.table.specs.declared.Entry.{Entry}
+
+abbrev pub WORDS : ℕ
+WORDS = 1360
+
+abbrev pub Room : List ℕ → Type 0
+Room t = WORDS * 8 ≤ length t
+
+unfoldable pub cells : List ℕ → List ℕ
+cells t = wordsOf WORDS t
+
+pub record Now (before after w : List ℕ) : Type 0 where
+  pub words : cells after ≡ w
+  pub rest : drop (WORDS * 8) after ≡ drop (WORDS * 8) before
+
+-- ---- the single words
+
+abbrev pub clockWord : ℕ
+clockWord = 0
+
+abbrev pub presentWord : ℕ
+presentWord = 1
+
+abbrev pub holdingWord : ℕ
+holdingWord = 2
+
+abbrev pub orderWord : ℕ
+orderWord = 16
+
+-- ---- a lane
+
+abbrev pub laneWord : ℕ → ℕ
+laneWord k = 80 + 4 * k
+
+abbrev pub placeWord : ℕ → ℕ → ℕ
+placeWord k i = 336 + laneDepth * k + i % laneDepth
+
+abbrev pub rowOf : ℕ → ℕ → ℕ → LaneRow
+rowOf setting time ring = record {
+  longest = record { 0 = setting % 2 ^ 16 };
+  weight = setting / 2 ^ 16 % 2 ^ 16;
+  group = setting / 2 ^ 32 % 2 ^ 8;
+  rate = record { 0 = setting / 2 ^ 40 };
+  time = record { 0 = time };
+  head = ring % 16;
+  count = ring / 16;
+}
+
+unfoldable pub rowAt : List ℕ → ℕ → LaneRow
+rowAt w k = rowOf (getD w (laneWord k) 0) (getD w (laneWord k + 1) 0) (getD w (laneWord k + 2) 0)
+
+-- the words with lane k's clock and ring changed; the setting stays
+unfoldable pub putRow : List ℕ → ℕ → LaneRow → List ℕ
+putRow w k l = set (set w (laneWord k + 1) (l .time .0)) (laneWord k + 2) (l .head + 16 * l .count)
+
+-- ---- a record
+
+abbrev pub entryOf : ℕ → Entry
+entryOf e = record { mark = e % 2 ^ 32; length = record { 0 = e / 2 ^ 32 } }
+
+abbrev pub entryWord : Entry → ℕ
+entryWord e = e .mark + e .length .0 * 2 ^ 32

@@ -1,0 +1,88 @@
+-- The state that a table's words mean, in the terms of `rules`.
+--
+--   presentAt   lane k is in the setup: bit k of the word of present lanes
+--   timed       a lane by its setting, its one clock word and its queue
+--   laneOf      lane k; one that is not in the setup means nothing, whatever its words hold
+--   stateOf     the state
+--   Beside      what is stored beside the state: c and the group of each present lane
+--   Sound       what the inner functions rest on
+--   Leaves      what a function leaves: a state, what is stored beside it, and the bytes past the table
+--
+-- Assumes nothing.
+use mathlib.Core.Path.{_≡_}
+use mathlib.Core.Bool.{Bool, true, false}
+use Prim.Native.Nat.{ℕ, _+_, _*_, _/_, _%_, _^_, _≤_, _<_}
+use mathlib.Core.List.{List, [], _∷_}
+use lib.Dec.{eqb}
+use lib.ListN.{length, drop, getD, set}
+use Rattle.words.specs.Runs.{reads, tab}
+use Rattle.rules.specs.State.{if_then_else_, Rec, Setting, Lane, State, charge, rate, group, noLane}
+use Rattle.rules.specs.Setup.{InNumbers}
+use Rattle.table.specs.Layout.{WORDS, Room, cells, clockWord, presentWord, holdingWord, orderWord, placeWord, rowAt}
+use Rattle.table.specs.declared.LaneRow.{LaneRow}
+
+unfoldable pub presentAt : List ℕ → ℕ → Bool
+presentAt w k = eqb (getD w presentWord 0 / 2 ^ k % 2) 1
+
+abbrev pub recOf : ℕ → Rec
+recOf e = record { mark = e % 2 ^ 32; len = e / 2 ^ 32 }
+
+-- the n records of lane k's ring from the place h on
+unfoldable pub ringOf : List ℕ → ℕ → ℕ → ℕ → List Rec
+ringOf w k h n = tab n (λ i. recOf (getD w (placeWord k (h + i)) 0))
+
+abbrev pub givenOf : LaneRow → Setting
+givenOf l = record { weight = l .weight; longest = l .longest .0 }
+
+-- One clock word x: F of an idle lane, whose S is 0 by definition; S of a holding one, whose F is "S + its first record's length times c".
+unfoldable pub timed : Setting → ℕ → List Rec → Lane
+timed g x [] = record { given = g; start = 0; finish = x; queue = [] }
+timed g x (r ∷ rs) = record { given = g; start = x; finish = x + charge g (r .len) * rate g; queue = r ∷ rs }
+
+unfoldable pub rowLane : List ℕ → ℕ → LaneRow → Lane
+rowLane w k l = timed (givenOf l) (l .time .0) (ringOf w k (l .head) (l .count))
+
+unfoldable pub laneOf : List ℕ → ℕ → Lane
+laneOf w k = if presentAt w k then rowLane w k (rowAt w k) else noLane
+
+unfoldable pub stateOf : List ℕ → State
+stateOf w = record { clock = getD w clockWord 0; lanes = tab 64 (laneOf w); order = reads w orderWord (getD w holdingWord 0) }
+
+-- the state of a table's bytes
+abbrev pub meant : List ℕ → State
+meant t = stateOf (cells t)
+
+-- ---- what is stored beside the state
+
+-- "any stored links and sets agreeing with these": a lane is present exactly if it is in the setup, and its c and group are those of its setting
+pub record RowAgrees (l : LaneRow) : Type 0 where
+  pub numbers : InNumbers (givenOf l)
+  pub rated : l .rate .0 ≡ rate (givenOf l)
+  pub grouped : l .group ≡ group (givenOf l)
+
+pub record Beside (w : List ℕ) : Type 0 where
+  pub rows : (k : ℕ) → k < 64 → presentAt w k ≡ true → RowAgrees (rowAt w k)
+
+-- ---- contracts
+
+-- the tie order keeps to its 64 places: a good state's does (proofs/Few.antt)
+pub record Sound (t : List ℕ) : Type 0 where
+  pub room : Room t
+  pub few : length (meant t .order) ≤ 64
+  pub beside : Beside (cells t)
+
+pub record Leaves (before after : List ℕ) (s : State) : Type 0 where
+  pub state : meant after ≡ s
+  pub beside : Beside (cells before) → Beside (cells after)
+  pub rest : drop (WORDS * 8) after ≡ drop (WORDS * 8) before
+
+-- ---- a state with one part changed
+
+abbrev pub withClock : State → ℕ → State
+withClock s v = record { clock = v; lanes = s .lanes; order = s .order }
+
+abbrev pub withLane : State → ℕ → Lane → State
+withLane s k l = record { clock = s .clock; lanes = set (s .lanes) k l; order = s .order }
+
+abbrev pub withOrder : State → List ℕ → State
+withOrder s o = record { clock = s .clock; lanes = s .lanes; order = o }

@@ -1,0 +1,162 @@
+// The lent table: a state of `rules` in 1,360 words of lent bytes (docs/TABLE.md).
+//
+// Three views, each over the one below: bytes; words (`cells`), where a store is one `set`; and the state that the words mean (`stateOf`,
+// specs/Means.antt). `Encodes` (specs/Encodes.antt) says when bytes encode a state. Queues, the tie order, fresh tables and the good-table test are in
+// the crates beside this one: `queue`, `order`, `fresh`, `good`.
+//
+// Units: lengths are `Bytes`, times are `Clock`, c is a `Rate`. These are inner functions: a `requires` says what the crates above keep.
+ghost use mathlib.Core.Path.{_≡_};
+ghost use Prim.Native.Nat.{_+_, _*_, _^_, _<_, _≤_};
+ghost use lib.ListN.{length, getD, set};
+ghost use Rattle.table.specs.Layout.{Room, WORDS, Now, cells, rowAt, putRow, entryOf, entryWord, placeWord};
+ghost use Rattle.rules.specs.State.{charge};
+ghost use Rattle.table.specs.Means.{presentAt, givenOf, meant, Sound, Leaves, withClock};
+use units::Bytes;
+use units::Clock;
+use units::Rate;
+use words::set_word;
+use words::word;
+
+// The fixed size of a table, in bytes.
+pub const SIZE: usize = 10880;
+
+// Where the parts lie, in words.
+pub const CLOCK: usize = 0;
+
+pub const PRESENT: usize = 1;
+
+pub const HOLDING: usize = 2;
+
+pub const ORDER: usize = 16;
+
+// A lane as the table keeps it: its setting, its one clock word (S while it holds records, F while it is idle), and its ring.
+pub struct LaneRow {
+    pub longest: Bytes,
+    pub weight: u64,
+    pub group: u32,
+    pub rate: Rate,
+    pub time: Clock,
+    pub head: u64,
+    pub count: u64,
+}
+
+// A record in a lane's ring.
+pub struct Entry {
+    pub mark: u32,
+    pub length: Bytes,
+}
+
+// Word `i` of the table.
+pub fn cell(t: &[u8], i: usize) -> u64
+    requires { ⌜ Room (now t) × (i < WORDS) ⌝ }
+    ensures { λ r. ⌜ r ≡ getD (cells (now (t .entry))) i 0 ⌝ }
+{
+    word(t, i)
+}
+
+// Changes word `i` of the table.
+pub fn set_cell(t: &mut [u8], i: usize, v: u64)
+    requires { ⌜ Room (now t) × (i < WORDS) ⌝ }
+    ensures { λ _. ⌜ Now (now (t .entry)) (now (t .exit)) (set (cells (now (t .entry))) i v) ⌝ }
+{
+    set_word(t, i, v);
+}
+
+// Lane `k`'s words, taken apart.
+pub fn row(t: &[u8], k: usize) -> LaneRow
+    requires { ⌜ Room (now t) × (k < 64) ⌝ }
+    ensures { λ r. ⌜ (r ≡ rowAt (cells (now (t .entry))) k) × (r .head < 16) × (r .rate .0 < 2 ^ 24) ⌝ }
+{
+    let base = 80 + 4 * k;
+    let setting = cell(t, base);
+    let time = cell(t, base + 1);
+    let ring = cell(t, base + 2);
+    LaneRow {
+        longest: Bytes(setting % 65536),
+        weight: setting / 65536 % 65536,
+        group: (setting / 4294967296 % 256) as u32,
+        rate: Rate(setting / 1099511627776),
+        time: Clock(time),
+        head: ring % 16,
+        count: ring / 16,
+    }
+}
+
+// Stores lane `k`'s clock word and ring. Its setting stays as the setup gave it.
+pub fn set_row(t: &mut [u8], k: usize, l: LaneRow)
+    requires { ⌜ Room (now t) × (k < 64) × (l .head < 16) × (l .count ≤ 16) ⌝ }
+    ensures { λ _. ⌜ Now (now (t .entry)) (now (t .exit)) (putRow (cells (now (t .entry))) k l) ⌝ }
+{
+    let base = 80 + 4 * k;
+    set_cell(t, base + 1, l.time.0);
+    set_cell(t, base + 2, l.head + 16 * l.count);
+}
+
+// The record at place `i` of lane `k`'s ring, `i` counted on past the ring's end.
+pub fn record_at(t: &[u8], k: usize, i: u64) -> Entry
+    requires { ⌜ Room (now t) × (k < 64) ⌝ }
+    ensures { λ r. ⌜ (r ≡ entryOf (getD (cells (now (t .entry))) (placeWord k i) 0)) × (r .length .0 < 2 ^ 32) ⌝ }
+{
+    let e = cell(t, 336 + 16 * k + (i % 16) as usize);
+    Entry {
+        mark: (e % 4294967296) as u32,
+        length: Bytes(e / 4294967296),
+    }
+}
+
+// Stores a record at place `i` of lane `k`'s ring.
+pub fn set_record(t: &mut [u8], k: usize, i: u64, e: Entry)
+    requires { ⌜ Room (now t) × (k < 64) × (e .length .0 < 2 ^ 32) ⌝ }
+    ensures { λ _. ⌜ Now (now (t .entry)) (now (t .exit)) (set (cells (now (t .entry))) (placeWord k i) (entryWord e)) ⌝ }
+{
+    let word = (e.mark as u64) + e.length.0 * 4294967296;
+    set_cell(t, 336 + 16 * k + (i % 16) as usize, word);
+}
+
+// Whether lane `k` is in the setup.
+pub fn present(t: &[u8], k: usize) -> bool
+    requires { ⌜ Room (now t) × (k < 64) ⌝ }
+    ensures { λ r. ⌜ r ≡ presentAt (cells (now (t .entry))) k ⌝ }
+{
+    let lanes = cell(t, PRESENT);
+    (lanes >> (k as u32)) % 2 == 1
+}
+
+// The clock V.
+pub fn clock(t: &[u8]) -> Clock
+    requires { ⌜ Room (now t) ⌝ }
+    ensures { λ r. ⌜ r .0 ≡ meant (now (t .entry)) .clock ⌝ }
+{
+    Clock(cell(t, CLOCK))
+}
+
+// Moves the clock.
+pub fn set_clock(t: &mut [u8], v: Clock)
+    requires { ⌜ Sound (now t) ⌝ }
+    ensures { λ _. ⌜ Leaves (now (t .entry)) (now (t .exit)) (withClock (meant (now (t .entry))) (v .0)) ⌝ }
+{
+    set_cell(t, CLOCK, v.0);
+}
+
+// How many lanes hold records.
+pub fn holding(t: &[u8]) -> usize
+    requires { ⌜ Room (now t) ⌝ }
+    ensures { λ r. ⌜ r ≡ length (meant (now (t .entry)) .order) ⌝ }
+{
+    cell(t, HOLDING) as usize
+}
+
+// The lane at place `i` of the tie order.
+pub fn order_at(t: &[u8], i: usize) -> usize
+    requires { ⌜ Sound (now t) × (i < length (meant (now t) .order)) ⌝ }
+    ensures { λ r. ⌜ r ≡ getD (meant (now (t .entry)) .order) i 0 ⌝ }
+{
+    cell(t, ORDER + i) as usize
+}
+
+// What a record of this length is charged for in this lane: its own length.
+pub fn charged(l: LaneRow, length: Bytes) -> Bytes
+    ensures { λ r. ⌜ (r .0 ≡ charge (givenOf l) (length .0)) × (r .0 ≤ length .0) ⌝ }
+{
+    length
+}

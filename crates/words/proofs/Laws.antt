@@ -1,0 +1,64 @@
+-- Laws of words in bytes: the same word, another word, the length and the bytes past a run of words. Assumes nothing.
+use mathlib.Core.Path.{_≡_, refl, sym, ap, _∙_}
+use mathlib.Core.Logic.{⊎-elim}
+use Prim.Native.Nat.{ℕ, zero, suc, _+_, _*_, _/_, _%_, _^_, _≤_, _<_}
+use mathlib.Core.List.{List, [], _∷_}
+use native.Mathlib.Nat.{pow-suc, div-div-eq-div-mul}
+use native.Mathlib.Numerals.{towards-suc}
+use native.Mathlib.Omega.{arith}
+use lib.ListN.{length, drop, getD, set}
+use lib.Seq.{sets, length-sets}
+use Rattle.words.specs.Runs.{reads, tab}
+use Rattle.words.specs.Words.{leVal, leBytes, wordAt, putWord, wordsOf}
+use Rattle.words.proofs.Runs.{le-or-lt, drop-sets-lt, reads-below, reads-above, reads-same, length-tab, getD-tab, tab-set}
+
+pub leVal-leBytes : (k v : ℕ) → v < 256 ^ k → leVal (leBytes k v) ≡ v
+unfolding leVal leBytes
+leVal-leBytes zero v h = omega arith
+leVal-leBytes (suc k) v h = rw (leVal-leBytes k (v / 256) (omega (arith, rw pow-suc at h))) (omega arith)
+
+-- what eight reads give
+pub word-sum : (t : List ℕ) (a : ℕ) → getD t a 0 + getD t (a + 1) 0 * 256 + getD t (a + 2) 0 * 65536 + getD t (a + 3) 0 * 16777216 + getD t (a + 4) 0 * 4294967296 + getD t (a + 5) 0 * 1099511627776 + getD t (a + 6) 0 * 281474976710656 + getD t (a + 7) 0 * 72057594037927936 ≡ leVal (reads t a 8)
+unfolding leVal
+word-sum t a = simp towards-suc (omega arith)
+
+-- what eight stores leave
+pub word-stores : (t : List ℕ) (a v : ℕ) → set (set (set (set (set (set (set (set t a (v % 256)) (a + 1) (v / 256 % 256)) (a + 2) (v / 65536 % 256)) (a + 3) (v / 16777216 % 256)) (a + 4) (v / 4294967296 % 256)) (a + 5) (v / 1099511627776 % 256)) (a + 6) (v / 281474976710656 % 256)) (a + 7) (v / 72057594037927936 % 256) ≡ sets t a (leBytes 8 v)
+unfolding leBytes
+word-stores t a v = simp (towards-suc, div-div-eq-div-mul)
+
+pub length-putWord : (t : List ℕ) (i v : ℕ) → length (putWord t i v) ≡ length t
+unfolding putWord
+length-putWord t i v = length-sets t (i * 8) (leBytes 8 v)
+
+pub wordAt-putWord-same : (t : List ℕ) (i v : ℕ) → i * 8 + 8 ≤ length t → v < 2 ^ 64 → wordAt (putWord t i v) i ≡ v
+unfolding wordAt putWord leBytes
+wordAt-putWord-same t i v fit h = ap leVal (reads-same (leBytes 8 v) t (i * 8) fit) ∙ leVal-leBytes 8 v h
+
+pub wordAt-putWord-other : (t : List ℕ) (i j v : ℕ) → (j ≡ i → ⊥) → wordAt (putWord t i v) j ≡ wordAt t j
+unfolding wordAt putWord leBytes
+wordAt-putWord-other t i j v ne =
+    ap leVal
+    (⊎-elim
+    (λ (h : i ≤ j). reads-above (leBytes 8 v) t (i * 8) (j * 8) 8 (omega arith))
+    (λ (h : j < i). reads-below (leBytes 8 v) t (i * 8) (j * 8) 8 (omega arith))
+    (le-or-lt i j))
+
+pub getD-wordsOf : (n : ℕ) (t : List ℕ) (i : ℕ) → i < n → getD (wordsOf n t) i 0 ≡ wordAt t i
+unfolding wordsOf
+getD-wordsOf n t i h = getD-tab n i (wordAt t) 0 h
+
+pub length-wordsOf : (n : ℕ) (t : List ℕ) → length (wordsOf n t) ≡ n
+unfolding wordsOf
+length-wordsOf n t = length-tab n (wordAt t)
+
+-- in the words a store is one `set`, and the bytes past them stay
+pub wordsOf-putWord : (n : ℕ) (t : List ℕ) (i v : ℕ) → i < n → n * 8 ≤ length t → v < 2 ^ 64 → wordsOf n (putWord t i v) ≡ set (wordsOf n t) i v
+unfolding wordsOf
+wordsOf-putWord n t i v lt fit h =
+    tab-set n i (wordAt t) (wordAt (putWord t i v)) lt (λ j p q. wordAt-putWord-other t i j v q)
+    ∙ ap (λ (x : ℕ). set (tab n (wordAt t)) i x) (wordAt-putWord-same t i v (omega arith) h)
+
+pub drop-putWord : (n : ℕ) (t : List ℕ) (i v : ℕ) → i < n → drop (n * 8) (putWord t i v) ≡ drop (n * 8) t
+unfolding putWord leBytes
+drop-putWord n t i v lt = drop-sets-lt (n * 8) (leBytes 8 v) t (i * 8) (omega arith)
