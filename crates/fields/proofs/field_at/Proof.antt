@@ -1,8 +1,8 @@
 -- `fields::field_at` meets its contract. Assumes nothing.
-use native.Mathlib.Omega.{arith}
-use mathlib.Core.Path.{sym}
-use Rattle.fields.proofs.Header.{header-none, header-cut, header-whole}
 use borrow.Author.Needs.{needs}
+use mathlib.Core.Path.{sym}
+use native.Mathlib.Omega.{arith}
+use Rattle.fields.proofs.Header.{header-none, header-cut, header-whole}
 use Rattle.fields.proofs.field_at.Statement.{statement}
 use Rattle.fields.proofs.field_at.Tie as tie
 

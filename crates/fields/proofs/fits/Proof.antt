@@ -1,11 +1,11 @@
 -- `fields::fits` meets its contract. Assumes nothing.
-use native.Mathlib.Omega.{arith}
-use mathlib.Core.Path.{sym}
 use Prim.Native.Nat.{_+_}
-use lib.ListN.{length}
-use borrow.Author.Tests.{lt-leb}
-use Rattle.fields.proofs.Header.{fits-left}
 use borrow.Author.Needs.{needs}
+use borrow.Author.Tests.{lt-leb}
+use lib.ListN.{length}
+use mathlib.Core.Path.{sym}
+use native.Mathlib.Omega.{arith}
+use Rattle.fields.proofs.Header.{fits-left}
 use Rattle.fields.proofs.fits.Statement.{statement}
 use Rattle.fields.proofs.fits.Tie as tie
 

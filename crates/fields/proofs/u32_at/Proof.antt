@@ -1,7 +1,7 @@
 -- `fields::u32_at` meets its contract. Assumes nothing.
+use borrow.Author.Needs.{needs}
 use native.Mathlib.Omega.{arith}
 use Rattle.fields.proofs.Numbers.{big-four}
-use borrow.Author.Needs.{needs}
 use Rattle.fields.proofs.u32_at.Statement.{statement}
 use Rattle.fields.proofs.u32_at.Tie as tie
 

@@ -1,0 +1,74 @@
+-- `plan::read_plan` meets its contract. Assumes nothing.
+use Prim.Native.Nat.{_-_}
+use borrow.Author.Needs.{needs}
+use lib.ListN.{length}
+use mathlib.Core.List.{map}
+use mathlib.Core.Path.{sym, ap, _∙_}
+use native.Mathlib.Omega.{arith}
+use Rattle.plan.proofs.Walks.{Standing, stand-first, stand-no, taken-here, moves, stand-end, stand-next}
+use Rattle.plan.proofs.read_plan.Statement.{statement}
+use Rattle.plan.proofs.read_plan.Tie as tie
+use Rattle.plan.specs.Fields.{itemOf}
+use Rattle.plan.specs.Read.{settingOf}
+use Rattle.rules.specs.Reads.{number, placeOf}
+
+abbrev Inv-loop : tie.InvT-loop
+Inv-loop s at lanes₀ seen₀ p₀ lanes seen p = Standing s at seen (map settingOf lanes) p
+
+abbrev μ-loop : tie.MeasureT-loop
+μ-loop s at lanes₀ seen₀ p₀ lanes seen p = length s - p
+
+no-lanes-requires : tie.Need-no-lanes-requires Inv-loop μ-loop
+no-lanes-requires c κs = search needs
+
+loop-holds : tie.Need-loop-holds Inv-loop μ-loop
+loop-holds c = rw (c .no-lanes .ensures) (stand-first (c .before .before .args .s .now) (c .before .before .args .at))
+
+judged-field-requires : tie.Need-judged-field-requires Inv-loop μ-loop
+judged-field-requires c κs = c .loop .inv .sound .total
+
+enum-known-x : tie.Need-enum-known-x Inv-loop μ-loop
+enum-known-x c = search needs
+
+returns : tie.Need-returns Inv-loop μ-loop
+returns c = let g = c .before .x .given in stand-no (c .before .before .before .before .before .before .before .args .s .now) (c .before .before .before .before .before .before .before .args .at) (c .before .before .before .before .loop .seen) (map settingOf (c .before .before .before .before .loop .lanes)) (c .before .before .before .before .loop .p) (c .before .before .before .before .loop .inv) (number (g .0 .0)) (placeOf (g .0 .0)) (sym (c .before .before .before .judged-field .ensures) ∙ ap itemOf (g .1))
+
+enum-known-field : tie.Need-enum-known-field Inv-loop μ-loop
+enum-known-field c = search needs
+
+ends-requires : tie.Need-ends-requires Inv-loop μ-loop
+ends-requires c κs = search needs
+
+returns-2 : tie.Need-returns-2 Inv-loop μ-loop
+returns-2 c = let g = c .before .before .before .field .given in stand-end (c .before .before .before .before .before .before .before .before .before .args .s .now) (c .before .before .before .before .before .before .before .before .before .args .at) (c .before .before .before .before .before .before .loop .seen) (map settingOf (c .before .before .before .before .before .before .loop .lanes)) (c .before .before .before .before .before .before .loop .p) (c .before .before .before .before .before .before .loop .inv) (g .0 .0) (g .0 .1 .0) (sym (c .before .before .before .before .before .judged-field .ensures) ∙ ap itemOf (g .1)) (sym (c .before .ends .ensures) ∙ c .if1 .taken)
+
+placed-requires : tie.Need-placed-requires Inv-loop μ-loop
+placed-requires c κs = let g = c .before .before .before .field .given in taken-here (c .before .before .before .before .before .before .before .before .before .args .s .now) (c .before .before .before .before .before .before .before .before .before .args .at) (c .before .before .before .before .before .before .loop .seen) (map settingOf (c .before .before .before .before .before .before .loop .lanes)) (c .before .before .before .before .before .before .loop .p) (c .before .before .before .before .before .before .loop .inv) (g .0 .0) (g .0 .1 .0) (sym (c .before .before .before .before .before .judged-field .ensures) ∙ ap itemOf (g .1)) .inside
+
+after-requires : tie.Need-after-requires Inv-loop μ-loop
+after-requires c κs = let k = c .before .before .before .before .before .before .before .loop .inv .sound in omega (arith, k .total, k .count, k .floor)
+
+loop-less : tie.Need-loop-less Inv-loop μ-loop
+loop-less c = let g = c .before .before .before .before .before .field .given in omega (arith, moves (c .before .before .before .before .before .before .before .before .before .before .before .args .s .now) (c .before .before .before .before .before .before .before .before .before .before .before .args .at) (c .before .before .before .before .before .before .before .before .loop .seen) (map settingOf (c .before .before .before .before .before .before .before .before .loop .lanes)) (c .before .before .before .before .before .before .before .before .loop .p) (c .before .before .before .before .before .before .before .before .loop .inv) (g .0 .0) (g .0 .1 .0) (sym (c .before .before .before .before .before .before .before .judged-field .ensures) ∙ ap itemOf (g .1)))
+
+loop-again : tie.Need-loop-again Inv-loop μ-loop
+loop-again c = let g = c .before .before .before .before .before .field .given in rw (c .before .placed .ensures, c .after .ensures) (stand-next (c .before .before .before .before .before .before .before .before .before .before .before .args .s .now) (c .before .before .before .before .before .before .before .before .before .before .before .args .at) (c .before .before .before .before .before .before .before .before .loop .seen) (map settingOf (c .before .before .before .before .before .before .before .before .loop .lanes)) (c .before .before .before .before .before .before .before .before .loop .p) (c .before .before .before .before .before .before .before .before .loop .inv) (g .0 .0) (g .0 .1 .0) (sym (c .before .before .before .before .before .before .before .judged-field .ensures) ∙ ap itemOf (g .1)) (sym (c .before .before .before .ends .ensures) ∙ c .before .before .if1 .left))
+
+pub read-plan-spec : {M : Type 1} → statement M
+read-plan-spec =
+    tie.close
+    (tie.spec
+    Inv-loop
+    μ-loop
+    no-lanes-requires
+    loop-holds
+    judged-field-requires
+    enum-known-x
+    returns
+    enum-known-field
+    ends-requires
+    returns-2
+    placed-requires
+    after-requires
+    loop-less
+    loop-again)

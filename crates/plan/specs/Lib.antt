@@ -1,0 +1,4 @@
+pub mod Fields
+pub mod Judge
+pub mod Read
+pub mod Accepted
