@@ -7,3 +7,6 @@ pub mod Inside
 pub mod Sound
 pub mod Walks
 pub mod Closed
+pub mod Rest
+pub mod Accepted
+pub mod Prefix

@@ -22,8 +22,8 @@ use Rattle.plan.specs.Judge.{misplaced, outside, over, judged, judgedAt}
 use Rattle.plan.specs.declared.judge.Seen.{Seen}
 use Rattle.plan.specs.declared.parse.SetupField.{SetupField}
 
-pub no-whole : {A : Type 0} {n : ℕ} {p : Option ℕ} {f : SetupField} {m : ℕ} → bad n p ≡ whole f m → A
-no-whole h = absurd (let z : _≡_ {A = ℕ} 0 1 = cc in omega arith)
+pub bad-whole : {A : Type 0} {n : ℕ} {p : Option ℕ} {f : SetupField} {m : ℕ} → bad n p ≡ whole f m → A
+bad-whole h = absurd (let z : _≡_ {A = ℕ} 0 1 = cc in omega arith)
 
 pub record Stands (s : List ℕ) (at : ℕ) (f : SetupField) (m : ℕ) : Type 0 where
   pub tag : known (byteAt s at) ≡ true
@@ -42,22 +42,23 @@ module _ (s : List ℕ) (at : ℕ) (f : SetupField) (m : ℕ) where
   judge-value : (a b c : Bool) → known t ≡ a → fitting t n ≡ b → leb (at + 3 + n) (length s) ≡ c
       → (if a then (if b then (if c then whole (fieldOf s t (at + 3) n) (at + 3 + n) else bad 1 (some at)) else bad 3 (some at)) else bad 2 (some at)) ≡ whole f m
       → Stands s at f m
-  judge-value false b c p q r h = no-whole h
-  judge-value true false c p q r h = no-whole h
-  judge-value true true false p q r h = no-whole h
+  judge-value false b c p q r h = bad-whole h
+  judge-value true false c p q r h = bad-whole h
+  judge-value true true false p q r h = bad-whole h
   judge-value true true true p q r h =
       record { tag = p; size = q; fits = leb-true (at + 3 + n) (length s) r; field = cc; after = cc }
 
   judge-header : (a b : Bool) → leb (at + 3) (length s) ≡ a → taken s at (pick a (Header t (at + 3) n) (pick b Cut Nothing)) ≡ whole f m → Stands s at f m
   judge-header true b p h = judge-value (known t) (fitting t n) (leb (at + 3 + n) (length s)) refl refl refl h
-  judge-header false true p h = no-whole h
-  judge-header false false p h = no-whole h
+  judge-header false true p h = bad-whole h
+  judge-header false false p h = bad-whole h
 
   pub stands : itemAt s at ≡ whole f m → Stands s at f m
   unfolding itemAt
   stands h = judge-header (leb (at + 3) (length s)) (ltb at (length s)) refl h
 
 pub record Taken (seen : Seen) (s : List ℕ) (at : ℕ) (f : SetupField) (m : ℕ) : Type 0 where
+  pub item : itemAt s at ≡ whole f m
   pub stand : Stands s at f m
   pub in-place : misplaced seen f ≡ false
   pub inside : outside f ≡ false
@@ -67,12 +68,13 @@ module _ (seen : Seen) (s : List ℕ) (at : ℕ) (f : SetupField) (m : ℕ) wher
   judge-field : (g : SetupField) (k : ℕ) (a b c : Bool) → itemAt s at ≡ whole g k → misplaced seen g ≡ a → outside g ≡ b → over seen g ≡ c
       → (if a then bad 4 (some at) else (if b then bad 5 (some at) else (if c then bad 6 (some at) else whole g k))) ≡ whole f m
       → Taken seen s at f m
-  judge-field g k true b c i p q r h = no-whole h
-  judge-field g k false true c i p q r h = no-whole h
-  judge-field g k false false true i p q r h = no-whole h
+  judge-field g k true b c i p q r h = bad-whole h
+  judge-field g k false true c i p q r h = bad-whole h
+  judge-field g k false false true i p q r h = bad-whole h
   judge-field g k false false false i p q r h =
       let e : g ≡ f = cc in
       record {
+        item = i ∙ h;
         stand = stands s at f m (i ∙ h);
         in-place = sym (ap (misplaced seen) e) ∙ p;
         inside = sym (ap outside e) ∙ q;
@@ -80,7 +82,7 @@ module _ (seen : Seen) (s : List ℕ) (at : ℕ) (f : SetupField) (m : ℕ) wher
       }
 
   judge-item : (i : Item) → itemAt s at ≡ i → judged seen at i ≡ whole f m → Taken seen s at f m
-  judge-item (bad n p) e h = no-whole h
+  judge-item (bad n p) e h = bad-whole h
   judge-item (whole g k) e h = judge-field g k (misplaced seen g) (outside g) (over seen g) e refl refl refl h
 
   pub is-taken : judgedAt seen s at ≡ whole f m → Taken seen s at f m

@@ -1,3 +1,6 @@
+use Rattle.plan.specs.Fields.{itemOf, whole, bad}
+use Rattle.plan.specs.Judge.{judgedAt}
+use mathlib.Core.Path.{_≡_, sym, ap, _∙_}
 -- `plan::read_plan` meets its contract. Assumes nothing.
 use Prim.Native.Nat.{_-_}
 use borrow.Author.Needs.{needs}
@@ -18,6 +21,11 @@ Inv-loop s at lanes₀ seen₀ p₀ lanes seen p = Standing s at seen (map setti
 abbrev μ-loop : tie.MeasureT-loop
 μ-loop s at lanes₀ seen₀ p₀ lanes seen p = length s - p
 
+-- the judged field, as it is taken apart
+field-is : (c : tie.After-field Inv-loop μ-loop)
+    → judgedAt (c .before .before .before .loop .seen) (c .before .before .before .before .before .before .args .s .now) (c .before .before .before .loop .p) ≡ whole (c .field .given .0 .0) (c .field .given .0 .1 .0)
+field-is c = sym (c .before .before .judged-field .ensures) ∙ ap itemOf (c .field .given .1)
+
 no-lanes-requires : tie.Need-no-lanes-requires Inv-loop μ-loop
 no-lanes-requires c κs = search needs
 
@@ -31,7 +39,7 @@ enum-known-x : tie.Need-enum-known-x Inv-loop μ-loop
 enum-known-x c = search needs
 
 returns : tie.Need-returns Inv-loop μ-loop
-returns c = let g = c .before .x .given in stand-no (c .before .before .before .before .before .before .before .args .s .now) (c .before .before .before .before .before .before .before .args .at) (c .before .before .before .before .loop .seen) (map settingOf (c .before .before .before .before .loop .lanes)) (c .before .before .before .before .loop .p) (c .before .before .before .before .loop .inv) (number (g .0 .0)) (placeOf (g .0 .0)) (sym (c .before .before .before .judged-field .ensures) ∙ ap itemOf (g .1))
+returns c = stand-no _ _ _ _ _ (c .before .before .before .before .loop .inv) _ _ (sym (c .before .before .before .judged-field .ensures) ∙ ap itemOf (c .before .x .given .1))
 
 enum-known-field : tie.Need-enum-known-field Inv-loop μ-loop
 enum-known-field c = search needs
@@ -40,19 +48,19 @@ ends-requires : tie.Need-ends-requires Inv-loop μ-loop
 ends-requires c κs = search needs
 
 returns-2 : tie.Need-returns-2 Inv-loop μ-loop
-returns-2 c = let g = c .before .before .before .field .given in stand-end (c .before .before .before .before .before .before .before .before .before .args .s .now) (c .before .before .before .before .before .before .before .before .before .args .at) (c .before .before .before .before .before .before .loop .seen) (map settingOf (c .before .before .before .before .before .before .loop .lanes)) (c .before .before .before .before .before .before .loop .p) (c .before .before .before .before .before .before .loop .inv) (g .0 .0) (g .0 .1 .0) (sym (c .before .before .before .before .before .judged-field .ensures) ∙ ap itemOf (g .1)) (sym (c .before .ends .ensures) ∙ c .if1 .taken)
+returns-2 c = stand-end _ _ _ _ _ (c .before .before .before .before .before .before .loop .inv) _ _ (field-is (c .before .before .before)) (sym (c .before .ends .ensures) ∙ c .if1 .taken)
 
 placed-requires : tie.Need-placed-requires Inv-loop μ-loop
-placed-requires c κs = let g = c .before .before .before .field .given in taken-here (c .before .before .before .before .before .before .before .before .before .args .s .now) (c .before .before .before .before .before .before .before .before .before .args .at) (c .before .before .before .before .before .before .loop .seen) (map settingOf (c .before .before .before .before .before .before .loop .lanes)) (c .before .before .before .before .before .before .loop .p) (c .before .before .before .before .before .before .loop .inv) (g .0 .0) (g .0 .1 .0) (sym (c .before .before .before .before .before .judged-field .ensures) ∙ ap itemOf (g .1)) .inside
+placed-requires c κs = taken-here _ _ _ _ _ (c .before .before .before .before .before .before .loop .inv) _ _ (field-is (c .before .before .before)) .inside
 
 after-requires : tie.Need-after-requires Inv-loop μ-loop
 after-requires c κs = let k = c .before .before .before .before .before .before .before .loop .inv .sound in omega (arith, k .total, k .count, k .floor)
 
 loop-less : tie.Need-loop-less Inv-loop μ-loop
-loop-less c = let g = c .before .before .before .before .before .field .given in omega (arith, moves (c .before .before .before .before .before .before .before .before .before .before .before .args .s .now) (c .before .before .before .before .before .before .before .before .before .before .before .args .at) (c .before .before .before .before .before .before .before .before .loop .seen) (map settingOf (c .before .before .before .before .before .before .before .before .loop .lanes)) (c .before .before .before .before .before .before .before .before .loop .p) (c .before .before .before .before .before .before .before .before .loop .inv) (g .0 .0) (g .0 .1 .0) (sym (c .before .before .before .before .before .before .before .judged-field .ensures) ∙ ap itemOf (g .1)))
+loop-less c = omega (arith, moves _ _ _ _ _ (c .before .before .before .before .before .before .before .before .loop .inv) _ _ (field-is (c .before .before .before .before .before)))
 
 loop-again : tie.Need-loop-again Inv-loop μ-loop
-loop-again c = let g = c .before .before .before .before .before .field .given in rw (c .before .placed .ensures, c .after .ensures) (stand-next (c .before .before .before .before .before .before .before .before .before .before .before .args .s .now) (c .before .before .before .before .before .before .before .before .before .before .before .args .at) (c .before .before .before .before .before .before .before .before .loop .seen) (map settingOf (c .before .before .before .before .before .before .before .before .loop .lanes)) (c .before .before .before .before .before .before .before .before .loop .p) (c .before .before .before .before .before .before .before .before .loop .inv) (g .0 .0) (g .0 .1 .0) (sym (c .before .before .before .before .before .before .before .judged-field .ensures) ∙ ap itemOf (g .1)) (sym (c .before .before .before .ends .ensures) ∙ c .before .before .if1 .left))
+loop-again c = rw (c .before .placed .ensures, c .after .ensures) (stand-next _ _ _ _ _ (c .before .before .before .before .before .before .before .before .loop .inv) _ _ (field-is (c .before .before .before .before .before)) (sym (c .before .before .before .ends .ensures) ∙ c .before .before .if1 .left))
 
 pub read-plan-spec : {M : Type 1} → statement M
 read-plan-spec =

@@ -1,3 +1,5 @@
+use mathlib.Core.Path.{_≡_, sym, ap, _∙_}
+use Rattle.plan.specs.Read.{read, settings, came, readPlan}
 -- `plan::read_setup` meets its contract. Assumes nothing.
 use borrow.Author.Needs.{needs}
 use mathlib.Core.Path.{sym, ap, _∙_}
@@ -6,6 +8,11 @@ use Rattle.plan.proofs.read_setup.Statement.{statement}
 use Rattle.plan.proofs.read_setup.Tie as tie
 use Rattle.plan.specs.Read.{settings, came}
 use Rattle.rules.specs.Reads.{number, placeOf}
+
+-- a plan that was read
+read-is : (c : tie.After-outcome)
+    → readPlan (c .before .before .before .before .args .s .now) 0 ≡ read (settings (c .before .before .read-plan .result .plan)) (c .before .before .read-plan .result .plan .count) (c .outcome .given .0 .0)
+read-is c = sym (c .before .before .read-plan .ensures) ∙ ap (came (c .before .before .read-plan .result .plan)) (c .outcome .given .1)
 
 read-plan-requires : tie.Need-read-plan-requires
 read-plan-requires c κs = search needs
@@ -17,13 +24,13 @@ enum-told : tie.Need-enum-told
 enum-told c = search needs
 
 returns : tie.Need-returns
-returns c = let g = c .enum-told .given in ap (came (c .before .before .read-plan .result .plan)) (g .1) ∙ sym (setup-refused (c .before .before .before .before .args .s .now) (number (g .0 .0)) (placeOf (g .0 .0)) (sym (c .before .before .read-plan .ensures) ∙ ap (came (c .before .before .read-plan .result .plan)) (g .1)))
+returns c = let e = ap (came (c .before .before .read-plan .result .plan)) (c .enum-told .given .1) in e ∙ sym (setup-refused _ _ _ (sym (c .before .before .read-plan .ensures) ∙ e))
 
 returns-2 : tie.Need-returns-2
-returns-2 c = let g = c .before .before .before .outcome .given in sym (setup-more (c .before .before .before .before .before .before .before .args .s .now) (settings (c .before .before .before .before .before .read-plan .result .plan)) (c .before .before .before .before .before .read-plan .result .plan .count) (g .0 .0) (sym (c .before .before .before .before .before .read-plan .ensures) ∙ ap (came (c .before .before .before .before .before .read-plan .result .plan)) (g .1)) (c .before .if1 .taken))
+returns-2 c = sym (setup-more _ _ _ _ (read-is (c .before .before .before)) (c .before .if1 .taken))
 
 returns-3 : tie.Need-returns-3
-returns-3 c = let g = c .before .before .outcome .given in ap (came (c .before .before .before .before .read-plan .result .plan)) (g .1) ∙ sym (setup-whole (c .before .before .before .before .before .before .args .s .now) (settings (c .before .before .before .before .read-plan .result .plan)) (c .before .before .before .before .read-plan .result .plan .count) (g .0 .0) (sym (c .before .before .before .before .read-plan .ensures) ∙ ap (came (c .before .before .before .before .read-plan .result .plan)) (g .1)) (c .if1 .left))
+returns-3 c = c .before .before .before .before .read-plan .ensures ∙ read-is (c .before .before) ∙ sym (setup-whole _ _ _ _ (read-is (c .before .before)) (c .if1 .left))
 
 pub read-setup-spec : {M : Type 1} → statement M
 read-setup-spec =

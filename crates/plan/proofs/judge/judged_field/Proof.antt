@@ -1,3 +1,7 @@
+use mathlib.Core.Path.{_≡_, sym, ap, _∙_}
+use mathlib.Core.Bool.{false}
+use Rattle.plan.specs.Fields.{whole, itemAt, itemOf}
+use Rattle.plan.specs.Judge.{misplaced, outside}
 -- `plan::judge::judged_field` meets its contract. Assumes nothing.
 use borrow.Author.Needs.{needs}
 use mathlib.Core.Path.{sym, ap, _∙_}
@@ -5,6 +9,16 @@ use Rattle.plan.proofs.Judged.{judged-no, judged-misplaced, judged-outs
 use Rattle.plan.proofs.judge.judged_field.Statement.{statement}
 use Rattle.plan.proofs.judge.judged_field.Tie as tie
 use Rattle.plan.specs.Fields.{itemOf}
+
+-- what each place of the code knows
+item-is : (c : tie.After-parsed) → itemAt (c .before .before .before .before .args .s .now) (c .before .before .before .before .args .at) ≡ whole (c .parsed .given .0 .0) (c .parsed .given .0 .1 .0)
+item-is c = sym (c .before .before .parsed-field .ensures) ∙ ap itemOf (c .parsed .given .1)
+
+in-place : (c : tie.Else1) → misplaced (c .before .before .before .before .before .before .before .args .seen) (c .before .before .before .parsed .given .0 .0) ≡ false
+in-place c = sym (c .before .misplaced .ensures) ∙ c .if1 .left
+
+inside : (c : tie.Else2) → outside (c .before .before .before .before .before .parsed .given .0 .0) ≡ false
+inside c = sym (c .before .outside .ensures) ∙ c .if2 .left
 
 parsed-field-requires : tie.Need-parsed-field-requires
 parsed-field-requires c κs = search needs
@@ -16,28 +30,28 @@ enum-told : tie.Need-enum-told
 enum-told c = search needs
 
 returns : tie.Need-returns
-returns c = let a = c .before .before .before .before .args in ap itemOf (c .enum-told .given .1) ∙ sym (judged-no (a .seen) (a .s .now) (a .at) _ _ (sym (c .before .before .parsed-field .ensures) ∙ ap itemOf (c .enum-told .given .1)))
+returns c = ap itemOf (c .enum-told .given .1) ∙ sym (judged-no _ _ _ _ _ (sym (c .before .before .parsed-field .ensures) ∙ ap itemOf (c .enum-told .given .1)))
 
 misplaced-requires : tie.Need-misplaced-requires
 misplaced-requires c κs = search needs
 
 returns-2 : tie.Need-returns-2
-returns-2 c = let g = c .before .before .before .parsed .given in let a = c .before .before .before .before .before .before .before .args in sym (judged-misplaced (a .seen) (a .s .now) (a .at) (g .0 .0) (g .0 .1 .0) (sym (c .before .before .before .before .before .parsed-field .ensures) ∙ ap itemOf (g .1)) (sym (c .before .misplaced .ensures) ∙ c .if1 .taken))
+returns-2 c = sym (judged-misplaced _ _ _ _ _ (item-is (c .before .before .before)) (sym (c .before .misplaced .ensures) ∙ c .if1 .taken))
 
 outside-requires : tie.Need-outside-requires
 outside-requires c κs = search needs
 
 returns-3 : tie.Need-returns-3
-returns-3 c = let g = c .before .before .before .before .before .parsed .given in let a = c .before .before .before .before .before .before .before .before .before .args in sym (judged-outside (a .seen) (a .s .now) (a .at) (g .0 .0) (g .0 .1 .0) (sym (c .before .before .before .before .before .before .before .parsed-field .ensures) ∙ ap itemOf (g .1)) (sym (c .before .before .before .misplaced .ensures) ∙ c .before .before .if1 .left) (sym (c .before .outside .ensures) ∙ c .if2 .taken))
+returns-3 c = sym (judged-outside _ _ _ _ _ (item-is (c .before .before .before .before .before)) (in-place (c .before .before)) (sym (c .before .outside .ensures) ∙ c .if2 .taken))
 
 over-requires : tie.Need-over-requires
 over-requires c κs = search needs
 
 returns-4 : tie.Need-returns-4
-returns-4 c = let g = c .before .before .before .before .before .before .before .parsed .given in let a = c .before .before .before .before .before .before .before .before .before .before .before .args in sym (judged-over (a .seen) (a .s .now) (a .at) (g .0 .0) (g .0 .1 .0) (sym (c .before .before .before .before .before .before .before .before .before .parsed-field .ensures) ∙ ap itemOf (g .1)) (sym (c .before .before .before .before .before .misplaced .ensures) ∙ c .before .before .before .before .if1 .left) (sym (c .before .before .before .outside .ensures) ∙ c .before .before .if2 .left) (sym (c .before .over .ensures) ∙ c .if3 .taken))
+returns-4 c = sym (judged-over _ _ _ _ _ (item-is (c .before .before .before .before .before .before .before)) (in-place (c .before .before .before .before)) (inside (c .before .before)) (sym (c .before .over .ensures) ∙ c .if3 .taken))
 
 returns-5 : tie.Need-returns-5
-returns-5 c = let g = c .before .before .before .before .before .before .before .parsed .given in let a = c .before .before .before .before .before .before .before .before .before .before .before .args in sym (judged-whole (a .seen) (a .s .now) (a .at) (g .0 .0) (g .0 .1 .0) (sym (c .before .before .before .before .before .before .before .before .before .parsed-field .ensures) ∙ ap itemOf (g .1)) (sym (c .before .before .before .before .before .misplaced .ensures) ∙ c .before .before .before .before .if1 .left) (sym (c .before .before .before .outside .ensures) ∙ c .before .before .if2 .left) (sym (c .before .over .ensures) ∙ c .if3 .left))
+returns-5 c = sym (judged-whole _ _ _ _ _ (item-is (c .before .before .before .before .before .before .before)) (in-place (c .before .before .before .before)) (inside (c .before .before)) (sym (c .before .over .ensures) ∙ c .if3 .left))
 
 pub judged-field-spec : {M : Type 1} → statement M
 judged-field-spec =
