@@ -39,10 +39,10 @@ module _ (s : List ℕ) (at : ℕ) (gs : List Setting) (n p : ℕ) where
       record {
         lanes = r .lanes;
         fields =
-          ap (λ (t : ℕ). fieldsFrom t s at) e
-          ∙ ap (λ (i : Item). listed i (fieldsFrom turns s)) (k .item)
-          ∙ ap (λ (x : ℕ). Format x ∷ fieldsFrom turns s m) one
-          ∙ ap (λ (fs : List SetupField). Format 1 ∷ fs) (r .fields);
+            ap (λ (t : ℕ). fieldsFrom t s at) e
+            ∙ ap (λ (i : Item). listed i (fieldsFrom turns s)) (k .item)
+            ∙ ap (λ (x : ℕ). Format x ∷ fieldsFrom turns s m) one
+            ∙ ap (λ (fs : List SetupField). Format 1 ∷ fs) (r .fields);
         rising = r .rising;
         given = r .given;
         number = omega (arith, r .number);
@@ -54,10 +54,10 @@ module _ (s : List ℕ) (at : ℕ) (gs : List Setting) (n p : ℕ) where
           size = ok .size;
           each = ok .each;
           some-lane = omega (arith, ok .sum-is, ok .few, r .counted, r .some-lane);
-          total = omega (arith, ok .sum-is, ok .total)
+          total = omega (arith, ok .sum-is, ok .total);
         };
         past = omega (arith, r .past, k .stand .after);
-        within = r .within
+        within = r .within;
       }
 
   first-field : (turns : ℕ) (f : SetupField) (m : ℕ) → Taken nothingSeen s at f m → next nothingSeen noLanes (whole f m) (walk turns s) ≡ read gs n p
@@ -65,7 +65,7 @@ module _ (s : List ℕ) (at : ℕ) (gs : List Setting) (n p : ℕ) where
   first-field turns (Format v) m k h e =
       first-format turns v m k
       (rest turns s (after nothingSeen (Format v)) noLanes m gs n p refl
-        (sound-after nothingSeen noLanes (Format v) sound-first (k .in-place) (k .inside) (k .under)) h)
+      (sound-after nothingSeen noLanes (Format v) sound-first (k .in-place) (k .inside) (k .under)) h)
       e
   first-field turns (Lane l) m k h e = true-false (k .in-place)
   first-field turns End m k h e = true-false (k .in-place)

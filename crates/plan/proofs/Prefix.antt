@@ -79,7 +79,7 @@ item-same s t at f m h same fits =
     let fit-t : fitting (byteAt t at) (big t (at + 1) 2) ≡ true = subst (λ (k : ℕ). fitting (byteAt t at) k ≡ true) size fit-s in
     let n = big s (at + 1) 2 in
     let value : fieldOf s (byteAt t at) (at + 3) n ≡ fieldOf t (byteAt t at) (at + 3) n =
-      value-same s t (at + 3) n (λ i a b. same i (omega arith) (omega (arith, h .after))) (byteAt t at) fit-s
+    value-same s t (at + 3) n (λ i a b. same i (omega arith) (omega (arith, h .after))) (byteAt t at) fit-s
     in
     item-whole t at (byteAt t at) (at + 3) (big t (at + 1) 2) (header-whole t at (omega (arith, h .after))) known-t fit-t
     (le-leb (at + 3 + big t (at + 1) 2) (length t) (omega (arith, h .after)))

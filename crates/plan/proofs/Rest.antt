@@ -70,26 +70,26 @@ module _ (turns : ℕ) (s : List ℕ) (seen : Seen) (gs : List Setting) (at : �
         some-lane = let z = eqb-false (seen .count) 0 (k .in-place) in omega arith;
         weigh = omega arith;
         past = omega (arith, k .stand .after);
-        within = omega (arith, k .stand .after, k .stand .fits)
+        within = omega (arith, k .stand .after, k .stand .fits);
       }
 
   rest-lane : (l : LaneField) (m : ℕ) → Taken seen s at (Lane l) m → Rest turns s (after seen (Lane l)) (placed gs (Lane l)) m gs′ n p
       → Rest (suc turns) s seen gs at gs′ n p
   unfolding Rising placedAll
   rest-lane l m k r = record {
-      lanes = l ∷ r .lanes;
-      fields = fields-turn (Lane l) m (k .item) ∙ ap (λ (fs : List SetupField). Lane l ∷ fs) (r .fields);
-      rising = (is-rising seen l (k .in-place), r .rising);
-      given = r .given;
-      number = omega (arith, r .number);
-      last = r .last;
-      sound = r .sound;
-      counted = r .counted;
-      some-lane = r .some-lane;
-      weigh = omega (arith, r .weigh);
-      past = omega (arith, r .past, k .stand .after);
-      within = r .within
-    }
+    lanes = l ∷ r .lanes;
+    fields = fields-turn (Lane l) m (k .item) ∙ ap (λ (fs : List SetupField). Lane l ∷ fs) (r .fields);
+    rising = (is-rising seen l (k .in-place), r .rising);
+    given = r .given;
+    number = omega (arith, r .number);
+    last = r .last;
+    sound = r .sound;
+    counted = r .counted;
+    some-lane = r .some-lane;
+    weigh = omega (arith, r .weigh);
+    past = omega (arith, r .past, k .stand .after);
+    within = r .within;
+  }
 
   module _ (more : (seen₁ : Seen) (gs₁ : List Setting) (m : ℕ) → seen₁ .begun ≡ true → Sound seen₁ gs₁ → walk turns s seen₁ gs₁ m ≡ read gs′ n p → Rest turns s seen₁ gs₁ m gs′ n p) where
     rest-field : (f : SetupField) (m : ℕ) → Taken seen s at f m → next seen gs (whole f m) (walk turns s) ≡ read gs′ n p → Rest (suc turns) s seen gs at gs′ n p

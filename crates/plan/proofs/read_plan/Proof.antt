@@ -1,19 +1,20 @@
-use Rattle.plan.specs.Fields.{itemOf, whole, bad}
-use Rattle.plan.specs.Judge.{judgedAt}
-use mathlib.Core.Path.{_≡_, sym, ap, _∙_}
 -- `plan::read_plan` meets its contract. Assumes nothing.
 use Prim.Native.Nat.{_-_}
 use borrow.Author.Needs.{needs}
 use lib.ListN.{length}
 use mathlib.Core.List.{map}
+use mathlib.Core.Path.{_≡_, sym, ap, _∙_}
 use mathlib.Core.Path.{sym, ap, _∙_}
 use native.Mathlib.Omega.{arith}
 use Rattle.plan.proofs.Walks.{Standing, stand-first, stand-no, taken-here, moves, stand-end, stand-next}
 use Rattle.plan.proofs.read_plan.Statement.{statement}
 use Rattle.plan.proofs.read_plan.Tie as tie
+use Rattle.plan.specs.Fields.{itemOf, whole}
 use Rattle.plan.specs.Fields.{itemOf}
+use Rattle.plan.specs.Judge.{judgedAt}
 use Rattle.plan.specs.Read.{settingOf}
-use Rattle.rules.specs.Reads.{number, placeOf}
+
+-- `plan::read_plan` meets its contract. Assumes nothing.
 
 abbrev Inv-loop : tie.InvT-loop
 Inv-loop s at lanes₀ seen₀ p₀ lanes seen p = Standing s at seen (map settingOf lanes) p

@@ -1,19 +1,21 @@
-use mathlib.Core.Path.{_≡_, sym, _∙_}
-use mathlib.Core.Bool.{true}
-use lib.Dec.{leb}
-use Rattle.fields.specs.Header.{headerAt}
-use Rattle.fields.specs.declared.Field.the-variants.{Header}
-use Rattle.plan.specs.Fields.{known, fitting}
 -- `plan::parse::parsed_field` meets its contract. Assumes nothing.
 use Prim.Native.Nat.{_+_}
 use borrow.Author.Needs.{needs}
 use borrow.Author.Tests.{not-true, not-false, leb-true}
+use lib.Dec.{leb}
 use lib.ListN.{length}
+use mathlib.Core.Bool.{true}
+use mathlib.Core.Path.{_≡_, sym, _∙_}
 use mathlib.Core.Path.{sym, _∙_}
 use native.Mathlib.Omega.{arith}
+use Rattle.fields.specs.Header.{headerAt}
+use Rattle.fields.specs.declared.Field.the-variants.{Header}
 use Rattle.plan.proofs.Items.{item-none, item-header-cut, item-unknown, item-wrong, item-cut, item-whole}
 use Rattle.plan.proofs.parse.parsed_field.Statement.{statement}
 use Rattle.plan.proofs.parse.parsed_field.Tie as tie
+use Rattle.plan.specs.Fields.{known, fitting}
+
+-- `plan::parse::parsed_field` meets its contract. Assumes nothing.
 
 -- what each place of the code knows
 header-is : (c : tie.After-tag)
