@@ -5,19 +5,19 @@
 --   accepted-plan, accepted-setup   what they say of the code's answer
 --
 -- Assumes nothing.
-use Prim.Native.Nat.{ℕ, zero, suc, _+_, _-_, _≤_, _<_}
+use Prim.Native.Nat.{ℕ, zero, suc, _-_}
 use mathlib.Core.Path.{_≡_, refl, sym, ap, _∙_}
 use mathlib.Core.Bool.{Bool, true, false}
-use mathlib.Core.List.{List, [], _∷_, _++_, map}
+use mathlib.Core.List.{List, _∷_}
 use mathlib.Core.Option.{some}
 use native.Mathlib.Omega.{arith}
 use borrow.Author.Tests.{eqb-true, not-false, ltb-false}
 use lib.Dec.{eqb, ltb}
 use lib.ListN.{length}
 use Rattle.rules.specs.State.{if_then_else_, Setting}
-use Rattle.plan.specs.Fields.{Item, whole, bad, itemAt}
+use Rattle.plan.specs.Fields.{Item, whole, bad}
 use Rattle.plan.specs.Judge.{judgedAt, after}
-use Rattle.plan.specs.Read.{Reply, read, refused, nothingSeen, noLanes, placed, next, walk, readPlan, closed, readSetup, settings, came, reads}
+use Rattle.plan.specs.Read.{Reply, read, refused, nothingSeen, noLanes, next, walk, readPlan, closed, readSetup, settings, came, reads}
 use Rattle.plan.specs.Accepted.{listed, fieldsFrom, Accepted}
 use Rattle.plan.specs.declared.Reading.{Reading}
 use Rattle.plan.specs.declared.Outcome.the-variants.{Read}
@@ -25,7 +25,7 @@ use Rattle.plan.specs.declared.parse.SetupField.{SetupField}
 use Rattle.plan.specs.declared.parse.SetupField.the-variants.{Format, Lane, End}
 use Rattle.plan.proofs.Inside.{true-false}
 use Rattle.plan.proofs.Stands.{Taken, is-taken}
-use Rattle.plan.proofs.Sound.{Sound, sound-first, sound-after}
+use Rattle.plan.proofs.Sound.{sound-first, sound-after}
 use Rattle.plan.proofs.Rest.{Rest, rest, refused-read}
 
 module _ (s : List ℕ) (at : ℕ) (gs : List Setting) (n p : ℕ) where

@@ -1,7 +1,7 @@
 -- Laws of `readSetup` of specs/Read.antt: what stands after the setup's 0x7F.
 -- Assumes nothing.
 use Prim.Native.Nat.{ℕ, _≤_, _<_}
-use mathlib.Core.Path.{_≡_, refl, ap, _∙_}
+use mathlib.Core.Path.{_≡_, ap, _∙_}
 use mathlib.Core.List.{List}
 use mathlib.Core.Option.{Option, some}
 use borrow.Author.Tests.{lt-ltb, le-ltb}

@@ -1,10 +1,10 @@
 -- What a test of specs/Judge.antt that was passed says of the numbers.
 -- Assumes nothing.
-use Prim.Native.Nat.{ℕ, _+_, _≤_, _<_}
-use mathlib.Core.Path.{_≡_, refl, sym, _∙_}
+use Prim.Native.Nat.{ℕ, _+_, _≤_}
+use mathlib.Core.Path.{_≡_, refl, sym}
 use mathlib.Core.Bool.{Bool, true, false, not, _||_, _&&_}
 use native.Mathlib.Omega.{arith}
-use borrow.Author.Tests.{leb-true, ltb-false, not-false, not-true}
+use borrow.Author.Tests.{leb-true, ltb-false, not-false}
 use lib.Dec.{leb, ltb}
 use Rattle.rules.specs.Setup.{InNumbers}
 use Rattle.plan.specs.Judge.{longestOf, given, within, misplaced, laneOutside, over}

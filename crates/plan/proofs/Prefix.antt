@@ -3,12 +3,10 @@
 --   prefix    an input that has the same bytes as far as the place after the 0x7F is read alike
 --
 -- Assumes nothing.
-use Prim.Native.Nat.{ℕ, zero, suc, _+_, _-_, _≤_, _<_, min}
+use Prim.Native.Nat.{ℕ, zero, suc, _+_, _-_, _≤_, _<_}
 use mathlib.Core.Path.{_≡_, refl, sym, subst, ap, _∙_}
 use mathlib.Core.Bool.{Bool, true, false}
 use mathlib.Core.List.{List}
-use mathlib.Core.Option.{Option}
-use mathlib.Core.Logic.{⊎-elim}
 use native.Mathlib.Omega.{arith}
 use borrow.Author.Tests.{eqb-true, eqb-false, le-leb}
 use lib.Dec.{eqb}
@@ -20,9 +18,8 @@ use Rattle.fields.proofs.Header.{header-whole}
 use Rattle.rules.specs.State.{if_then_else_, Setting}
 use Rattle.plan.specs.Fields.{Item, whole, bad, known, fitting, longestAt, laneAt, fieldOf, itemAt}
 use Rattle.plan.specs.Judge.{judgedAt, after}
-use Rattle.plan.specs.Read.{read, refused, nothingSeen, noLanes, placed, next, walk, readPlan}
+use Rattle.plan.specs.Read.{read, nothingSeen, noLanes, placed, next, walk, readPlan}
 use Rattle.plan.specs.declared.judge.Seen.{Seen}
-use Rattle.plan.specs.declared.parse.LaneField.{LaneField}
 use Rattle.plan.specs.declared.parse.Longest.{Longest}
 use Rattle.plan.specs.declared.parse.Longest.the-variants.{Given, Default}
 use Rattle.plan.specs.declared.parse.SetupField.{SetupField}
@@ -30,7 +27,7 @@ use Rattle.plan.specs.declared.parse.SetupField.the-variants.{Format, La
 use Rattle.plan.proofs.Tags.{lane-long, lane-three}
 use Rattle.plan.proofs.Items.{item-whole}
 use Rattle.plan.proofs.Judged.{judged-whole}
-use Rattle.plan.proofs.Stands.{Stands, Taken, is-taken}
+use Rattle.plan.proofs.Stands.{Stands, is-taken}
 use Rattle.plan.proofs.Rest.{refused-read}
 use Rattle.plan.proofs.Accepted.{accepted}
 

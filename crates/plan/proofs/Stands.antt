@@ -4,9 +4,9 @@
 --   Taken      `judgedAt` answers a whole field: it stands there and no refusal is due
 --
 -- Assumes nothing.
-use Prim.Native.Nat.{ℕ, _+_, _≤_, _<_}
+use Prim.Native.Nat.{ℕ, _+_, _≤_}
 use mathlib.Core.Path.{_≡_, refl, sym, ap, _∙_}
-use mathlib.Core.Bool.{Bool, true, false}
+use mathlib.Core.Bool.{Bool, true, false, not}
 use mathlib.Core.List.{List}
 use mathlib.Core.Option.{Option, some}
 use native.Mathlib.Omega.{arith}
@@ -14,7 +14,7 @@ use borrow.Author.Tests.{leb-true}
 use lib.Dec.{leb, ltb}
 use lib.ListN.{length}
 use Rattle.fields.specs.Bytes.{byteAt, big}
-use Rattle.fields.specs.Header.{headerAt, pick}
+use Rattle.fields.specs.Header.{pick}
 use Rattle.fields.specs.declared.Field.the-variants.{Nothing, Cut, Header}
 use Rattle.rules.specs.State.{if_then_else_}
 use Rattle.plan.specs.Fields.{Item, whole, bad, known, fitting, fieldOf, taken, itemAt}
@@ -40,7 +40,7 @@ module _ (s : List ℕ) (at : ℕ) (f : SetupField) (m : ℕ) where
   n = big s (at + 1) 2
 
   judge-value : (a b c : Bool) → known t ≡ a → fitting t n ≡ b → leb (at + 3 + n) (length s) ≡ c
-      → (if a then (if b then (if c then whole (fieldOf s t (at + 3) n) (at + 3 + n) else bad 1 (some at)) else bad 3 (some at)) else bad 2 (some at)) ≡ whole f m
+      → (if not a then bad 2 (some at) else (if not b then bad 3 (some at) else (if not c then bad 1 (some at) else whole (fieldOf s t (at + 3) n) (at + 3 + n)))) ≡ whole f m
       → Stands s at f m
   judge-value false b c p q r h = bad-whole h
   judge-value true false c p q r h = bad-whole h

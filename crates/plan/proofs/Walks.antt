@@ -5,7 +5,7 @@
 --   stand-no     at a refused field; stand-end: at 0x7F; stand-next: after any other field
 --
 -- Assumes nothing.
-use Prim.Native.Nat.{ℕ, zero, suc, _+_, _-_, _≤_, _<_}
+use Prim.Native.Nat.{ℕ, zero, suc, _-_, _≤_, _<_}
 use mathlib.Core.Path.{_≡_, refl, sym, subst, ap, _∙_}
 use mathlib.Core.Bool.{true, false}
 use mathlib.Core.List.{List}
@@ -22,7 +22,7 @@ use Rattle.plan.specs.declared.judge.Seen.{Seen}
 use Rattle.plan.specs.declared.parse.SetupField.{SetupField}
 use Rattle.plan.proofs.Items.{item-none}
 use Rattle.plan.proofs.Judged.{judged-no}
-use Rattle.plan.proofs.Stands.{Stands, Taken, is-taken}
+use Rattle.plan.proofs.Stands.{Taken, is-taken}
 use Rattle.plan.proofs.Sound.{Sound, sound-first, sound-after}
 
 pub record Standing (s : List ℕ) (at : ℕ) (seen : Seen) (gs : List Setting) (p : ℕ) : Type 0 where

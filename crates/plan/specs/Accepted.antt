@@ -9,7 +9,6 @@
 -- Assumes nothing.
 use Prim.Native.Nat.{ℕ, zero, suc, _+_, _-_, _≤_, _<_}
 use mathlib.Core.Path.{_≡_}
-use mathlib.Core.Bool.{true, false}
 use mathlib.Core.List.{List, [], _∷_, _++_, map}
 use lib.Dec.{ltb}
 use lib.ListN.{length}
@@ -25,9 +24,11 @@ use Rattle.plan.specs.declared.parse.SetupField.the-variants.{Format, La
 abbrev pub there : Setting → ℕ
 there g = if ltb 0 (g .weight) then 1 else 0
 
+-- How many lanes are in a setup.
 abbrev pub present : List Setting → ℕ
 present gs = sum there gs
 
+-- A whole field, and those after it, unless it is 0x7F.
 abbrev pub listed : Item → (ℕ → List SetupField) → List SetupField
 listed (bad n p) go = []
 listed (whole f at) go = f ∷ (if ends f then [] else go at)
@@ -37,13 +38,16 @@ unfoldable pub fieldsFrom : ℕ → List ℕ → ℕ → List SetupField
 fieldsFrom zero s at = []
 fieldsFrom (suc turns) s at = listed (itemAt s at) (fieldsFrom turns s)
 
+-- The whole fields that stand from a place on.
 abbrev pub fieldsOf : List ℕ → ℕ → List SetupField
 fieldsOf s at = fieldsFrom (length s - at) s at
 
+-- "Rising lane numbers": each is above the one before it; equal is not rising.
 unfoldable pub Rising : ℕ → List LaneField → Type 0
 Rising low [] = Unit
 Rising low (l ∷ ls) = (low ≤ l .lane) × Rising (l .lane + 1) ls
 
+-- Each lane field, in order, gives its lane a setting.
 unfoldable pub placedAll : List Setting → List LaneField → List Setting
 placedAll gs [] = gs
 placedAll gs (l ∷ ls) = placedAll (placed gs (Lane l)) ls

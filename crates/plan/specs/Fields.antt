@@ -10,7 +10,7 @@
 --
 -- Assumes nothing.
 use Prim.Native.Nat.{ℕ, _+_}
-use mathlib.Core.Bool.{Bool, true, false, _||_}
+use mathlib.Core.Bool.{Bool, true, false, not, _||_}
 use mathlib.Core.List.{List}
 use mathlib.Core.Option.{Option, some}
 use lib.Dec.{leb, eqb}
@@ -29,6 +29,7 @@ use Rattle.plan.specs.declared.parse.SetupField.the-variants.{Format, La
 use Rattle.plan.specs.declared.parse.Parsed.{Parsed}
 use Rattle.plan.specs.declared.parse.Parsed.the-variants.{Whole, Refused}
 
+-- What stands at a place: a whole field, taken apart, with the place after it; or a refusal's number and its place.
 pub data Item : Type 0 where
   whole : SetupField → ℕ → Item
   bad : ℕ → Option ℕ → Item
@@ -41,16 +42,20 @@ known tag = eqb tag 1 || (eqb tag 16 || eqb tag 127)
 abbrev pub fitting : ℕ → ℕ → Bool
 fitting tag n = if eqb tag 1 then eqb n 2 else (if eqb tag 16 then eqb n 3 || eqb n 5 else eqb n 0)
 
+-- "A lane field of length 3 has no longest." Else the longest stands after the lane and the weight.
 abbrev pub longestAt : List ℕ → ℕ → ℕ → Longest
 longestAt s at n = if eqb n 3 then Default else Given (big s (at + 3) 2)
 
+-- "0x10 (lane u8, weight u16, longest u16)": the value of n bytes at a place.
 abbrev pub laneAt : List ℕ → ℕ → ℕ → LaneField
 laneAt s at n = record { lane = byteAt s at; weight = big s (at + 1) 2; longest = longestAt s at n }
 
+-- The value of n bytes at a place, by the tag before it: a format, a lane, or nothing.
 unfoldable pub fieldOf : List ℕ → ℕ → ℕ → ℕ → SetupField
 fieldOf s tag at n =
     if eqb tag 1 then Format (big s at 2) else (if eqb tag 16 then Lane (laneAt s at n) else End)
 
+-- 0x7F ends a setup.
 abbrev pub ends : SetupField → Bool
 ends (Format v) = false
 ends (Lane l) = false
@@ -61,16 +66,15 @@ abbrev pub taken : List ℕ → ℕ → Field → Item
 taken s at Nothing = bad 1 (some (length s))
 taken s at Cut = bad 1 (some at)
 taken s at (Header tag value n) =
-    if known tag
-    then (if fitting tag n
-    then (if leb (value + n) (length s) then whole (fieldOf s tag value n) (value + n) else bad 1 (some at))
-    else bad 3 (some at))
-    else bad 2 (some at)
+    if not (known tag) then bad 2 (some at)
+    else (if not (fitting tag n) then bad 3 (some at)
+    else (if not (leb (value + n) (length s)) then bad 1 (some at) else whole (fieldOf s tag value n) (value + n)))
 
 -- "header or value runs past the end, or input ends before 0x7F: field's tag; input length at the end."
 unfoldable pub itemAt : List ℕ → ℕ → Item
 itemAt s at = taken s at (headerAt s at)
 
+-- The code's answer, with document 01's number for its refusal.
 abbrev pub itemOf : Parsed → Item
 itemOf (Whole f next) = whole f next
 itemOf (Refused x) = bad (number x) (placeOf x)

@@ -28,6 +28,7 @@ abbrev pub longestOf : Longest → ℕ
 longestOf (Given n) = n
 longestOf Default = 1500
 
+-- A lane field gives its lane a weight and a longest.
 abbrev pub given : LaneField → Setting
 given l = record { weight = l .weight; longest = longestOf (l .longest) }
 
@@ -37,6 +38,7 @@ misplaced seen (Format v) = seen .begun
 misplaced seen (Lane l) = not (seen .begun) || ltb (l .lane) (seen .floor)
 misplaced seen End = eqb (seen .count) 0
 
+-- From the least to the most, both among them.
 abbrev pub within : ℕ → ℕ → ℕ → Bool
 within low high n = leb low n && leb n high
 
@@ -63,9 +65,11 @@ judged seen at (whole f next) =
     if misplaced seen f then bad 4 (some at)
     else (if outside f then bad 5 (some at) else (if over seen f then bad 6 (some at) else whole f next))
 
+-- The field at a place, judged by the fields before it.
 unfoldable pub judgedAt : Seen → List ℕ → ℕ → Item
 judgedAt seen s at = judged seen at (itemAt s at)
 
+-- A field that is taken: the format begins the setup; a lane field raises the least number that may follow, and adds its weight and itself.
 abbrev pub after : Seen → SetupField → Seen
 after seen (Format v) = record { begun = true; floor = seen .floor; total = seen .total; count = seen .count }
 after seen (Lane l) = record { begun = true; floor = l .lane + 1; total = seen .total + l .weight; count = seen .count + 1 }

@@ -2,3 +2,4 @@ pub mod Fields
 pub mod Judge
 pub mod Read
 pub mod Accepted
+pub mod Examples

@@ -1,14 +1,14 @@
 -- What reading a setup answers: the promise of `read_plan` and of `read_setup`.
 --
---   Reply       a setup that was read: its settings by lane number, how many lanes it has, the place after its 0x7F; or a refusal's number and place
+--   Reply       what reading answers
 --   readPlan    the reply at a place of an input
 --   readSetup   the reply where the setup is the whole input, as for making a table
 --   reads       the code's answer as a `Reply`
 --
 -- Assumes nothing.
-use Prim.Native.Nat.{ℕ, zero, suc, _+_, _-_}
-use mathlib.Core.Bool.{Bool, true, false}
-use mathlib.Core.List.{List, [], _∷_, map}
+use Prim.Native.Nat.{ℕ, zero, suc, _-_}
+use mathlib.Core.Bool.{false}
+use mathlib.Core.List.{List, map}
 use mathlib.Core.Option.{Option, some}
 use lib.Dec.{ltb}
 use lib.ListN.{length, set, replicate}
@@ -25,14 +25,16 @@ use Rattle.plan.specs.declared.judge.Seen.{Seen}
 use Rattle.plan.specs.declared.parse.SetupField.{SetupField}
 use Rattle.plan.specs.declared.parse.SetupField.the-variants.{Format, Lane, End}
 
+-- A setup that was read: its settings by lane number, how many lanes it has, and the place after its 0x7F. Or a refusal: its number and its place.
 pub data Reply : Type 0 where
   read : List Setting → ℕ → ℕ → Reply
   refused : ℕ → Option ℕ → Reply
 
--- Before the first field: no lane is there.
+-- Before the first field nothing is fixed ..
 abbrev pub nothingSeen : Seen
 nothingSeen = record { begun = false; floor = 0; total = 0; count = 0 }
 
+-- .. and no lane is there.
 abbrev pub noLanes : List Setting
 noLanes = replicate 64 noSetting
 
@@ -57,25 +59,30 @@ walk (suc turns) s seen gs at = next seen gs (judgedAt seen s at) (walk turns s)
 unfoldable pub readPlan : List ℕ → ℕ → Reply
 readPlan s at = walk (length s - at) s nothingSeen noLanes at
 
--- "byte after the last 0x7F: that byte."
+-- "4: byte after the last 0x7F. Place: that byte."
 abbrev pub closed : List ℕ → Reply → Reply
 closed s (read gs n at) = if ltb at (length s) then refused 4 (some at) else read gs n at
 closed s (refused n p) = refused n p
 
+-- "Making: .. fields in order": the setup is the whole input, and its 0x7F is the last.
 unfoldable pub readSetup : List ℕ → Reply
 readSetup s = closed s (readPlan s 0)
 
 -- ---- the code's answer
 
+-- A lane of a plan, as the rules have it.
 abbrev pub settingOf : lane.Lane → Setting
 settingOf l = record { weight = l .weight; longest = l .longest .0 }
 
+-- A plan's lanes, by number.
 abbrev pub settings : Plan → List Setting
 settings p = map settingOf (p .lanes)
 
+-- What came of reading, with document 01's number for a refusal. Beside a refusal the plan means nothing.
 abbrev pub came : Plan → Outcome → Reply
 came p (Read at) = read (settings p) (p .count) at
 came p (Refused x) = refused (number x) (placeOf x)
 
+-- The code's answer.
 abbrev pub reads : Reading → Reply
 reads r = came (r .plan) (r .outcome)

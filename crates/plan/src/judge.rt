@@ -9,6 +9,24 @@ use crate::parse::Parsed;
 use crate::parse::SetupField;
 use rules::Refusal;
 
+// Document 01, "Numbers": lanes are numbered 0 to 63, a weight is 1 to 1,024, a longest 64 to 1,500, and the weights sum to at most 1,024.
+pub const LAST_LANE: u8 = 63;
+
+pub const LEAST_WEIGHT: u16 = 1;
+
+pub const MOST_WEIGHT: u16 = 1024;
+
+pub const LEAST_LONGEST: u16 = 64;
+
+pub const MOST_LONGEST: u16 = 1500;
+
+pub const MOST_TOTAL: u64 = 1024;
+
+// The one format, and the longest of a lane field that has none.
+pub const FORMAT_NUMBER: u16 = 1;
+
+pub const DEFAULT_LONGEST: u16 = 1500;
+
 // What the fields so far fix for the next one.
 pub struct Seen {
     // The format was read.
@@ -26,7 +44,7 @@ pub fn longest_of(longest: Longest) -> u16
     ensures { λ r. ⌜ r ≡ longestOf longest ⌝ }
 {
     let Longest::Given(n) = longest else {
-        return 1500;
+        return DEFAULT_LONGEST;
     };
     n
 }
@@ -58,11 +76,11 @@ fn lane_outside(l: LaneField) -> bool
     ensures { λ r. ⌜ r ≡ laneOutside l ⌝ }
 {
     let longest = l.longest;
-    if l.lane > 63 {
+    if l.lane > LAST_LANE {
         return true;
     }
-    if within(1, 1024, l.weight) {
-        return !within(64, 1500, longest_of(longest));
+    if within(LEAST_WEIGHT, MOST_WEIGHT, l.weight) {
+        return !within(LEAST_LONGEST, MOST_LONGEST, longest_of(longest));
     }
     true
 }
@@ -72,7 +90,7 @@ fn outside(field: SetupField) -> bool
     ensures { λ r. ⌜ r ≡ outside field ⌝ }
 {
     match field {
-        SetupField::Format(n) => n != 1,
+        SetupField::Format(n) => n != FORMAT_NUMBER,
         SetupField::Lane(l) => lane_outside(l),
         SetupField::End => false,
     }
@@ -84,7 +102,7 @@ fn over(seen: Seen, field: SetupField) -> bool
     ensures { λ r. ⌜ r ≡ over seen field ⌝ }
 {
     match field {
-        SetupField::Lane(l) => seen.total + (l.weight as u64) > 1024,
+        SetupField::Lane(l) => seen.total + (l.weight as u64) > MOST_TOTAL,
         SetupField::Format(_) => false,
         SetupField::End => false,
     }

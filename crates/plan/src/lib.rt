@@ -36,7 +36,7 @@ pub struct Lane {
 
 // A setup by value: a lane for each number, and how many of them are there.
 pub struct Plan {
-    pub lanes: [Lane; 64],
+    pub lanes: [Lane; LANES],
     pub count: usize,
 }
 
@@ -63,17 +63,17 @@ fn lane_of(l: LaneField) -> Lane
     }
 }
 
-fn no_lanes() -> [Lane; 64]
+fn no_lanes() -> [Lane; LANES]
     ensures { λ r. ⌜ map settingOf r ≡ noLanes ⌝ }
 {
     [Lane {
         weight: 0,
         longest: Bytes(0),
-    }; 64]
+    }; LANES]
 }
 
 // The lanes, with the one that a field describes.
-fn placed(mut lanes: [Lane; 64], field: SetupField) -> [Lane; 64]
+fn placed(mut lanes: [Lane; LANES], field: SetupField) -> [Lane; LANES]
     requires { ⌜ outside field ≡ false ⌝ }
     ensures { λ r. ⌜ map settingOf r ≡ placed (map settingOf lanes) field ⌝ }
 {
