@@ -1,15 +1,18 @@
--- What an accepted setup is, said without the walk. proofs/Accepted.antt shows that whatever `readPlan` reads is `Accepted`.
+-- What an accepted setup is, said without the walk. proofs/Accepted.antt shows that whatever `readPlan` reads is `Accepted`, and
+-- proofs/Refusals.antt that whatever it refuses is `Refused`.
 --
 --   present     how many lanes are there
 --   fieldsOf    the whole fields from a place on, as far as 0x7F
 --   Rising      lane numbers rise, from a least one on
 --   placedAll   the lanes, with those that some fields describe
 --   Accepted    the rule for a setup that was read
+--   Refused     the rule for a refusal
 --
 -- Assumes nothing.
 use Prim.Native.Nat.{ℕ, zero, suc, _+_, _-_, _≤_, _<_}
 use mathlib.Core.Path.{_≡_}
 use mathlib.Core.List.{List, [], _∷_, _++_, map}
+use mathlib.Core.Option.{Option, some}
 use lib.Dec.{ltb}
 use lib.ListN.{length}
 use Rattle.rules.specs.State.{if_then_else_, sum, Setting}
@@ -67,3 +70,12 @@ pub record Accepted (s : List ℕ) (at : ℕ) (gs : List Setting) (n next : ℕ)
   pub setup : Setup gs
   pub past : at < next
   pub within : next ≤ length s
+
+-- A refusal of reading has a number from 1 to 6 and a place: from where reading began to the input's length.
+pub record Refused (s : List ℕ) (at n : ℕ) (q : Option ℕ) : Type 0 where
+  pub low : 1 ≤ n
+  pub high : n ≤ 6
+  pub place : ℕ
+  pub is : q ≡ some place
+  pub from : at ≤ length s → at ≤ place
+  pub within : place ≤ length s

@@ -13,7 +13,7 @@ ghost use mathlib.Core.Path.{_≡_};
 ghost use mathlib.Core.Bool.{false};
 ghost use mathlib.Core.List.{map};
 ghost use Rattle.plan.specs.Judge.{given, outside};
-ghost use Rattle.plan.specs.Read.{noLanes, placed, settingOf, reads, readPlan, readSetup};
+ghost use Rattle.plan.specs.Read.{noLanes, placed, settingOf, came, reads, readPlan, readSetup};
 
 pub mod judge;
 pub mod parse;
@@ -88,6 +88,15 @@ fn placed(mut lanes: [Lane; LANES], field: SetupField) -> [Lane; LANES]
     }
 }
 
+fn answered(lanes: [Lane; LANES], count: usize, outcome: Outcome) -> Reading
+    ensures { λ r. ⌜ reads r ≡ came (record { lanes = lanes; count = count }) outcome ⌝ }
+{
+    Reading {
+        plan: Plan { lanes, count },
+        outcome,
+    }
+}
+
 // The setup that stands at a place of an input, up to its 0x7F. What follows that is not looked at.
 pub fn read_plan(s: &[u8], at: usize) -> Reading
     ensures { λ r. ⌜ reads r ≡ readPlan (now (s .entry)) at ⌝ }
@@ -103,23 +112,11 @@ pub fn read_plan(s: &[u8], at: usize) -> Reading
     loop {
         match judge::judged_field(s, p, seen) {
             Parsed::Refused(x) => {
-                return Reading {
-                    plan: Plan {
-                        lanes,
-                        count: seen.count,
-                    },
-                    outcome: Outcome::Refused(x),
-                };
+                return answered(lanes, seen.count, Outcome::Refused(x));
             }
             Parsed::Whole(field, next) => {
                 if parse::ends(field) {
-                    return Reading {
-                        plan: Plan {
-                            lanes,
-                            count: seen.count,
-                        },
-                        outcome: Outcome::Read(next),
-                    };
+                    return answered(lanes, seen.count, Outcome::Read(next));
                 }
                 let more = placed(lanes, field);
                 lanes = more;

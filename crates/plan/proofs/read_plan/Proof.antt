@@ -4,17 +4,13 @@ use borrow.Author.Needs.{needs}
 use lib.ListN.{length}
 use mathlib.Core.List.{map}
 use mathlib.Core.Path.{_≡_, sym, ap, _∙_}
-use mathlib.Core.Path.{sym, ap, _∙_}
 use native.Mathlib.Omega.{arith}
 use Rattle.plan.proofs.Walks.{Standing, stand-first, stand-no, taken-here, moves, stand-end, stand-next}
 use Rattle.plan.proofs.read_plan.Statement.{statement}
 use Rattle.plan.proofs.read_plan.Tie as tie
 use Rattle.plan.specs.Fields.{itemOf, whole}
-use Rattle.plan.specs.Fields.{itemOf}
 use Rattle.plan.specs.Judge.{judgedAt}
 use Rattle.plan.specs.Read.{settingOf}
-
--- `plan::read_plan` meets its contract. Assumes nothing.
 
 abbrev Inv-loop : tie.InvT-loop
 Inv-loop s at lanes₀ seen₀ p₀ lanes seen p = Standing s at seen (map settingOf lanes) p
@@ -39,8 +35,11 @@ judged-field-requires c κs = c .loop .inv .sound .total
 enum-known-x : tie.Need-enum-known-x Inv-loop μ-loop
 enum-known-x c = search needs
 
+answered-requires : tie.Need-answered-requires Inv-loop μ-loop
+answered-requires c κs = search needs
+
 returns : tie.Need-returns Inv-loop μ-loop
-returns c = stand-no _ _ _ _ _ (c .before .before .before .before .loop .inv) _ _ (sym (c .before .before .before .judged-field .ensures) ∙ ap itemOf (c .before .x .given .1))
+returns c = c .answered .ensures ∙ stand-no _ _ _ _ _ (c .before .before .before .before .before .loop .inv) _ _ (sym (c .before .before .before .before .judged-field .ensures) ∙ ap itemOf (c .before .before .x .given .1))
 
 enum-known-field : tie.Need-enum-known-field Inv-loop μ-loop
 enum-known-field c = search needs
@@ -48,8 +47,11 @@ enum-known-field c = search needs
 ends-requires : tie.Need-ends-requires Inv-loop μ-loop
 ends-requires c κs = search needs
 
+answered-requires-2 : tie.Need-answered-requires-2 Inv-loop μ-loop
+answered-requires-2 c κs = search needs
+
 returns-2 : tie.Need-returns-2 Inv-loop μ-loop
-returns-2 c = stand-end _ _ _ _ _ (c .before .before .before .before .before .before .loop .inv) _ _ (field-is (c .before .before .before)) (sym (c .before .ends .ensures) ∙ c .if1 .taken)
+returns-2 c = c .answered2 .ensures ∙ stand-end _ _ _ _ _ (c .before .before .before .before .before .before .before .loop .inv) _ _ (field-is (c .before .before .before .before)) (sym (c .before .before .ends .ensures) ∙ c .before .if1 .taken)
 
 placed-requires : tie.Need-placed-requires Inv-loop μ-loop
 placed-requires c κs = taken-here _ _ _ _ _ (c .before .before .before .before .before .before .loop .inv) _ _ (field-is (c .before .before .before)) .inside
@@ -73,9 +75,11 @@ read-plan-spec =
     loop-holds
     judged-field-requires
     enum-known-x
+    answered-requires
     returns
     enum-known-field
     ends-requires
+    answered-requires-2
     returns-2
     placed-requires
     after-requires

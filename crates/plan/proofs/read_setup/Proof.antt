@@ -1,14 +1,10 @@
 -- `plan::read_setup` meets its contract. Assumes nothing.
 use borrow.Author.Needs.{needs}
 use mathlib.Core.Path.{_≡_, sym, ap, _∙_}
-use mathlib.Core.Path.{sym, ap, _∙_}
 use Rattle.plan.proofs.Closed.{setup-refused, setup-more, setup-whole}
 use Rattle.plan.proofs.read_setup.Statement.{statement}
 use Rattle.plan.proofs.read_setup.Tie as tie
 use Rattle.plan.specs.Read.{read, settings, came, readPlan}
-use Rattle.plan.specs.Read.{settings, came}
-
--- `plan::read_setup` meets its contract. Assumes nothing.
 
 -- a plan that was read
 read-is : (c : tie.After-outcome)

@@ -2,15 +2,11 @@
 use borrow.Author.Needs.{needs}
 use mathlib.Core.Bool.{false}
 use mathlib.Core.Path.{_≡_, sym, ap, _∙_}
-use mathlib.Core.Path.{sym, ap, _∙_}
 use Rattle.plan.proofs.Judged.{judged-no, judged-misplaced, judged-outside, judged-over, judged-whole}
 use Rattle.plan.proofs.judge.judged_field.Statement.{statement}
 use Rattle.plan.proofs.judge.judged_field.Tie as tie
-use Rattle.plan.specs.Fields.{itemOf}
-use Rattle.plan.specs.Fields.{whole, itemAt, itemOf}
+use Rattle.plan.specs.Fields.{itemOf, whole, itemAt}
 use Rattle.plan.specs.Judge.{misplaced, outside}
-
--- `plan::judge::judged_field` meets its contract. Assumes nothing.
 
 -- what each place of the code knows
 item-is : (c : tie.After-parsed) → itemAt (c .before .before .before .before .args .s .now) (c .before .before .before .before .args .at) ≡ whole (c .parsed .given .0 .0) (c .parsed .given .0 .1 .0)

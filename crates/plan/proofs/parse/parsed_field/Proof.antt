@@ -6,7 +6,6 @@ use lib.Dec.{leb}
 use lib.ListN.{length}
 use mathlib.Core.Bool.{true}
 use mathlib.Core.Path.{_≡_, sym, _∙_}
-use mathlib.Core.Path.{sym, _∙_}
 use native.Mathlib.Omega.{arith}
 use Rattle.fields.specs.Header.{headerAt}
 use Rattle.fields.specs.declared.Field.the-variants.{Header}
@@ -14,8 +13,6 @@ use Rattle.plan.proofs.Items.{item-none, item-header-cut, item-unknown,
 use Rattle.plan.proofs.parse.parsed_field.Statement.{statement}
 use Rattle.plan.proofs.parse.parsed_field.Tie as tie
 use Rattle.plan.specs.Fields.{known, fitting}
-
--- `plan::parse::parsed_field` meets its contract. Assumes nothing.
 
 -- what each place of the code knows
 header-is : (c : tie.After-tag)
