@@ -6,11 +6,10 @@ use mathlib.Core.List.{List, [], _∷_}
 use native.Mathlib.Omega.{arith}
 use lib.ListN.{length, getD, set, length-set}
 use lib.Seq.{getD-set-same, getD-set-other}
-use Rattle.rules.specs.State.{if_then_else_, Rec, Lane, State, laneAt, holds, some?, noLane}
 use Rattle.table.specs.Layout.{presentWord, laneWord, placeWord, rowOf, rowAt, putRow}
-use Rattle.table.specs.Means.{presentAt, recOf, ringOf, givenOf, timed, rowLane, laneOf, stateOf}
+use Rattle.table.specs.Means.{presentAt, recOf, ringOf, givenOf, timed, rowLane, laneOf}
 use Rattle.table.specs.declared.LaneRow.{LaneRow}
-use Rattle.table.proofs.Footprint.{Outside, present-kept, row-kept, ring-kept, lane-is}
+use Rattle.table.proofs.Footprint.{Outside, present-kept, row-kept, ring-kept}
 
 -- ---- where the stores lie
 
@@ -65,31 +64,5 @@ lane-put w k x h n len hk small p =
 pub row-place : (w : List ℕ) (k i e : ℕ) → k < 64 → rowAt (set w (placeWord k i) e) k ≡ rowAt w k
 row-place w k i e hk = row-kept w (set w (placeWord k i) e) k (λ j p q. getD-set-other w (placeWord k i) j e 0 (omega arith))
 
--- ---- lanes by their rows
-
 pub present-place : (w : List ℕ) (k i e : ℕ) → presentAt (set w (placeWord k i) e) k ≡ presentAt w k
 present-place w k i e = present-kept w (set w (placeWord k i) e) k (getD-set-other w (placeWord k i) presentWord e 0 (omega arith))
-
-pub lane-present : (w : List ℕ) (k : ℕ) → presentAt w k ≡ true → laneOf w k ≡ timed (givenOf (rowAt w k)) (rowAt w k .time .0) (ringOf w k (rowAt w k .head) (rowAt w k .count))
-unfolding laneOf rowLane
-lane-present w k p = rw p
-
-pub lane-absent : (w : List ℕ) (k : ℕ) → presentAt w k ≡ false → laneOf w k ≡ noLane
-unfolding laneOf
-lane-absent w k p = rw p
-
-by-present : (w : List ℕ) (k : ℕ) (b : Bool) → presentAt w k ≡ b → 0 < laneOf w k .given .weight → b ≡ true
-by-present w k true e h = refl
-by-present w k false e h = absurd (omega (arith, ap (λ (l : Lane). l .given .weight) (lane-absent w k e)))
-
--- a lane with a weight is in the setup
-pub weight-present : (w : List ℕ) (k : ℕ) → k < 64 → 0 < laneAt (stateOf w) k .given .weight → presentAt w k ≡ true
-weight-present w k hk h = by-present w k (presentAt w k) refl (rw (lane-is w k hk) at h)
-
-by-holds : (w : List ℕ) (k : ℕ) (b : Bool) → presentAt w k ≡ b → holds (laneOf w k) ≡ true → b ≡ true
-by-holds w k true e h = refl
-by-holds w k false e h = sym (ap holds (lane-absent w k e)) ∙ h
-
--- and so is one that holds records
-pub holds-present : (w : List ℕ) (k : ℕ) → k < 64 → holds (laneAt (stateOf w) k) ≡ true → presentAt w k ≡ true
-holds-present w k hk h = by-holds w k (presentAt w k) refl (rw (lane-is w k hk) at h)

@@ -1,0 +1,6 @@
+pub mod Bits
+pub mod Next
+pub mod Times
+pub mod Lanes
+pub mod Sums
+pub mod Whole
