@@ -17,7 +17,7 @@ use Rattle.rules.specs.Sets.{wordOf, anyBelow}
 use Rattle.table.specs.Layout.{rowAt, presentWord}
 use Rattle.table.specs.Means.{presentAt, ringOf, givenOf, timed, laneOf, RowAgrees}
 use Rattle.table.specs.declared.LaneRow.{LaneRow}
-use Rattle.table.proofs.Lanes.{lane-present, lane-absent, given-row, queue-row, length-ring}
+use Rattle.table.proofs.Rows.{lane-present, lane-absent, given-row, queue-row, length-ring}
 use Rattle.lane_test.specs.Says.{LaneGood}
 use Rattle.lane_test.proofs.Setting.{group-at-most}
 use Rattle.good.specs.Pass.{Next, Noted, FoundSays, sumTo, weightAt, holdsAt, eligibleAt}

@@ -11,8 +11,9 @@ use lib.ListN.{getD}
 use lib.Count.{trailingZeros}
 use Rattle.table.specs.Layout.{presentWord}
 use Rattle.table.specs.Means.{presentAt}
-use Rattle.good.specs.Pass.{bit, Next}
-use Rattle.good.proofs.Bits.{bit-above, bit-shift, low-set}
+use Rattle.words.specs.Bits.{bit}
+use Rattle.good.specs.Pass.{Next}
+use Rattle.words.proofs.Bits.{bit-above, bit-shift, low-set}
 
 module _ (lanes from : ℕ) where
   at : (i : ℕ) → from ≤ i → bit (i - from) (lanes / 2 ^ from) ≡ bit i lanes

@@ -7,7 +7,7 @@ use mathlib.Core.List.{List, [], _∷_, _++_}
 use native.Mathlib.Nat.{add-comm}
 use native.Mathlib.Numerals.{add-one}
 use native.Mathlib.Omega.{arith}
-use borrow.Author.Tests.{eq-eqb}
+use borrow.Author.Tests.{eq-eqb, ne-eqb}
 use lib.Dec.{eqb}
 use lib.ListN.{getD}
 use lib.Pow.{pow-mono}
@@ -16,8 +16,9 @@ use Rattle.words.proofs.Runs.{reads-snoc, eq-or-ne}
 use Rattle.rules.specs.State.{if_then_else_}
 use Rattle.rules.specs.Good.{times}
 use Rattle.table.specs.Layout.{orderWord}
-use Rattle.good.specs.Pass.{bit, Ordered}
-use Rattle.good.proofs.Bits.{bit-above, bit-add, bits-same}
+use Rattle.words.specs.Bits.{bit}
+use Rattle.good.specs.Pass.{Ordered}
+use Rattle.words.proofs.Bits.{bit-above, bit-add-same, bit-add-other, bits-same}
 
 pub times-append : (k : ℕ) (xs ys : List ℕ) → times k (xs ++ ys) ≡ times k xs + times k ys
 times-append k [] ys = omega arith
@@ -69,13 +70,16 @@ module _ (w : List ℕ) (n i seen held : ℕ) (s : Seen w n i seen) where
 
     -- a new one
     pub seen-more : (k : ℕ) → k ≡ getD w (orderWord + i) 0 → bit k seen ≡ 0 → seen + 2 ^ k < 2 ^ 64 → Seen w n (i + 1) (seen + 2 ^ k)
-    seen-more k e b fits =
-        record {
-          read = omega arith;
-          few = s .few;
-          fits = fits;
-          bits = λ j. ap (bit j) (add-comm seen (2 ^ k)) ∙ bit-add k j seen b ∙ rw e (omega (arith, s .bits j, times-snoc w orderWord j i));
-        }
+    seen-more k e b fits = record { read = omega arith; few = s .few; fits = fits; bits = λ j. rw (add-comm seen (2 ^ k)) (⊎-elim (same j) (other j) (eq-or-ne k j)) }
+      where
+        more : (j : ℕ) → times j (reads w orderWord (i + 1)) ≡ (if eqb k j then 1 else 0) + times j (reads w orderWord i)
+        more j = rw e (times-snoc w orderWord j i)
+
+        same : (j : ℕ) → k ≡ j → bit j (2 ^ k + seen) ≡ times j (reads w orderWord (i + 1))
+        same j q = rw (← q) (omega (arith, bit-add-same k seen b, s .bits k, b, more k, ap (λ (c : Bool). (if c then 1 else 0) + times k (reads w orderWord i)) (eq-eqb k k refl)))
+
+        other : (j : ℕ) → (k ≡ j → ⊥) → bit j (2 ^ k + seen) ≡ times j (reads w orderWord (i + 1))
+        other j ne = bit-add-other k j seen ne b ∙ omega (arith, s .bits j, more j, ap (λ (c : Bool). (if c then 1 else 0) + times j (reads w orderWord i)) (ne-eqb k j ne))
 
   module _ (done : n ≤ i) where
     seen-all : (k : ℕ) → bit k seen ≡ times k (reads w orderWord n)

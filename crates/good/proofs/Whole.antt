@@ -6,24 +6,35 @@ use Prim.Native.Nat.{ℕ, zero, suc, _+_, _*_, _^_, _≤_, _<_}
 use mathlib.Core.List.{List, [], _∷_, map}
 use native.Mathlib.Omega.{arith}
 use native.Mathlib.Decide.{decLt}
-use lib.Pow.{pow-pos}
-use lib.ListN.{length, length-map, getD, List·getD-eq-default, List·getD-map}
+use lib.Pow.{pow-pos, pow-mono}
+use lib.ListN.{length, length-map, getD, List·getD-eq-default}
 use Rattle.words.specs.Runs.{reads, tab}
 use Rattle.words.proofs.Runs.{length-tab}
 use Rattle.rules.specs.State.{if_then_else_, Setting, Lane, State, laneAt, holds, eligible, slot, noLane, noSetting, setupOf, settingAt, laneDepth}
 use Rattle.rules.specs.Setup.{InNumbers, Setup, weights}
 use Rattle.rules.specs.Good.{Good, Lengths, Times, times}
-use Rattle.rules.specs.Sets.{wordOf, anyBelow}
+use Rattle.rules.specs.Sets.{wordOf, anyBelow, count}
+use Rattle.rules.proofs.Lane.{slot-pos}
+use Rattle.rules.proofs.Word.{word-lt, word-bit}
+use Rattle.rules.proofs.SameSetup.{setting-lane}
 use Rattle.table.specs.Layout.{Room, cells, rowAt, clockWord, holdingWord, orderWord}
 use Rattle.table.specs.Means.{presentAt, laneOf, stateOf, meant, Beside}
 use Rattle.table.proofs.Footprint.{lane-is, reads-order}
-use Rattle.table.proofs.Lanes.{lane-absent, given-row}
+use Rattle.table.proofs.Rows.{lane-absent, given-row}
 use Rattle.lane_test.specs.Says.{Says, LaneGood}
-use Rattle.good.specs.Pass.{bit, FoundSays, Ordered, sumTo, weightAt, holdsAt, eligibleAt}
+use Rattle.words.specs.Bits.{bit}
+use Rattle.good.specs.Pass.{FoundSays, Ordered, sumTo, weightAt, holdsAt, eligibleAt}
 use Rattle.good.specs.Table.{GoodTable}
 use Rattle.good.specs.declared.Found.{Found}
-use Rattle.good.proofs.Bits.{one, bit-word, bit-word-above, bit-above}
+use Rattle.words.proofs.Bits.{bit-above}
 use Rattle.good.proofs.Sums.{sum-map, sum-tab, any-some, any-at, word-some}
+
+abbrev one : Bool → ℕ
+one b = if b then 1 else 0
+
+count-one : (b : Bool) → count b ≡ one b
+count-one true = refl
+count-one false = refl
 
 -- ---- every number's lane
 
@@ -52,15 +63,12 @@ module _ (w : List ℕ) where
   unfolding stateOf
   setup-size = length-map (tab 64 (laneOf w)) (λ (l : Lane). l .given) ∙ length-tab 64 (laneOf w)
 
-  setting-is : (k : ℕ) → settingAt (setupOf (stateOf w)) k ≡ laneAt (stateOf w) k .given
-  setting-is k = List·getD-map (λ (l : Lane). l .given) (stateOf w .lanes) k noLane
-
   -- the word of the holding lanes, bit by bit
   held-bit : (k : ℕ) → bit k (wordOf (holdsAt w) 64) ≡ (if holds (laneAt (stateOf w) k) then 1 else 0)
   held-bit k =
       elim (decLt k 64) [
-        | yes h ↦ bit-word (holdsAt w) 64 k h ∙ ap (λ (l : Lane). one (holds l)) (sym (lane-is w k h))
-        | no h ↦ bit-word-above (holdsAt w) 64 k (omega arith) ∙ ap (λ (l : Lane). one (holds l)) (sym (far-lane k (omega arith)))
+        | yes h ↦ word-bit (holdsAt w) 64 k h ∙ count-one (holdsAt w k) ∙ ap (λ (l : Lane). one (holds l)) (sym (lane-is w k h))
+        | no h ↦ bit-above k (wordOf (holdsAt w) 64) (omega (arith, word-lt (holdsAt w) 64, pow-mono {i = 64} {j = k} (omega arith))) ∙ ap (λ (l : Lane). one (holds l)) (sym (far-lane k (omega arith)))
       ]
 
 -- ---- from the test to a good table
@@ -68,10 +76,6 @@ module _ (w : List ℕ) where
 some-bit : (k x : ℕ) → bit k x ≡ 1 → 0 < x
 some-bit k zero e = absurd (omega (arith, bit-above k 0 (pow-pos k)))
 some-bit k (suc x) e = omega arith
-
-slot-pos : (g : Setting) → 0 < slot g
-unfolding slot
-slot-pos g = pow-pos _
 
 module _ (t : List ℕ) (v : ℕ) (f : Found) (clock : v ≡ meant t .clock) (s : FoundSays v (cells t) 64 f) where
   bit-held : (k : ℕ) → bit k (f .held) ≡ (if holds (laneAt (meant t) k) then 1 else 0)
@@ -90,7 +94,7 @@ module _ (t : List ℕ) (v : ℕ) (f : Found) (clock : v ≡ meant t .clock) (s 
       setup =
           record {
             size = setup-size (cells t);
-            each = λ k. subst (λ (g : Setting). InNumbers g ⊎ (g ≡ noSetting)) (sym (setting-is (cells t) k)) (each-lane (cells t) (λ (l : Lane). InNumbers (l .given) ⊎ (l .given ≡ noSetting)) (inr refl) in-setup k);
+            each = λ k. subst (λ (g : Setting). InNumbers g ⊎ (g ≡ noSetting)) (sym (setting-lane (meant t) k)) (each-lane (cells t) (λ (l : Lane). InNumbers (l .given) ⊎ (l .given ≡ noSetting)) (inr refl) in-setup k);
             some-lane = omega (arith, weight-sum);
             total = omega (arith, weight-sum);
           }

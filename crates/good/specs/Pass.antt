@@ -1,6 +1,5 @@
 -- What the one pass over the lanes finds.
 --
---   bit        bit k of a word, as a number
 --   Next       the first lane from a number on that a word of present lanes names; 64 where there is none
 --   Noted      a lane's part in what is found
 --   FoundSays  what is found of the lanes below n: all are good; their weights' sum, the word of those that hold records, whether one is eligible
@@ -9,9 +8,10 @@
 -- Assumes nothing.
 use mathlib.Core.Path.{_≡_}
 use mathlib.Core.Bool.{Bool, true, false, _&&_, _||_}
-use Prim.Native.Nat.{ℕ, zero, suc, _+_, _*_, _/_, _%_, _^_, _≤_, _<_}
+use Prim.Native.Nat.{ℕ, zero, suc, _+_, _^_, _≤_, _<_}
 use mathlib.Core.List.{List}
 use lib.Dec.{leb, ltb}
+use Rattle.words.specs.Bits.{bit}
 use Rattle.words.specs.Runs.{reads}
 use Rattle.units.specs.Numbers.{roundDown}
 use Rattle.rules.specs.State.{if_then_else_, holds, eligible}
@@ -24,9 +24,6 @@ use Rattle.lane_test.specs.Says.{LaneGood}
 use Rattle.good.specs.declared.Found.{Found}
 use Rattle.good.specs.declared.Pass.{Pass}
 use Rattle.good.specs.declared.Pass.the-variants.{Bad, Fine}
-
-abbrev pub bit : ℕ → ℕ → ℕ
-bit k x = x / 2 ^ k % 2
 
 pub record Next (lanes from k : ℕ) : Type 0 where
   pub on : from ≤ k

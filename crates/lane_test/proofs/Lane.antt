@@ -13,7 +13,7 @@ use Rattle.rules.specs.Good.{Lengths, Times}
 use Rattle.table.specs.Layout.{rowAt, placeWord}
 use Rattle.table.specs.Means.{presentAt, recOf, ringOf, givenOf, timed, RowAgrees, laneOf}
 use Rattle.table.specs.declared.LaneRow.{LaneRow}
-use Rattle.table.proofs.Lanes.{lane-present, length-ring, given-row, queue-row, count-row}
+use Rattle.table.proofs.Rows.{lane-present, length-ring, given-row, queue-row, count-row}
 use Rattle.table.proofs.Timed.{timed-queue}
 use Rattle.lane_test.specs.Says.{TimeGood, LaneGood}
 

@@ -15,8 +15,7 @@ use Rattle.table.specs.declared.LaneRow.{LaneRow}
 use Rattle.table.proofs.Stores.{length-cells}
 use Rattle.table.proofs.Footprint.{Outside, lane-is}
 use Rattle.table.proofs.Leave.{leave-lane}
-use Rattle.table.proofs.Rows.{retimed, outside-trans, outside-row, outside-place, lane-put, row-place, present-place}
-use Rattle.table.proofs.Lanes.{lane-present, weight-present, holds-present, queue-row, count-row}
+use Rattle.table.proofs.Rows.{retimed, outside-trans, outside-row, outside-place, lane-put, row-place, present-place, lane-present, weight-present, holds-present, queue-row, count-row}
 use Rattle.table.proofs.Timed.{timed-appended, timed-woken, timed-served}
 use Rattle.queue.specs.Queue.{waiting, behind, First, Takes}
 use Rattle.queue.proofs.Ring.{recOf-entryWord, ring-snoc, ring-one, ring-cons, none-held, one-held}

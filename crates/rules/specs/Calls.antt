@@ -7,7 +7,7 @@
 --
 -- A refused call leaves the state as it is. Assumes nothing.
 use Prim.Native.Nat.{ℕ, _+_, _*_, _^_, max}
-use mathlib.Core.Bool.{Bool, true, false, not, _&&_, _||_}
+use mathlib.Core.Bool.{not, _&&_, _||_}
 use mathlib.Core.List.{List, [], _∷_, _++_, map}
 use mathlib.Core.Option.{Option, none, some}
 use lib.Dec.{leb, ltb, eqb}

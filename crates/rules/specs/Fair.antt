@@ -14,7 +14,7 @@ use lib.ListN.{length}
 use lib.Dec.{eqb}
 use Rattle.units.specs.Numbers.{lineRate}
 use Rattle.rules.specs.State.{if_then_else_, sum, Setting, settingAt, charge, rate, slot}
-use Rattle.rules.specs.Setup.{Setup}
+use Rattle.rules.specs.Setup.{Setup, margin}
 use Rattle.rules.specs.Calls.{Call, fresh}
 use Rattle.rules.specs.Runs.{Event, trace, Moving, sentIn, acceptedOf, sentOf}
 
@@ -48,4 +48,4 @@ Fair M gs =
 
 -- "1,024 T < c O + 4 slots + 1,536,000", from a fresh table of any setup
 unfoldable pub Demand3 : Type 0
-Demand3 = (gs : List Setting) → Setup gs → Fair 1536000 gs
+Demand3 = (gs : List Setting) → Setup gs → Fair margin gs

@@ -8,7 +8,7 @@ use mathlib.Core.List.{List, [], _∷_}
 use lib.Dec.{eqb}
 use lib.ListN.{length}
 use Rattle.rules.specs.State.{if_then_else_, Rec, Setting, Lane, State, charge, laneDepth, rate, slot, startR, holds, eligible, laneAt, setupOf}
-use Rattle.rules.specs.Setup.{Setup}
+use Rattle.rules.specs.Setup.{Setup, margin}
 
 -- "each length 1 to the lane's longest"
 abbrev pub Lengths : Setting → List Rec → Type 0
@@ -22,7 +22,7 @@ Times v l [] = l .finish < v + 2 * slot (l .given)
 Times v l (r ∷ rs) =
     (l .finish ≡ l .start + charge (l .given) (r .len) * rate (l .given))
     × (l .start < v + 2 * slot (l .given))
-    × (v < startR l + 2 * slot (l .given) + 1536000)
+    × (v < startR l + 2 * slot (l .given) + margin)
 
 -- how often a number stands in a list
 abbrev pub times : ℕ → List ℕ → ℕ

@@ -6,5 +6,4 @@ pub mod Runs
 pub mod Setup
 pub mod Fair
 pub mod Good
-pub mod Order
 pub mod Reads

@@ -3,15 +3,17 @@
 --   after, trace         the state after a list of calls; the calls with their answers
 --   sentIn, acceptedIn   the record that an answer hands out by take; the one that an accepted put brings
 --   sentOf, acceptedOf   those of one lane, in the order of the list
+--   InOrder              demand 2's last sentence
 --
 -- Assumes nothing.
 use Prim.Native.Nat.{ℕ}
+use mathlib.Core.Path.{_≡_}
 use mathlib.Core.Bool.{Bool, true, false}
 use mathlib.Core.List.{List, [], _∷_, _++_}
 use mathlib.Core.Option.{Option, none, some}
 use lib.Dec.{eqb}
-use Rattle.rules.specs.State.{if_then_else_, Rec, State}
-use Rattle.rules.specs.Calls.{Call, put, take, look, sets, lag, restart, Reply, accepted, taken, seen, words, lagged, restarted, refused, step}
+use Rattle.rules.specs.State.{if_then_else_, Rec, Setting, State, laneAt}
+use Rattle.rules.specs.Calls.{Call, put, take, look, sets, lag, restart, Reply, accepted, taken, seen, words, lagged, restarted, refused, fresh, step}
 
 unfoldable pub after : State → List Call → State
 after s [] = s
@@ -75,3 +77,8 @@ acceptedOf k (e ∷ es) = ofLane k (acceptedIn e) ++ acceptedOf k es
 unfoldable pub sentOf : ℕ → List Event → List Rec
 sentOf k [] = []
 sentOf k (e ∷ es) = ofLane k (sentIn (e .reply)) ++ sentOf k es
+
+-- "Each accepted record is handed out once, in its lane's order, or is still held." For any list of calls from a fresh table of the setup gs and any lane k:
+-- the records accepted are those handed out, and then those still queued.
+unfoldable pub InOrder : List Setting → Type 0
+InOrder gs = (calls : List Call) (k : ℕ) → acceptedOf k (trace (fresh gs) calls) ≡ sentOf k (trace (fresh gs) calls) ++ (laneAt (after (fresh gs) calls) k) .queue

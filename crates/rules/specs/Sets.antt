@@ -1,20 +1,21 @@
--- The four group sets (document 01, "Sets"), and the choice through them.
+-- The four group sets (document 01, "Sets").
 --
 --   groupStart     a group's start, if it holds records
 --   blocked        some eligible group of higher index has a strictly smaller finish
 --   ready ..       the tests of the four words
 --   wordOf         the word of the numbers at which a test passes
---   chooseBySets   the lane that is found through the eligible-ready word
+--   SetsRule       what document 01 says of the four words
 --
 -- Assumes nothing.
-use Prim.Native.Nat.{ℕ, zero, suc, _+_, _*_, _^_}
+use Prim.Native.Nat.{ℕ, zero, suc, _+_, _*_, _^_, _≤_, _<_}
+use mathlib.Core.Path.{_≡_}
 use mathlib.Core.Bool.{Bool, true, false, not, _&&_, _||_}
 use mathlib.Core.List.{List, [], _∷_}
 use mathlib.Core.Option.{Option, none, some}
 use lib.Dec.{leb, ltb, eqb}
 use lib.Count.{trailingZeros}
 use Rattle.rules.specs.State.{if_then_else_, Lane, State, group, startR, holds, laneAt}
-use Rattle.rules.specs.Choice.{leastOf}
+use Rattle.rules.specs.Choice.{Candidate, choose, leastOf}
 
 -- group indices are below 32, so that one word holds each set
 abbrev pub groups : ℕ
@@ -81,23 +82,24 @@ ineligibleBlocked v ls i = groupHolds ls i && (not (groupEligible v ls i) && blo
 abbrev pub setWord : (ℕ → List Lane → ℕ → Bool) → State → ℕ
 setWord p s = wordOf (p (s .clock) (s .lanes)) groups
 
--- ---- the choice through the sets: first set bit of eligible ready, least R in that group, earliest in the tie order
-
 -- "The first set bit of the eligible-ready word"
 abbrev pub firstGroup : State → ℕ
-firstGroup s = trailingZeros groups (setWord ready s)
+firstGroup s = trailingZeros 64 (setWord ready s)
 
--- the lane is of group i and has the rounded start r
-unfoldable pub standsAt : ℕ → ℕ → Lane → Bool
-standsAt i r l = inGroup i l && eqb (startR l) r
+-- ---- what they mean, as a claim about one state (proofs/BySets.antt: it holds of every good one)
 
-unfoldable pub firstIn : (ℕ → Bool) → List ℕ → Option ℕ
-firstIn p [] = none
-firstIn p (k ∷ ks) = if p k then some k else firstIn p ks
+abbrev pub count : Bool → ℕ
+count true = 1
+count false = 0
 
-unfoldable pub laneOfGroup : State → ℕ → Option ℕ → Option ℕ
-laneOfGroup s i none = none
-laneOfGroup s i (some r) = firstIn (λ k. standsAt i r (laneAt s k)) (s .order)
-
-unfoldable pub chooseBySets : State → Option ℕ
-chooseBySets s = laneOfGroup s (firstGroup s) (groupStart (s .lanes) (firstGroup s))
+pub record SetsRule (s : State) : Type 0 where
+  -- "The four words .. part the groups that hold records": each group that holds records is in one of them, any other in none
+  pub parted : (i : ℕ)
+      → count (ready (s .clock) (s .lanes) i) + count (ineligibleReady (s .clock) (s .lanes) i)
+      + count (eligibleBlocked (s .clock) (s .lanes) i) + count (ineligibleBlocked (s .clock) (s .lanes) i)
+      ≡ count (groupHolds (s .lanes) i)
+  -- "The first set bit of the eligible-ready word is the chosen lane's group"
+  pub first : (c : Candidate) → choose s ≡ some c → firstGroup s ≡ group ((laneAt s (c .lane)) .given)
+  -- "and finishes never fall along that word"
+  pub rising : (i k : ℕ) → i < k → k < groups → ready (s .clock) (s .lanes) i ≡ true → ready (s .clock) (s .lanes) k ≡ true
+      → groupFinish (s .lanes) i ≤ groupFinish (s .lanes) k

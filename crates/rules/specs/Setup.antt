@@ -2,6 +2,7 @@
 --
 --   Setup           the rule for a whole setup
 --   longestCharge   the greatest charge of a record that the setup allows
+--   margin          1,536,000
 --
 -- Assumes nothing.
 use Prim.Native.Nat.{ℕ, _≤_, _<_, max}
@@ -31,3 +32,7 @@ pub record Setup (gs : List Setting) : Type 0 where
 unfoldable pub longestCharge : List Setting → ℕ
 longestCharge [] = 0
 longestCharge (g ∷ gs) = max (charge g (g .longest)) (longestCharge gs)
+
+-- 1,536,000, the figure of demand 3 and of the rule for a good table: what a record of 1,500 bytes, the longest of any setup, costs the line
+abbrev pub margin : ℕ
+margin = 1536000

@@ -3,5 +3,4 @@ pub mod Footprint
 pub mod Leave
 pub mod Rows
 pub mod Timed
-pub mod Lanes
 pub mod Few

@@ -1,3 +1,3 @@
 pub mod Layout
 pub mod Means
-pub mod Alike
+pub mod Encodes

@@ -1,7 +1,7 @@
 // The lent table: a state of `rules` in 1,360 words of lent bytes (docs/TABLE.md).
 //
 // Three views, each over the one below: bytes; words (`cells`), where a store is one `set`; and the state that the words mean (`stateOf`,
-// specs/Means.antt). `Encodes` (specs/Alike.antt) says when bytes encode a state. Queues, the tie order, fresh tables and the good-table test are in
+// specs/Means.antt). `Encodes` (specs/Encodes.antt) says when bytes encode a state. Queues, the tie order, fresh tables and the good-table test are in
 // the crates beside this one: `queue`, `order`, `fresh`, `good`.
 //
 // Units: lengths are `Bytes`, times are `Clock`, c is a `Rate`. These are inner functions: a `requires` says what the crates above keep.

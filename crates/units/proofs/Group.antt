@@ -1,6 +1,6 @@
 -- Laws of the group index, once over the index: the definition by search is the least; longest times c is at most the slot; a setting within
 -- the numbers has a group of 16 to 31. Assumes nothing.
-use Prim.Native.Nat.{ℕ, zero, suc, _+_, _-_, _*_, _^_, _≤_, _<_}
+use Prim.Native.Nat.{ℕ, zero, suc, _+_, _*_, _^_, _≤_, _<_}
 use native.Mathlib.Nat.{le-trans, zero-add, add-zero, two-pow-succ, mul-le-mul, not-le-of-lt, lt-of-lt-of-le, le-antisymm}
 use native.Mathlib.Omega.{arith}
 use native.Mathlib.Decide.{decLe}

@@ -1,6 +1,6 @@
 -- Laws of c, the clock units for each byte of a lane: c w ≥ 2^20 > (c − 1) w. Assumes nothing.
-use Prim.Native.Nat.{ℕ, zero, suc, _+_, _-_, _*_, _/_, _%_, _^_, _≤_, _<_}
-use native.Mathlib.Nat.{mul-le-mul-right, mul-le-mul-left, div-add-mod, mod-lt, div-le-of-le-mul, div-zero, le-antisymm, le-of-suc-le-suc, lt-of-mul-lt-mul-right}
+use Prim.Native.Nat.{ℕ, zero, suc, _+_, _-_, _*_, _^_, _≤_, _<_}
+use native.Mathlib.Nat.{mul-le-mul-left, div-add-mod, mod-lt, div-le-of-le-mul, div-zero, le-antisymm, le-of-suc-le-suc, lt-of-mul-lt-mul-right}
 use mathlib.Core.Path.{_≡_}
 use native.Mathlib.Omega.{arith}
 use Rattle.units.specs.Numbers.{perByte}

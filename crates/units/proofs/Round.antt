@@ -1,5 +1,5 @@
 -- Laws of rounding down to a multiple of a slot: R ≤ S < R + s, R is monotone, s divides R. Assumes nothing.
-use Prim.Native.Nat.{ℕ, zero, suc, _+_, _-_, _*_, _/_, _%_, _≤_, _<_}
+use Prim.Native.Nat.{ℕ, _+_, _*_, _/_, _%_, _≤_, _<_}
 use native.Mathlib.Nat.{le-trans, mul-le-mul-right, div-add-mod', mod-lt, mod-le, le-div-iff-mul-le, div-mul-le-self, mul-mod-left}
 use native.Mathlib.Omega.{arith}
 use mathlib.Core.Path.{_≡_}

@@ -10,7 +10,7 @@
 // These are inner functions: a `requires` says what the crates above keep. Ranges (document 01): weight 1 to 1,024, so c is 1,024 to 1,048,576;
 // group index 16 to 31; the clock below 2^62 + 2^42.
 ghost use mathlib.Core.Path.{_≡_};
-ghost use Prim.Native.Nat.{_+_, _*_, _^_, _<_, _≤_, max};
+ghost use Prim.Native.Nat.{_+_, _*_, _^_, _<_, _≤_, max, min};
 ghost use Rattle.units.specs.Numbers.{perByte, lineRate, Least, roundDown};
 
 pub struct Bytes(pub u64);
@@ -101,4 +101,11 @@ pub fn later(a: Clock, b: Clock) -> Clock
     ensures { λ r. ⌜ r .0 ≡ max (a .0) (b .0) ⌝ }
 {
     if a.0 < b.0 { b } else { a }
+}
+
+// The lesser of two times.
+pub fn earlier(a: Clock, b: Clock) -> Clock
+    ensures { λ r. ⌜ r .0 ≡ min (a .0) (b .0) ⌝ }
+{
+    if b.0 < a.0 { b } else { a }
 }

@@ -1,7 +1,8 @@
 use Rattle.good.proofs.Lanes.{found-none, found-next, found-noted, note-weight, note-group}
 use Rattle.good.proofs.Next.{bit-present}
-use Rattle.good.proofs.Bits.{word-below}
-use Rattle.good.specs.Pass.{bit, FoundSays, PassSays}
+use Rattle.rules.proofs.Word.{word-lt}
+use Rattle.words.specs.Bits.{bit}
+use Rattle.good.specs.Pass.{FoundSays, PassSays}
 use Rattle.lane_test.proofs.Setting.{says-yes, says-no}
 use Rattle.table.specs.Layout.{cells}
 use lib.Pow.{pow-mono}
@@ -59,7 +60,7 @@ note-requires c κs =
     let good = says-yes (c .before .lane-good .result) (c .before .lane-good .ensures) (c .if1 .left) in
     let r = c .before .before .row in
     let weight = note-weight _ w (l .k) (r .result) (r .ensures .0) good in
-    (c .before .before .before .loop-test .taken, omega (arith, weight, l .inv .3, l .inv .1), rw (l .inv .0 .held) (word-below _ (l .k)), note-group _ w (l .k) (r .result) (r .ensures .0) good)
+    (c .before .before .before .loop-test .taken, omega (arith, weight, l .inv .3, l .inv .1), rw (l .inv .0 .held) (word-lt _ (l .k)), note-group _ w (l .k) (r .result) (r .ensures .0) good)
 
 add-next-present : tie.Need-add-next-present Inv-loop μ-loop
 add-next-present c = search needs

@@ -1,4 +1,4 @@
-use Rattle.good.proofs.Bits.{shift-one}
+use Rattle.words.proofs.Bits.{shift-one}
 use borrow.Author.Tests.{lt-ltb, le-ltb, le-leb, lt-leb}
 use native.Mathlib.Nat.{two-pow-succ}
 use lib.Pow.{pow-lt, pow-mono}

@@ -1,6 +1,6 @@
 use Rattle.good.proofs.Times.{Seen, seen-none, seen-far, seen-twice, seen-more, seen-same, seen-other}
-use Rattle.good.proofs.Bits.{add-below, shift-one}
-use Rattle.good.specs.Pass.{bit}
+use Rattle.words.proofs.Bits.{add-below, shift-one}
+use Rattle.words.specs.Bits.{bit}
 use Rattle.table.specs.Layout.{cells}
 use borrow.Author.Needs.{needs}
 use Prim.Native.Nat.{ℕ, _+_, _-_, _*_, _/_, _^_, _≤_, _<_}

@@ -7,8 +7,6 @@ use native.Mathlib.Omega.{arith}
 use lib.Pow.{pow-pos, pow-mono}
 use Rattle.units.proofs.group_index.Statement.{statement}
 use Rattle.units.proofs.group_index.Tie as tie
-use Rattle.units.proofs.group_index.Reads as reads
-use Rattle.units.proofs.group_index.Lts as lts
 
 abbrev Inv-loop : tie.InvT-loop
 Inv-loop n i₀ power₀ i power = (power ≡ 2 ^ i) × (i ≤ 63) × ((j : ℕ) → n ≤ 2 ^ j → i ≤ j)

@@ -3,8 +3,6 @@ use native.Mathlib.Omega.{arith}
 use borrow.Author.Needs.{needs}
 use Rattle.units.proofs.lane_charge.Statement.{statement}
 use Rattle.units.proofs.lane_charge.Tie as tie
-use Rattle.units.proofs.lane_charge.Reads as reads
-use Rattle.units.proofs.lane_charge.Lts as lts
 
 mul-t3 : tie.Need-mul-t3
 mul-t3 c = omega (arith, mul-le-mul (c .before .before .pre .0) (c .before .before .pre .1))

@@ -4,8 +4,6 @@ use Rattle.units.proofs.PerByte.{rate-ge, rate-le}
 use borrow.Author.Needs.{needs}
 use Rattle.units.proofs.lane_rate.Statement.{statement}
 use Rattle.units.proofs.lane_rate.Tie as tie
-use Rattle.units.proofs.lane_rate.Reads as reads
-use Rattle.units.proofs.lane_rate.Lts as lts
 
 sub-t2 : tie.Need-sub-t2
 sub-t2 c = search needs

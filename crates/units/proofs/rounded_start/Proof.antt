@@ -6,8 +6,6 @@ use Rattle.units.proofs.Round.{round-div}
 use borrow.Author.Needs.{needs}
 use Rattle.units.proofs.rounded_start.Statement.{statement}
 use Rattle.units.proofs.rounded_start.Tie as tie
-use Rattle.units.proofs.rounded_start.Reads as reads
-use Rattle.units.proofs.rounded_start.Lts as lts
 
 shr-t4 : tie.Need-shr-t4
 shr-t4 c = search needs

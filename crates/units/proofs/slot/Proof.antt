@@ -5,8 +5,6 @@ use lib.Pow.{pow-lt, pow-pos, pow-mono}
 use borrow.Author.Needs.{needs}
 use Rattle.units.proofs.slot.Statement.{statement}
 use Rattle.units.proofs.slot.Tie as tie
-use Rattle.units.proofs.slot.Reads as reads
-use Rattle.units.proofs.slot.Lts as lts
 
 shl-t3 : tie.Need-shl-t3
 shl-t3 c = search needs

@@ -1,18 +1,12 @@
 -- Laws of the bits of a word. Assumes nothing.
 use mathlib.Core.Path.{_≡_, refl, sym, ap, _∙_}
 use mathlib.Core.Logic.{⊎-elim}
-use mathlib.Core.Bool.{Bool, true, false}
 use Prim.Native.Nat.{ℕ, zero, suc, _+_, _-_, _*_, _/_, _%_, _^_, _≤_, _<_}
-use native.Mathlib.Nat.{pow-suc, pow-succ', two-pow-succ, div-div-eq-div-mul, div-eq-of-lt, eq-zero-or-pos, zero-add, one-mul, mod-eq-of-lt}
+use native.Mathlib.Nat.{pow-suc, pow-succ', two-pow-succ, div-div-eq-div-mul, div-eq-of-lt, eq-zero-or-pos, one-mul, mod-eq-of-lt}
 use native.Mathlib.Omega.{arith}
-use borrow.Author.Tests.{eq-eqb, ne-eqb}
-use lib.Dec.{eqb, eqb·zero-suc, eqb·suc-zero, eqb·suc-suc}
-use lib.Pow.{shr-shr, pow-mono, pow-lt}
+use lib.Pow.{shr-shr, pow-lt}
 use lib.Count.{trailingZeros}
-use Rattle.words.proofs.Runs.{eq-or-ne}
-use Rattle.rules.specs.State.{if_then_else_}
-use Rattle.rules.specs.Sets.{wordOf}
-use Rattle.good.specs.Pass.{bit}
+use Rattle.words.specs.Bits.{bit}
 
 -- ---- bit by bit
 
@@ -29,16 +23,22 @@ bit-shift k i x = ap (λ (y : ℕ). y % 2) (shr-shr x k i)
 pub bit-above : (k x : ℕ) → x < 2 ^ k → bit k x ≡ 0
 bit-above k x h = rw (div-eq-of-lt h)
 
--- a bit that is 0 is set by adding its power
-pub bit-add : (k j y : ℕ) → bit k y ≡ 0 → bit j (2 ^ k + y) ≡ (if eqb k j then 1 else 0) + bit j y
-bit-add zero zero y h = omega arith
-bit-add zero (suc j) y h =
-    let e : (1 + y) / 2 ≡ y / 2 = omega arith in
-    rw (eqb·zero-suc, bit-suc, bit-suc, e) (omega arith)
-bit-add (suc k) zero y h = rw eqb·suc-zero (omega (arith, two-pow-succ k))
-bit-add (suc k) (suc j) y h =
+-- a bit that is 0 is set by adding its power, and the others stay
+pub bit-add-same : (k y : ℕ) → bit k y ≡ 0 → bit k (2 ^ k + y) ≡ 1
+bit-add-same zero y h = omega arith
+bit-add-same (suc k) y h =
     let e : (2 ^ suc k + y) / 2 ≡ 2 ^ k + y / 2 = omega (arith, two-pow-succ k) in
-    rw (eqb·suc-suc, bit-suc j (2 ^ suc k + y), bit-suc j y, e) (bit-add k j (y / 2) (rw bit-suc at h))
+    rw (bit-suc, e) (bit-add-same k (y / 2) (rw bit-suc at h))
+
+pub bit-add-other : (k j y : ℕ) → (k ≡ j → ⊥) → bit k y ≡ 0 → bit j (2 ^ k + y) ≡ bit j y
+bit-add-other zero zero y ne h = absurd (ne refl)
+bit-add-other zero (suc j) y ne h =
+    let e : (1 + y) / 2 ≡ y / 2 = omega arith in
+    bit-suc j (1 + y) ∙ rw e (sym (bit-suc j y))
+bit-add-other (suc k) zero y ne h = omega (arith, two-pow-succ k)
+bit-add-other (suc k) (suc j) y ne h =
+    let e : (2 ^ suc k + y) / 2 ≡ 2 ^ k + y / 2 = omega (arith, two-pow-succ k) in
+    bit-suc j (2 ^ suc k + y) ∙ rw e (bit-add-other k j (y / 2) (λ q. ne (ap suc q)) (rw bit-suc at h)) ∙ sym (bit-suc j y)
 
 -- and leaves room
 pub add-below : (n k y : ℕ) → k < n → y < 2 ^ n → bit k y ≡ 0 → 2 ^ k + y < 2 ^ n
@@ -78,40 +78,6 @@ low-below (suc k) n p h =
     (λ (e : n % 2 ≡ 0). rw e (omega (arith, low-below k (n / 2) (omega arith) (omega (arith, rw pow-suc at h)))))
     (λ (q : 0 < n % 2). let e : n % 2 ≡ 1 = omega arith in rw e (omega arith))
     (eq-zero-or-pos (n % 2))
-
--- ---- the word of the numbers at which a test passes
-
-abbrev pub one : Bool → ℕ
-one b = if b then 1 else 0
-
-pick-below : (b : Bool) (n y : ℕ) → y < 2 ^ n → (if b then 2 ^ n else 0) + y < 2 ^ suc n
-pick-below true n y h = omega (arith, two-pow-succ n)
-pick-below false n y h = omega (arith, two-pow-succ n)
-
-pub word-below : (p : ℕ → Bool) (n : ℕ) → wordOf p n < 2 ^ n
-unfolding wordOf
-word-below p zero = omega arith
-word-below p (suc n) = pick-below (p n) n (wordOf p n) (word-below p n)
-
-pick-same : (b : Bool) (n y : ℕ) → y < 2 ^ n → bit n ((if b then 2 ^ n else 0) + y) ≡ one b
-pick-same true n y h = bit-add n n y (bit-above n y h) ∙ rw (eq-eqb n n refl, bit-above n y h)
-pick-same false n y h = rw zero-add (bit-above n y h)
-
-pick-other : (b : Bool) (n k y : ℕ) → (n ≡ k → ⊥) → y < 2 ^ n → bit k ((if b then 2 ^ n else 0) + y) ≡ bit k y
-pick-other true n k y ne h = bit-add n k y (bit-above n y h) ∙ rw (ne-eqb n k ne, zero-add)
-pick-other false n k y ne h = rw zero-add
-
-pub bit-word : (p : ℕ → Bool) (n k : ℕ) → k < n → bit k (wordOf p n) ≡ one (p k)
-unfolding wordOf
-bit-word p zero k h = absurd (omega arith)
-bit-word p (suc n) k h =
-    ⊎-elim
-    (λ (e : n ≡ k). rw (← e) (pick-same (p n) n (wordOf p n) (word-below p n)))
-    (λ (ne : n ≡ k → ⊥). pick-other (p n) n k (wordOf p n) ne (word-below p n) ∙ bit-word p n k (omega arith))
-    (eq-or-ne n k)
-
-pub bit-word-above : (p : ℕ → Bool) (n k : ℕ) → n ≤ k → bit k (wordOf p n) ≡ 0
-bit-word-above p n k h = bit-above k (wordOf p n) (omega (arith, word-below p n, pow-mono h))
 
 -- a shift of 1
 pub shift-one : (k : ℕ) → k < 64 → 1 * 2 ^ k % 2 ^ 64 ≡ 2 ^ k

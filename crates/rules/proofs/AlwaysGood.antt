@@ -1,0 +1,86 @@
+-- No state that calls make from a fresh one is ever found not good. `Reached` is what every call keeps and a fresh state has; it gives `Good`, and is stronger:
+-- not every call on every good state leaves a good one. Assumes nothing.
+use Prim.Native.Nat.{ℕ, _+_, _*_, _<_}
+use native.Mathlib.Omega.{arith}
+use mathlib.Core.Path.{_≡_, refl, sym, ap, subst}
+use mathlib.Core.Bool.{Bool, true}
+use mathlib.Core.List.{List, [], _∷_}
+use Rattle.rules.specs.State.{if_then_else_, Rec, Setting, settingAt, Lane, State, slot, finishR, some?, holds, laneAt, setupOf}
+use Rattle.rules.specs.Setup.{Setup, margin}
+use Rattle.rules.specs.Calls.{Call, fresh, step}
+use Rattle.rules.specs.Runs.{after}
+use Rattle.rules.specs.Good.{Lengths, Times, Good}
+use Rattle.rules.proofs.Lane.{slot-most}
+use Rattle.rules.proofs.Claim.{LaneOk, Queued, Fits}
+use Rattle.rules.proofs.Bounds.{fresh-inv, lower}
+use Rattle.rules.proofs.Keep.{Kept, step-kept}
+use Rattle.rules.proofs.SameSetup.{same-setup, fresh-setup}
+use Rattle.rules.proofs.Fair.{longest-most, setup-ok}
+use Rattle.rules.proofs.Range.{Range, fresh-range, step-range}
+use Rattle.rules.proofs.Live.{Live, fresh-live, step-live}
+use Rattle.rules.proofs.Ties.{Tied, fresh-tied, step-tied}
+
+pub record Reached (s : State) : Type 0 where
+  pub setup : Setup (setupOf s)
+  pub kept : Kept margin s
+  pub range : Range s
+  pub live : Live s
+  pub tied : Tied s
+
+pub fresh-reached : (gs : List Setting) → Setup gs → Reached (fresh gs)
+unfolding fresh
+fresh-reached gs s = record {
+  setup = subst Setup (sym (fresh-setup gs)) s;
+  kept = fresh-inv margin gs (setup-ok gs s);
+  range = fresh-range gs (omega (arith, s .size)) (λ k. slot-most (settingAt gs k) (longest-most gs s k));
+  live = fresh-live gs;
+  tied = fresh-tied gs;
+}
+
+pub step-reached : (s : State) (c : Call) → Reached s → Reached ((step s c) .state)
+step-reached s c r = record {
+  setup = subst Setup (sym (same-setup s c)) (r .setup);
+  kept = step-kept margin s c (r .kept);
+  range = step-range margin (omega arith) s c (r .kept) (r .range);
+  live = step-live s c (r .live);
+  tied = step-tied s c (r .tied);
+}
+
+pub reached : (s : State) (cs : List Call) → Reached s → Reached (after s cs)
+unfolding after
+reached s [] r = r
+reached s (c ∷ cs) r = reached ((step s c) .state) cs (step-reached s c r)
+
+-- ---- what is reached is good
+
+lengths : (g : Setting) (S F : ℕ) (q : List Rec) → Queued g S F q → Lengths g q
+lengths g S F [] h = tt
+lengths g S F (r ∷ rs) h = all (r ∷ rs) (h .2)
+  where
+    all : (q : List Rec) → Fits g q → Lengths g q
+    all [] f = tt
+    all (x ∷ xs) f = (f .1, f .0, all xs (f .2))
+
+numbers : (v : ℕ) (l : Lane) (q : List Rec) → l .queue ≡ q → LaneOk margin v l → (holds l ≡ true → v < finishR l + margin) → Times v l q
+numbers v l [] e k low = subst (λ (b : Bool). (if b then l .start else l .finish) < v + 2 * slot (l .given)) (ap some? e) (k .below)
+numbers v l (r ∷ rs) e k low = (
+  subst (Queued (l .given) (l .start) (l .finish)) e (k .queued) .1,
+  subst (λ (b : Bool). (if b then l .start else l .finish) < v + 2 * slot (l .given)) (ap some? e) (k .below),
+  low (ap some? e),
+)
+
+pub reached-good : (s : State) → Reached s → Good s
+unfolding Live Tied
+reached-good s r = record {
+  setup = r .setup;
+  room = λ k. r .range .lane k .room;
+  lengths = λ k. lengths ((laneAt s k) .given) ((laneAt s k) .start) ((laneAt s k) .finish) ((laneAt s k) .queue) (r .kept .ok k .queued);
+  clock = omega (arith, r .range .clock);
+  numbers = λ k. numbers (s .clock) (laneAt s k) ((laneAt s k) .queue) refl (r .kept .ok k) (lower margin (s .clock) (s .lanes) (r .kept) k);
+  live = r .live;
+  order = r .tied;
+}
+
+-- every state that calls make from a fresh one of a setup within the numbers is good
+pub always-good : (gs : List Setting) → Setup gs → (cs : List Call) → Good (after (fresh gs) cs)
+always-good gs s cs = reached-good (after (fresh gs) cs) (reached (fresh gs) cs (fresh-reached gs s))

@@ -1,0 +1,153 @@
+-- What the plain choice is: an eligible lane, and no eligible lane is ahead of it by finish, then group, then place in the tie order. Assumes nothing.
+use Prim.Native.Nat.{ℕ, zero, suc, _+_, _≤_}
+use native.Mathlib.Omega.{arith}
+use native.Mathlib.Nat.{add-suc, suc-add, add-zero}
+use mathlib.Core.Path.{_≡_, refl, sym, _∙_}
+use mathlib.Core.Bool.{Bool, true, false, _&&_, _||_, false≢true}
+use mathlib.Core.Option.{Option, none, some}
+use mathlib.Core.List.{List, [], _∷_}
+use lib.Dec.{ltb, eqb}
+use lib.ListN.{getD}
+use borrow.Author.Tests.{ltb-true, ltb-false, eqb-true, eqb-false}
+use Rattle.rules.specs.State.{Lane, group, finishR, eligible, noLane}
+use Rattle.rules.specs.Choice.{place, Candidate, before, best, chooseFrom, least}
+use Rattle.rules.proofs.Bools.{if-ind}
+
+-- ---- the choice
+
+-- (f, g, t) comes before (f′, g′, t′), or is the same: finish first, then group, then turn
+pub record Ahead (f g t f′ g′ t′ : ℕ) : Type 0 where
+  pub fin : f ≤ f′
+  pub grp : f′ ≤ f → g ≤ g′
+  pub trn : f′ ≤ f → g′ ≤ g → t ≤ t′
+
+ahead-trans : (f g t f′ g′ t′ f″ g″ t″ : ℕ) → Ahead f g t f′ g′ t′ → Ahead f′ g′ t′ f″ g″ t″ → Ahead f g t f″ g″ t″
+ahead-trans f g t f′ g′ t′ f″ g″ t″ p q = record {
+  fin = omega (arith, p .fin, q .fin);
+  grp = λ h. omega (arith, p .grp (omega (arith, q .fin)), q .grp (omega (arith, p .fin)));
+  trn = λ h k.
+      let g₁ = p .grp (omega (arith, q .fin)) in
+      let g₂ = q .grp (omega (arith, p .fin)) in
+      omega (arith, p .trn (omega (arith, q .fin)) (omega arith), q .trn (omega (arith, p .fin)) (omega arith));
+}
+
+abbrev Before : Candidate → Candidate → Type 0
+Before a b = Ahead (a .finish) (a .group) (a .turn) (b .finish) (b .group) (b .turn)
+
+module _ (a b : Candidate) where
+  abbrev by-turn : Bool
+  by-turn = ltb (a .turn) (b .turn)
+
+  before-true : before a b ≡ true → Before a b
+  unfolding before
+  before-true e = go (ltb (a .finish) (b .finish)) refl (eqb (a .finish) (b .finish)) refl (ltb (a .group) (b .group)) refl (eqb (a .group) (b .group)) refl e
+    where
+      go : (x : Bool) → ltb (a .finish) (b .finish) ≡ x → (y : Bool) → eqb (a .finish) (b .finish) ≡ y → (z : Bool) → ltb (a .group) (b .group) ≡ z → (u : Bool) → eqb (a .group) (b .group) ≡ u
+          → (x || y && (z || u && by-turn)) ≡ true → Before a b
+      go true p y q z r u t e = let lt = ltb-true (a .finish) (b .finish) p in omega arith
+      go false p true q true r u t e = let eq = eqb-true (a .finish) (b .finish) q in let lt = ltb-true (a .group) (b .group) r in omega arith
+      go false p true q false r true t e =
+          let eq = eqb-true (a .finish) (b .finish) q in
+          let eg = eqb-true (a .group) (b .group) t in
+          let lt = ltb-true (a .turn) (b .turn) e in
+          omega arith
+      go false p true q false r false t e = absurd (false≢true e)
+      go false p false q z r u t e = absurd (false≢true e)
+
+  before-false : before a b ≡ false → Before b a
+  unfolding before
+  before-false e = go (ltb (a .finish) (b .finish)) refl (eqb (a .finish) (b .finish)) refl (ltb (a .group) (b .group)) refl (eqb (a .group) (b .group)) refl e
+    where
+      go : (x : Bool) → ltb (a .finish) (b .finish) ≡ x → (y : Bool) → eqb (a .finish) (b .finish) ≡ y → (z : Bool) → ltb (a .group) (b .group) ≡ z → (u : Bool) → eqb (a .group) (b .group) ≡ u
+          → (x || y && (z || u && by-turn)) ≡ false → Before b a
+      go true p y q z r u t e = absurd (false≢true (sym e))
+      go false p true q true r u t e = absurd (false≢true (sym e))
+      go false p true q false r true t e =
+          let le = ltb-false (a .finish) (b .finish) p in
+          let lg = ltb-false (a .group) (b .group) r in
+          let lt = ltb-false (a .turn) (b .turn) e in
+          omega arith
+      go false p true q false r false t e =
+          let le = ltb-false (a .finish) (b .finish) p in
+          let lg = ltb-false (a .group) (b .group) r in
+          record { fin = le; grp = λ h. lg; trn = λ h k. absurd (eqb-false (a .group) (b .group) t (omega arith)) }
+      go false p false q z r u t e =
+          let le = ltb-false (a .finish) (b .finish) p in
+          record { fin = le; grp = λ h. absurd (eqb-false (a .finish) (b .finish) q (omega arith)); trn = λ h. absurd (eqb-false (a .finish) (b .finish) q (omega arith)) }
+
+module _ (v : ℕ) (order : List ℕ) where
+  -- lane k of a list whose first lane has the number i, beside a candidate
+  abbrev AheadOf : Candidate → ℕ → List Lane → ℕ → Type 0
+  AheadOf c i ls k = Ahead (c .finish) (c .group) (c .turn) (finishR (getD ls k noLane)) (group ((getD ls k noLane) .given)) (place (i + k) order)
+
+  -- the candidate c is lane `at` of the list, eligible, and no eligible lane is ahead of it
+  pub record Chosen (i : ℕ) (ls : List Lane) (c : Candidate) : Type 0 where
+    pub at : ℕ
+    pub num : c .lane ≡ i + at
+    pub is : eligible v (getD ls at noLane) ≡ true
+    pub fin : c .finish ≡ finishR (getD ls at noLane)
+    pub grp : c .group ≡ group ((getD ls at noLane) .given)
+    pub trn : c .turn ≡ place (i + at) order
+    pub least : (k : ℕ) → eligible v (getD ls k noLane) ≡ true → AheadOf c i ls k
+
+  -- what the answer of `chooseFrom` says
+  abbrev pub Choice : ℕ → List Lane → Option Candidate → Type 0
+  Choice i ls none = (k : ℕ) → eligible v (getD ls k noLane) ≡ false
+  Choice i ls (some c) = Chosen i ls c
+
+  module _ (i : ℕ) (l : Lane) (ls : List Lane) where
+    -- what is so of the rest of the list is so of the whole, one place on
+    shift : (c : Candidate) (k : ℕ) → AheadOf c (suc i) ls k → AheadOf c i (l ∷ ls) (suc k)
+    shift c k h = rw (add-suc, ← suc-add) h
+
+    skip : (o : Option Candidate) → eligible v l ≡ false → Choice (suc i) ls o → Choice i (l ∷ ls) o
+    skip none e h = elim [ zero ↦ e | suc k ↦ h k ]
+    skip (some c) e h = record {
+      at = suc (h .at);
+      num = omega (arith, h .num);
+      is = h .is;
+      fin = h .fin;
+      grp = h .grp;
+      trn = rw (add-suc, ← suc-add) (h .trn);
+      least = elim [ zero ↦ λ t. absurd (false≢true (sym e ∙ t)) | suc k ↦ λ t. shift c k (h .least k t) ];
+    }
+
+    abbrev here : Candidate
+    here = record { lane = i; finish = finishR l; group = group (l .given); turn = place i order }
+
+    first : eligible v l ≡ true → ((k : ℕ) → eligible v (getD ls k noLane) ≡ true → AheadOf here (suc i) ls k) → Chosen i (l ∷ ls) here
+    first e h = record {
+      at = 0;
+      num = omega arith;
+      is = e;
+      fin = refl;
+      grp = refl;
+      trn = rw add-zero;
+      least = elim [ zero ↦ λ t. rw add-zero (omega arith) | suc k ↦ λ t. shift here k (h k t) ];
+    }
+
+    keep : (o : Option Candidate) → eligible v l ≡ true → Choice (suc i) ls o → Choice i (l ∷ ls) (best here o)
+    unfolding best
+    keep none e h = first e (λ k t. absurd (false≢true (sym (h k) ∙ t)))
+    keep (some d) e h =
+        if-ind (Chosen i (l ∷ ls)) (before d here) d here
+        (λ b. record {
+          at = suc (h .at);
+          num = omega (arith, h .num);
+          is = h .is;
+          fin = h .fin;
+          grp = h .grp;
+          trn = rw (add-suc, ← suc-add) (h .trn);
+          least = elim [ zero ↦ λ t. rw add-zero (before-true d here b) | suc k ↦ λ t. shift d k (h .least k t) ];
+        })
+        (λ b. first e (λ k t.
+        ahead-trans (finishR l) (group (l .given)) (place i order) (d .finish) (d .group) (d .turn)
+        (finishR (getD ls k noLane)) (group ((getD ls k noLane) .given)) (place (suc i + k) order) (before-false d here b) (h .least k t)))
+
+  pub chosen : (i : ℕ) (ls : List Lane) → Choice i ls (chooseFrom v order i ls)
+  unfolding chooseFrom eligible
+  chosen i [] = λ k. refl
+  chosen i (l ∷ ls) =
+      if-ind (Choice i (l ∷ ls)) (eligible v l) _ _
+      (λ e. keep i l ls (chooseFrom v order (suc i) ls) e (chosen (suc i) ls))
+      (λ e. skip i l ls (chooseFrom v order (suc i) ls) e (chosen (suc i) ls))

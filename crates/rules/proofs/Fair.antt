@@ -1,0 +1,130 @@
+-- Demand 3, proved: first with 1,024 times the setup's greatest charge, from which the figure 1,536,000 follows.
+-- Over a stretch the clock moves by 1,024 T or more and the lane's S by c O. S is below V + 2s where the stretch begins, and V below S + 2s + M where it ends.
+-- Assumes nothing.
+use Prim.Native.Nat.{ℕ, zero, suc, _+_, _*_, _≤_, _<_}
+use native.Mathlib.Omega.{arith}
+use native.Mathlib.Nat.{mul-le-mul-left}
+use mathlib.Core.Path.{_≡_, refl, sym, ap, subst, _∙_}
+use mathlib.Core.Bool.{true}
+use mathlib.Core.Logic.{_⊎_, inl, inr}
+use mathlib.Core.List.{List, [], _∷_, _++_, append-nil}
+use lib.ListN.{length, length-append}
+use Rattle.units.proofs.Round.{round-le}
+use Rattle.rules.specs.State.{Rec, Setting, noSetting, settingAt, State, charge, rate, slot, some?, holds, laneAt, setupOf}
+use Rattle.rules.specs.Setup.{InNumbers, Setup, longestCharge, margin}
+use Rattle.rules.specs.Calls.{Call, fresh, step}
+use Rattle.rules.specs.Runs.{Event, after, trace, sentOf, InOrder}
+use Rattle.rules.specs.Fair.{bytesSent, bytesSentOf, Holding, Fair, Demand3}
+use Rattle.rules.proofs.Lane.{charge-le}
+use Rattle.rules.proofs.Bounds.{SetupOk, fresh-inv, lower, upper}
+use Rattle.rules.proofs.Keep.{Kept, kept, step-kept}
+use Rattle.rules.proofs.SameSetup.{setting-lane, same-setup, setup-kept, fresh-setup}
+use Rattle.rules.proofs.Order.{in-order}
+use Rattle.rules.proofs.Track.{step-moved}
+use Rattle.rules.proofs.Runs.{after-append, trace-append, split}
+
+-- ---- the stretch
+
+module _ (M k : ℕ) (gs : List Setting) where
+  abbrev Held : State → List Call → Type 0
+  Held s mid = (p q : List Call) → p ++ q ≡ mid → holds (laneAt (after s p) k) ≡ true
+
+  stretch-moves : (s : State) (mid : List Call) → Kept M s → setupOf s ≡ gs → Held s mid
+      → (s .clock + 1024 * bytesSent gs (trace s mid) ≤ (after s mid) .clock)
+      × ((laneAt (after s mid) k) .start ≡ (laneAt s k) .start + rate (settingAt gs k) * bytesSentOf gs k (trace s mid))
+  unfolding trace after
+  stretch-moves s [] inv same held = (omega arith, omega arith)
+  stretch-moves s (c ∷ cs) inv same held =
+      let m = step-moved M k s c inv in
+      let ih = stretch-moves ((step s c) .state) cs (step-kept M s c inv) (same-setup s c ∙ same) (λ p q e. held (c ∷ p) q (ap (λ (x : List Call). c ∷ x) e)) in
+      let now : holds (laneAt s k) ≡ true = held [] (c ∷ cs) refl in
+      let next : holds (laneAt ((step s c) .state) k) ≡ true = held (c ∷ []) cs refl in
+      let g : (laneAt s k) .given ≡ settingAt gs k = sym (setting-lane s k) ∙ ap (λ (x : List Setting). settingAt x k) same in (
+        omega (arith, ih .0, rw same at (m .clock now)),
+        omega (arith, ih .1, rw (same, g) at (m .start now next)),
+      )
+
+-- ---- from a fresh table
+
+long : (q : List Rec) → 0 < length q → some? q ≡ true
+long [] h = absurd (omega arith)
+long (r ∷ rs) h = refl
+
+-- a lane that holds a record by the events' count holds one in the state
+pub holds-of : (gs : List Setting) (k : ℕ) (cs : List Call) → Holding k (trace (fresh gs) cs) → holds (laneAt (after (fresh gs) cs) k) ≡ true
+unfolding InOrder
+holds-of gs k cs h =
+    long ((laneAt (after (fresh gs) cs) k) .queue)
+    (omega (arith, ap length (in-order gs cs k), length-append (sentOf k (trace (fresh gs) cs)) ((laneAt (after (fresh gs) cs) k) .queue)))
+
+module _ (M : ℕ) (gs : List Setting) (ok : SetupOk M gs) (k : ℕ) where
+  given-is : (cs : List Call) → (laneAt (after (fresh gs) cs) k) .given ≡ settingAt gs k
+  given-is cs = sym (setting-lane (after (fresh gs) cs) k) ∙ ap (λ (x : List Setting). settingAt x k) (setup-kept (fresh gs) cs ∙ fresh-setup gs)
+
+  fresh-kept : Kept M (fresh gs)
+  unfolding fresh
+  fresh-kept = fresh-inv M gs ok
+
+  -- the claim over a list of calls in two parts
+  fair-calls : (pre mid : List Call) → ((p q : List Call) → p ++ q ≡ mid → Holding k (trace (fresh gs) (pre ++ p)))
+      → 1024 * bytesSent gs (trace (after (fresh gs) pre) mid)
+      < rate (settingAt gs k) * bytesSentOf gs k (trace (after (fresh gs) pre) mid) + 4 * slot (settingAt gs k) + M
+  unfolding after
+  fair-calls pre mid holding =
+      let s = after (fresh gs) pre in
+      let e = after s mid in
+      let inv : Kept M s = kept M (fresh gs) pre fresh-kept in
+      let held : (p q : List Call) → p ++ q ≡ mid → holds (laneAt (after s p) k) ≡ true
+      = λ p q h. rw (after-append (fresh gs) pre p) at (holds-of gs k (pre ++ p) (holding p q h)) in
+      let moves = stretch-moves M k gs s mid inv (setup-kept (fresh gs) pre ∙ fresh-setup gs) held in
+      let same : (laneAt e k) .given ≡ settingAt gs k = ap (λ (x : State). (laneAt x k) .given) (sym (after-append (fresh gs) pre mid)) ∙ given-is (pre ++ mid) in
+      omega (
+        arith,
+        moves .0,
+        moves .1,
+        upper M (s .clock) (s .lanes) inv k (held [] mid refl),
+        lower M (e .clock) (e .lanes) (kept M s mid inv) k (held mid [] (append-nil mid)),
+        round-le (slot ((laneAt e k) .given)) ((laneAt e k) .start),
+        ap slot (given-is pre),
+        ap slot same,
+      )
+
+-- the claim over the events, for any M that no record's charge of the line exceeds
+pub fair : (M : ℕ) (gs : List Setting) → SetupOk M gs → Fair M gs
+unfolding Fair
+fair M gs ok calls past stretch rest e k holding =
+    let all = split (fresh gs) calls (past ++ stretch) rest e in
+    let two = split (fresh gs) (all .calls) past stretch (all .past-is) in
+    let s = after (fresh gs) (two .calls) in
+    subst (λ (es : List Event). 1024 * bytesSent gs es < rate (settingAt gs k) * bytesSentOf gs k es + 4 * slot (settingAt gs k) + M) (two .rest-is)
+    (fair-calls M gs ok k (two .calls) (two .more)
+    (λ p q h.
+    subst (Holding k) (sym (trace-append (fresh gs) (two .calls) p ∙ ap (λ (es : List Event). es ++ trace s p) (two .past-is)))
+    (holding (trace s p) (trace (after s p) q) (sym (trace-append s p q) ∙ ap (trace s) h ∙ two .rest-is))))
+
+-- ---- the figures
+
+longest-le : (gs : List Setting) (k : ℕ) → charge (settingAt gs k) ((settingAt gs k) .longest) ≤ longestCharge gs
+unfolding longestCharge charge
+longest-le [] k = omega arith
+longest-le (g ∷ gs) zero = omega arith
+longest-le (g ∷ gs) (suc k) = omega (arith, longest-le gs k)
+
+-- demand 3 with the setup's own greatest charge
+pub fair-tight : (gs : List Setting) → Setup gs → Fair (1024 * longestCharge gs) gs
+fair-tight gs s = fair (1024 * longestCharge gs) gs (record { weights = s .total; short = λ k. mul-le-mul-left 1024 (longest-le gs k) })
+
+-- no longest is over 1,500
+pub longest-most : (gs : List Setting) → Setup gs → (k : ℕ) → (settingAt gs k) .longest ≤ 1500
+longest-most gs s k = go (settingAt gs k) (s .each k)
+  where
+    go : (g : Setting) → InNumbers g ⊎ (g ≡ noSetting) → g .longest ≤ 1500
+    go g (inl h) = h .longest-high
+    go g (inr e) = omega (arith, ap (λ (x : Setting). x .longest) e)
+
+pub setup-ok : (gs : List Setting) → Setup gs → SetupOk margin gs
+setup-ok gs s = record { weights = s .total; short = λ k. omega (arith, charge-le (settingAt gs k) ((settingAt gs k) .longest) (longest-most gs s k)) }
+
+pub demand3 : Demand3
+unfolding Demand3
+demand3 gs s = fair margin gs (setup-ok gs s)

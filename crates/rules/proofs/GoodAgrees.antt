@@ -1,0 +1,116 @@
+-- The computed test for a good state and the rule agree. Assumes nothing.
+use Prim.Native.Nat.{ℕ, zero, suc, _+_, _*_, _^_, _≤_, _<_}
+use native.Mathlib.Omega.{arith}
+use native.Mathlib.Nat.{le-of-suc-le-suc, not-suc-le-zero}
+use native.Mathlib.Decide.{decLt}
+use mathlib.Core.Path.{_≡_, refl, ap, _∙_}
+use mathlib.Core.Bool.{Bool, true, false, not, _||_, false≢true, or-true}
+use mathlib.Core.List.{List, [], _∷_}
+use lib.Dec.{leb, ltb}
+use lib.ListN.{length, getD, length-map}
+use borrow.Author.Tests.{leb-true, le-leb, ltb-true, lt-ltb, eqb-true, eq-eqb, ne-eqb}
+use Rattle.rules.specs.State.{if_then_else_, noSetting, Lane, noLane, State, laneDepth, slot, holds, eligible, laneAt, setupOf, anyHolds}
+use Rattle.rules.specs.Setup.{Setup}
+use Rattle.rules.specs.Good.{times, Good}
+use Rattle.rules.proofs.Bools.{and-parts, or-right}
+use Rattle.rules.proofs.Lane.{slot-pos}
+use Rattle.rules.proofs.Live.{some-holds, holds-some}
+use Rattle.rules.proofs.GoodTest.{every, everyBelow, setupTest, lengthTest, timesTest, laneTest, anyEligible, namedOnce, goodTest, every-at, at-every, below-at, at-below, setup-true, true-setup, lengths-true, true-lengths, times-true, true-times}
+
+idle-true : (v : ℕ) → laneTest v noLane ≡ true
+unfolding laneTest every timesTest
+idle-true v = lt-ltb 0 (v + 2 * slot noSetting) (omega (arith, slot-pos noSetting))
+
+eligible-some : (v : ℕ) (ls : List Lane) → anyEligible v ls ≡ true → (k : ℕ) × (eligible v (getD ls k noLane) ≡ true)
+unfolding anyEligible
+eligible-some v [] e = absurd (false≢true e)
+eligible-some v (l ∷ ls) e = go (eligible v l) refl (eligible-some v ls)
+  where
+    go : (b : Bool) → eligible v l ≡ b → (anyEligible v ls ≡ true → (k : ℕ) × (eligible v (getD ls k noLane) ≡ true)) → (k : ℕ) × (eligible v (getD (l ∷ ls) k noLane) ≡ true)
+    go true f r = (0, f)
+    go false f r = let i = r (or-right (eligible v l) (anyEligible v ls) e f) in (suc (i .0), i .1)
+
+some-eligible : (v : ℕ) (ls : List Lane) (k : ℕ) → eligible v (getD ls k noLane) ≡ true → anyEligible v ls ≡ true
+unfolding anyEligible eligible
+some-eligible v [] k e = absurd (false≢true e)
+some-eligible v (l ∷ ls) zero e = simp e
+some-eligible v (l ∷ ls) (suc k) e = simp (some-eligible v ls k e, or-true (eligible v l))
+
+-- ---- the two agree
+
+beyond : (ls : List Lane) (k : ℕ) → length ls ≤ k → getD ls k noLane ≡ noLane
+beyond [] k h = refl
+beyond (l ∷ ls) zero h = absurd (not-suc-le-zero h)
+beyond (l ∷ ls) (suc k) h = beyond ls k (le-of-suc-le-suc h)
+
+-- a number that no element passes stands nowhere
+times-none : (k : ℕ) (js : List ℕ) → every (λ (j : ℕ). ltb j 64) js ≡ true → 64 ≤ k → times k js ≡ 0
+unfolding every
+times-none k [] e h = refl
+times-none k (j ∷ js) e h =
+    let a = and-parts (ltb j 64) (every (λ (j : ℕ). ltb j 64) js) e in
+    let lt = ltb-true j 64 (a .0) in
+    simp (ne-eqb j k (λ q. omega arith)) (omega (arith, times-none k js (a .1) h))
+
+named-small : (js : List ℕ) → ((k : ℕ) → 0 < times k js → k < 64) → every (λ (j : ℕ). ltb j 64) js ≡ true
+unfolding every
+named-small [] h = refl
+named-small (j ∷ js) h =
+    simp (lt-ltb j 64 (h j (simp (eq-eqb j j refl) (omega arith))), named-small js (λ k p. h k (omega arith)))
+
+module _ (s : State) where
+  order-true : Setup (setupOf s) → every (λ (j : ℕ). ltb j 64) (s .order) ≡ true → everyBelow (namedOnce s) 64 ≡ true
+      → (k : ℕ) → times k (s .order) ≡ (if holds (laneAt s k) then 1 else 0)
+  order-true g small e k = elim (decLt k 64) [
+    | yes h ↦ eqb-true (times k (s .order)) _ (below-at (namedOnce s) 64 e k h)
+    | no h ↦
+        let far : length (s .lanes) ≤ k = omega (arith, g .size, length-map (s .lanes) (λ (l : Lane). l .given)) in
+        times-none k (s .order) small (omega arith) ∙ rw (beyond (s .lanes) k far)
+  ]
+
+  pub test-good : goodTest s ≡ true → Good s
+  unfolding goodTest laneTest
+  test-good e =
+      let a = and-parts (setupTest (setupOf s)) _ e in
+      let b = and-parts (ltb (s .clock) (2 ^ 62 + 2 ^ 42)) _ (a .1) in
+      let c = and-parts (every (laneTest (s .clock)) (s .lanes)) _ (b .1) in
+      let d = and-parts (not (anyHolds (s .lanes)) || anyEligible (s .clock) (s .lanes)) _ (c .1) in
+      let f = and-parts (every (λ (j : ℕ). ltb j 64) (s .order)) (everyBelow (namedOnce s) 64) (d .1) in
+      let lane : (k : ℕ) → laneTest (s .clock) (laneAt s k) ≡ true = every-at (laneTest (s .clock)) noLane (idle-true (s .clock)) (s .lanes) (c .0) in
+      let setup = setup-true (setupOf s) (a .0) in
+      record {
+        setup = setup;
+        room = λ k. leb-true _ laneDepth (and-parts (leb (length ((laneAt s k) .queue)) laneDepth) _ (lane k) .0);
+        lengths = λ k. lengths-true _ ((laneAt s k) .queue) (and-parts (every (lengthTest ((laneAt s k) .given)) ((laneAt s k) .queue)) _ (and-parts (leb (length ((laneAt s k) .queue)) laneDepth) _ (lane k) .1) .0);
+        clock = ltb-true (s .clock) (2 ^ 62 + 2 ^ 42) (b .0);
+        numbers = λ k. times-true (s .clock) (laneAt s k) ((laneAt s k) .queue) (and-parts (every (lengthTest ((laneAt s k) .given)) ((laneAt s k) .queue)) _ (and-parts (leb (length ((laneAt s k) .queue)) laneDepth) _ (lane k) .1) .1);
+        live = λ k h. eligible-some (s .clock) (s .lanes) (or-right (not (anyHolds (s .lanes))) (anyEligible (s .clock) (s .lanes)) (d .0) (ap not (holds-some (s .lanes) k h)));
+        order = order-true setup (f .0) (f .1);
+      }
+
+  pub good-test : Good s → goodTest s ≡ true
+  unfolding goodTest laneTest
+  good-test g =
+      simp (
+        true-setup (setupOf s) (g .setup),
+        lt-ltb (s .clock) (2 ^ 62 + 2 ^ 42) (g .clock),
+        at-every (laneTest (s .clock)) noLane (idle-true (s .clock)) (s .lanes) (λ k. lane k),
+        live (anyHolds (s .lanes)) refl,
+        named-small (s .order) inside,
+        at-below (namedOnce s) 64 (λ k. eq-eqb (times k (s .order)) _ (g .order k)),
+      )
+    where
+      lane : (k : ℕ) → laneTest (s .clock) (laneAt s k) ≡ true
+      lane k = simp (le-leb (length ((laneAt s k) .queue)) laneDepth (g .room k), true-lengths _ ((laneAt s k) .queue) (g .lengths k), true-times (s .clock) (laneAt s k) ((laneAt s k) .queue) (g .numbers k))
+
+      live : (b : Bool) → anyHolds (s .lanes) ≡ b → (not b || anyEligible (s .clock) (s .lanes)) ≡ true
+      live false e = refl
+      live true e = let h = some-holds (s .lanes) e in let i = g .live (h .0) (h .1) in some-eligible (s .clock) (s .lanes) (i .0) (i .1)
+
+      inside : (k : ℕ) → 0 < times k (s .order) → k < 64
+      inside k h = elim (decLt k 64) [
+        | yes q ↦ q
+        | no q ↦
+            let far : length (s .lanes) ≤ k = omega (arith, g .setup .size, length-map (s .lanes) (λ (l : Lane). l .given)) in
+            absurd (omega (arith, rw (beyond (s .lanes) k far) at (g .order k)))
+      ]

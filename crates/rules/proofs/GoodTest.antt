@@ -1,0 +1,167 @@
+-- The rule for a good state as a computed test, and the laws of its parts. proofs/GoodAgrees.antt: the two agree. Assumes nothing.
+use Prim.Native.Nat.{ℕ, zero, suc, _+_, _*_, _^_, _<_}
+use native.Mathlib.Nat.{eq-or-lt-of-le, le-of-suc-le-suc, not-suc-le-zero}
+use mathlib.Core.Path.{_≡_, refl, ap, _∙_}
+use mathlib.Core.Bool.{Bool, true, false, not, _&&_, _||_}
+use mathlib.Core.Logic.{_⊎_, inl, inr}
+use mathlib.Core.List.{List, [], _∷_}
+use lib.Dec.{leb, ltb, eqb}
+use lib.ListN.{length, getD}
+use borrow.Author.Tests.{leb-true, le-leb, ltb-true, lt-ltb, eqb-true, eq-eqb}
+use Rattle.rules.specs.State.{if_then_else_, Rec, Setting, noSetting, settingAt, Lane, State, charge, laneDepth, rate, slot, startR, holds, eligible, laneAt, setupOf, anyHolds}
+use Rattle.rules.specs.Setup.{InNumbers, weights, Setup, margin}
+use Rattle.rules.specs.Good.{Lengths, Times, times}
+use Rattle.rules.proofs.Bools.{and-parts, and-made}
+
+-- ---- the test
+
+unfoldable pub every : {A : Type 0} → (A → Bool) → List A → Bool
+every p [] = true
+every p (x ∷ xs) = p x && every p xs
+
+unfoldable pub everyBelow : (ℕ → Bool) → ℕ → Bool
+everyBelow p zero = true
+everyBelow p (suc n) = p n && everyBelow p n
+
+unfoldable pub inNumbers : Setting → Bool
+inNumbers g = leb 1 (g .weight) && (leb (g .weight) 1024 && (leb 64 (g .longest) && leb (g .longest) 1500))
+
+unfoldable pub absent : Setting → Bool
+absent g = eqb (g .weight) 0 && eqb (g .longest) 0
+
+abbrev pub settingTest : Setting → Bool
+settingTest g = inNumbers g || absent g
+
+unfoldable pub setupTest : List Setting → Bool
+setupTest gs = eqb (length gs) 64 && (every settingTest gs && (ltb 0 (weights gs) && leb (weights gs) 1024))
+
+unfoldable pub lengthTest : Setting → Rec → Bool
+lengthTest g r = leb 1 (r .len) && leb (r .len) (g .longest)
+
+unfoldable pub timesTest : ℕ → Lane → List Rec → Bool
+timesTest v l [] = ltb (l .finish) (v + 2 * slot (l .given))
+timesTest v l (r ∷ rs) =
+    eqb (l .finish) (l .start + charge (l .given) (r .len) * rate (l .given))
+    && (ltb (l .start) (v + 2 * slot (l .given)) && ltb v (startR l + 2 * slot (l .given) + margin))
+
+unfoldable pub laneTest : ℕ → Lane → Bool
+laneTest v l = leb (length (l .queue)) laneDepth && (every (lengthTest (l .given)) (l .queue) && timesTest v l (l .queue))
+
+unfoldable pub anyEligible : ℕ → List Lane → Bool
+anyEligible v [] = false
+anyEligible v (l ∷ ls) = eligible v l || anyEligible v ls
+
+abbrev pub namedOnce : State → ℕ → Bool
+namedOnce s k = eqb (times k (s .order)) (if holds (laneAt s k) then 1 else 0)
+
+unfoldable pub goodTest : State → Bool
+goodTest s =
+    setupTest (setupOf s)
+    && (ltb (s .clock) (2 ^ 62 + 2 ^ 42)
+    && (every (laneTest (s .clock)) (s .lanes)
+    && ((not (anyHolds (s .lanes)) || anyEligible (s .clock) (s .lanes))
+    && (every (λ (k : ℕ). ltb k 64) (s .order) && everyBelow (namedOnce s) 64))))
+
+-- ---- laws of its parts
+
+module _ {A : Type 0} (p : A → Bool) (d : A) (pd : p d ≡ true) where
+  pub every-at : (xs : List A) → every p xs ≡ true → (k : ℕ) → p (getD xs k d) ≡ true
+  unfolding every
+  every-at [] e k = pd
+  every-at (x ∷ xs) e zero = and-parts (p x) (every p xs) e .0
+  every-at (x ∷ xs) e (suc k) = every-at xs (and-parts (p x) (every p xs) e .1) k
+
+  pub at-every : (xs : List A) → ((k : ℕ) → p (getD xs k d) ≡ true) → every p xs ≡ true
+  unfolding every
+  at-every [] h = refl
+  at-every (x ∷ xs) h = and-made (p x) (every p xs) (h 0) (at-every xs (λ k. h (suc k)))
+
+pub below-at : (p : ℕ → Bool) (n : ℕ) → everyBelow p n ≡ true → (k : ℕ) → k < n → p k ≡ true
+unfolding everyBelow
+below-at p zero e k h = absurd (not-suc-le-zero h)
+below-at p (suc n) e k h = go (eq-or-lt-of-le (le-of-suc-le-suc h)) (below-at p n (and-parts (p n) (everyBelow p n) e .1) k)
+  where
+    go : (k ≡ n) ⊎ (k < n) → (k < n → p k ≡ true) → p k ≡ true
+    go (inl q) r = ap p q ∙ and-parts (p n) (everyBelow p n) e .0
+    go (inr q) r = r q
+
+pub at-below : (p : ℕ → Bool) (n : ℕ) → ((k : ℕ) → p k ≡ true) → everyBelow p n ≡ true
+unfolding everyBelow
+at-below p zero h = refl
+at-below p (suc n) h = and-made (p n) (everyBelow p n) (h n) (at-below p n h)
+
+setting-true : (g : Setting) → settingTest g ≡ true → InNumbers g ⊎ (g ≡ noSetting)
+unfolding inNumbers absent
+setting-true g e = go (inNumbers g) refl e
+  where
+    go : (b : Bool) → inNumbers g ≡ b → (b || absent g) ≡ true → InNumbers g ⊎ (g ≡ noSetting)
+    go true q t =
+        let a = and-parts (leb 1 (g .weight)) _ q in
+        let b = and-parts (leb (g .weight) 1024) _ (a .1) in
+        let c = and-parts (leb 64 (g .longest)) (leb (g .longest) 1500) (b .1) in
+        inl (record {
+          weight-low = leb-true 1 (g .weight) (a .0);
+          weight-high = leb-true (g .weight) 1024 (b .0);
+          longest-low = leb-true 64 (g .longest) (c .0);
+          longest-high = leb-true (g .longest) 1500 (c .1);
+        })
+    go false q t =
+        let a = and-parts (eqb (g .weight) 0) (eqb (g .longest) 0) t in
+        let w : g .weight ≡ 0 = eqb-true (g .weight) 0 (a .0) in
+        let l : g .longest ≡ 0 = eqb-true (g .longest) 0 (a .1) in
+        inr (ap (λ (x : ℕ). record { weight = x; longest = g .longest }) w ∙ ap (λ (x : ℕ). record { weight = 0; longest = x }) l)
+
+true-setting : (g : Setting) → InNumbers g ⊎ (g ≡ noSetting) → settingTest g ≡ true
+unfolding inNumbers absent
+true-setting g (inl n) = simp (le-leb 1 (g .weight) (n .weight-low), le-leb (g .weight) 1024 (n .weight-high), le-leb 64 (g .longest) (n .longest-low), le-leb (g .longest) 1500 (n .longest-high))
+true-setting g (inr e) = rw e
+
+pub setup-true : (gs : List Setting) → setupTest gs ≡ true → Setup gs
+unfolding setupTest inNumbers absent
+setup-true gs e =
+    let a = and-parts (eqb (length gs) 64) _ e in
+    let b = and-parts (every settingTest gs) _ (a .1) in
+    let c = and-parts (ltb 0 (weights gs)) (leb (weights gs) 1024) (b .1) in
+    record {
+      size = eqb-true (length gs) 64 (a .0);
+      each = λ k. setting-true (settingAt gs k) (every-at settingTest noSetting refl gs (b .0) k);
+      some-lane = ltb-true 0 (weights gs) (c .0);
+      total = leb-true (weights gs) 1024 (c .1);
+    }
+
+pub true-setup : (gs : List Setting) → Setup gs → setupTest gs ≡ true
+unfolding setupTest inNumbers absent
+true-setup gs s =
+    simp (
+      eq-eqb (length gs) 64 (s .size),
+      at-every settingTest noSetting refl gs (λ k. true-setting (settingAt gs k) (s .each k)),
+      lt-ltb 0 (weights gs) (s .some-lane),
+      le-leb (weights gs) 1024 (s .total),
+    )
+
+pub lengths-true : (g : Setting) (q : List Rec) → every (lengthTest g) q ≡ true → Lengths g q
+unfolding every lengthTest
+lengths-true g [] e = tt
+lengths-true g (r ∷ rs) e =
+    let a = and-parts (lengthTest g r) (every (lengthTest g) rs) e in
+    let b = and-parts (leb 1 (r .len)) (leb (r .len) (g .longest)) (a .0) in
+    (leb-true 1 (r .len) (b .0), leb-true (r .len) (g .longest) (b .1), lengths-true g rs (a .1))
+
+pub true-lengths : (g : Setting) (q : List Rec) → Lengths g q → every (lengthTest g) q ≡ true
+unfolding every lengthTest
+true-lengths g [] h = refl
+true-lengths g (r ∷ rs) h = simp (le-leb 1 (r .len) (h .0), le-leb (r .len) (g .longest) (h .1), true-lengths g rs (h .2))
+
+pub times-true : (v : ℕ) (l : Lane) (q : List Rec) → timesTest v l q ≡ true → Times v l q
+unfolding timesTest
+times-true v l [] e = ltb-true (l .finish) (v + 2 * slot (l .given)) e
+times-true v l (r ∷ rs) e =
+    let a = and-parts (eqb (l .finish) (l .start + charge (l .given) (r .len) * rate (l .given))) _ e in
+    let b = and-parts (ltb (l .start) (v + 2 * slot (l .given))) _ (a .1) in
+    (eqb-true (l .finish) _ (a .0), ltb-true (l .start) _ (b .0), ltb-true v _ (b .1))
+
+pub true-times : (v : ℕ) (l : Lane) (q : List Rec) → Times v l q → timesTest v l q ≡ true
+unfolding timesTest
+true-times v l [] h = lt-ltb (l .finish) (v + 2 * slot (l .given)) h
+true-times v l (r ∷ rs) h =
+    simp (eq-eqb (l .finish) (l .start + charge (l .given) (r .len) * rate (l .given)) (h .0), lt-ltb (l .start) (v + 2 * slot (l .given)) (h .1), lt-ltb v (startR l + 2 * slot (l .given) + margin) (h .2))

@@ -1,0 +1,72 @@
+-- Laws of sums over a list, and of a list with one element replaced. Assumes nothing.
+use Prim.Native.Nat.{ℕ, zero, suc, _+_, _*_, _≤_, _<_}
+use native.Mathlib.Nat.{not-suc-le-zero, le-of-suc-le-suc, suc-inj}
+use native.Mathlib.Omega.{arith}
+use mathlib.Core.Path.{_≡_, refl, sym, subst, ap}
+use mathlib.Core.Bool.{Bool, true, false, not}
+use mathlib.Core.Logic.{_⊎_, inl, inr}
+use mathlib.Core.List.{List, [], _∷_, map}
+use lib.Dec.{T}
+use lib.ListN.{length, getD, set}
+use Rattle.rules.specs.State.{sum}
+
+module _ {A : Type 0} where
+  pub sum-set : (f : A → ℕ) (xs : List A) (j : ℕ) (y d : A) → j < length xs → sum f (set xs j y) + f (getD xs j d) ≡ sum f xs + f y
+  sum-set f [] j y d h = absurd (not-suc-le-zero h)
+  sum-set f (x ∷ xs) zero y d h = omega arith
+  sum-set f (x ∷ xs) (suc j) y d h = omega (arith, sum-set f xs j y d (le-of-suc-le-suc h))
+
+  pub sum-mono : (f g : A → ℕ) (xs : List A) (d : A) → ((k : ℕ) → f (getD xs k d) ≤ g (getD xs k d)) → sum f xs ≤ sum g xs
+  sum-mono f g [] d h = omega arith
+  sum-mono f g (x ∷ xs) d h = omega (arith, h 0, sum-mono f g xs d (λ k. h (suc k)))
+
+  pub sum-scale : (f : A → ℕ) (c : ℕ) (xs : List A) → sum (λ (x : A). f x * c) xs ≡ sum f xs * c
+  sum-scale f c [] = omega arith
+  sum-scale f c (x ∷ xs) = omega (arith, sum-scale f c xs)
+
+  -- one element is at most the sum
+  pub le-sum : (f : A → ℕ) (xs : List A) (d : A) (k : ℕ) → k < length xs → f (getD xs k d) ≤ sum f xs
+  le-sum f [] d k h = absurd (not-suc-le-zero h)
+  le-sum f (x ∷ xs) d zero h = omega arith
+  le-sum f (x ∷ xs) d (suc k) h = omega (arith, le-sum f xs d k (le-of-suc-le-suc h))
+
+  -- what holds of every element, the default's case included, and of the new one, holds of every element of the changed list
+  pub set-all : (P : A → Type 0) (xs : List A) (j : ℕ) (y d : A) → P y → ((k : ℕ) → P (getD xs k d)) → (k : ℕ) → P (getD (set xs j y) k d)
+  set-all P [] j y d p h k = h k
+  set-all P (x ∷ xs) zero y d p h zero = p
+  set-all P (x ∷ xs) zero y d p h (suc k) = h (suc k)
+  set-all P (x ∷ xs) (suc j) y d p h zero = h 0
+  set-all P (x ∷ xs) (suc j) y d p h (suc k) = set-all P xs j y d p (λ i. h (suc i)) k
+
+  -- an element that a test passes, or none
+  pub any-or-none : (p : A → Bool) (xs : List A) (d : A) → T (not (p d))
+      → ((k : ℕ) × T (p (getD xs k d))) ⊎ ((k : ℕ) → T (not (p (getD xs k d))))
+  any-or-none p [] d h = inr (λ k. h)
+  any-or-none p (x ∷ xs) d h = go (p x) refl (any-or-none p xs d h)
+    where
+      go : (b : Bool) → p x ≡ b → ((k : ℕ) × T (p (getD xs k d))) ⊎ ((k : ℕ) → T (not (p (getD xs k d))))
+          → ((k : ℕ) × T (p (getD (x ∷ xs) k d))) ⊎ ((k : ℕ) → T (not (p (getD (x ∷ xs) k d))))
+      go true e r = inl (0, subst T (sym e) tt)
+      go false e (inl (k, t)) = inl (suc k, t)
+      go false e (inr f) = inr (elim [ zero ↦ subst (λ (b : Bool). T (not b)) (sym e) tt | suc k ↦ f k ])
+
+  -- the changed list at k: the new element if k is the place, else the old one
+  pub set-cases : (P : A → Type 0) (xs : List A) (j k : ℕ) (y d : A) → j < length xs → (j ≡ k → P y) → ((j ≡ k → ⊥) → P (getD xs k d)) → P (getD (set xs j y) k d)
+  set-cases P [] j k y d h p q = absurd (not-suc-le-zero h)
+  set-cases P (x ∷ xs) zero zero y d h p q = p refl
+  set-cases P (x ∷ xs) zero (suc k) y d h p q = q (λ e. omega arith)
+  set-cases P (x ∷ xs) (suc j) zero y d h p q = q (λ e. omega arith)
+  set-cases P (x ∷ xs) (suc j) (suc k) y d h p q = set-cases P xs j k y d (le-of-suc-le-suc h) (λ e. p (ap suc e)) (λ n. q (λ e. n (suc-inj e)))
+
+  pub getD-map : {B : Type 0} (f : A → B) (xs : List A) (k : ℕ) (d : A) (d′ : B) → f d ≡ d′ → getD (map f xs) k d′ ≡ f (getD xs k d)
+  getD-map f [] k d d′ e = sym e
+  getD-map f (x ∷ xs) zero d d′ e = refl
+  getD-map f (x ∷ xs) (suc k) d d′ e = getD-map f xs k d d′ e
+
+  pub sum-bound : (f : A → ℕ) (b : ℕ) (xs : List A) (d : A) → ((k : ℕ) → f (getD xs k d) ≤ b) → sum f xs ≤ length xs * b
+  sum-bound f b [] d h = omega arith
+  sum-bound f b (x ∷ xs) d h = omega (arith, h 0, sum-bound f b xs d (λ k. h (suc k)))
+
+  pub sum-zero : (f : A → ℕ) (xs : List A) (d : A) → ((k : ℕ) → f (getD xs k d) ≡ 0) → sum f xs ≡ 0
+  sum-zero f [] d h = refl
+  sum-zero f (x ∷ xs) d h = omega (arith, h 0, sum-zero f xs d (λ k. h (suc k)))

@@ -1,0 +1,185 @@
+-- A jump of the clock to the least R, a put on an idle lane and a put on a holding lane keep the invariant. Assumes nothing.
+use Prim.Native.Nat.{ℕ, _+_, _-_, _*_, _≤_, _<_, max}
+use native.Mathlib.Omega.{arith}
+use native.Mathlib.Nat.{le-of-eq, sub-self}
+use mathlib.Core.Path.{_≡_, refl, sym, subst, ap}
+use mathlib.Core.Bool.{Bool, true, false, not, _&&_, false≢true}
+use mathlib.Core.Logic.{_⊎_, inl, inr}
+use mathlib.Core.List.{List, [], _∷_, _++_}
+use lib.Dec.{T, leb}
+use lib.ListN.{getD, set}
+use borrow.Author.Tests.{leb-true, le-leb}
+use Rattle.rules.specs.State.{sum, Setting, Lane, Rec, slot, startR, finishR, holds, some?, noLane, if_then_else_}
+use Rattle.rules.specs.Calls.{woken, appended, idle}
+use Rattle.units.proofs.Round.{round-le, lt-round-slot}
+use Rattle.rules.proofs.Bools.{if-ind}
+use Rattle.rules.proofs.Lists.{sum-set, set-all, any-or-none}
+use Rattle.rules.proofs.Lane.{slot-pos}
+use Rattle.rules.proofs.Claim.{from, from-ge, claim, spread, weightOf, Fits, Queued, LaneOk, Inv, in-range, same-weights}
+use Rattle.rules.proofs.Serve.{later-ok}
+
+-- ---- the jump: the clock moves up to u, and no holding lane has its rounded start before u
+
+module _ (M v : ℕ) (ls : List Lane) (inv : Inv M v ls) (u : ℕ) (up : v ≤ u)
+    (behind : (k : ℕ) → holds (getD ls k noLane) ≡ true → u ≤ startR (getD ls k noLane))
+  where
+    jump-starts : (D k : ℕ) → u ≤ D → u ≤ from u D (getD ls k noLane)
+    jump-starts D k p =
+        from-ge u D u (getD ls k noLane)
+        (λ e d. omega (arith, behind k e, round-le (slot ((getD ls k noLane) .given)) ((getD ls k noLane) .start)))
+        p (λ e. omega arith)
+
+    pub jump : Inv M u ls
+    jump = record {
+      weights = inv .weights;
+      ok = λ k. later-ok M v u (getD ls k noLane) up (inv .ok k);
+      due = λ D k e h.
+          let p : u ≤ D = omega (arith, behind k e) in
+          omega (arith, spread u D u ls (inv .weights) (λ i. jump-starts D i p));
+    }
+
+-- ---- a put on an idle lane
+
+-- the woken lane claims no more than it did when idle
+woken-claim : (v D : ℕ) (l : Lane) (r : Rec) → holds l ≡ false → claim v D (woken v l r) ≤ claim v D l
+unfolding woken from
+woken-claim v D l r e =
+    if-ind (λ (x : ℕ). weightOf l * (D - x) ≤ claim v D l) (leb (finishR (woken v l r)) D) _ _
+    (λ q. le-of-eq (ap (λ (x : ℕ). weightOf l * (D - x)) (sym (idle-from))))
+    (λ q. omega (arith, ap (λ (x : ℕ). weightOf l * x) (sub-self D)))
+  where
+    idle-from : from v D l ≡ max (l .finish) v
+    idle-from = simp e
+
+module _ (M v : ℕ) (ls : List Lane) (inv : Inv M v ls) (j : ℕ) (r : Rec)
+    (idle : holds (getD ls j noLane) ≡ false)
+    (has : 0 < weightOf (getD ls j noLane))
+    (fits : r .len ≤ (getD ls j noLane) .given .longest)
+    (pos : 0 < r .len)
+  where
+    abbrev wl : Lane
+    wl = getD ls j noLane
+
+    abbrev wls : List Lane
+    wls = set ls j (woken v wl r)
+
+    woken-weights : sum weightOf wls ≤ 1024
+    unfolding woken
+    woken-weights = omega (arith, inv .weights, same-weights ls j (woken v wl r) (in-range ls j has) refl)
+
+    woken-ok : LaneOk M v (woken v wl r)
+    unfolding woken
+    woken-ok = record {
+      queued = (has, refl, (fits, pos, tt));
+      below = omega (arith, slot-pos (wl .given), subst (λ (b : Bool). (if b then wl .start else wl .finish) < v + 2 * slot (wl .given)) idle (inv .ok j .below));
+      short = inv .ok j .short;
+    }
+
+    abbrev isDue : ℕ → Lane → Bool
+    isDue D m = holds m && leb (finishR m) D
+
+    both-true : (a b : Bool) → T (a && b) → (a ≡ true) × (b ≡ true)
+    both-true true true t = (refl, refl)
+
+    not-both : (a b : Bool) → T (not (a && b)) → a ≡ true → b ≡ true → ⊥
+    not-both true true t p q = t
+    not-both true false t p q = false≢true q
+    not-both false b t p q = false≢true p
+
+    abbrev Never : ℕ → Type 0
+    Never D = (i : ℕ) → holds (getD ls i noLane) ≡ true → finishR (getD ls i noLane) ≤ D → ⊥
+
+    -- only the woken lane is due by D: so D is not before v, and no lane starts before v
+    reaches : (D : ℕ) → Never D → (k : ℕ) → holds (getD wls k noLane) ≡ true → finishR (getD wls k noLane) ≤ D → v ≤ D
+    unfolding woken
+    reaches D never =
+        set-all (λ (m : Lane). holds m ≡ true → finishR m ≤ D → v ≤ D) ls j (woken v wl r) noLane
+        (λ e h. omega (arith, lt-round-slot (slot (wl .given)) (max (wl .finish) v) (slot-pos (wl .given))))
+        (λ i e h. absurd (never i e h))
+
+    starts : (D : ℕ) → Never D → v ≤ D → (k : ℕ) → v ≤ from v D (getD wls k noLane)
+    unfolding woken
+    starts D never p =
+        set-all (λ (m : Lane). v ≤ from v D m) ls j (woken v wl r) noLane
+        (from-ge v D v (woken v wl r) (λ e h. omega arith) p (λ e. omega arith))
+        (λ i. from-ge v D v (getD ls i noLane) (λ e h. absurd (never i e h)) p (λ e. omega arith))
+
+    woken-due : (D k : ℕ) → holds (getD wls k noLane) ≡ true → finishR (getD wls k noLane) ≤ D → 1024 * v + sum (claim v D) wls ≤ 1024 * (D + M)
+    woken-due D k e h = go (any-or-none (isDue D) ls noLane tt)
+      where
+        go : ((i : ℕ) × T (isDue D (getD ls i noLane))) ⊎ ((i : ℕ) → T (not (isDue D (getD ls i noLane)))) → 1024 * v + sum (claim v D) wls ≤ 1024 * (D + M)
+        go (inl (i, t)) =
+            let b = both-true (holds (getD ls i noLane)) (leb (finishR (getD ls i noLane)) D) t in
+            omega (
+              arith,
+              inv .due D i (b .0) (leb-true (finishR (getD ls i noLane)) D (b .1)),
+              sum-set (claim v D) ls j (woken v wl r) noLane (in-range ls j has),
+              woken-claim v D wl r idle,
+            )
+        go (inr f) =
+            let never : Never D = λ i p q. not-both (holds (getD ls i noLane)) (leb (finishR (getD ls i noLane)) D) (f i) p (le-leb (finishR (getD ls i noLane)) D q) in
+            let p : v ≤ D = reaches D never k e h in
+            omega (arith, spread v D v wls woken-weights (starts D never p))
+
+    pub wake : Inv M v wls
+    wake = record {
+      weights = woken-weights;
+      ok = set-all (LaneOk M v) ls j (woken v wl r) noLane woken-ok (inv .ok);
+      due = woken-due;
+    }
+
+-- ---- a put on a holding lane
+
+pub appended-holds : (l : Lane) (r : Rec) → holds (appended l r) ≡ true
+unfolding appended
+appended-holds l r = go (l .queue)
+  where
+    go : (q : List Rec) → some? (q ++ (r ∷ [])) ≡ true
+    go [] = refl
+    go (x ∷ xs) = refl
+
+appended-from : (v D : ℕ) (l : Lane) (r : Rec) → holds l ≡ true → from v D (appended l r) ≡ from v D l
+unfolding from appended
+appended-from v D l r e = simp (e, appended-holds l r)
+
+append-fits : (g : Setting) (q : List Rec) (r : Rec) → r .len ≤ g .longest → 0 < r .len → Fits g q → Fits g (q ++ (r ∷ []))
+append-fits g [] r h p f = (h, p, tt)
+append-fits g (x ∷ xs) r h p f = (f .0, f .1, append-fits g xs r h p (f .2))
+
+append-queued : (g : Setting) (S F : ℕ) (q : List Rec) (r : Rec) → some? q ≡ true → r .len ≤ g .longest → 0 < r .len → Queued g S F q → Queued g S F (q ++ (r ∷ []))
+append-queued g S F [] r e h p f = absurd (false≢true e)
+append-queued g S F (x ∷ xs) r e h p f = (f .0, f .1, append-fits g (x ∷ xs) r h p (f .2))
+
+module _ (M v : ℕ) (ls : List Lane) (inv : Inv M v ls) (j : ℕ) (r : Rec)
+    (busy : holds (getD ls j noLane) ≡ true)
+    (has : 0 < weightOf (getD ls j noLane))
+    (fits : r .len ≤ (getD ls j noLane) .given .longest)
+    (pos : 0 < r .len)
+  where
+    abbrev al : Lane
+    al = getD ls j noLane
+
+    abbrev als : List Lane
+    als = set ls j (appended al r)
+
+    appended-ok : LaneOk M v (appended al r)
+    unfolding appended
+    appended-ok = record {
+      queued = append-queued (al .given) (al .start) (al .finish) (al .queue) r busy fits pos (inv .ok j .queued);
+      below = rw (appended-holds al r) (subst (λ (b : Bool). (if b then al .start else al .finish) < v + 2 * slot (al .given)) busy (inv .ok j .below));
+      short = inv .ok j .short;
+    }
+
+    same-claims : (D : ℕ) → sum (claim v D) als ≡ sum (claim v D) ls
+    unfolding appended
+    same-claims D = omega (arith, sum-set (claim v D) ls j (appended al r) noLane (in-range ls j has), ap (λ (x : ℕ). weightOf al * (D - x)) (appended-from v D al r busy))
+
+    pub append : Inv M v als
+    unfolding appended
+    append = record {
+      weights = omega (arith, inv .weights, same-weights ls j (appended al r) (in-range ls j has) refl);
+      ok = set-all (LaneOk M v) ls j (appended al r) noLane appended-ok (inv .ok);
+      due = λ D. set-all (λ (m : Lane). holds m ≡ true → finishR m ≤ D → 1024 * v + sum (claim v D) als ≤ 1024 * (D + M)) ls j (appended al r) noLane
+          (λ e h. omega (arith, same-claims D, inv .due D j busy h))
+          (λ k e h. omega (arith, same-claims D, inv .due D k e h));
+    }
