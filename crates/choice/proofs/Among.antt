@@ -1,12 +1,11 @@
 -- The least start among the lanes that the tie order's first n entries name; once all are passed, it is the least of all lanes. Assumes nothing.
-use Prim.Native.Nat.{ℕ, zero, suc, _+_, _^_, _≤_, _<_, min}
+use Prim.Native.Nat.{ℕ, suc, _^_, _≤_, _<_, min}
 use native.Mathlib.Nat.{le-antisymm, eq-or-lt-of-le, le-of-suc-le-suc, not-suc-le-zero}
 use native.Mathlib.Decide.{decLe}
 use native.Mathlib.Omega.{arith}
 use mathlib.Core.Path.{_≡_, refl, sym, ap, subst, _∙_}
 use mathlib.Core.Bool.{Bool, true, false, false≢true}
 use mathlib.Core.Logic.{⊎-elim}
-use mathlib.Core.List.{List}
 use mathlib.Core.Option.{Option, none, some}
 use lib.Dec.{eqb}
 use lib.ListN.{length, getD, set, replicate, getD-replicate}
@@ -16,7 +15,7 @@ use Rattle.rules.specs.Choice.{leastOf}
 use Rattle.rules.specs.Sets.{groups, inGroup, groupStart}
 use Rattle.rules.specs.Good.{Good}
 use Rattle.rules.proofs.Bools.{and-parts}
-use Rattle.rules.proofs.Lowest.{LowOf, LowestOf, lowest-of}
+use Rattle.rules.proofs.Lowest.{LowOf, lowest-of}
 use lib.Seq.{getD-set-same, getD-set-other}
 use Rattle.units.specs.declared.Clock.{Clock}
 use Rattle.words.proofs.Runs.{eq-or-ne}

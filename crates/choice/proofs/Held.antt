@@ -1,22 +1,28 @@
 -- What a good table's tie order names: exactly the lanes that hold records. And what a holding lane's row says. Assumes nothing.
-use Prim.Native.Nat.{ℕ, zero, suc, _+_, _*_, _^_, _≤_, _<_}
-use native.Mathlib.Nat.{lt-of-lt-of-le, zero-lt-suc, not-suc-le-zero, le-of-suc-le-suc}
+use Prim.Native.Nat.{ℕ, zero, suc, _^_, _≤_, _<_}
+use native.Mathlib.Nat.{zero-lt-suc, not-suc-le-zero, le-of-suc-le-suc}
 use native.Mathlib.Omega.{arith}
 use mathlib.Core.Path.{_≡_, refl, sym, ap, subst, _∙_}
 use mathlib.Core.Bool.{Bool, true, false, false≢true}
 use mathlib.Core.List.{List, [], _∷_}
+use mathlib.Core.Option.{Option, none, some}
 use lib.Dec.{eqb}
 use lib.ListN.{length, getD, length-map}
 use borrow.Author.Tests.{eqb-true, eq-eqb}
 use Rattle.units.specs.Numbers.{roundDown}
 use Rattle.units.proofs.Round.{round-le}
-use Rattle.rules.specs.State.{if_then_else_, Rec, Setting, Lane, noLane, State, group, slot, startR, some?, holds, laneAt, setupOf}
+use Rattle.rules.specs.State.{Rec, Setting, Lane, State, group, slot, startR, some?, holds, laneAt, setupOf}
 use Rattle.rules.specs.Good.{times, Times, Good}
+use Rattle.rules.specs.Sets.{inGroup, groupStart}
 use Rattle.rules.proofs.Lane.{group-most, group-least, slot-most}
 use Rattle.rules.proofs.Queues.{held-inside}
 use Rattle.rules.proofs.Bounds.{first}
+use Rattle.rules.proofs.SameSetup.{setting-lane}
+use Rattle.rules.proofs.Fair.{longest-most}
+use Rattle.rules.proofs.Lowest.{LowOf}
+use Rattle.rules.proofs.GroupRule.{in-group, group-low}
 use Rattle.table.specs.Layout.{cells, rowAt}
-use Rattle.table.specs.Means.{givenOf, timed, ringOf, meant, RowAgrees, Sound}
+use Rattle.table.specs.Means.{givenOf, timed, ringOf, meant, RowAgrees}
 use Rattle.table.specs.declared.LaneRow.{LaneRow}
 use Rattle.table.proofs.Footprint.{lane-is}
 use Rattle.table.proofs.Rows.{lane-present, holds-present}
@@ -131,3 +137,18 @@ module _ (t : List ℕ) (known : Known t) (k : ℕ) (e : holds (laneAt (meant t)
 -- an index of the tie order leads to a holding lane
 pub order-lane : (t : List ℕ) → Known t → (i : ℕ) → i < length (meant t .order) → holds (laneAt (meant t) (getD (meant t .order) i 0)) ≡ true
 order-lane t known i h = named-holds (meant t) (known .good) i h
+
+-- every holding lane's R is below 2 ^ 63
+pub held-early : (s : State) → Good s → (k : ℕ) → holds (laneAt s k) ≡ true → startR (laneAt s k) < 2 ^ 63
+held-early s g k e =
+    let l = laneAt s k in
+    let long : l .given .longest ≤ 1500 = subst (λ (y : Setting). y .longest ≤ 1500) (setting-lane s k) (longest-most (setupOf s) (g .setup) k) in
+    omega (arith, round-le (slot (l .given)) (l .start), start-small s g k e long)
+
+-- and so is every group's start
+pub start-early : (s : State) → Good s → (i r : ℕ) → groupStart (s .lanes) i ≡ some r → r < 2 ^ 63
+start-early s g i r e = go (groupStart (s .lanes) i) (group-low (s .lanes) i) e
+  where
+    go : (o : Option ℕ) → LowOf (inGroup i) (s .lanes) o → o ≡ some r → r < 2 ^ 63
+    go none h q = let z : _≡_ {A = ℕ} 0 1 = cc in absurd (omega arith)
+    go (some x) h q = let same : x ≡ r = cc in omega (arith, h .start, held-early s g (h .at) (in-group i (laneAt s (h .at)) (h .is) .0))

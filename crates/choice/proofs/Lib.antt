@@ -1,2 +1,5 @@
 pub mod Held
 pub mod Among
+pub mod Sweeps
+pub mod Bits
+pub mod First

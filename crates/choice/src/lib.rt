@@ -5,8 +5,10 @@
 //
 // Units: starts and finishes are `Clock`; bit i of a word stands for group i.
 ghost use mathlib.Core.Path.{_≡_};
-ghost use mathlib.Core.Bool.{true};
+ghost use mathlib.Core.Bool.{true, _&&_};
+ghost use mathlib.Core.Option.{some};
 ghost use Prim.Native.Nat.{_+_, _≤_, _<_, _^_};
+ghost use lib.Dec.{eqb};
 ghost use lib.Count.{trailingZeros};
 ghost use Rattle.rules.specs.State.{laneAt, holds};
 ghost use Rattle.rules.specs.Choice.{choose, leastOf};
@@ -14,7 +16,7 @@ ghost use Rattle.rules.specs.Sets.{groups, setWord, ready, ineligibleReady, eli
 ghost use Rattle.rules.proofs.BySets.{laneOf, laneOfGroup};
 ghost use Rattle.table.specs.Means.{meant, Sound};
 ghost use Rattle.choice.specs.Known.{Known, Stands, leastIs, choiceIs};
-ghost use Rattle.choice.specs.Starts.{AreStarts};
+ghost use Rattle.choice.specs.Starts.{AreStarts, sortedInto, swept, Fits, AreWords};
 use rules::SetWords;
 use table::clock;
 use table::holding;
@@ -35,6 +37,12 @@ pub struct Placed {
 // The starts of the groups, by index; `NEVER` where a group holds no records.
 pub struct Starts {
     pub at: [Clock; 32],
+}
+
+// The four words so far, and the least finish of the eligible groups met; `NEVER` where there is none.
+pub struct Sweep {
+    pub words: SetWords,
+    pub least: Clock,
 }
 
 pub enum Least {
@@ -103,4 +111,140 @@ pub fn group_starts(t: &[u8]) -> Starts
         i += 1;
     }
     found
+}
+
+// Puts a group's bit into one of the four words.
+fn sorted(w: SetWords, bit: u64, eligible: bool, blocked: bool) -> SetWords
+    requires { ⌜ Fits w bit ⌝ }
+    ensures { λ r. ⌜ r ≡ sortedInto w bit eligible blocked ⌝ }
+{
+    let mut next = w;
+    if eligible {
+        if blocked {
+            next.eb = w.eb + bit;
+        } else {
+            next.er = w.er + bit;
+        }
+    } else if blocked {
+        next.ib = w.ib + bit;
+    } else {
+        next.ir = w.ir + bit;
+    }
+    next
+}
+
+// Group `i`, whose start is `start`, at clock `v`.
+fn sweep_group(start: Clock, v: Clock, i: u32, a: Sweep) -> Sweep
+    requires { ⌜ (start .0 < 2 ^ 63) × (i ≤ 31) × Fits (a .words) (2 ^ i) ⌝ }
+    ensures { λ r. ⌜ r ≡ swept (start .0) (v .0) i a ⌝ }
+{
+    let finish = rounded_finish(start, i);
+    let eligible = start.0 <= v.0;
+    let so_far = a.least;
+    let words = sorted(a.words, slot(i).0, eligible, so_far.0 < finish.0);
+    if eligible {
+        return Sweep {
+            words,
+            least: earlier(finish, so_far),
+        };
+    }
+    Sweep {
+        words,
+        least: so_far,
+    }
+}
+
+// The four words from the groups' starts, from the highest group down.
+fn sweep_down(t: &[u8], s: Starts) -> SetWords
+    requires { ⌜ Known (now t) × AreStarts (meant (now t) .lanes) s ⌝ }
+    ensures { λ r. ⌜ AreWords (meant (now (t .entry))) r ⌝ }
+{
+    let v = clock(t);
+    let mut a = Sweep {
+        words: SetWords {
+            er: 0,
+            ir: 0,
+            eb: 0,
+            ib: 0,
+        },
+        least: Clock(NEVER),
+    };
+    let mut i: u32 = 32;
+    while 0 < i {
+        i -= 1;
+        let g = i as usize;
+        let start = s.at[g];
+        if start.0 != NEVER {
+            a = sweep_group(start, v, i, a);
+        }
+    }
+    a.words
+}
+
+// The four words of the group sets.
+pub fn set_words(t: &[u8]) -> SetWords
+    requires { ⌜ Known (now t) ⌝ }
+    ensures { λ r. ⌜ AreWords (meant (now (t .entry))) r ⌝ }
+{
+    sweep_down(t, group_starts(t))
+}
+
+// The first set bit of a word that is not 0.
+fn first_set(w: u64) -> u32
+    requires { ⌜ 0 < w ⌝ }
+    ensures { λ r. ⌜ r ≡ trailingZeros 64 w ⌝ }
+{
+    let mut left = w;
+    let mut i: u32 = 0;
+    while left % 2 == 0 {
+        left /= 2;
+        i += 1;
+    }
+    i
+}
+
+// Whether a lane stands there.
+fn is_at(p: Placed, g: u32, start: Clock) -> bool
+    ensures { λ r. ⌜ r ≡ (eqb (p .group) g && eqb (p .start .0) (start .0)) ⌝ }
+{
+    if p.group == g {
+        p.start.0 == start.0
+    } else {
+        false
+    }
+}
+
+// The lane of group `g` with the rounded start `start` that stands first in the tie order.
+fn lane_at(t: &[u8], g: u32, start: Clock) -> Choice
+    requires { ⌜ Known (now t) ⌝ }
+    ensures { λ r. ⌜ choiceIs r ≡ laneOfGroup (meant (now (t .entry))) g (some (start .0)) ⌝ }
+{
+    let n = holding(t);
+    let mut i = 0;
+    while i < n {
+        let k = order_at(t, i);
+        let p = place_of(t, k);
+        if is_at(p, g, start) {
+            return Choice::Serve(k);
+        }
+        i += 1;
+    }
+    Choice::Idle
+}
+
+// The lane that take serves and look sees.
+pub fn chosen(t: &[u8]) -> Choice
+    requires { ⌜ Known (now t) ⌝ }
+    ensures { λ r. ⌜ choiceIs r ≡ laneOf (choose (meant (now (t .entry)))) ⌝ }
+{
+    let s = group_starts(t);
+    let words = sweep_down(t, s);
+    let er = words.er;
+    if er == 0 {
+        return Choice::Idle;
+    }
+    let g = first_set(er);
+    let i = g as usize;
+    let start = s.at[i];
+    lane_at(t, g, start)
 }

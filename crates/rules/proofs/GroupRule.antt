@@ -23,7 +23,7 @@ use Rattle.rules.proofs.Chosen.{Chosen}
 use Rattle.rules.proofs.Keep.{eligible-is, is-eligible}
 use Rattle.rules.proofs.Word.{first-bit}
 
-anyBelow-at : (p : ℕ → Bool) (n k : ℕ) → anyBelow p n ≡ false → k < n → p k ≡ false
+pub anyBelow-at : (p : ℕ → Bool) (n k : ℕ) → anyBelow p n ≡ false → k < n → p k ≡ false
 unfolding anyBelow
 anyBelow-at p zero k e h = absurd (not-suc-le-zero h)
 anyBelow-at p (suc n) k e h = go (eq-or-lt-of-le (le-of-suc-le-suc h)) (anyBelow-at p n k)
@@ -32,7 +32,7 @@ anyBelow-at p (suc n) k e h = go (eq-or-lt-of-le (le-of-suc-le-suc h)) (anyBelow
     go (inl q) r = ap p q ∙ or-parts (p n) (anyBelow p n) e .0
     go (inr q) r = r (or-parts (p n) (anyBelow p n) e .1) q
 
-anyBelow-none : (p : ℕ → Bool) (n : ℕ) → ((k : ℕ) → p k ≡ false) → anyBelow p n ≡ false
+pub anyBelow-none : (p : ℕ → Bool) (n : ℕ) → ((k : ℕ) → p k ≡ false) → anyBelow p n ≡ false
 unfolding anyBelow
 anyBelow-none p zero f = refl
 anyBelow-none p (suc n) f = simp (f n, anyBelow-none p n f)

@@ -78,9 +78,11 @@ loop-again c =
     let inv = e .before .before .before .loop .inv in
     let p = e .place-of .result in
     let h : i < length (meant t .order) = omega (arith, e .before .before .before .before .holding .ensures) in
-    let st : Stands (laneAt (meant t) (getD (meant t .order) i 0)) p = subst (λ (k : ℕ). Stands (laneAt (meant t) k) p) (e .before .order-at .ensures) (e .place-of .ensures) in
-    (omega arith, simp length-set (inv .1),
-     rw (add-one i) (starts-more (meant t) i found p (c .earlier .result) (inv .1) (inv .2) (order-lane t (s .pre) i h) st (c .earlier .ensures)))
+    let st : Stands (laneAt (meant t) (getD (meant t .order) i 0)) p = subst (λ (k : ℕ). Stands (laneAt (meant t) k) p) (e .before .order-at .ensures) (e .place-of .ensures) in (
+      omega arith,
+      simp length-set (inv .1),
+      rw (add-one i) (starts-more (meant t) i found p (c .earlier .result) (inv .1) (inv .2) (order-lane t (s .pre) i h) st (c .earlier .ensures)),
+    )
 
 returns : tie.Need-returns Inv-loop μ-loop
 returns c =

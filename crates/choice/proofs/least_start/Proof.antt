@@ -68,9 +68,10 @@ loop-again c =
     let least = c .before .before .before .before .loop .least in
     let p = c .before .place-of .result in
     let h : i < length (meant t .order) = omega (arith, c .before .before .before .before .before .before .holding .ensures) in
-    let st : Stands (laneAt (meant t) (getD (meant t .order) i 0)) p = subst (λ (k : ℕ). Stands (laneAt (meant t) k) p) (c .before .before .order-at .ensures) (c .before .place-of .ensures) in
-    (omega arith,
-     rw (add-one i, c .earlier .ensures) (among-more (meant t) holds i (least .0) (p .start .0) (c .before .before .before .before .loop .inv .1) (order-lane t (s .pre) i h) (st .start) (st .early)))
+    let st : Stands (laneAt (meant t) (getD (meant t .order) i 0)) p = subst (λ (k : ℕ). Stands (laneAt (meant t) k) p) (c .before .before .order-at .ensures) (c .before .place-of .ensures) in (
+      omega arith,
+      rw (add-one i, c .earlier .ensures) (among-more (meant t) holds i (least .0) (p .start .0) (c .before .before .before .before .loop .inv .1) (order-lane t (s .pre) i h) (st .start) (st .early)),
+    )
 
 returns-2 : tie.Need-returns-2 Inv-loop μ-loop
 returns-2 c =
