@@ -10,7 +10,7 @@ use lib.Seq.{getD-set-same, getD-set-other}
 use Rattle.words.specs.Runs.{reads, tab}
 use Rattle.words.proofs.Runs.{reads-ext, length-reads, tab-ext, tab-set, getD-tab}
 use Rattle.rules.specs.State.{Lane, State, noLane, laneAt}
-use Rattle.table.specs.Layout.{presentWord, holdingWord, laneWord, placeWord, rowAt, rowOf}
+use Rattle.table.specs.Layout.{presentWord, holdingWord, orderWord, laneWord, placeWord, rowAt, rowOf}
 use Rattle.table.specs.Means.{presentAt, recOf, ringOf, rowLane, laneOf, stateOf, RowAgrees, Beside, withClock, withLane, withOrder}
 use Rattle.table.proofs.Stores.{rowOf-eq}
 
@@ -45,6 +45,10 @@ lane-is w k h = getD-tab 64 k (laneOf w) noLane h
 pub order-is : (w : List ℕ) → length (stateOf w .order) ≡ getD w holdingWord 0
 unfolding stateOf
 order-is w = length-reads w 16 (getD w holdingWord 0)
+
+pub reads-order : (w : List ℕ) (n : ℕ) → n ≡ length (stateOf w .order) → reads w orderWord n ≡ stateOf w .order
+unfolding stateOf
+reads-order w n e = ap (reads w orderWord) (e ∙ order-is w)
 
 -- ---- a change in one lane's words but its setting
 

@@ -3,3 +3,4 @@ pub mod Footprint
 pub mod Leave
 pub mod Rows
 pub mod Timed
+pub mod Few

@@ -15,6 +15,7 @@ use Prim.Native.Nat.{ℕ, _+_, _*_, _/_, _%_, _^_, _≤_, _<_}
 use mathlib.Core.List.{List, [], _∷_}
 use lib.Dec.{eqb}
 use lib.ListN.{length, drop, getD, set}
+use Rattle.words.specs.Bits.{bit}
 use Rattle.words.specs.Runs.{reads, tab}
 use Rattle.rules.specs.State.{if_then_else_, Rec, Setting, Lane, State, charge, rate, group, noLane}
 use Rattle.rules.specs.Setup.{InNumbers}
@@ -22,7 +23,7 @@ use Rattle.table.specs.Layout.{WORDS, Room, cells, clockWord, presentWor
 use Rattle.table.specs.declared.LaneRow.{LaneRow}
 
 unfoldable pub presentAt : List ℕ → ℕ → Bool
-presentAt w k = eqb (getD w presentWord 0 / 2 ^ k % 2) 1
+presentAt w k = eqb (bit k (getD w presentWord 0)) 1
 
 abbrev pub recOf : ℕ → Rec
 recOf e = record { mark = e % 2 ^ 32; len = e / 2 ^ 32 }
