@@ -1,4 +1,3 @@
-pub mod Next
 pub mod Times
 pub mod Lanes
 pub mod Sums
