@@ -23,7 +23,7 @@ use Rattle.choice.specs.Known.{Stands}
 use Rattle.choice.specs.Starts.{never, noClock, readStart, startIn}
 use Rattle.choice.specs.declared.Placed.{Placed}
 use Rattle.choice.specs.declared.Starts.{Starts}
-use Rattle.choice.proofs.Held.{held-named}
+use Rattle.choice.proofs.Held.{Named, held-named}
 
 module _ (s : State) (p : Lane → Bool) where
   -- the lane at index j of the tie order
@@ -48,7 +48,7 @@ module _ (s : State) (p : Lane → Bool) where
   low-unique (some r) none h i = absurd (false≢true (sym (i (h .at)) ∙ h .is))
   low-unique (some r) (some q) h i = ap some (le-antisymm (omega (arith, h .bound (i .at) (i .is), i .start)) (omega (arith, i .bound (h .at) (h .is), h .start)))
 
-  module _ (g : Good s) (only : (l : Lane) → p l ≡ true → holds l ≡ true) where
+  module _ (g : Named s) (only : (l : Lane) → p l ≡ true → holds l ≡ true) where
     whole : (o : Option ℕ) → Among (length (s .order)) o → LowOf p (s .lanes) o
     whole none h = λ k. go k (p (laneAt s k)) refl
       where
@@ -135,4 +135,4 @@ module _ (s : State) (n : ℕ) (found : Starts) (p : Placed) (least : Clock)
 
 pub starts-all : (s : State) → Good s → (g : ℕ) (o : Option ℕ) → Among s (inGroup g) (length (s .order)) o → o ≡ groupStart (s .lanes) g
 unfolding groupStart inGroup
-starts-all s good g o h = among-all s (inGroup g) good (λ l e. and-parts (holds l) (eqb (group (l .given)) g) e .0) refl o h
+starts-all s good g o h = among-all s (inGroup g) (good .order) (λ l e. and-parts (holds l) (eqb (group (l .given)) g) e .0) refl o h

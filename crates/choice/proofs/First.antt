@@ -76,7 +76,7 @@ module _ (s : State) (good : Good s) where
   unfolding standsAt
   never-stands g i h =
       let l = laneAt s (getD (s .order) i 0) in
-      not-passed (inGroup g l && eqb (startR l) never) (λ e. let b = and-parts (inGroup g l) (eqb (startR l) never) e in omega (arith, eqb-true (startR l) never (b .1), held-early s good (getD (s .order) i 0) (named-holds s good i h)))
+      not-passed (inGroup g l && eqb (startR l) never) (λ e. let b = and-parts (inGroup g l) (eqb (startR l) never) e in omega (arith, eqb-true (startR l) never (b .1), held-early s good (getD (s .order) i 0) (named-holds s (good .order) i h)))
 
   read-lane : (g x : ℕ) → laneOfGroup s g (some x) ≡ laneOfGroup s g (readStart x)
   unfolding laneOfGroup

@@ -7,11 +7,11 @@ use mathlib.Core.Bool.{Bool, true, false, false≢true}
 use mathlib.Core.List.{List, [], _∷_}
 use mathlib.Core.Option.{Option, none, some}
 use lib.Dec.{eqb}
-use lib.ListN.{length, getD, length-map}
+use lib.ListN.{length, getD}
 use borrow.Author.Tests.{eqb-true, eq-eqb}
 use Rattle.units.specs.Numbers.{roundDown}
 use Rattle.units.proofs.Round.{round-le}
-use Rattle.rules.specs.State.{Rec, Setting, Lane, State, group, slot, startR, some?, holds, laneAt, setupOf}
+use Rattle.rules.specs.State.{if_then_else_, Rec, Setting, Lane, State, group, slot, startR, some?, holds, laneAt, setupOf}
 use Rattle.rules.specs.Good.{times, Times, Good}
 use Rattle.rules.specs.Sets.{inGroup, groupStart}
 use Rattle.rules.proofs.Lane.{group-most, group-least, slot-most}
@@ -22,11 +22,12 @@ use Rattle.rules.proofs.Fair.{longest-most}
 use Rattle.rules.proofs.Lowest.{LowOf}
 use Rattle.rules.proofs.GroupRule.{in-group, group-low}
 use Rattle.table.specs.Layout.{cells, rowAt}
-use Rattle.table.specs.Means.{givenOf, timed, ringOf, meant, RowAgrees}
+use Rattle.table.specs.Means.{givenOf, timed, ringOf, laneOf, stateOf, meant, RowAgrees}
+use Rattle.words.proofs.Runs.{length-tab}
 use Rattle.table.specs.declared.LaneRow.{LaneRow}
 use Rattle.table.proofs.Footprint.{lane-is}
 use Rattle.table.proofs.Rows.{lane-present, holds-present}
-use Rattle.choice.specs.Known.{Known, Stands}
+use Rattle.choice.specs.Known.{Known, Steady, Stands}
 use Rattle.choice.specs.declared.Placed.{Placed}
 
 -- ---- lists of lane numbers
@@ -45,30 +46,43 @@ at-times (j ∷ js) k h = go (eqb j k) refl (at-times js k)
     go true e r = (0, zero-lt-suc (length js), eqb-true j k e)
     go false e r = let x = r (omega (arith, simp e at h)) in (suc (x .0), omega (arith, x .1), x .2)
 
-module _ (s : State) (g : Good s) where
+-- what a tie order is
+abbrev pub Named : State → Type 0
+Named s = (k : ℕ) → times k (s .order) ≡ (if holds (laneAt s k) then 1 else 0)
+
+module _ (s : State) (named : Named s) where
   -- each lane that the tie order names holds a record
   pub named-holds : (i : ℕ) → i < length (s .order) → holds (laneAt s (getD (s .order) i 0)) ≡ true
   named-holds i h = go (holds (laneAt s (getD (s .order) i 0))) refl
     where
       go : (b : Bool) → holds (laneAt s (getD (s .order) i 0)) ≡ b → b ≡ true
       go true e = refl
-      go false e = absurd (omega (arith, times-at (s .order) i h, simp e at (g .order (getD (s .order) i 0))))
+      go false e = absurd (omega (arith, times-at (s .order) i h, simp e at (named (getD (s .order) i 0))))
 
   -- and each lane that holds a record is named
   pub held-named : (k : ℕ) → holds (laneAt s k) ≡ true → (i : ℕ) × (i < length (s .order)) × (getD (s .order) i 0 ≡ k)
-  held-named k e = at-times (s .order) k (omega (arith, simp e at (g .order k)))
+  held-named k e = at-times (s .order) k (omega (arith, simp e at (named k)))
 
-  pub held-small : (k : ℕ) → holds (laneAt s k) ≡ true → k < 64
-  held-small k e =
-      let f = first ((laneAt s k) .queue) e in
-      omega (arith, held-inside (s .lanes) k (f .0) (f .1) (f .2), g .setup .size, length-map (s .lanes) (λ (l : Lane). l .given))
+-- a table has 64 lanes
+pub lanes-many : (t : List ℕ) → length (meant t .lanes) ≡ 64
+unfolding stateOf
+lanes-many t = length-tab 64 (laneOf (cells t))
 
-  -- a holding lane's S is below 2 ^ 63
-  pub start-small : (k : ℕ) → holds (laneAt s k) ≡ true → (laneAt s k) .given .longest ≤ 1500 → (laneAt s k) .start < 2 ^ 63
-  start-small k e long =
-      let f = first ((laneAt s k) .queue) e in
-      let n : Times (s .clock) (laneAt s k) (f .0 ∷ f .1) = subst (Times (s .clock) (laneAt s k)) (f .2) (g .numbers k) in
-      omega (arith, n .1, g .clock, slot-most ((laneAt s k) .given) long)
+pub held-small : (t : List ℕ) (k : ℕ) → holds (laneAt (meant t) k) ≡ true → k < 64
+held-small t k e =
+    let f = first ((laneAt (meant t) k) .queue) e in
+    omega (arith, held-inside (meant t .lanes) k (f .0) (f .1) (f .2), lanes-many t)
+
+-- a holding lane's S is below 2 ^ 63
+start-small : (s : State) → Good s → (k : ℕ) → holds (laneAt s k) ≡ true → (laneAt s k) .start < 2 ^ 63
+start-small s g k e =
+    let f = first ((laneAt s k) .queue) e in
+    let n : Times (s .clock) (laneAt s k) (f .0 ∷ f .1) = subst (Times (s .clock) (laneAt s k)) (f .2) (g .numbers k) in
+    let long : (laneAt s k) .given .longest ≤ 1500 = subst (λ (y : Setting). y .longest ≤ 1500) (setting-lane s k) (longest-most (setupOf s) (g .setup) k) in
+    omega (arith, n .1, g .clock, slot-most ((laneAt s k) .given) long)
+
+pub known-steady : (t : List ℕ) → Known t → Steady t
+known-steady t k = record { sound = k .sound; named = k .good .order; early = start-small (meant t) (k .good) }
 
 -- ---- a holding lane's row
 
@@ -87,7 +101,7 @@ unfolding timed
 timed-given g x [] = refl
 timed-given g x (r ∷ rs) = refl
 
-module _ (t : List ℕ) (known : Known t) (k : ℕ) (e : holds (laneAt (meant t) k) ≡ true) where
+module _ (t : List ℕ) (steady : Steady t) (k : ℕ) (e : holds (laneAt (meant t) k) ≡ true) where
   abbrev r : LaneRow
   r = rowAt (cells t) k
 
@@ -95,13 +109,13 @@ module _ (t : List ℕ) (known : Known t) (k : ℕ) (e : holds (laneAt (meant t)
   l = laneAt (meant t) k
 
   small : k < 64
-  small = held-small (meant t) (known .good) k e
+  small = held-small t k e
 
   row-lane : l ≡ timed (givenOf r) (r .time .0) (ringOf (cells t) k (r .head) (r .count))
   row-lane = lane-is (cells t) k small ∙ lane-present (cells t) k (holds-present (cells t) k small e)
 
   agrees : RowAgrees r
-  agrees = known .sound .beside .rows k small (holds-present (cells t) k small e)
+  agrees = steady .sound .beside .rows k small (holds-present (cells t) k small e)
 
   row-given : l .given ≡ givenOf r
   row-given = ap (λ (x : Lane). x .given) row-lane ∙ timed-given _ _ _
@@ -130,20 +144,17 @@ module _ (t : List ℕ) (known : Known t) (k : ℕ) (e : holds (laneAt (meant t)
       x,
       round-le (2 ^ r .group) (r .time .0),
       row-time,
-      start-small (meant t) (known .good) k e (subst (λ (y : Setting). y .longest ≤ 1500) (sym row-given) (agrees .numbers .longest-high)),
+      steady .early k e,
     );
   }
 
 -- an index of the tie order leads to a holding lane
-pub order-lane : (t : List ℕ) → Known t → (i : ℕ) → i < length (meant t .order) → holds (laneAt (meant t) (getD (meant t .order) i 0)) ≡ true
-order-lane t known i h = named-holds (meant t) (known .good) i h
+pub order-lane : (t : List ℕ) → Steady t → (i : ℕ) → i < length (meant t .order) → holds (laneAt (meant t) (getD (meant t .order) i 0)) ≡ true
+order-lane t steady i h = named-holds (meant t) (steady .named) i h
 
 -- every holding lane's R is below 2 ^ 63
 pub held-early : (s : State) → Good s → (k : ℕ) → holds (laneAt s k) ≡ true → startR (laneAt s k) < 2 ^ 63
-held-early s g k e =
-    let l = laneAt s k in
-    let long : l .given .longest ≤ 1500 = subst (λ (y : Setting). y .longest ≤ 1500) (setting-lane s k) (longest-most (setupOf s) (g .setup) k) in
-    omega (arith, round-le (slot (l .given)) (l .start), start-small s g k e long)
+held-early s g k e = omega (arith, round-le (slot ((laneAt s k) .given)) ((laneAt s k) .start), start-small s g k e)
 
 -- and so is every group's start
 pub start-early : (s : State) → Good s → (i r : ℕ) → groupStart (s .lanes) i ≡ some r → r < 2 ^ 63

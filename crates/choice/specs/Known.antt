@@ -1,6 +1,7 @@
 -- What the inner calls rest on, and what they find in a table.
 --
 --   Known    a table known to be good: what the good-table test shows, and what every call from a fresh table keeps
+--   Steady   what is left of that in the middle of a call, once a lane has its new S and before the clock moves
 --   Stands   a holding lane's group and rounded start
 --   Lowest   the least rounded start of the lanes that hold records, if any does
 --   Chosen   the lane that the rules choose, if they choose one
@@ -8,10 +9,11 @@
 -- Assumes nothing.
 use Prim.Native.Nat.{ℕ, _≤_, _<_, _^_}
 use mathlib.Core.Path.{_≡_}
+use mathlib.Core.Bool.{true}
 use mathlib.Core.List.{List}
 use mathlib.Core.Option.{Option, none, some}
-use Rattle.rules.specs.State.{Lane, group, startR}
-use Rattle.rules.specs.Good.{Good}
+use Rattle.rules.specs.State.{if_then_else_, Lane, group, startR, holds, laneAt}
+use Rattle.rules.specs.Good.{times, Good}
 use Rattle.table.specs.Means.{meant, Sound}
 use Rattle.choice.specs.declared.Placed.{Placed}
 use Rattle.choice.specs.declared.Least.{Least}
@@ -22,6 +24,11 @@ use Rattle.choice.specs.declared.Choice.the-variants.{Serve, Idle}
 pub record Known (t : List ℕ) : Type 0 where
   pub sound : Sound t
   pub good : Good (meant t)
+
+pub record Steady (t : List ℕ) : Type 0 where
+  pub sound : Sound t
+  pub named : (k : ℕ) → times k (meant t .order) ≡ (if holds (laneAt (meant t) k) then 1 else 0)
+  pub early : (k : ℕ) → holds (laneAt (meant t) k) ≡ true → laneAt (meant t) k .start < 2 ^ 63
 
 pub record Stands (l : Lane) (p : Placed) : Type 0 where
   pub group : p .group ≡ group (l .given)

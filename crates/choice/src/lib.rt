@@ -15,7 +15,7 @@ ghost use Rattle.rules.specs.Choice.{choose, leastOf};
 ghost use Rattle.rules.specs.Sets.{groups, setWord, ready, ineligibleReady, eligibleBlocked, ineligibleBlocked};
 ghost use Rattle.rules.proofs.BySets.{laneOf, laneOfGroup};
 ghost use Rattle.table.specs.Means.{meant, Sound};
-ghost use Rattle.choice.specs.Known.{Known, Stands, leastIs, choiceIs};
+ghost use Rattle.choice.specs.Known.{Known, Steady, Stands, leastIs, choiceIs};
 ghost use Rattle.choice.specs.Starts.{AreStarts, sortedInto, swept, Fits, AreWords};
 use rules::SetWords;
 use table::clock;
@@ -61,7 +61,7 @@ const NEVER: u64 = 18446744073709551615;
 
 // The group and R of lane `k`, which holds records.
 pub fn place_of(t: &[u8], k: usize) -> Placed
-    requires { ⌜ Known (now t) × (holds (laneAt (meant (now t)) k) ≡ true) ⌝ }
+    requires { ⌜ Steady (now t) × (holds (laneAt (meant (now t)) k) ≡ true) ⌝ }
     ensures { λ r. ⌜ Stands (laneAt (meant (now (t .entry))) k) r ⌝ }
 {
     let l = row(t, k);
@@ -74,7 +74,7 @@ pub fn place_of(t: &[u8], k: usize) -> Placed
 
 // The least R of the lanes that hold records.
 pub fn least_start(t: &[u8]) -> Least
-    requires { ⌜ Known (now t) ⌝ }
+    requires { ⌜ Steady (now t) ⌝ }
     ensures { λ r. ⌜ leastIs r ≡ leastOf holds (meant (now (t .entry)) .lanes) ⌝ }
 {
     let n = holding(t);

@@ -9,7 +9,7 @@ use Rattle.choice.specs.Known.{Stands}
 use Rattle.rules.specs.Sets.{groups, inGroup}
 use Rattle.table.specs.Means.{meant}
 use Rattle.choice.specs.Starts.{startIn}
-use Rattle.choice.proofs.Held.{order-lane}
+use Rattle.choice.proofs.Held.{order-lane, known-steady}
 use Rattle.choice.proofs.Among.{Among, none-yet, starts-more, starts-all}
 use Rattle.choice.proofs.group_starts.Statement.{statement}
 use Rattle.choice.proofs.group_starts.Tie as tie
@@ -42,7 +42,7 @@ place-of-requires c κs =
     let s = c .before .before .before .before .before in
     let i = c .before .before .loop .i in
     let h : i < length (meant (s .args .t .now) .order) = omega (arith, c .before .before .before .holding .ensures) in
-    (s .pre, rw (c .order-at .ensures) (order-lane (s .args .t .now) (s .pre) i h))
+    (known-steady (s .args .t .now) (s .pre), rw (c .order-at .ensures) (order-lane (s .args .t .now) (known-steady (s .args .t .now) (s .pre)) i h))
 
 cast-g : tie.Need-cast-g Inv-loop μ-loop
 cast-g c = omega (arith, c .before .place-of .ensures .high)
@@ -81,7 +81,7 @@ loop-again c =
     let st : Stands (laneAt (meant t) (getD (meant t .order) i 0)) p = subst (λ (k : ℕ). Stands (laneAt (meant t) k) p) (e .before .order-at .ensures) (e .place-of .ensures) in (
       omega arith,
       simp length-set (inv .1),
-      rw (add-one i) (starts-more (meant t) i found p (c .earlier .result) (inv .1) (inv .2) (order-lane t (s .pre) i h) st (c .earlier .ensures)),
+      rw (add-one i) (starts-more (meant t) i found p (c .earlier .result) (inv .1) (inv .2) (order-lane t (known-steady t (s .pre)) i h) st (c .earlier .ensures)),
     )
 
 returns : tie.Need-returns Inv-loop μ-loop

@@ -11,7 +11,7 @@ use Rattle.rules.specs.State.{laneAt}
 use Rattle.rules.proofs.BySets.{standsAt, firstIn, laneOfGroup}
 use Rattle.table.specs.Means.{meant}
 use Rattle.choice.specs.Known.{Stands}
-use Rattle.choice.proofs.Held.{order-lane}
+use Rattle.choice.proofs.Held.{order-lane, known-steady}
 use Rattle.choice.proofs.First.{stand-test, first-found, first-passed, first-none}
 use Rattle.choice.proofs.lane_at.Statement.{statement}
 use Rattle.choice.proofs.lane_at.Tie as tie
@@ -46,7 +46,7 @@ place-of-requires c κs =
     let s = c .before .before .before .before .before in
     let i = c .before .before .loop .i in
     let h : i < length (meant (s .args .t .now) .order) = omega (arith, c .before .before .before .holding .ensures) in
-    (s .pre, rw (c .order-at .ensures) (order-lane (s .args .t .now) (s .pre) i h))
+    (known-steady (s .args .t .now) (s .pre), rw (c .order-at .ensures) (order-lane (s .args .t .now) (known-steady (s .args .t .now) (s .pre)) i h))
 
 is-at-requires : tie.Need-is-at-requires Inv-loop μ-loop
 is-at-requires c κs = tt
@@ -62,7 +62,7 @@ returns c =
     let h : l .i < length (meant t .order) = omega (arith, c .before .before .before .before .before .before .holding .ensures) in
     let k : o .result ≡ getD (meant t .order) (l .i) 0 = o .ensures in
     let st : Stands (laneAt (meant t) (getD (meant t .order) (l .i) 0)) (p .result) = subst (λ (x : ℕ). Stands (laneAt (meant t) x) (p .result)) k (p .ensures) in
-    let test = stand-test _ (p .result) (s .args .g) (s .args .start .0) (order-lane t (s .pre) (l .i) h) st ∙ sym (c .before .is-at .ensures) in
+    let test = stand-test _ (p .result) (s .args .g) (s .args .start .0) (order-lane t (known-steady t (s .pre)) (l .i) h) st ∙ sym (c .before .is-at .ensures) in
     rw k (first-found (stands? t (s .args .g) (s .args .start)) (meant t .order) (l .i) h (test ∙ c .if1 .taken) (l .inv .1))
 
 add-i : tie.Need-add-i Inv-loop μ-loop
@@ -81,7 +81,7 @@ loop-again c =
     let h : l .i < length (meant t .order) = omega (arith, c .before .before .before .before .before .before .holding .ensures) in
     let k : o .result ≡ getD (meant t .order) (l .i) 0 = o .ensures in
     let st : Stands (laneAt (meant t) (getD (meant t .order) (l .i) 0)) (p .result) = subst (λ (x : ℕ). Stands (laneAt (meant t) x) (p .result)) k (p .ensures) in
-    let test = stand-test _ (p .result) (s .args .g) (s .args .start .0) (order-lane t (s .pre) (l .i) h) st ∙ sym (c .before .is-at .ensures) in
+    let test = stand-test _ (p .result) (s .args .g) (s .args .start .0) (order-lane t (known-steady t (s .pre)) (l .i) h) st ∙ sym (c .before .is-at .ensures) in
     (omega arith, rw (add-one (l .i)) (first-passed (stands? t (s .args .g) (s .args .start)) (meant t .order) (l .i) h (test ∙ c .if1 .left) (l .inv .1)))
 
 returns-2 : tie.Need-returns-2 Inv-loop μ-loop

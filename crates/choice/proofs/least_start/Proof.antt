@@ -34,7 +34,7 @@ returns : tie.Need-returns Inv-loop μ-loop
 returns c =
     let s = c .before .before .before in
     let empty : length (meant (s .args .t .now) .order) ≡ 0 = omega (arith, c .before .holding .ensures, c .if1 .taken) in
-    among-all (meant (s .args .t .now)) holds (s .pre .good) (λ l e. e) refl none (λ j h. absurd (omega arith))
+    among-all (meant (s .args .t .now)) holds (s .pre .named) (λ l e. e) refl none (λ j h. absurd (omega arith))
 
 loop-holds : tie.Need-loop-holds Inv-loop μ-loop
 loop-holds c = (omega arith, λ j h. absurd (omega arith))
@@ -83,7 +83,7 @@ returns-2 c =
     let all : i ≡ length (meant t .order) = omega (arith, n) in
     let h : 0 < length (meant t .order) = pos-of-ne-zero (λ e. c .before .before .if1 .left (n ∙ e)) in
     let found : Among (meant t) holds (length (meant t .order)) (readStart x) = subst (λ (m : ℕ). Among (meant t) holds m (readStart x)) all (c .before .loop .inv .1) in
-    sym (among-some (meant t) (length (meant t .order)) x found h (order-lane t (s .pre) 0 h)) ∙ among-all (meant t) holds (s .pre .good) (λ l e. e) refl (readStart x) found
+    sym (among-some (meant t) (length (meant t .order)) x found h (order-lane t (s .pre) 0 h)) ∙ among-all (meant t) holds (s .pre .named) (λ l e. e) refl (readStart x) found
 
 pub least-start-spec : {M : Type 1} → statement M
 least-start-spec =

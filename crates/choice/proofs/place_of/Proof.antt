@@ -11,7 +11,7 @@ use Rattle.table.proofs.row.Reads as row-reads
 use Rattle.units.proofs.rounded_start.Reads as rounded-start-reads
 
 row-requires : tie.Need-row-requires
-row-requires c κs = let s = c .before in (s .pre .0 .sound .room, held-small (meant (s .args .t .now)) (s .pre .0 .good) (s .args .k) (s .pre .1))
+row-requires c κs = let s = c .before in (s .pre .0 .sound .room, held-small (s .args .t .now) (s .args .k) (s .pre .1))
 
 rounded-start-requires : tie.Need-rounded-start-requires
 rounded-start-requires c κs =

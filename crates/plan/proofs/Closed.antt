@@ -1,0 +1,24 @@
+-- Laws of `readSetup` of specs/Read.antt: what stands after the setup's 0x7F.
+-- Assumes nothing.
+use Prim.Native.Nat.{ℕ, _≤_, _<_}
+use mathlib.Core.Path.{_≡_, ap, _∙_}
+use mathlib.Core.List.{List}
+use mathlib.Core.Option.{Option, some}
+use borrow.Author.Tests.{lt-ltb, le-ltb}
+use lib.ListN.{length}
+use Rattle.rules.specs.State.{Setting}
+use Rattle.plan.specs.Read.{read, refused, readPlan, closed, readSetup}
+
+module _ (s : List ℕ) where
+  pub setup-refused : (n : ℕ) (q : Option ℕ) → readPlan s 0 ≡ refused n q → readSetup s ≡ refused n q
+  unfolding readSetup
+  setup-refused n q h = ap (closed s) h
+
+  module _ (gs : List Setting) (n at : ℕ) (h : readPlan s 0 ≡ read gs n at) where
+    pub setup-more : at < length s → readSetup s ≡ refused 4 (some at)
+    unfolding readSetup
+    setup-more l = ap (closed s) h ∙ simp (lt-ltb at (length s) l)
+
+    pub setup-whole : length s ≤ at → readSetup s ≡ read gs n at
+    unfolding readSetup
+    setup-whole l = ap (closed s) h ∙ simp (le-ltb at (length s) l)

@@ -1,0 +1,14 @@
+pub mod Lists
+pub mod Tags
+pub mod Items
+pub mod Judged
+pub mod Stands
+pub mod Inside
+pub mod Sound
+pub mod Walks
+pub mod Closed
+pub mod Rest
+pub mod Accepted
+pub mod Prefix
+pub mod Examples
+pub mod Refusals

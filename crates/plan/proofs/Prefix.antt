@@ -1,0 +1,151 @@
+-- Reading depends on no byte after the setup's 0x7F.
+--
+--   prefix    an input that has the same bytes as far as the place after the 0x7F is read alike
+--
+-- Assumes nothing.
+use Prim.Native.Nat.{ℕ, zero, suc, _+_, _-_, _≤_, _<_}
+use mathlib.Core.Path.{_≡_, refl, sym, subst, ap, _∙_}
+use mathlib.Core.Bool.{Bool, true, false}
+use mathlib.Core.List.{List}
+use native.Mathlib.Omega.{arith}
+use borrow.Author.Tests.{eqb-true, eqb-false, le-leb}
+use lib.Dec.{eqb}
+use lib.ListN.{length, getD, take, length-take}
+use lib.Seq.{getD-take}
+use Rattle.fields.specs.Bytes.{byteAt, big}
+use Rattle.fields.proofs.Numbers.{big-same}
+use Rattle.fields.proofs.Header.{header-whole}
+use Rattle.rules.specs.State.{if_then_else_, Setting}
+use Rattle.plan.specs.Fields.{Item, whole, bad, known, fitting, longestAt, laneAt, fieldOf, itemAt}
+use Rattle.plan.specs.Judge.{judgedAt, after}
+use Rattle.plan.specs.Read.{read, nothingSeen, noLanes, placed, next, walk, readPlan}
+use Rattle.plan.specs.declared.judge.Seen.{Seen}
+use Rattle.plan.specs.declared.parse.Longest.{Longest}
+use Rattle.plan.specs.declared.parse.Longest.the-variants.{Given, Default}
+use Rattle.plan.specs.declared.parse.SetupField.{SetupField}
+use Rattle.plan.specs.declared.parse.SetupField.the-variants.{Format, Lane, End}
+use Rattle.plan.proofs.Tags.{lane-long, lane-three}
+use Rattle.plan.proofs.Items.{item-whole}
+use Rattle.plan.proofs.Judged.{judged-whole}
+use Rattle.plan.proofs.Stands.{Stands, is-taken}
+use Rattle.plan.proofs.Rest.{refused-read}
+use Rattle.plan.proofs.Accepted.{accepted}
+
+-- the two inputs have the same bytes from a to b
+abbrev Same : List ℕ → List ℕ → ℕ → ℕ → Type 0
+Same s t a b = (i : ℕ) → a ≤ i → i < b → byteAt s i ≡ byteAt t i
+
+-- ---- a value
+
+module _ (s t : List ℕ) (v n : ℕ) (same : Same s t v (v + n)) where
+  number-same : (k w : ℕ) → v ≤ w → w + k ≤ v + n → big s w k ≡ big t w k
+  number-same k w low high = big-same s t k w (λ i a b. same i (omega arith) (omega arith))
+
+  longest-same : (b : Bool) → eqb n 3 ≡ b → fitting 16 n ≡ true → _≡_ {A = Longest} (if b then Default else Given (big s (v + 3) 2)) (if b then Default else Given (big t (v + 3) 2))
+  longest-same true e f = refl
+  longest-same false e f = ap Given (number-same 2 (v + 3) (omega arith) (omega (arith, lane-long n f (eqb-false n 3 e))))
+
+  lane-same : fitting 16 n ≡ true → laneAt s v n ≡ laneAt t v n
+  lane-same f =
+      let three = lane-three n f in
+      let a : byteAt s v ≡ byteAt t v = same v (omega arith) (omega arith) in
+      let b : big s (v + 1) 2 ≡ big t (v + 1) 2 = number-same 2 (v + 1) (omega arith) (omega arith) in
+      let c : longestAt s v n ≡ longestAt t v n = longest-same (eqb n 3) refl f in
+      cc
+
+  field-same : (tag : ℕ) (a b : Bool) → eqb tag 1 ≡ a → eqb tag 16 ≡ b → fitting tag n ≡ true
+      → _≡_ {A = SetupField} (if a then Format (big s v 2) else (if b then Lane (laneAt s v n) else End)) (if a then Format (big t v 2) else (if b then Lane (laneAt t v n) else End))
+  field-same tag true b p q f =
+      let two : n ≡ 2 = eqb-true n 2 (subst (λ (k : ℕ). fitting k n ≡ true) (eqb-true tag 1 p) f) in
+      ap Format (number-same 2 v (omega arith) (omega arith))
+  field-same tag false true p q f = ap Lane (lane-same (subst (λ (k : ℕ). fitting k n ≡ true) (eqb-true tag 16 q) f))
+  field-same tag false false p q f = refl
+
+  pub value-same : (tag : ℕ) → fitting tag n ≡ true → fieldOf s tag v n ≡ fieldOf t tag v n
+  unfolding fieldOf
+  value-same tag f = field-same tag (eqb tag 1) (eqb tag 16) refl refl f
+
+-- ---- a field
+
+pub item-same : (s t : List ℕ) (at : ℕ) (f : SetupField) (m : ℕ) → Stands s at f m → Same s t at m → m ≤ length t → itemAt t at ≡ whole f m
+item-same s t at f m h same fits =
+    let tag : byteAt s at ≡ byteAt t at = same at (omega arith) (omega (arith, h .after)) in
+    let size : big s (at + 1) 2 ≡ big t (at + 1) 2 = big-same s t 2 (at + 1) (λ i a b. same i (omega arith) (omega (arith, h .after))) in
+    let known-t : known (byteAt t at) ≡ true = sym (ap known tag) ∙ h .tag in
+    let fit-s : fitting (byteAt t at) (big s (at + 1) 2) ≡ true = subst (λ (k : ℕ). fitting k (big s (at + 1) 2) ≡ true) tag (h .size) in
+    let fit-t : fitting (byteAt t at) (big t (at + 1) 2) ≡ true = subst (λ (k : ℕ). fitting (byteAt t at) k ≡ true) size fit-s in
+    let n = big s (at + 1) 2 in
+    let value : fieldOf s (byteAt t at) (at + 3) n ≡ fieldOf t (byteAt t at) (at + 3) n =
+    value-same s t (at + 3) n (λ i a b. same i (omega arith) (omega (arith, h .after))) (byteAt t at) fit-s
+    in
+    item-whole t at (byteAt t at) (at + 3) (big t (at + 1) 2) (header-whole t at (omega (arith, h .after))) known-t fit-t
+    (le-leb (at + 3 + big t (at + 1) 2) (length t) (omega (arith, h .after)))
+    ∙ ap (λ (k : ℕ). whole (fieldOf t (byteAt t at) (at + 3) k) (at + 3 + k)) (sym size)
+    ∙ ap (λ (g : SetupField). whole g (at + 3 + n)) (sym value ∙ ap (λ (k : ℕ). fieldOf s k (at + 3) n) (sym tag) ∙ h .field)
+    ∙ ap (whole f) (h .after)
+
+-- ---- the walk
+
+module _ (s : List ℕ) (gs′ : List Setting) (n p : ℕ) where
+  -- a setup that is read ends further on
+  past-item : (turns : ℕ) (seen : Seen) (gs : List Setting) (at : ℕ) (more : (seen₁ : Seen) (gs₁ : List Setting) (m : ℕ) → walk turns s seen₁ gs₁ m ≡ read gs′ n p → m < p)
+      → (i : Item) → judgedAt seen s at ≡ i → next seen gs i (walk turns s) ≡ read gs′ n p → at < p
+  past-item turns seen gs at more (bad a b) e h = refused-read h
+  past-item turns seen gs at more (whole (Format v) m) e h =
+      omega (arith, is-taken seen s at (Format v) m e .stand .after, more (after seen (Format v)) (placed gs (Format v)) m h)
+  past-item turns seen gs at more (whole (Lane l) m) e h =
+      omega (arith, is-taken seen s at (Lane l) m e .stand .after, more (after seen (Lane l)) (placed gs (Lane l)) m h)
+  past-item turns seen gs at more (whole End m) e h =
+      let q : m ≡ p = cc in
+      omega (arith, is-taken seen s at End m e .stand .after)
+
+  past : (turns : ℕ) (seen : Seen) (gs : List Setting) (at : ℕ) → walk turns s seen gs at ≡ read gs′ n p → at < p
+  unfolding walk
+  past zero seen gs at h = refused-read h
+  past (suc turns) seen gs at h = past-item turns seen gs at (λ seen₁ gs₁ m h₁. past turns seen₁ gs₁ m h₁) (judgedAt seen s at) refl h
+
+  module _ (t : List ℕ) (same : Same s t 0 p) (fits : p ≤ length t) where
+    judged-same : (seen : Seen) (at : ℕ) (f : SetupField) (m : ℕ) → judgedAt seen s at ≡ whole f m → m ≤ p → judgedAt seen t at ≡ whole f m
+    judged-same seen at f m e q =
+        let k = is-taken seen s at f m e in
+        judged-whole seen t at f m (item-same s t at f m (k .stand) (λ i a b. same i (omega arith) (omega arith)) (omega arith)) (k .in-place) (k .inside) (k .under)
+
+    -- one turn, and the rest as `more` has it
+    same-turn : (turns turns₁ : ℕ) (seen : Seen) (gs : List Setting) (at : ℕ) → length t - at ≤ suc turns₁
+        → (more : (seen₁ : Seen) (gs₁ : List Setting) (m : ℕ) → length t - m ≤ turns₁ → walk turns s seen₁ gs₁ m ≡ read gs′ n p → walk turns₁ t seen₁ gs₁ m ≡ read gs′ n p)
+        → (i : Item) → judgedAt seen s at ≡ i → next seen gs i (walk turns s) ≡ read gs′ n p → next seen gs (judgedAt seen t at) (walk turns₁ t) ≡ read gs′ n p
+    same-turn turns turns₁ seen gs at low more (bad a b) e h = refused-read h
+    same-turn turns turns₁ seen gs at low more (whole (Format v) m) e h =
+        let q = past turns (after seen (Format v)) (placed gs (Format v)) m h in
+        let k = is-taken seen s at (Format v) m e in
+        ap (λ (i : Item). next seen gs i (walk turns₁ t)) (judged-same seen at (Format v) m e (omega arith))
+        ∙ more (after seen (Format v)) (placed gs (Format v)) m (omega (arith, k .stand .after)) h
+    same-turn turns turns₁ seen gs at low more (whole (Lane l) m) e h =
+        let q = past turns (after seen (Lane l)) (placed gs (Lane l)) m h in
+        let k = is-taken seen s at (Lane l) m e in
+        ap (λ (i : Item). next seen gs i (walk turns₁ t)) (judged-same seen at (Lane l) m e (omega arith))
+        ∙ more (after seen (Lane l)) (placed gs (Lane l)) m (omega (arith, k .stand .after)) h
+    same-turn turns turns₁ seen gs at low more (whole End m) e h =
+        let q : m ≡ p = cc in
+        ap (λ (i : Item). next seen gs i (walk turns₁ t)) (judged-same seen at End m e (omega arith)) ∙ h
+
+    walk-same : (turns turns₁ : ℕ) (seen : Seen) (gs : List Setting) (at : ℕ) → length t - at ≤ turns₁ → walk turns s seen gs at ≡ read gs′ n p
+        → walk turns₁ t seen gs at ≡ read gs′ n p
+    unfolding walk
+    walk-same zero turns₁ seen gs at low h = refused-read h
+    walk-same (suc turns) zero seen gs at low h = absurd (omega (arith, past (suc turns) seen gs at h))
+    walk-same (suc turns) (suc turns₁) seen gs at low h =
+        same-turn turns turns₁ seen gs at low (λ seen₁ gs₁ m low₁ h₁. walk-same turns turns₁ seen₁ gs₁ m low₁ h₁) (judgedAt seen s at) refl h
+
+-- ---- the theorem
+
+module _ (s t : List ℕ) (at : ℕ) (gs : List Setting) (n p : ℕ) (h : readPlan s at ≡ read gs n p) (same : take p s ≡ take p t) where
+  bytes : Same s t 0 p
+  bytes i a b = sym (getD-take p s i 0 b) ∙ ap (λ (l : List ℕ). getD l i 0) same ∙ getD-take p t i 0 b
+
+  long : p ≤ length t
+  long = omega (arith, accepted s at gs n p h .within, length-take p s, length-take p t, ap length same)
+
+  pub prefix : readPlan t at ≡ read gs n p
+  unfolding readPlan
+  prefix = walk-same s gs n p t bytes long (length s - at) (length t - at) nothingSeen noLanes at (omega arith) h

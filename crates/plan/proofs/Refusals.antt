@@ -1,0 +1,120 @@
+-- Whatever `readPlan` refuses has a number from 1 to 6 and a place in the input.
+--
+--   refused-place   the theorem
+--
+-- Assumes nothing.
+use Prim.Native.Nat.{ℕ, zero, suc, _+_, _-_, _≤_, _<_}
+use mathlib.Core.Path.{_≡_, refl, sym, _∙_}
+use mathlib.Core.Bool.{Bool, true, false, not}
+use mathlib.Core.List.{List}
+use mathlib.Core.Option.{Option, some}
+use native.Mathlib.Omega.{arith}
+use borrow.Author.Tests.{leb-true, ltb-true}
+use lib.Dec.{leb, ltb}
+use lib.ListN.{length}
+use Rattle.fields.specs.Bytes.{byteAt, big}
+use Rattle.fields.specs.Header.{pick}
+use Rattle.fields.specs.declared.Field.the-variants.{Nothing, Cut, Header}
+use Rattle.rules.specs.State.{if_then_else_, Setting}
+use Rattle.plan.specs.Fields.{Item, whole, bad, known, fitting, fieldOf, taken, itemAt}
+use Rattle.plan.specs.Judge.{misplaced, outside, over, judged, judgedAt, after}
+use Rattle.plan.specs.Read.{read, refused, nothingSeen, noLanes, placed, next, walk, readPlan}
+use Rattle.plan.specs.Accepted.{Refused}
+use Rattle.plan.specs.declared.judge.Seen.{Seen}
+use Rattle.plan.specs.declared.parse.SetupField.{SetupField}
+use Rattle.plan.specs.declared.parse.SetupField.the-variants.{Format, Lane, End}
+use Rattle.plan.proofs.Stands.{stands, is-taken}
+
+whole-bad : {A : Type 0} {n : ℕ} {p : Option ℕ} {f : SetupField} {m : ℕ} → whole f m ≡ bad n p → A
+whole-bad h = absurd (let z : _≡_ {A = ℕ} 0 1 = cc in omega arith)
+
+module _ (s : List ℕ) (at n : ℕ) (q : Option ℕ) where
+  -- a refusal k at a place p from `at` on
+  at-place : (k p : ℕ) → 1 ≤ k → k ≤ 6 → (at ≤ length s → at ≤ p) → p ≤ length s → bad k (some p) ≡ bad n q → Refused s at n q
+  at-place k p a b c d h =
+      let e : k ≡ n = cc in
+      let f : some p ≡ q = cc in
+      record { low = omega arith; high = omega arith; place = p; is = sym f; from = c; within = d }
+
+  at-tag : (k : ℕ) → 1 ≤ k → k ≤ 6 → at < length s → bad k (some at) ≡ bad n q → Refused s at n q
+  at-tag k a b l h = at-place k at a b (λ r. omega arith) (omega arith) h
+
+  value-bad : (a b c : Bool) (f : SetupField) (m : ℕ) → at < length s
+      → (if not a then bad 2 (some at) else (if not b then bad 3 (some at) else (if not c then bad 1 (some at) else whole f m))) ≡ bad n q → Refused s at n q
+  value-bad false b c f m l h = at-tag 2 (omega arith) (omega arith) l h
+  value-bad true false c f m l h = at-tag 3 (omega arith) (omega arith) l h
+  value-bad true true false f m l h = at-tag 1 (omega arith) (omega arith) l h
+  value-bad true true true f m l h = whole-bad h
+
+  abbrev t : ℕ
+  t = byteAt s at
+
+  abbrev size : ℕ
+  size = big s (at + 1) 2
+
+  header-bad : (a b : Bool) → leb (at + 3) (length s) ≡ a → ltb at (length s) ≡ b → taken s at (pick a (Header t (at + 3) size) (pick b Cut Nothing)) ≡ bad n q → Refused s at n q
+  header-bad true b p r h =
+      value-bad (known t) (fitting t size) (leb (at + 3 + size) (length s)) (fieldOf s t (at + 3) size) (at + 3 + size) (omega (arith, leb-true (at + 3) (length s) p)) h
+  header-bad false true p r h = at-tag 1 (omega arith) (omega arith) (ltb-true at (length s) r) h
+  header-bad false false p r h = at-place 1 (length s) (omega arith) (omega arith) (λ l. l) (omega arith) h
+
+  item-bad : itemAt s at ≡ bad n q → Refused s at n q
+  unfolding itemAt
+  item-bad h = header-bad (leb (at + 3) (length s)) (ltb at (length s)) refl refl h
+
+  field-bad : (a b c : Bool) (f : SetupField) (m : ℕ) → at < length s
+      → (if a then bad 4 (some at) else (if b then bad 5 (some at) else (if c then bad 6 (some at) else whole f m))) ≡ bad n q → Refused s at n q
+  field-bad true b c f m l h = at-tag 4 (omega arith) (omega arith) l h
+  field-bad false true c f m l h = at-tag 5 (omega arith) (omega arith) l h
+  field-bad false false true f m l h = at-tag 6 (omega arith) (omega arith) l h
+  field-bad false false false f m l h = whole-bad h
+
+  judge-bad : (seen : Seen) (i : Item) → itemAt s at ≡ i → judged seen at i ≡ bad n q → Refused s at n q
+  judge-bad seen (bad k p) e h = item-bad (e ∙ h)
+  judge-bad seen (whole f m) e h =
+      field-bad (misplaced seen f) (outside f) (over seen f) f m (omega (arith, stands s at f m e .fits)) h
+
+  judged-bad : (seen : Seen) → judgedAt seen s at ≡ bad n q → Refused s at n q
+  unfolding judgedAt
+  judged-bad seen h = judge-bad seen (itemAt s at) refl h
+
+-- what is refused further on is refused from here on
+earlier : (s : List ℕ) (at m n : ℕ) (q : Option ℕ) → at ≤ m → m ≤ length s → Refused s m n q → Refused s at n q
+earlier s at m n q l b r = record {
+  low = r .low;
+  high = r .high;
+  place = r .place;
+  is = r .is;
+  from = λ k. omega (arith, r .from b);
+  within = r .within;
+}
+
+read-refused : {A : Type 0} {gs : List Setting} {k m n : ℕ} {p : Option ℕ} → read gs k m ≡ refused n p → A
+read-refused h = absurd (let z : _≡_ {A = ℕ} 0 1 = cc in omega arith)
+
+module _ (s : List ℕ) (n : ℕ) (q : Option ℕ) where
+  turn-refused : (turns : ℕ) (seen : Seen) (gs : List Setting) (at : ℕ)
+      → (more : (seen₁ : Seen) (gs₁ : List Setting) (m : ℕ) → walk turns s seen₁ gs₁ m ≡ refused n q → Refused s m n q)
+      → (i : Item) → judgedAt seen s at ≡ i → next seen gs i (walk turns s) ≡ refused n q → Refused s at n q
+  turn-refused turns seen gs at more (bad k p) e h =
+      let a : bad k p ≡ bad n q = cc in
+      judged-bad s at n q seen (e ∙ a)
+  turn-refused turns seen gs at more (whole (Format v) m) e h =
+      let k = is-taken seen s at (Format v) m e .stand in
+      earlier s at m n q (omega (arith, k .after)) (omega (arith, k .after, k .fits)) (more (after seen (Format v)) (placed gs (Format v)) m h)
+  turn-refused turns seen gs at more (whole (Lane l) m) e h =
+      let k = is-taken seen s at (Lane l) m e .stand in
+      earlier s at m n q (omega (arith, k .after)) (omega (arith, k .after, k .fits)) (more (after seen (Lane l)) (placed gs (Lane l)) m h)
+  turn-refused turns seen gs at more (whole End m) e h = read-refused h
+
+  walk-refused : (turns : ℕ) (seen : Seen) (gs : List Setting) (at : ℕ) → walk turns s seen gs at ≡ refused n q → Refused s at n q
+  unfolding walk
+  walk-refused zero seen gs at h =
+      let a : bad 1 (some (length s)) ≡ bad n q = cc in
+      at-place s at n q 1 (length s) (omega arith) (omega arith) (λ l. l) (omega arith) a
+  walk-refused (suc turns) seen gs at h =
+      turn-refused turns seen gs at (λ seen₁ gs₁ m h₁. walk-refused turns seen₁ gs₁ m h₁) (judgedAt seen s at) refl h
+
+  pub refused-place : (at : ℕ) → readPlan s at ≡ refused n q → Refused s at n q
+  unfolding readPlan
+  refused-place at h = walk-refused (length s - at) nothingSeen noLanes at h

@@ -1,0 +1,90 @@
+-- What is known where a whole field stands, and where one was judged and taken.
+--
+--   Stands     `itemAt` answers a whole field: its header, its value and the place after it are there
+--   Taken      `judgedAt` answers a whole field: it stands there and no refusal is due
+--
+-- Assumes nothing.
+use Prim.Native.Nat.{ℕ, _+_, _≤_}
+use mathlib.Core.Path.{_≡_, refl, sym, ap, _∙_}
+use mathlib.Core.Bool.{Bool, true, false, not}
+use mathlib.Core.List.{List}
+use mathlib.Core.Option.{Option, some}
+use native.Mathlib.Omega.{arith}
+use borrow.Author.Tests.{leb-true}
+use lib.Dec.{leb, ltb}
+use lib.ListN.{length}
+use Rattle.fields.specs.Bytes.{byteAt, big}
+use Rattle.fields.specs.Header.{pick}
+use Rattle.fields.specs.declared.Field.the-variants.{Nothing, Cut, Header}
+use Rattle.rules.specs.State.{if_then_else_}
+use Rattle.plan.specs.Fields.{Item, whole, bad, known, fitting, fieldOf, taken, itemAt}
+use Rattle.plan.specs.Judge.{misplaced, outside, over, judged, judgedAt}
+use Rattle.plan.specs.declared.judge.Seen.{Seen}
+use Rattle.plan.specs.declared.parse.SetupField.{SetupField}
+
+pub bad-whole : {A : Type 0} {n : ℕ} {p : Option ℕ} {f : SetupField} {m : ℕ} → bad n p ≡ whole f m → A
+bad-whole h = absurd (let z : _≡_ {A = ℕ} 0 1 = cc in omega arith)
+
+pub record Stands (s : List ℕ) (at : ℕ) (f : SetupField) (m : ℕ) : Type 0 where
+  pub tag : known (byteAt s at) ≡ true
+  pub size : fitting (byteAt s at) (big s (at + 1) 2) ≡ true
+  pub fits : at + 3 + big s (at + 1) 2 ≤ length s
+  pub field : fieldOf s (byteAt s at) (at + 3) (big s (at + 1) 2) ≡ f
+  pub after : at + 3 + big s (at + 1) 2 ≡ m
+
+module _ (s : List ℕ) (at : ℕ) (f : SetupField) (m : ℕ) where
+  abbrev t : ℕ
+  t = byteAt s at
+
+  abbrev n : ℕ
+  n = big s (at + 1) 2
+
+  judge-value : (a b c : Bool) → known t ≡ a → fitting t n ≡ b → leb (at + 3 + n) (length s) ≡ c
+      → (if not a then bad 2 (some at) else (if not b then bad 3 (some at) else (if not c then bad 1 (some at) else whole (fieldOf s t (at + 3) n) (at + 3 + n)))) ≡ whole f m
+      → Stands s at f m
+  judge-value false b c p q r h = bad-whole h
+  judge-value true false c p q r h = bad-whole h
+  judge-value true true false p q r h = bad-whole h
+  judge-value true true true p q r h =
+      record { tag = p; size = q; fits = leb-true (at + 3 + n) (length s) r; field = cc; after = cc }
+
+  judge-header : (a b : Bool) → leb (at + 3) (length s) ≡ a → taken s at (pick a (Header t (at + 3) n) (pick b Cut Nothing)) ≡ whole f m → Stands s at f m
+  judge-header true b p h = judge-value (known t) (fitting t n) (leb (at + 3 + n) (length s)) refl refl refl h
+  judge-header false true p h = bad-whole h
+  judge-header false false p h = bad-whole h
+
+  pub stands : itemAt s at ≡ whole f m → Stands s at f m
+  unfolding itemAt
+  stands h = judge-header (leb (at + 3) (length s)) (ltb at (length s)) refl h
+
+pub record Taken (seen : Seen) (s : List ℕ) (at : ℕ) (f : SetupField) (m : ℕ) : Type 0 where
+  pub item : itemAt s at ≡ whole f m
+  pub stand : Stands s at f m
+  pub in-place : misplaced seen f ≡ false
+  pub inside : outside f ≡ false
+  pub under : over seen f ≡ false
+
+module _ (seen : Seen) (s : List ℕ) (at : ℕ) (f : SetupField) (m : ℕ) where
+  judge-field : (g : SetupField) (k : ℕ) (a b c : Bool) → itemAt s at ≡ whole g k → misplaced seen g ≡ a → outside g ≡ b → over seen g ≡ c
+      → (if a then bad 4 (some at) else (if b then bad 5 (some at) else (if c then bad 6 (some at) else whole g k))) ≡ whole f m
+      → Taken seen s at f m
+  judge-field g k true b c i p q r h = bad-whole h
+  judge-field g k false true c i p q r h = bad-whole h
+  judge-field g k false false true i p q r h = bad-whole h
+  judge-field g k false false false i p q r h =
+      let e : g ≡ f = cc in
+      record {
+        item = i ∙ h;
+        stand = stands s at f m (i ∙ h);
+        in-place = sym (ap (misplaced seen) e) ∙ p;
+        inside = sym (ap outside e) ∙ q;
+        under = sym (ap (over seen) e) ∙ r;
+      }
+
+  judge-item : (i : Item) → itemAt s at ≡ i → judged seen at i ≡ whole f m → Taken seen s at f m
+  judge-item (bad n p) e h = bad-whole h
+  judge-item (whole g k) e h = judge-field g k (misplaced seen g) (outside g) (over seen g) e refl refl refl h
+
+  pub is-taken : judgedAt seen s at ≡ whole f m → Taken seen s at f m
+  unfolding judgedAt
+  is-taken h = judge-item (itemAt s at) refl h

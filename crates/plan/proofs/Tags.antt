@@ -1,0 +1,67 @@
+-- Laws of `known`, `fitting` and `fieldOf` of specs/Fields.antt: what they are at each tag.
+-- Assumes nothing.
+use Prim.Native.Nat.{ℕ, _+_, _≤_}
+use mathlib.Core.Path.{_≡_, refl}
+use mathlib.Core.Bool.{Bool, true, false, _||_}
+use mathlib.Core.List.{List}
+use mathlib.Core.Logic.{_⊎_, inl, inr, ⊎-elim}
+use native.Mathlib.Omega.{arith}
+use borrow.Author.Tests.{ne-eqb, eqb-true}
+use lib.Dec.{eqb}
+use Rattle.fields.specs.Bytes.{big}
+use Rattle.plan.specs.Fields.{known, fitting, longestAt, laneAt, fieldOf}
+use Rattle.plan.specs.declared.parse.Longest.the-variants.{Given, Default}
+use Rattle.plan.specs.declared.parse.SetupField.the-variants.{Format, Lane, End}
+
+pub known-is : (t : ℕ) → (t ≡ 1) ⊎ ((t ≡ 16) ⊎ (t ≡ 127)) → known t ≡ true
+known-is t h = ⊎-elim (λ e. rw e) (λ h. ⊎-elim (λ e. rw e) (λ e. rw e) h) h
+
+pub known-not : (t : ℕ) → ((t ≡ 1) ⊎ ((t ≡ 16) ⊎ (t ≡ 127)) → ⊥) → known t ≡ false
+known-not t h = simp (ne-eqb t 1 (λ e. h (inl e)), ne-eqb t 16 (λ e. h (inr (inl e))), ne-eqb t 127 (λ e. h (inr (inr e))))
+
+module _ (t n : ℕ) where
+  pub fitting-format : t ≡ 1 → fitting t n ≡ eqb n 2
+  fitting-format e = rw e
+
+  pub fitting-short : t ≡ 16 → n ≡ 3 → fitting t n ≡ true
+  fitting-short e f = rw (e, f)
+
+  pub fitting-long : t ≡ 16 → (n ≡ 3 → ⊥) → fitting t n ≡ eqb n 5
+  fitting-long e f = rw (e, ne-eqb n 3 f)
+
+  pub fitting-end : (t ≡ 1 → ⊥) → (t ≡ 16 → ⊥) → fitting t n ≡ eqb n 0
+  fitting-end e f = rw (ne-eqb t 1 e, ne-eqb t 16 f)
+
+-- a lane field has 3 bytes, or else 5
+either : (n : ℕ) (b : Bool) → eqb n 3 ≡ b → (b || eqb n 5) ≡ true → (n ≡ 3) ⊎ (n ≡ 5)
+either n true e h = inl (eqb-true n 3 e)
+either n false e h = inr (eqb-true n 5 h)
+
+pub lane-size : (n : ℕ) → fitting 16 n ≡ true → (n ≡ 3) ⊎ (n ≡ 5)
+lane-size n h = either n (eqb n 3) refl h
+
+pub lane-long : (n : ℕ) → fitting 16 n ≡ true → (n ≡ 3 → ⊥) → n ≡ 5
+lane-long n h f = ⊎-elim (λ e. absurd (f e)) (λ e. e) (lane-size n h)
+
+pub lane-three : (n : ℕ) → fitting 16 n ≡ true → 3 ≤ n
+lane-three n h = ⊎-elim (λ e. omega arith) (λ e. omega arith) (lane-size n h)
+
+module _ (s : List ℕ) (at n : ℕ) where
+  pub longest-short : n ≡ 3 → longestAt s at n ≡ Default
+  longest-short e = rw e
+
+  pub longest-long : (n ≡ 3 → ⊥) → longestAt s at n ≡ Given (big s (at + 3) 2)
+  longest-long f = rw (ne-eqb n 3 f)
+
+module _ (s : List ℕ) (t at n : ℕ) where
+  pub field-format : t ≡ 1 → fieldOf s t at n ≡ Format (big s at 2)
+  unfolding fieldOf
+  field-format e = rw e
+
+  pub field-lane : t ≡ 16 → fieldOf s t at n ≡ Lane (laneAt s at n)
+  unfolding fieldOf
+  field-lane e = rw e
+
+  pub field-end : (t ≡ 1 → ⊥) → (t ≡ 16 → ⊥) → fieldOf s t at n ≡ End
+  unfolding fieldOf
+  field-end e f = rw (ne-eqb t 1 e, ne-eqb t 16 f)

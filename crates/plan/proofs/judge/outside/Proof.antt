@@ -1,0 +1,39 @@
+-- `plan::judge::outside` meets its contract. Assumes nothing.
+use borrow.Author.Needs.{needs}
+use mathlib.Core.Path.{sym, ap, _∙_}
+use Rattle.plan.proofs.judge.outside.Statement.{statement}
+use Rattle.plan.proofs.judge.outside.Tie as tie
+use Rattle.plan.specs.Judge.{outside}
+
+enum-known-field : tie.Need-enum-known-field
+enum-known-field c = search needs
+
+enum-known-field-2 : tie.Need-enum-known-field-2
+enum-known-field-2 c = search needs
+
+lane-outside-requires : tie.Need-lane-outside-requires
+lane-outside-requires c κs = search needs
+
+enum-told : tie.Need-enum-told
+enum-told c = search needs
+
+returns : tie.Need-returns
+returns c = sym (ap outside (c .before .field .given .1))
+
+returns-2 : tie.Need-returns-2
+returns-2 c = c .lane-outside .ensures ∙ sym (ap outside (c .before .before .field2 .given .1))
+
+returns-3 : tie.Need-returns-3
+returns-3 c = search needs
+
+pub outside-spec : {M : Type 1} → statement M
+outside-spec =
+    tie.close
+    (tie.spec
+    enum-known-field
+    enum-known-field-2
+    lane-outside-requires
+    enum-told
+    returns
+    returns-2
+    returns-3)

@@ -1,0 +1,25 @@
+-- `plan::parse::field_of` meets its contract. Assumes nothing.
+use borrow.Author.Tests.{eqb-true}
+use mathlib.Core.Path.{sym, _∙_}
+use native.Mathlib.Omega.{arith}
+use Rattle.plan.proofs.Tags.{fitting-format, field-format, field-lane, field-end}
+use Rattle.plan.proofs.parse.field_of.Statement.{statement}
+use Rattle.plan.proofs.parse.field_of.Tie as tie
+
+u16-at-requires : tie.Need-u16-at-requires
+u16-at-requires c κs = let a = c .before .before .args in omega (arith, eqb-true (a .n) 2 (sym (fitting-format (a .tag) (a .n) (c .match .keys1)) ∙ c .before .before .pre .0))
+
+lane-at-requires : tie.Need-lane-at-requires
+lane-at-requires c κs = let a = c .before .before .args in (rw (c .match .keys2) at (c .before .before .pre .0), c .before .before .pre .1)
+
+returns : tie.Need-returns
+returns c = let a = c .before .before .before .args in rw (c .u16-at .ensures .0) (sym (field-format (a .s .now) (a .tag) (a .at) (a .n) (c .before .match .keys1)))
+
+returns-2 : tie.Need-returns-2
+returns-2 c = let a = c .before .before .before .args in rw (c .lane-at .ensures) (sym (field-lane (a .s .now) (a .tag) (a .at) (a .n) (c .before .match .keys2)))
+
+returns-3 : tie.Need-returns-3
+returns-3 c = let a = c .before .before .args in sym (field-end (a .s .now) (a .tag) (a .at) (a .n) (c .match .rest .0 .1) (c .match .rest .1))
+
+pub field-of-spec : {M : Type 1} → statement M
+field-of-spec = tie.close (tie.spec u16-at-requires lane-at-requires returns returns-2 returns-3)

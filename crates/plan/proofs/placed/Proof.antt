@@ -1,0 +1,57 @@
+-- `plan::placed` meets its contract. Assumes nothing.
+use borrow.Author.Needs.{needs}
+use lib.ListN.{set}
+use mathlib.Core.List.{map}
+use mathlib.Core.Path.{sym, ap, _∙_}
+use native.Mathlib.Omega.{arith}
+use Rattle.plan.proofs.Inside.{lane-number}
+use Rattle.plan.proofs.Lists.{map-set}
+use Rattle.plan.proofs.placed.Statement.{statement}
+use Rattle.plan.proofs.placed.Tie as tie
+use Rattle.plan.specs.Judge.{outside}
+use Rattle.plan.specs.Read.{settingOf, placed}
+
+enum-told : tie.Need-enum-told
+enum-told c = search needs
+
+enum-known-field : tie.Need-enum-known-field
+enum-known-field c = search needs
+
+cast-k : tie.Need-cast-k
+cast-k c = search needs
+
+lane-of-requires : tie.Need-lane-of-requires
+lane-of-requires c κs = search needs
+
+mul-lanes : tie.Need-mul-lanes
+mul-lanes c = search needs
+
+array-set-from-lanes : tie.Need-array-set-from-lanes
+array-set-from-lanes c = let g = c .before .before .before .field .given in omega (arith, lane-number (g .0 .0) (sym (ap outside (g .1)) ∙ c .before .before .before .before .before .pre))
+
+enum-told-2 : tie.Need-enum-told-2
+enum-told-2 c = search needs
+
+returns : tie.Need-returns
+returns c = search needs
+
+returns-2 : tie.Need-returns-2
+returns-2 c = let g = c .before .before .before .field .given in let a = c .before .before .before .before .before .args in map-set settingOf (a .t1) (g .0 .0 .lane) (c .lane-of .result) ∙ ap (set (map settingOf (a .t1)) (g .0 .0 .lane)) (c .lane-of .ensures) ∙ sym (ap (placed (map settingOf (a .t1))) (g .1))
+
+returns-3 : tie.Need-returns-3
+returns-3 c = search needs
+
+pub placed-spec : {M : Type 1} → statement M
+placed-spec =
+    tie.close
+    (tie.spec
+    enum-told
+    enum-known-field
+    cast-k
+    lane-of-requires
+    mul-lanes
+    array-set-from-lanes
+    enum-told-2
+    returns
+    returns-2
+    returns-3)

@@ -1,0 +1,80 @@
+-- One field of a setup (document 01, "Setup and session fields"), and the refusals 1 to 3.
+--
+--   Item      a field, taken apart, with the place after it; or a refusal's number and place
+--   known     the tags of a setup
+--   fitting   the lengths that are right for a tag
+--   fieldOf   a value, taken apart by its tag
+--   ends      whether a field is 0x7F
+--   itemAt    what stands at a place of a setup
+--   itemOf    the code's answer as an `Item`
+--
+-- Assumes nothing.
+use Prim.Native.Nat.{ℕ, _+_}
+use mathlib.Core.Bool.{Bool, true, false, not, _||_}
+use mathlib.Core.List.{List}
+use mathlib.Core.Option.{Option, some}
+use lib.Dec.{leb, eqb}
+use lib.ListN.{length}
+use Rattle.fields.specs.Bytes.{byteAt, big}
+use Rattle.fields.specs.Header.{headerAt}
+use Rattle.fields.specs.declared.Field.{Field}
+use Rattle.fields.specs.declared.Field.the-variants.{Nothing, Cut, Header}
+use Rattle.rules.specs.State.{if_then_else_}
+use Rattle.rules.specs.Reads.{number, placeOf}
+use Rattle.plan.specs.declared.parse.Longest.{Longest}
+use Rattle.plan.specs.declared.parse.Longest.the-variants.{Given, Default}
+use Rattle.plan.specs.declared.parse.LaneField.{LaneField}
+use Rattle.plan.specs.declared.parse.SetupField.{SetupField}
+use Rattle.plan.specs.declared.parse.SetupField.the-variants.{Format, Lane, End}
+use Rattle.plan.specs.declared.parse.Parsed.{Parsed}
+use Rattle.plan.specs.declared.parse.Parsed.the-variants.{Whole, Refused}
+
+-- What stands at a place: a whole field, taken apart, with the place after it; or a refusal's number and its place.
+pub data Item : Type 0 where
+  whole : SetupField → ℕ → Item
+  bad : ℕ → Option ℕ → Item
+
+-- "Setup: 0x01 .. 0x10 .. 0x7F": the tags that this part knows.
+abbrev pub known : ℕ → Bool
+known tag = eqb tag 1 || (eqb tag 16 || eqb tag 127)
+
+-- "0x01 (format, u16 = 1) .. 0x10 (lane u8, weight u16, longest u16) .. 0x7F, empty. A lane field of length 3 has no longest."
+abbrev pub fitting : ℕ → ℕ → Bool
+fitting tag n = if eqb tag 1 then eqb n 2 else (if eqb tag 16 then eqb n 3 || eqb n 5 else eqb n 0)
+
+-- "A lane field of length 3 has no longest." Else the longest stands after the lane and the weight.
+abbrev pub longestAt : List ℕ → ℕ → ℕ → Longest
+longestAt s at n = if eqb n 3 then Default else Given (big s (at + 3) 2)
+
+-- "0x10 (lane u8, weight u16, longest u16)": the value of n bytes at a place.
+abbrev pub laneAt : List ℕ → ℕ → ℕ → LaneField
+laneAt s at n = record { lane = byteAt s at; weight = big s (at + 1) 2; longest = longestAt s at n }
+
+-- The value of n bytes at a place, by the tag before it: a format, a lane, or nothing.
+unfoldable pub fieldOf : List ℕ → ℕ → ℕ → ℕ → SetupField
+fieldOf s tag at n =
+    if eqb tag 1 then Format (big s at 2) else (if eqb tag 16 then Lane (laneAt s at n) else End)
+
+-- 0x7F ends a setup.
+abbrev pub ends : SetupField → Bool
+ends (Format v) = false
+ends (Lane l) = false
+ends End = true
+
+-- "In a field 1 (header), 2, 3, 1 (value)": a header that was read, judged in this order.
+abbrev pub taken : List ℕ → ℕ → Field → Item
+taken s at Nothing = bad 1 (some (length s))
+taken s at Cut = bad 1 (some at)
+taken s at (Header tag value n) =
+    if not (known tag) then bad 2 (some at)
+    else (if not (fitting tag n) then bad 3 (some at)
+    else (if not (leb (value + n) (length s)) then bad 1 (some at) else whole (fieldOf s tag value n) (value + n)))
+
+-- "header or value runs past the end, or input ends before 0x7F: field's tag; input length at the end."
+unfoldable pub itemAt : List ℕ → ℕ → Item
+itemAt s at = taken s at (headerAt s at)
+
+-- The code's answer, with document 01's number for its refusal.
+abbrev pub itemOf : Parsed → Item
+itemOf (Whole f next) = whole f next
+itemOf (Refused x) = bad (number x) (placeOf x)

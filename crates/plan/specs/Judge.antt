@@ -1,0 +1,76 @@
+-- A field of a setup, judged by the fields before it (document 01, "Numbers given back"): the refusals 4, 5 and 6.
+--
+--   longestOf   a lane field's longest, given or not
+--   given       the setting that a lane field gives its lane
+--   misplaced   refusal 4
+--   outside     refusal 5
+--   over        refusal 6
+--   judgedAt    the field at a place, or its first refusal in the order 1, 2, 3, 1, 4, 5, 6
+--   after       what the fields so far fix for the next one, after one more
+--
+-- Assumes nothing.
+use Prim.Native.Nat.{ℕ, _+_}
+use mathlib.Core.Bool.{Bool, true, false, not, _||_, _&&_}
+use mathlib.Core.List.{List}
+use mathlib.Core.Option.{some}
+use lib.Dec.{ltb, leb, eqb}
+use Rattle.rules.specs.State.{if_then_else_, Setting}
+use Rattle.plan.specs.Fields.{Item, whole, bad, itemAt}
+use Rattle.plan.specs.declared.judge.Seen.{Seen}
+use Rattle.plan.specs.declared.parse.Longest.{Longest}
+use Rattle.plan.specs.declared.parse.Longest.the-variants.{Given, Default}
+use Rattle.plan.specs.declared.parse.LaneField.{LaneField}
+use Rattle.plan.specs.declared.parse.SetupField.{SetupField}
+use Rattle.plan.specs.declared.parse.SetupField.the-variants.{Format, Lane, End}
+
+-- "A lane field of length 3 has no longest and means 1,500."
+abbrev pub longestOf : Longest → ℕ
+longestOf (Given n) = n
+longestOf Default = 1500
+
+-- A lane field gives its lane a weight and a longest.
+abbrev pub given : LaneField → Setting
+given l = record { weight = l .weight; longest = longestOf (l .longest) }
+
+-- "4: first field not 0x01, 0x01 again, lane not rising, 0x7F with no lane." (A first 0x7F comes with no lane.)
+abbrev pub misplaced : Seen → SetupField → Bool
+misplaced seen (Format v) = seen .begun
+misplaced seen (Lane l) = not (seen .begun) || ltb (l .lane) (seen .floor)
+misplaced seen End = eqb (seen .count) 0
+
+-- From the least to the most, both among them.
+abbrev pub within : ℕ → ℕ → ℕ → Bool
+within low high n = leb low n && leb n high
+
+-- "Lanes 1 to 64, numbered 0 to 63. Weight w: 1 to 1,024 .. Longest record of a lane: 64 to 1,500 bytes."
+unfoldable pub laneOutside : LaneField → Bool
+laneOutside l = not (leb (l .lane) 63 && (within 1 1024 (l .weight) && within 64 1500 (longestOf (l .longest))))
+
+-- "5: format not 1, lane over 63, weight or longest outside its numbers."
+abbrev pub outside : SetupField → Bool
+outside (Format v) = not (eqb v 1)
+outside (Lane l) = laneOutside l
+outside End = false
+
+-- "6: weights so far over 1,024", this field's weight among them.
+abbrev pub over : Seen → SetupField → Bool
+over seen (Format v) = false
+over seen (Lane l) = ltb 1024 (seen .total + l .weight)
+over seen End = false
+
+-- "In a field 1 (header), 2, 3, 1 (value), 4, 5, 6."
+abbrev pub judged : Seen → ℕ → Item → Item
+judged seen at (bad n p) = bad n p
+judged seen at (whole f next) =
+    if misplaced seen f then bad 4 (some at)
+    else (if outside f then bad 5 (some at) else (if over seen f then bad 6 (some at) else whole f next))
+
+-- The field at a place, judged by the fields before it.
+unfoldable pub judgedAt : Seen → List ℕ → ℕ → Item
+judgedAt seen s at = judged seen at (itemAt s at)
+
+-- A field that is taken: the format begins the setup; a lane field raises the least number that may follow, and adds its weight and itself.
+abbrev pub after : Seen → SetupField → Seen
+after seen (Format v) = record { begun = true; floor = seen .floor; total = seen .total; count = seen .count }
+after seen (Lane l) = record { begun = true; floor = l .lane + 1; total = seen .total + l .weight; count = seen .count + 1 }
+after seen End = seen

@@ -1,0 +1,5 @@
+pub mod Fields
+pub mod Judge
+pub mod Read
+pub mod Accepted
+pub mod Examples

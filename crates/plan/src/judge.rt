@@ -1,0 +1,152 @@
+// A field of a setup judged by the fields before it: refusals 4, 5 and 6.
+ghost use mathlib.Core.Path.{_≡_};
+ghost use Prim.Native.Nat.{_≤_};
+ghost use Rattle.plan.specs.Fields.{itemOf};
+ghost use Rattle.plan.specs.Judge.{longestOf, within, misplaced, laneOutside, outside, over, after, judgedAt};
+use crate::parse::LaneField;
+use crate::parse::Longest;
+use crate::parse::Parsed;
+use crate::parse::SetupField;
+use rules::Refusal;
+
+// Document 01, "Numbers": lanes are numbered 0 to 63, a weight is 1 to 1,024, a longest 64 to 1,500, and the weights sum to at most 1,024.
+pub const LAST_LANE: u8 = 63;
+
+pub const LEAST_WEIGHT: u16 = 1;
+
+pub const MOST_WEIGHT: u16 = 1024;
+
+pub const LEAST_LONGEST: u16 = 64;
+
+pub const MOST_LONGEST: u16 = 1500;
+
+pub const MOST_TOTAL: u64 = 1024;
+
+// The one format, and the longest of a lane field that has none.
+pub const FORMAT_NUMBER: u16 = 1;
+
+pub const DEFAULT_LONGEST: u16 = 1500;
+
+// What the fields so far fix for the next one.
+pub struct Seen {
+    // The format was read.
+    pub begun: bool,
+    // The least lane number that rises above those before it.
+    pub floor: usize,
+    // "weights so far"
+    pub total: u64,
+    // Lane fields so far.
+    pub count: usize,
+}
+
+// "A lane field of length 3 has no longest and means 1,500."
+pub fn longest_of(longest: Longest) -> u16
+    ensures { λ r. ⌜ r ≡ longestOf longest ⌝ }
+{
+    let Longest::Given(n) = longest else {
+        return DEFAULT_LONGEST;
+    };
+    n
+}
+
+fn within(low: u16, high: u16, n: u16) -> bool
+    ensures { λ r. ⌜ r ≡ within low high n ⌝ }
+{
+    if low <= n { n <= high } else { false }
+}
+
+// Refusal 4: "first field not 0x01, 0x01 again, lane not rising, 0x7F with no lane".
+fn misplaced(seen: Seen, field: SetupField) -> bool
+    ensures { λ r. ⌜ r ≡ misplaced seen field ⌝ }
+{
+    match field {
+        SetupField::Format(_) => seen.begun,
+        SetupField::Lane(l) => {
+            if seen.begun {
+                (l.lane as usize) < seen.floor
+            } else {
+                true
+            }
+        }
+        SetupField::End => seen.count == 0,
+    }
+}
+
+fn lane_outside(l: LaneField) -> bool
+    ensures { λ r. ⌜ r ≡ laneOutside l ⌝ }
+{
+    let longest = l.longest;
+    if l.lane > LAST_LANE {
+        return true;
+    }
+    if within(LEAST_WEIGHT, MOST_WEIGHT, l.weight) {
+        return !within(LEAST_LONGEST, MOST_LONGEST, longest_of(longest));
+    }
+    true
+}
+
+// Refusal 5: "format not 1, lane over 63, weight or longest outside its numbers".
+fn outside(field: SetupField) -> bool
+    ensures { λ r. ⌜ r ≡ outside field ⌝ }
+{
+    match field {
+        SetupField::Format(n) => n != FORMAT_NUMBER,
+        SetupField::Lane(l) => lane_outside(l),
+        SetupField::End => false,
+    }
+}
+
+// Refusal 6: "weights so far over 1,024", this field's weight among them.
+fn over(seen: Seen, field: SetupField) -> bool
+    requires { ⌜ seen .total ≤ 1024 ⌝ }
+    ensures { λ r. ⌜ r ≡ over seen field ⌝ }
+{
+    match field {
+        SetupField::Lane(l) => seen.total + (l.weight as u64) > MOST_TOTAL,
+        SetupField::Format(_) => false,
+        SetupField::End => false,
+    }
+}
+
+// The field at a place, judged: refusals 1 to 6, in the order in a field.
+pub fn judged_field(s: &[u8], at: usize, seen: Seen) -> Parsed
+    requires { ⌜ seen .total ≤ 1024 ⌝ }
+    ensures { λ r. ⌜ itemOf r ≡ judgedAt seen (now (s .entry)) at ⌝ }
+{
+    let parsed = crate::parse::parsed_field(s, at);
+    let Parsed::Whole(field, _) = parsed else {
+        return parsed;
+    };
+    if misplaced(seen, field) {
+        return Parsed::Refused(Refusal::OutOfOrder(at));
+    }
+    if outside(field) {
+        return Parsed::Refused(Refusal::OutsideNumbers(at));
+    }
+    if over(seen, field) {
+        return Parsed::Refused(Refusal::WeightsOver(at));
+    }
+    parsed
+}
+
+// What a field that was taken adds.
+pub fn after(seen: Seen, field: SetupField) -> Seen
+    requires { ⌜ (seen .total ≤ 1024) × (seen .count ≤ 64) ⌝ }
+    ensures { λ r. ⌜ r ≡ after seen field ⌝ }
+{
+    match field {
+        SetupField::Format(_) => Seen {
+            begun: true,
+            floor: seen.floor,
+            total: seen.total,
+            count: seen.count,
+        },
+        SetupField::Lane(l) => Seen {
+            begun: true,
+            floor: l.lane as usize + 1,
+            total: seen.total + l.weight as u64,
+            count: seen.count + 1,
+        },
+        SetupField::End => seen,
+    }
+}

@@ -1,0 +1,147 @@
+// The setup reader: document 01, "Setup and session fields", with the refusals 1 to 6 of "Numbers given back".
+//
+//   parse   one field of a setup, taken apart: refusals 1 to 3, in the order 1 (header), 2, 3, 1 (value)
+//   judge   a field judged by the fields before it: refusals 4, 5 and 6, in this order
+//   lib     the walk: `read_plan` where a setup stands in a longer input, `read_setup` where it is the whole input
+//
+// The reader stands on the lent bytes at a place and moves by fields; nothing is written but the plan, which is answered by value. `read_plan` and
+// `read_setup` take any bytes and any place. What they answer is `readPlan` and `readSetup` of specs/Read.antt, and proofs/Accepted.antt says that
+// an accepted plan is within the numbers.
+//
+// Units: a place is a number of bytes from the first byte of the input, a length a number of bytes, a longest is in `Bytes`; weights are plain numbers.
+ghost use mathlib.Core.Path.{_≡_};
+ghost use mathlib.Core.Bool.{false};
+ghost use mathlib.Core.List.{map};
+ghost use Rattle.plan.specs.Judge.{given, outside};
+ghost use Rattle.plan.specs.Read.{noLanes, placed, settingOf, came, reads, readPlan, readSetup};
+
+pub mod judge;
+pub mod parse;
+
+use judge::Seen;
+use parse::LaneField;
+use parse::Parsed;
+use parse::SetupField;
+use rules::Refusal;
+use units::Bytes;
+
+// "Lanes 1 to 64, numbered 0 to 63."
+pub const LANES: usize = 64;
+
+// What a setup gives a lane. Weight 0: the lane is not in the setup.
+pub struct Lane {
+    pub weight: u64,
+    pub longest: Bytes,
+}
+
+// A setup by value: a lane for each number, and how many of them are there.
+pub struct Plan {
+    pub lanes: [Lane; LANES],
+    pub count: usize,
+}
+
+pub enum Outcome {
+    // The plan is read; the place after its 0x7F.
+    Read(usize),
+    Refused(Refusal),
+}
+
+// A plan and what came of reading it. Beside a refusal the plan means nothing.
+pub struct Reading {
+    pub plan: Plan,
+    pub outcome: Outcome,
+}
+
+// The lane that a field of a setup describes. "A lane field of length 3 has no longest and means 1,500."
+fn lane_of(l: LaneField) -> Lane
+    ensures { λ r. ⌜ settingOf r ≡ given l ⌝ }
+{
+    let longest = l.longest;
+    Lane {
+        weight: l.weight as u64,
+        longest: Bytes(judge::longest_of(longest) as u64),
+    }
+}
+
+fn no_lanes() -> [Lane; LANES]
+    ensures { λ r. ⌜ map settingOf r ≡ noLanes ⌝ }
+{
+    [Lane {
+        weight: 0,
+        longest: Bytes(0),
+    }; LANES]
+}
+
+// The lanes, with the one that a field describes.
+fn placed(mut lanes: [Lane; LANES], field: SetupField) -> [Lane; LANES]
+    requires { ⌜ outside field ≡ false ⌝ }
+    ensures { λ r. ⌜ map settingOf r ≡ placed (map settingOf lanes) field ⌝ }
+{
+    match field {
+        SetupField::Format(_) => lanes,
+        SetupField::Lane(l) => {
+            let k = l.lane as usize;
+            lanes[k] = lane_of(l);
+            lanes
+        }
+        SetupField::End => lanes,
+    }
+}
+
+fn answered(lanes: [Lane; LANES], count: usize, outcome: Outcome) -> Reading
+    ensures { λ r. ⌜ reads r ≡ came (record { lanes = lanes; count = count }) outcome ⌝ }
+{
+    Reading {
+        plan: Plan { lanes, count },
+        outcome,
+    }
+}
+
+// The setup that stands at a place of an input, up to its 0x7F. What follows that is not looked at.
+pub fn read_plan(s: &[u8], at: usize) -> Reading
+    ensures { λ r. ⌜ reads r ≡ readPlan (now (s .entry)) at ⌝ }
+{
+    let mut lanes = no_lanes();
+    let mut seen = Seen {
+        begun: false,
+        floor: 0,
+        total: 0,
+        count: 0,
+    };
+    let mut p = at;
+    loop {
+        match judge::judged_field(s, p, seen) {
+            Parsed::Refused(x) => {
+                return answered(lanes, seen.count, Outcome::Refused(x));
+            }
+            Parsed::Whole(field, next) => {
+                if parse::ends(field) {
+                    return answered(lanes, seen.count, Outcome::Read(next));
+                }
+                let more = placed(lanes, field);
+                lanes = more;
+                seen = judge::after(seen, field);
+                p = next;
+            }
+        }
+    }
+}
+
+// A setup that is the whole input, as for making a table: a byte after its 0x7F is out of order.
+pub fn read_setup(s: &[u8]) -> Reading
+    ensures { λ r. ⌜ reads r ≡ readSetup (now (s .entry)) ⌝ }
+{
+    let r = read_plan(s, 0);
+    let outcome = r.outcome;
+    let Outcome::Read(next) = outcome else {
+        return r;
+    };
+    if next < s.len() {
+        let plan = r.plan;
+        return Reading {
+            plan: plan,
+            outcome: Outcome::Refused(Refusal::OutOfOrder(next)),
+        };
+    }
+    r
+}
