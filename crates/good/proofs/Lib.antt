@@ -2,3 +2,4 @@ pub mod Times
 pub mod Lanes
 pub mod Sums
 pub mod Whole
+pub mod Encodes

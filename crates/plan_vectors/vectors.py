@@ -1,0 +1,239 @@
+#!/usr/bin/env python3
+"""Writes the vectors of plan_vectors (stdin) and the lines that are expected of them (stdout), in the folder that this file stands in.
+
+The expected lines are worked here from document 01 alone, "Setup and session fields", "Numbers" and "Numbers given back"; nothing here runs, reads
+or was copied from the program. Run it after a change of document 01, and compare what changed in stdout line by line.
+"""
+import itertools
+import pathlib
+
+# ---- document 01
+
+LANES = range(0, 64)
+WEIGHTS = range(1, 1024 + 1)
+LONGEST = range(64, 1500 + 1)
+MOST_WEIGHT = 1024
+DEFAULT_LONGEST = 1500
+LENGTHS = {0x01: [2], 0x10: [3, 5], 0x7F: [0]}
+
+
+class No(Exception):
+    """A refusal: number, place."""
+
+
+def u16(octets):
+    high, low = octets
+    return 256 * high + low
+
+
+def read(data, place):
+    """The setup that stands at a place: its lanes in the order of their fields, and the place after its 0x7F."""
+    lanes = []
+    first = True
+    while True:
+        tag_place = min(place, len(data))
+        left = data[place:]
+        # 1 (header), 2, 3, 1 (value)
+        if len(left) < 3:
+            raise No(1, tag_place)
+        tag, length = left[0], u16(left[1:3])
+        if tag not in LENGTHS:
+            raise No(2, place)
+        if length not in LENGTHS[tag]:
+            raise No(3, place)
+        value = left[3:3 + length]
+        if len(value) < length:
+            raise No(1, place)
+        # 4
+        if first != (tag == 0x01):
+            raise No(4, place)
+        if tag == 0x10 and lanes and value[0] <= lanes[-1][0]:
+            raise No(4, place)
+        if tag == 0x7F and not lanes:
+            raise No(4, place)
+        # 5 and 6
+        if tag == 0x01 and u16(value) != 1:
+            raise No(5, place)
+        if tag == 0x10:
+            lane, weight = value[0], u16(value[1:3])
+            longest = u16(value[3:5]) if length == 5 else DEFAULT_LONGEST
+            if lane not in LANES or weight not in WEIGHTS or longest not in LONGEST:
+                raise No(5, place)
+            if weight + sum(w for _, w, _ in lanes) > MOST_WEIGHT:
+                raise No(6, place)
+            lanes.append((lane, weight, longest))
+        first = False
+        place += 3 + length
+        if tag == 0x7F:
+            return lanes, place
+
+
+def whole(data):
+    lanes, place = read(data, 0)
+    if place < len(data):
+        raise No(4, place)
+    return lanes, place
+
+
+def line_of(reader, *args):
+    try:
+        lanes, place = reader(*args)
+    except No as no:
+        return 'no %d %d' % no.args
+    return 'lanes %d to %d,%s' % (len(lanes), place, ''.join(' %d/%d/%d' % lane for lane in lanes))
+
+
+# ---- building inputs
+
+def field(tag, value=b'', length=None):
+    length = len(value) if length is None else length
+    return bytes([tag, length >> 8, length & 255]) + value
+
+
+def number(n):
+    return bytes([n >> 8, n & 255])
+
+
+def lane(k, weight, longest=None):
+    return field(0x10, bytes([k]) + number(weight) + (number(longest) if longest is not None else b''))
+
+
+FORMAT = field(0x01, number(1))
+END = field(0x7F)
+GOOD = FORMAT + lane(0, 512, 1500) + lane(1, 256) + END
+
+vectors = []
+
+
+def add(note, data, place=0):
+    vectors.append((note, bytes(data), place))
+
+
+def setup(note, *fields):
+    add(note, FORMAT + b''.join(fields) + END)
+
+
+# ---- the vectors
+
+add('document 01, a session in full: its setup', FORMAT + lane(0, 512, 1500) + lane(1, 256, 1500) + END)
+for cut in range(len(GOOD) + 1):
+    add('a good setup cut at byte %d' % cut, GOOD[:cut])
+
+for k in (0, 1, 62, 63, 64, 255):
+    setup('lane %d' % k, lane(k, 1, 64))
+    setup('lane %d, no longest' % k, lane(k, 1))
+for w in (0, 1, 2, 255, 256, 1023, 1024, 1025, 1280, 65535):
+    setup('weight %d' % w, lane(0, w, 64))
+    setup('weight %d, no longest' % w, lane(0, w))
+for n in (0, 1, 63, 64, 65, 255, 256, 1499, 1500, 1501, 65535):
+    setup('longest %d' % n, lane(0, 1, n))
+for v in (0, 1, 2, 256, 257, 65535):
+    add('format %d' % v, field(0x01, number(v)) + lane(0, 1) + END)
+
+setup('weights sum to 1,023', lane(0, 1000, 64), lane(1, 23, 64))
+setup('weights sum to 1,024', lane(0, 1000, 64), lane(1, 24, 64))
+setup('weights sum to 1,025', lane(0, 1000, 64), lane(1, 25, 64))
+setup('weights sum to 1,025 with the first of three', lane(0, 1024, 64), lane(1, 1, 64), lane(2, 1, 64))
+setup('weights over by far, then a lane that is not rising', lane(3, 1024), lane(4, 1024), lane(0, 1))
+
+setup('64 lanes, weights sum to 1,024', *[lane(k, 16, 64 + k) for k in range(64)])
+setup('64 lanes, no longest', *[lane(k, 1) for k in range(64)])
+setup('64 lanes, weights sum to 1,025 at the last', *[lane(k, 16 + (k == 63), 64) for k in range(64)])
+setup('64 lanes and one more', *[lane(k, 1) for k in range(65)])
+setup('64 lanes and the last again', *[lane(k, 1) for k in range(64)], lane(63, 1))
+setup('lanes with gaps, of both lengths', lane(2, 10, 100), lane(7, 20), lane(31, 30, 1500), lane(63, 40))
+
+setup('equal lanes', lane(5, 1), lane(5, 1))
+setup('falling lanes', lane(5, 1), lane(4, 1))
+setup('lane 0 after lane 1', lane(1, 1), lane(0, 1))
+setup('0x01 again, after itself', FORMAT)
+setup('0x01 again, after a lane', lane(0, 1), FORMAT)
+setup('0x7F with no lane')
+add('0x7F first', END)
+add('0x7F first, and a byte after it', END + b'\0')
+add('0x7F with no lane, and a byte after it', FORMAT + END + b'\0')
+add('lane first', lane(0, 1) + END)
+add('lane first, then 0x01', lane(0, 1) + FORMAT + END)
+add('lane over 63 first', lane(64, 1) + END)
+add('two setups, one after the other', GOOD + GOOD)
+for after in (b'\0', b'\x7f', b'\x01\x00\x02', b'\x20' + bytes(9)):
+    add('a byte after 0x7F, and %d more' % (len(after) - 1), GOOD + after)
+
+# every other tag, as the first field and later
+for tag in [t for t in (0x00, 0x02, 0x0F, 0x11, 0x12, 0x20, 0x21, 0x25, 0x30, 0x7E, 0x80, 0xFF)]:
+    add('tag %02X first' % tag, field(tag, number(1)) + lane(0, 1) + END)
+    setup('tag %02X later' % tag, lane(0, 1), field(tag))
+# every length near the right ones, and the high byte of the length
+for tag in (0x01, 0x10, 0x7F):
+    for length in (0, 1, 2, 3, 4, 5, 6, 255, 256, 258, 259, 261, 512, 768, 1280, 65535):
+        value = (b'\x05' + number(1) + number(64) if tag == 0x10 else number(1)) + bytes(300)
+        setup('tag %02X, length %d' % (tag, length), lane(0, 1), field(tag, value[:min(length, 6)], length))
+        add('tag %02X first, length %d' % (tag, length), field(tag, value[:min(length, 6)], length))
+
+# every set of faults in one lane field, which stands after 0x01 and lane 5 of weight 1,000
+FAULTS = ('header cut', 'tag', 'length', 'value cut', 'not rising', 'weight', 'longest', 'over')
+for bits in itertools.product((False, True), repeat=len(FAULTS)):
+    faults = dict(zip(FAULTS, bits))
+    k = 5 if faults['not rising'] else 6
+    w = (1025 if faults['over'] else 0) if faults['weight'] else (25 if faults['over'] else 24)
+    n = 1501 if faults['longest'] else 1500
+    body = bytes([k]) + number(w) + number(n)
+    f = field(0x11 if faults['tag'] else 0x10, body, 4 if faults['length'] else 5)
+    data = FORMAT + lane(5, 1000, 64) + f
+    if faults['value cut']:
+        data = data[:-2] if not faults['length'] else data[:-3]
+    if faults['header cut']:
+        data = FORMAT + lane(5, 1000, 64) + f[:2]
+    elif not faults['value cut']:
+        data += END
+    add('faults: ' + (', '.join(x for x in FAULTS if faults[x]) or 'none'), data)
+# every set of faults in a lane field's own numbers
+for lane_bad, weight_bad, longest_bad, first in itertools.product((False, True), repeat=4):
+    f = lane(64 if lane_bad else 3, 0 if weight_bad else 9, 63 if longest_bad else 99)
+    add('numbers: lane %d, weight %d, longest %d, first %d' % (lane_bad, weight_bad, longest_bad, first), (b'' if first else FORMAT) + f + END)
+# 0x01: again, with another format, cut
+for again, other, cut in itertools.product((False, True), repeat=3):
+    f = field(0x01, number(2 if other else 1))
+    data = (FORMAT + lane(0, 1) if again else b'') + (f[:-1] if cut else f)
+    add('0x01: again %d, other format %d, cut %d' % (again, other, cut), data)
+# two fields, each with a fault: the first decides, in both orders
+KINDS = {
+    2: field(0x11),
+    3: field(0x10, bytes(4)),
+    4: lane(5, 1, 64),
+    5: lane(40, 0, 64),
+    6: lane(41, 25, 64),
+}
+for (a, one), (b, two) in itertools.permutations(KINDS.items(), 2):
+    setup('fault %d, then fault %d' % (a, b), lane(5, 1000, 64), one, two)
+for a, one in KINDS.items():
+    add('fault %d, then the input ends in a header' % a, FORMAT + lane(5, 1000, 64) + one + b'\x10')
+    add('the input ends in the value of a field, after which fault %d would be' % a, FORMAT + lane(5, 1000, 64) + (lane(6, 1, 64) + one)[:6])
+
+# a setup that stands in a longer input: places count from the input's first byte
+for before in (1, 3, 22, 200):
+    data = bytes((7 * i + 1) % 256 for i in range(before))
+    add('a good setup at %d' % before, data + GOOD, before)
+    add('a good setup at %d, and more after it' % before, data + GOOD + b'\x20\x00\x07', before)
+    add('lanes that do not rise, at %d' % before, data + FORMAT + lane(1, 1) + lane(1, 1) + END, before)
+    add('a cut setup at %d' % before, data + GOOD[:-4], before)
+add('the place is the end', GOOD, len(GOOD))
+add('the place is one past the end', GOOD, len(GOOD) + 1)
+add('the place is 100 past the end', GOOD, len(GOOD) + 100)
+add('no byte, place 5', b'', 5)
+add('the place is in the middle of a field', GOOD, 6)
+add('the place is at the 0x7F', GOOD, len(GOOD) - 3)
+
+# ---- the two files
+
+def text_of(data, place):
+    here = min(place, len(data))
+    shown = data[:here].hex().upper() + ('@' + '+' * (place - here) if place else '') + data[here:].hex().upper()
+    return shown
+
+
+folder = pathlib.Path(__file__).parent
+with open(folder / 'stdin', 'w') as given, open(folder / 'stdout', 'w') as wanted:
+    for note, data, place in vectors:
+        given.write(('%s # %s' % (text_of(data, place), note)).strip() + '\n')
+        wanted.write('%s; %s\n' % (line_of(whole, data), line_of(read, data, place)))
