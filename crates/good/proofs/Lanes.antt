@@ -15,14 +15,14 @@ use Rattle.units.specs.Numbers.{roundDown}
 use Rattle.rules.specs.State.{if_then_else_, Rec, Setting, Lane, holds, some?, eligible, slot, noLane}
 use Rattle.rules.specs.Sets.{wordOf, anyBelow}
 use Rattle.table.specs.Layout.{rowAt, presentWord}
-use Rattle.table.specs.Means.{presentAt, ringOf, givenOf, timed, laneOf, RowAgrees}
+use Rattle.table.specs.Means.{presentAt, Next, ringOf, givenOf, timed, laneOf, RowAgrees}
 use Rattle.table.specs.declared.LaneRow.{LaneRow}
 use Rattle.table.proofs.Rows.{lane-present, lane-absent, given-row, queue-row, length-ring}
 use Rattle.lane_test.specs.Says.{LaneGood}
 use Rattle.lane_test.proofs.Setting.{group-at-most}
-use Rattle.good.specs.Pass.{Next, Noted, FoundSays, sumTo, weightAt, holdsAt, eligibleAt}
+use Rattle.good.specs.Pass.{Noted, FoundSays, sumTo, weightAt, holdsAt, eligibleAt}
 use Rattle.good.specs.declared.Found.{Found}
-use Rattle.good.proofs.Next.{bit-absent}
+use Rattle.table.proofs.Next.{bit-absent}
 
 pub found-none : (v : ℕ) (w : List ℕ) → FoundSays v w 0 (record { weights = 0; held = 0; eligible = false })
 unfolding sumTo wordOf anyBelow

@@ -1,6 +1,5 @@
 -- What the one pass over the lanes finds.
 --
---   Next       the first lane from a number on that a word of present lanes names; 64 where there is none
 --   Noted      a lane's part in what is found
 --   FoundSays  what is found of the lanes below n: all are good; their weights' sum, the word of those that hold records, whether one is eligible
 --   Ordered    a tie order names each lane of a word once, and no other
@@ -24,12 +23,6 @@ use Rattle.lane_test.specs.Says.{LaneGood}
 use Rattle.good.specs.declared.Found.{Found}
 use Rattle.good.specs.declared.Pass.{Pass}
 use Rattle.good.specs.declared.Pass.the-variants.{Bad, Fine}
-
-pub record Next (lanes from k : ℕ) : Type 0 where
-  pub on : from ≤ k
-  pub ends : k ≤ 64
-  pub absent : (i : ℕ) → from ≤ i → i < k → bit i lanes ≡ 0
-  pub present : k < 64 → bit k lanes ≡ 1
 
 pub record Noted (f : Found) (k : ℕ) (l : LaneRow) (v : ℕ) (r : Found) : Type 0 where
   pub weights : r .weights ≡ f .weights + l .weight

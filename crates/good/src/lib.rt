@@ -9,7 +9,7 @@ ghost use Prim.Native.Nat.{_+_, _*_, _^_, _<_, _≤_};
 ghost use lib.ListN.{getD};
 ghost use Rattle.table.specs.Layout.{Room, cells, presentWord};
 ghost use Rattle.lane_test.specs.Says.{Says};
-ghost use Rattle.good.specs.Pass.{Next, Noted, PassSays, Ordered};
+ghost use Rattle.good.specs.Pass.{Noted, PassSays, Ordered};
 ghost use Rattle.good.specs.Table.{GoodTable};
 use lane_test::lane_good;
 use table::LaneRow;
@@ -19,6 +19,7 @@ use table::SIZE;
 use table::cell;
 use table::clock;
 use table::holding;
+use table::next_present;
 use table::row;
 use units::Clock;
 use units::rounded_start;
@@ -37,21 +38,6 @@ pub enum Pass {
     // A lane is not good.
     Bad,
     Fine(Found),
-}
-
-// The first lane from `from` on that is in the setup, `lanes` being the word of present lanes; 64 where there is none.
-fn next_present(lanes: u64, from: usize) -> usize
-    requires { ⌜ from ≤ 64 ⌝ }
-    ensures { λ r. ⌜ Next lanes from r ⌝ }
-{
-    if from >= 64 {
-        return 64;
-    }
-    let rest = lanes >> (from as u32);
-    if rest == 0 {
-        return 64;
-    }
-    from + (u64::trailing_zeros(rest) as usize)
 }
 
 // What is found, once lane `k` with the row `l` is seen too.

@@ -4,3 +4,4 @@ pub mod Leave
 pub mod Rows
 pub mod Timed
 pub mod Few
+pub mod Next

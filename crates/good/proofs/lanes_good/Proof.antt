@@ -1,5 +1,5 @@
 use Rattle.good.proofs.Lanes.{found-none, found-next, found-noted, note-weight, note-group}
-use Rattle.good.proofs.Next.{bit-present}
+use Rattle.table.proofs.Next.{bit-present}
 use Rattle.rules.proofs.Word.{word-lt}
 use Rattle.words.specs.Bits.{bit}
 use Rattle.good.specs.Pass.{FoundSays, PassSays}

@@ -1,10 +1,10 @@
-use Rattle.good.proofs.Next.{next-none, next-below, next-some}
+use Rattle.table.proofs.Next.{next-none, next-below, next-some}
 use lib.Pow.{shr-le}
 use Prim.Native.Nat.{ℕ, _+_, _-_, _*_, _/_, _^_, _≤_, _<_}
 use native.Mathlib.Omega.{arith}
 use borrow.Author.Needs.{needs}
-use Rattle.good.proofs.next_present.Statement.{statement}
-use Rattle.good.proofs.next_present.Tie as tie
+use Rattle.table.proofs.next_present.Statement.{statement}
+use Rattle.table.proofs.next_present.Tie as tie
 
 returns : tie.Need-returns
 returns c = search needs

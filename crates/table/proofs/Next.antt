@@ -9,10 +9,9 @@ use borrow.Author.Tests.{eq-eqb, ne-eqb}
 use lib.Pow.{pow-pos, pow-mono}
 use lib.ListN.{getD}
 use lib.Count.{trailingZeros}
 use Rattle.table.specs.Layout.{presentWord}
-use Rattle.table.specs.Means.{presentAt}
+use Rattle.table.specs.Means.{presentAt, Next}
 use Rattle.words.specs.Bits.{bit}
-use Rattle.good.specs.Pass.{Next}
 use Rattle.words.proofs.Bits.{bit-above, bit-shift, low-set}
 
 module _ (lanes from : ℕ) where
