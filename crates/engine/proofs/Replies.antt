@@ -7,12 +7,12 @@ use mathlib.Core.List.{List, [], _∷_}
 use mathlib.Core.Option.{Option, none, some}
 use lib.IntN.{ℤ, subℕ}
 use borrow.Author.Tests.{lt-ltb, le-ltb}
-use Rattle.rules.specs.State.{Rec, Setting, State, holds, laneAt, setupOf}
+use Rattle.rules.specs.State.{anyHolds, Rec, Setting, State, holds, laneAt, setupOf}
 use Rattle.rules.specs.Choice.{Candidate, choose}
-use Rattle.rules.specs.Calls.{Call, put, take, look, lag, lagged, lagOf, doLag, refused, Outcome, no, putRefusal, accept, putOf, doPut, Pick, firstOf, pickOf, picked, takeOf, doTake, lookOf, doLook, step}
+use Rattle.rules.specs.Calls.{restart, fresh, doRestart, Call, put, take, look, lag, lagged, lagOf, doLag, refused, Outcome, no, putRefusal, accept, putOf, doPut, Pick, firstOf, pickOf, picked, takeOf, doTake, lookOf, doLook, step}
 use Rattle.rules.specs.Reads.{number, placeOf}
 use Rattle.rules.specs.declared.Refusal.{Refusal}
-use Rattle.rules.specs.declared.Answer.the-variants.{Accepted, Taken, Seen, Refused}
+use Rattle.rules.specs.declared.Answer.the-variants.{Restarted, Accepted, Taken, Seen, Refused}
 use Rattle.rules.specs.declared.Record.{Record}
 use Rattle.rules.specs.Good.{Times, Good}
 use Rattle.rules.proofs.Lane.{slot-most}
@@ -131,3 +131,13 @@ module _ (s : State) (j : ℕ) where
       let n : Times (s .clock) (laneAt s j) [] = subst (Times (s .clock) (laneAt s j)) (idle-queue (laneAt s j .queue) e) (g .numbers j) in
       let long : laneAt s j .given .longest ≤ 1500 = subst (λ (x : Setting). x .longest ≤ 1500) (setting-lane s j) (longest-most (setupOf s) (g .setup) j) in
       omega (arith, n, g .clock, slot-most (laneAt s j .given) long)
+
+-- ---- restart
+
+pub restart-held : (s : State) → anyHolds (s .lanes) ≡ true → step s restart ≡ no 15 s
+unfolding step doRestart
+restart-held s e = simp e
+
+pub restart-does : (t u : List ℕ) → anyHolds (meant t .lanes) ≡ false → Leaves t u (fresh (setupOf (meant t))) → Does restart t Restarted u
+unfolding step doRestart
+restart-does t u e l = record { says = simp e; leaves = simp e l; unchanged = tt }

@@ -25,6 +25,7 @@ use choice::Least;
 use choice::chosen;
 use choice::least_start;
 use choice::set_words;
+use fresh::renew;
 use order::join;
 use order::leave;
 use order::move_last;
@@ -242,4 +243,16 @@ pub fn lag(t: &[u8], lane: u8) -> Answer
         return Answer::Lag(difference(v, later(l.time, v)));
     }
     Answer::Lag(difference(v, l.time))
+}
+
+// Restart: the fresh table of the same setup.
+pub fn restart(t: &mut [u8]) -> Answer
+    requires { ⌜ Known (now t) ⌝ }
+    ensures { λ r. ⌜ Does Calls.restart (now (t .entry)) r (now (t .exit)) ⌝ }
+{
+    if holding(t) != 0 {
+        return Answer::Refused(Refusal::StillHolds);
+    }
+    renew(t);
+    Answer::Restarted
 }
