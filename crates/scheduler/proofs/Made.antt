@@ -3,12 +3,10 @@ use Prim.Native.Nat.{ℕ, _*_, _≤_, _<_}
 use native.Mathlib.Omega.{arith}
 use mathlib.Core.Path.{_≡_, refl, sym, ap, subst, _∙_}
 use mathlib.Core.List.{List}
-use mathlib.Core.Option.{Option, none, some}
 use lib.ListN.{length}
-use Rattle.rules.specs.State.{Setting, State}
+use Rattle.rules.specs.State.{State}
 use Rattle.rules.specs.Setup.{Setup}
 use Rattle.rules.specs.Calls.{fresh}
-use Rattle.rules.specs.Reads.{number, placeOf}
 use Rattle.rules.specs.declared.Refusal.{Refusal}
 use Rattle.rules.specs.declared.Refusal.the-variants.{TableShort}
 use Rattle.plan.specs.Read as plan
@@ -19,11 +17,9 @@ use Rattle.plan.specs.declared.Outcome.the-variants as outcome
 use Rattle.plan.proofs.Accepted.{accepted-setup}
 use Rattle.alike.specs.Alike.{Alike}
 use Rattle.alike.proofs.Alike.{alike-refl}
-use Rattle.table.specs.Layout.{WORDS, Room}
-use Rattle.table.specs.Means.{meant}
-use Rattle.table.specs.Encodes.{Encodes}
+use Rattle.table.specs.Layout.{WORDS}
 use Rattle.fresh.specs.Makes.{Makes}
-use Rattle.scheduler.specs.Make.{made, notMade, reads, Follows, MakeStep}
+use Rattle.scheduler.specs.Make.{reads, Follows, MakeStep}
 use Rattle.scheduler.specs.declared.Making.the-variants.{Made, Refused}
 
 pub make-short : (setup t : List ℕ) → length t < WORDS * 8 → MakeStep setup t (Refused TableShort) t

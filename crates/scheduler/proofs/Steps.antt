@@ -1,13 +1,12 @@
 -- From the good-table test and an inner call's promise to the public call's. Assumes nothing.
-use Prim.Native.Nat.{ℕ, _*_, _≤_}
+use Prim.Native.Nat.{ℕ}
 use native.Mathlib.Omega.{arith}
-use mathlib.Core.Path.{_≡_, refl, sym, ap, subst, _∙_}
+use mathlib.Core.Path.{_≡_, refl, sym, subst, _∙_}
 use mathlib.Core.Bool.{Bool, true, false, not, false≢true}
 use mathlib.Core.List.{List}
-use mathlib.Core.Option.{none}
 use lib.ListN.{length}
 use Rattle.rules.specs.State.{State}
-use Rattle.rules.specs.Calls.{Call, put, take, look, sets, lag, restart, Reply, accepted, taken, seen, words, lagged, restarted, refused, step, doLook, doSets, picked}
+use Rattle.rules.specs.Calls.{Call, look, sets, lag, Reply, accepted, taken, seen, words, lagged, restarted, refused, step, doLook, doSets, picked}
 use Rattle.rules.specs.Reads.{reads}
 use Rattle.rules.specs.declared.Answer.{Answer}
 use Rattle.rules.specs.declared.Answer.the-variants.{Refused}
@@ -15,9 +14,7 @@ use Rattle.rules.specs.declared.Refusal.the-variants.{NotGood}
 use Rattle.rules.proofs.Keep as keep
 use Rattle.alike.specs.Alike.{Alike}
 use Rattle.alike.proofs.Alike.{step-alike}
-use Rattle.table.specs.Layout.{WORDS, Room}
-use Rattle.table.specs.Means.{meant, Leaves}
-use Rattle.table.specs.Encodes.{Encodes}
+use Rattle.table.specs.Means.{meant}
 use Rattle.choice.specs.Known.{Known}
 use Rattle.lane_test.specs.Says as test
 use Rattle.good.specs.Table.{GoodTable}

@@ -8,9 +8,8 @@
 use Prim.Native.Nat.{ℕ, _*_, _≤_, _<_}
 use mathlib.Core.Path.{_≡_}
 use mathlib.Core.List.{List}
-use mathlib.Core.Option.{Option, none, some}
+use mathlib.Core.Option.{Option, some}
 use lib.ListN.{length, drop}
-use Rattle.rules.specs.State.{Setting}
 use Rattle.rules.specs.Calls.{fresh}
 use Rattle.rules.specs.Reads.{number, placeOf}
 use Rattle.plan.specs.Read as plan
