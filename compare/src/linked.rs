@@ -13,8 +13,14 @@ use crate::unit::Unit;
 
 extern "C" {
     fn zf_table_size() -> u64;
-    fn zf_make(setup: *const u8, setup_len: usize, table: *mut u8, table_len: usize, out: *mut u8, out_len: usize)
-        -> u64;
+    fn zf_make(
+        setup: *const u8,
+        setup_len: usize,
+        table: *mut u8,
+        table_len: usize,
+        out: *mut u8,
+        out_len: usize,
+    ) -> u64;
     fn zf_put(
         table: *mut u8,
         table_len: usize,
@@ -140,7 +146,9 @@ impl Unit for Linked {
         });
         match answer {
             // 17 and 7, which have no place of their own; the words are not asked for.
-            Err((number, _)) => Run { answered: 0, written: 0, stop: Stop::Refused(Fault { number, place: 0 }) },
+            Err((number, _)) => {
+                Run { answered: 0, written: 0, stop: Stop::Refused(Fault { number, place: 0 }) }
+            }
             Ok([answered, written, kind, why]) => Run { answered, written, stop: stop(kind, why) },
         }
     }
@@ -158,10 +166,14 @@ fn stop(kind: u64, why: u64) -> Stop {
 
 /// With an answer buffer shorter than 32 bytes every call gives 255, and neither the table, the answer area nor the
 /// buffer is written. Answers what is wrong.
-pub fn short_buffers(setup: &[u8], session: &[u8]) -> Result<(), String> {
+pub fn short_buffers() -> Result<(), String> {
+    let setup: &[u8] = &[0x01, 0, 2, 0, 1, 0x10, 0, 3, 0, 2, 0, 0x7F, 0, 0];
+    let session = [setup, &[0x21, 0, 0, 0x7F, 0, 0]].concat();
     let size = Linked.table_size();
     let mut table = vec![0x33; size];
     Linked.make(setup, &mut table).map_err(|fault| format!("a valid setup gave {fault}"))?;
+    // A record is held, so that take, look and restart have something to do.
+    Linked.put(&mut table, 0, 1, 64).map_err(|number| format!("a valid put gave {number}"))?;
     let before = table.clone();
     let mut answers = vec![0x44; 64 * 1_002];
     for length in 0..OUT {
@@ -176,7 +188,17 @@ pub fn short_buffers(setup: &[u8], session: &[u8]) -> Result<(), String> {
                 zf_sets(t, size, o, length),
                 zf_lag(t, size, 0, o, length),
                 zf_restart(t, size, o, length),
-                zf_run(session.as_ptr(), session.len(), 1_000, t, size, answers.as_mut_ptr(), answers.len(), o, length),
+                zf_run(
+                    session.as_ptr(),
+                    session.len(),
+                    1_000,
+                    t,
+                    size,
+                    answers.as_mut_ptr(),
+                    answers.len(),
+                    o,
+                    length,
+                ),
             ]
         };
         let written = out != [0x55; OUT] || table != before || answers.iter().any(|byte| *byte != 0x44);

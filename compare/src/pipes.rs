@@ -45,7 +45,9 @@ pub fn compare(program: &Path, seed: u64, first: u64, cases: u64) -> Result<u64,
         let expected = session::program(&input);
         let found = match output(program, &input) {
             Ok(printed) if printed == expected.as_bytes() => None,
-            Ok(printed) => Some(format!("it prints:\n{}the rules:\n{expected}", String::from_utf8_lossy(&printed))),
+            Ok(printed) => {
+                Some(format!("it prints:\n{}the rules:\n{expected}", String::from_utf8_lossy(&printed)))
+            }
             Err(error) => Some(error),
         };
         if let Some(what) = found {

@@ -3,7 +3,7 @@
 use compare::driver::report::Tally;
 use compare::driver::{self, Budget};
 use compare::pipes;
-use compare::stand_in::{Slip, StandIn, ALL};
+use compare::stand_in::{StandIn, ALL};
 use compare::unit::Unit;
 use std::path::PathBuf;
 use std::process::ExitCode;
@@ -21,21 +21,26 @@ compare slips [--seed N]                       each slip of the stand-in, and th
 
 const SEED: u64 = 1;
 /// The cases of a short run.
-const SHORT: u64 = 9_000;
+const SHORT: u64 = 20_000;
 /// A slip must be found within so many cases, far fewer than a short run has.
-const SLIP: u64 = 2_000;
+const SLIP: u64 = 1_500;
 const SESSIONS: u64 = 2_000;
 
 /// The unit under test: the linked library, or the stand-in where there is none.
 #[cfg(feature = "unit")]
 fn under_test() -> impl Unit {
+    println!("The unit's library is linked: this run compares it.");
+    if let Err(wrong) = compare::linked::short_buffers() {
+        println!("DIFFERENCE at the boundary: {wrong}");
+        std::process::exit(1);
+    }
     compare::linked::Linked
 }
 
 #[cfg(not(feature = "unit"))]
 fn under_test() -> impl Unit {
     println!("The unit's library is not linked: this run compares the stand-in.");
-    StandIn::new(Slip::None)
+    StandIn::new(compare::stand_in::Slip::None)
 }
 
 struct Options {
@@ -48,7 +53,8 @@ struct Options {
 }
 
 fn options(arguments: &[String]) -> Option<Options> {
-    let mut options = Options { seed: SEED, case: None, cases: None, seconds: None, pairs: None, programs: vec![] };
+    let mut options =
+        Options { seed: SEED, case: None, cases: None, seconds: None, pairs: None, programs: vec![] };
     let mut arguments = arguments.iter();
     while let Some(argument) = arguments.next() {
         let Some(name) = argument.strip_prefix("--") else {
@@ -119,7 +125,11 @@ fn clock(pairs: u64) -> ExitCode {
     let mut tally = Tally::default();
     match driver::clock::drive(&mut under_test(), pairs, &mut tally) {
         Ok(spent) => {
-            println!("{} calls compared, {}: no difference.", tally.calls, if spent { "14 reached" } else { "14 not reached" });
+            println!(
+                "{} calls compared, {}: no difference.",
+                tally.calls,
+                if spent { "14 reached" } else { "14 not reached" }
+            );
             ExitCode::SUCCESS
         }
         Err(found) => {

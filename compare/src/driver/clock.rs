@@ -29,12 +29,25 @@ pub fn drive<U: Unit>(unit: &mut U, pairs: u64, tally: &mut Tally) -> Result<boo
         Err(Found::new(what, vec![format!("{} pairs of put 0/7/1500 and take", tally.calls / 2)]))
     };
     let put = Call::Put { lane: 0, mark: 7, length: 1_500 };
-    for _ in 0..pairs {
+    for pair in 0..pairs {
+        if pair.is_multiple_of(1_000) {
+            call(Call::Lag { lane: 0 })?;
+        }
         if call(put)? != Answer::No(refusal::CLOCK_SPENT) {
             call(Call::Take)?;
             continue;
         }
-        for last in [Call::Lag { lane: 0 }, Call::Sets, Call::Take, put, Call::Restart, put, put, Call::Sets, Call::Take] {
+        for last in [
+            Call::Lag { lane: 0 },
+            Call::Sets,
+            Call::Take,
+            put,
+            Call::Restart,
+            put,
+            put,
+            Call::Sets,
+            Call::Take,
+        ] {
             call(last)?;
         }
         return Ok(true);

@@ -3,7 +3,7 @@
 use super::lent::Lent;
 use super::lists::look_around;
 use super::report::{hex, Found, Tally};
-use crate::calls::{Answer, Call};
+use crate::calls::Call;
 use crate::fields::Fault;
 use crate::gen::{damage, sessions, setups};
 use crate::numbers::{refusal, BYTES_PER_LINE, LIMIT};
@@ -101,9 +101,7 @@ fn same_contents<U: Unit>(
     for call in calls {
         let expected = state.answer(call);
         let answer = unit.answer(table.bytes(), call);
-        tally.calls += 1;
-        tally.refused += u64::from(answer.refused());
-        tally.taken += u64::from(matches!(answer, Answer::Taken(_)));
+        tally.shown += 1;
         if answer != expected {
             return Err(format!("then {call}: the unit gave {answer}, the rules {expected}"));
         }
@@ -119,7 +117,8 @@ pub fn runs<U: Unit>(unit: &mut U, rng: &mut Rng, tally: &mut Tally) -> Result<(
         let limit = limit(rng, &input);
         let area = area(rng, limit);
         let length = lent_length(rng, unit.table_size());
-        let shown_by = || vec![format!("run {} limit {limit}, area {area}, {}", hex(&input), lent_as(length))];
+        let shown_by =
+            || vec![format!("run {} limit {limit}, area {area}, {}", hex(&input), lent_as(length))];
         let mut one = Session { input: &input, limit, area, length };
         one.run(unit, rng, &mut table, tally).map_err(|what| Found::new(what, shown_by()))?;
         tally.sessions += 1;
@@ -133,7 +132,9 @@ fn limit(rng: &mut Rng, input: &[u8]) -> u64 {
         0 => 0,
         1 => rng.between(1, 3),
         2..=5 => (session::walk(input, LIMIT).result.answered + rng.below(3)).saturating_sub(1),
-        6 => rng.pick(&[LIMIT + 1, LIMIT + 2, 65_536, 1 << 32, 1 << 58, (1 << 58) - 2, u64::MAX - 1, u64::MAX]),
+        6 => {
+            rng.pick(&[LIMIT + 1, LIMIT + 2, 65_536, 1 << 32, 1 << 58, (1 << 58) - 2, u64::MAX - 1, u64::MAX])
+        }
         7 => LIMIT - 1,
         _ => LIMIT,
     }
@@ -159,7 +160,13 @@ struct Session<'a> {
 }
 
 impl Session<'_> {
-    fn run<U: Unit>(&mut self, unit: &mut U, rng: &mut Rng, table: &mut Lent, tally: &mut Tally) -> Result<(), String> {
+    fn run<U: Unit>(
+        &mut self,
+        unit: &mut U,
+        rng: &mut Rng,
+        table: &mut Lent,
+        tally: &mut Tally,
+    ) -> Result<(), String> {
         let size = unit.table_size();
         let expected = session::run(self.input, self.limit, self.length.unwrap_or(size), size, self.area);
         let before = table.copy();
@@ -184,7 +191,9 @@ impl Session<'_> {
         tally.requests += result.answered;
         tally.sessions_ended += u64::from(result.stop == Stop::End);
         match expected.state {
-            None if !table.same(&before) => Err("a run refused before its requests changed the table".to_string()),
+            None if !table.same(&before) => {
+                Err("a run refused before its requests changed the table".to_string())
+            }
             None => Ok(()),
             Some(state) => same_contents(unit, rng, table, state, tally),
         }

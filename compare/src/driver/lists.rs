@@ -18,7 +18,10 @@ pub fn case<U: Unit>(unit: &mut U, rng: &mut Rng, tally: &mut Tally) -> Result<(
     let mut shown_by = vec![format!("make {}", hex(&bytes))];
     let made = unit.make(&bytes, table.bytes());
     if made != Ok(setup.lanes.len() as u64) {
-        return Err(Found::new(format!("a valid setup of {} lanes gave {made:?}", setup.lanes.len()), shown_by));
+        return Err(Found::new(
+            format!("a valid setup of {} lanes gave {made:?}", setup.lanes.len()),
+            shown_by,
+        ));
     }
     let fresh = State::fresh(&setup);
     let mut list = List::new(unit, table, fresh.clone());
@@ -86,7 +89,7 @@ impl<U: Unit> List<'_, U> {
                 self.table = self.table.moved(rng);
             }
             if rng.once_in(100) {
-                self.on_a_short_table(rng, call)?;
+                self.on_a_short_table(rng, call, tally)?;
             }
         }
         self.end(rng, tally)
@@ -106,15 +109,13 @@ impl<U: Unit> List<'_, U> {
             return Err("the last call changed the table".to_string());
         }
         self.table.guarded()?;
-        tally.calls += 1;
-        tally.refused += u64::from(answer.refused());
-        tally.taken += u64::from(matches!(answer, Answer::Taken(_)));
+        tally.call(answer);
         self.laws.step(call, answer, &self.state)?;
         Ok(answer)
     }
 
     /// A table cut short is not good: 10, before every other refusal, and nothing changes.
-    fn on_a_short_table(&mut self, rng: &mut Rng, call: Call) -> Result<(), String> {
+    fn on_a_short_table(&mut self, rng: &mut Rng, call: Call, tally: &mut Tally) -> Result<(), String> {
         let before = self.table.copy();
         let size = self.unit.table_size();
         let length = if rng.once_in(2) { size - 1 } else { rng.index(size) };
@@ -125,6 +126,7 @@ impl<U: Unit> List<'_, U> {
         if !self.table.same(&before) {
             return Err(format!("{call} on a table cut short changed it"));
         }
+        tally.call(answer);
         self.table.guarded()
     }
 

@@ -28,7 +28,13 @@ pub enum Budget {
 }
 
 /// Compares the unit with the reference, case after case from `first` on, until the budget is spent or they differ.
-pub fn compare<U: Unit>(unit: &mut U, seed: u64, first: u64, budget: Budget, tally: &mut Tally) -> Result<(), Difference> {
+pub fn compare<U: Unit>(
+    unit: &mut U,
+    seed: u64,
+    first: u64,
+    budget: Budget,
+    tally: &mut Tally,
+) -> Result<(), Difference> {
     let begin = Instant::now();
     for case in first.. {
         let spent = match budget {
@@ -47,9 +53,9 @@ pub fn compare<U: Unit>(unit: &mut U, seed: u64, first: u64, budget: Budget, tal
 pub fn one<U: Unit>(unit: &mut U, seed: u64, case: u64, tally: &mut Tally) -> Result<(), Difference> {
     let mut rng = Rng::of_case(seed, case);
     tally.cases += 1;
-    let found = match rng.below(3) {
-        0 => lists::case(unit, &mut rng, tally),
-        1 => inputs::makes(unit, &mut rng, tally),
+    let found = match rng.below(4) {
+        0 | 1 => lists::case(unit, &mut rng, tally),
+        2 => inputs::makes(unit, &mut rng, tally),
         _ => inputs::runs(unit, &mut rng, tally),
     };
     found.map_err(|found| Difference { seed, case, found })

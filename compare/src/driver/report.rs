@@ -1,5 +1,6 @@
 //! What was compared, and what differed.
 
+use crate::calls::Answer;
 use std::fmt;
 
 /// Counts of a comparison.
@@ -7,10 +8,15 @@ use std::fmt;
 pub struct Tally {
     pub cases: u64,
     pub lists: u64,
-    /// Calls answered by both sides, those of sessions not counted.
+    /// Calls of the lists.
     pub calls: u64,
-    pub refused: u64,
+    /// Calls that only show what a table holds after `make` or `run`, not counted among those.
+    pub shown: u64,
     pub taken: u64,
+    /// Calls refused, by the refusal's last digit: 0 for 10, up to 6 for 16.
+    pub refused: [u64; 7],
+    /// Answers to sets in which the first, second, third, fourth word is not 0.
+    pub words: [u64; 4],
     /// Setups given to `make`, and how many were accepted.
     pub setups: u64,
     pub setups_accepted: u64,
@@ -25,6 +31,21 @@ pub struct Tally {
 }
 
 impl Tally {
+    /// One more call of a list.
+    pub fn call(&mut self, answer: Answer) {
+        self.calls += 1;
+        match answer {
+            Answer::No(number @ 10..=16) => self.refused[usize::from(number) - 10] += 1,
+            Answer::Taken(_) => self.taken += 1,
+            Answer::Sets(words) => {
+                for (count, word) in self.words.iter_mut().zip(words) {
+                    *count += u64::from(word != 0);
+                }
+            }
+            _ => {}
+        }
+    }
+
     /// Setups and sessions together.
     pub fn inputs(&self) -> u64 {
         self.setups + self.sessions
@@ -34,13 +55,18 @@ impl Tally {
 impl fmt::Display for Tally {
     fn fmt(&self, f: &mut fmt::Formatter) -> fmt::Result {
         writeln!(f, "{} cases: {} calls and {} inputs compared", self.cases, self.calls, self.inputs())?;
-        writeln!(f, "  {} lists; {} calls were takes with a record, {} were refused", self.lists, self.taken, self.refused)?;
+        writeln!(f, "  {} lists, {} records taken", self.lists, self.taken)?;
+        let refused: Vec<String> =
+            (10..).zip(self.refused).map(|(number, n)| format!("{number}: {n}")).collect();
+        writeln!(f, "  calls refused by {}", refused.join(", "))?;
+        writeln!(f, "  answers to sets in which each of the four words names a group: {:?}", self.words)?;
         writeln!(f, "  {} setups, {} of them accepted", self.setups, self.setups_accepted)?;
         writeln!(
             f,
             "  {} sessions with {} requests answered, {} reached the end field",
             self.sessions, self.requests, self.sessions_ended
         )?;
+        writeln!(f, "  {} calls beside those show the tables that the inputs made", self.shown)?;
         write!(
             f,
             "  demand 3 on all stretches that end at {} points; the closest used {}.{} % of its bound",

@@ -20,10 +20,22 @@ enum Mood {
     Flood,
     /// All lanes but one are kept busy; that one gets a record now and then.
     Quiet,
+    /// The lanes of the highest group begin late in a slot, all at once: their finish is near, and lower groups,
+    /// which never run dry, come to be blocked.
+    Late,
 }
 
-const MOODS: &[Mood] =
-    &[Mood::Burst, Mood::Drain, Mood::Steady, Mood::Sparse, Mood::Mixed, Mood::Flood, Mood::Quiet];
+const MOODS: &[Mood] = &[
+    Mood::Burst,
+    Mood::Drain,
+    Mood::Steady,
+    Mood::Sparse,
+    Mood::Mixed,
+    Mood::Flood,
+    Mood::Quiet,
+    Mood::Late,
+    Mood::Late,
+];
 
 #[derive(Clone, Copy, Debug)]
 enum Lengths {
@@ -49,7 +61,15 @@ impl Caller {
     pub fn new(rng: &mut Rng) -> Caller {
         let same_marks = rng.once_in(3);
         let mark = if rng.once_in(3) { rng.pick(&[0, 1, u32::MAX]) } else { rng.word() as u32 };
-        Caller { mood: Mood::Mixed, left: 0, lengths: Lengths::Any, favourites: vec![], same_marks, mark, last: None }
+        Caller {
+            mood: Mood::Mixed,
+            left: 0,
+            lengths: Lengths::Any,
+            favourites: vec![],
+            same_marks,
+            mark,
+            last: None,
+        }
     }
 
     /// The answer to the last call, which the steady mood goes by.
@@ -80,12 +100,17 @@ impl Caller {
             Mood::Mixed => self.put_to_any(rng, state),
             Mood::Flood => self.put(rng, state, self.favourites[0]),
             Mood::Quiet => self.quiet(rng, state),
+            Mood::Late => self.late(rng, state),
         }
     }
 
     fn turn(&mut self, rng: &mut Rng, state: &State) {
         self.mood = rng.pick(MOODS);
-        self.left = if rng.once_in(3) { rng.between(1, 8) } else { rng.between(1, 160) };
+        self.left = match self.mood {
+            Mood::Late => rng.between(100, 800),
+            _ if rng.once_in(3) => rng.between(1, 8),
+            _ => rng.between(1, 160),
+        };
         self.lengths = match rng.below(6) {
             0 => Lengths::One,
             1 => Lengths::Longest,
@@ -121,6 +146,26 @@ impl Caller {
             Call::Take
         } else {
             self.put(rng, state, busy)
+        }
+    }
+
+    fn late(&mut self, rng: &mut Rng, state: &State) -> Call {
+        if rng.once_in(8) {
+            return Call::Sets;
+        }
+        let slot = state.lanes.iter().map(|lane| lane.slot()).max().expect("a setup has a lane");
+        let late_in_slot = state.clock % slot >= slot - slot / 8;
+        if late_in_slot {
+            if let Some(lane) = state.lanes.iter().find(|lane| lane.slot() == slot && !lane.holds()) {
+                let (lane, length) = (lane.plan.number, u64::from(lane.plan.longest));
+                return Call::Put { lane, mark: self.mark(), length };
+            }
+        }
+        let low = state.lanes.iter().find(|lane| lane.slot() < slot && lane.queue.len() < 2);
+        match low {
+            Some(lane) => self.put(rng, state, lane.plan.number),
+            None if state.holding().next().is_none() => self.put_to_any(rng, state),
+            None => Call::Take,
         }
     }
 

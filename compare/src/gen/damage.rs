@@ -4,8 +4,10 @@ use crate::rng::Rng;
 use crate::session;
 use crate::setup;
 
-const TAGS: &[u8] = &[0x00, 0x01, 0x02, 0x10, 0x11, 0x20, 0x21, 0x22, 0x23, 0x24, 0x25, 0x26, 0x7E, 0x7F, 0x80, 0xFF];
-const BYTES: &[u8] = &[0x00, 0x01, 0x02, 0x03, 0x04, 0x05, 0x07, 0x10, 0x20, 0x3F, 0x40, 0x7F, 0x80, 0xFE, 0xFF];
+const TAGS: &[u8] =
+    &[0x00, 0x01, 0x02, 0x10, 0x11, 0x20, 0x21, 0x22, 0x23, 0x24, 0x25, 0x26, 0x7E, 0x7F, 0x80, 0xFF];
+const BYTES: &[u8] =
+    &[0x00, 0x01, 0x02, 0x03, 0x04, 0x05, 0x07, 0x10, 0x20, 0x3F, 0x40, 0x7F, 0x80, 0xFE, 0xFF];
 const WEIGHTS: &[u16] = &[0, 1, 2, 255, 256, 512, 1_022, 1_023, 1_024, 1_025, 1_026, 0x8001, 65_535];
 const LONGESTS: &[u16] = &[0, 1, 63, 64, 65, 320, 1_499, 1_500, 1_501, 0x0540, 65_535];
 const LANE_NUMBERS: &[u8] = &[0, 1, 2, 31, 62, 63, 64, 65, 128, 255];
@@ -27,7 +29,10 @@ pub fn fields(rng: &mut Rng, fields: &mut Vec<Vec<u8>>) {
             3 => tag_of(rng, &mut fields[at]),
             4 => length_of(rng, &mut fields[at]),
             5 | 6 => numbers_of_some_lane(rng, fields),
-            7 => fields[0] = rng.pick(&[[1, 0, 2, 0, 0], [1, 0, 2, 0, 2], [1, 0, 2, 1, 1], [1, 0, 3, 0, 1]]).to_vec(),
+            7 => {
+                fields[0] =
+                    rng.pick(&[[1, 0, 2, 0, 0], [1, 0, 2, 0, 2], [1, 0, 2, 1, 1], [1, 0, 3, 0, 1]]).to_vec()
+            }
             8 => fields.push(tail(rng)),
             9 => fields.truncate(at),
             10 => {
@@ -68,7 +73,16 @@ fn length_of(rng: &mut Rng, field: &mut Vec<u8>) {
         return;
     }
     let length = u16::from_be_bytes([field[1], field[2]]);
-    let other = rng.pick(&[length.wrapping_add(1), length.wrapping_sub(1), length ^ 256, length ^ 2, 0, 3, 5, 65_535]);
+    let other = rng.pick(&[
+        length.wrapping_add(1),
+        length.wrapping_sub(1),
+        length ^ 256,
+        length ^ 2,
+        0,
+        3,
+        5,
+        65_535,
+    ]);
     field[1..3].copy_from_slice(&other.to_be_bytes());
     if rng.once_in(2) && other < 300 {
         let fill = rng.pick(BYTES);
@@ -78,7 +92,8 @@ fn length_of(rng: &mut Rng, field: &mut Vec<u8>) {
 
 /// A lane field gets numbers at the edges of what is allowed.
 fn numbers_of_some_lane(rng: &mut Rng, fields: &mut [Vec<u8>]) {
-    let lanes: Vec<usize> = (0..fields.len()).filter(|&i| fields[i].len() >= 6 && fields[i][0] == setup::LANE).collect();
+    let lanes: Vec<usize> =
+        (0..fields.len()).filter(|&i| fields[i].len() >= 6 && fields[i][0] == setup::LANE).collect();
     if lanes.is_empty() {
         return;
     }

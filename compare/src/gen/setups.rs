@@ -4,8 +4,19 @@ use crate::numbers::*;
 use crate::rng::Rng;
 use crate::setup::{LanePlan, Setup, END, FORMAT, LANE};
 
-const FLAVOURS: &[fn(&mut Rng) -> Setup] =
-    &[one_lane, two_lanes, full, equal, many_groups, one_heavy, light, extreme_longest, twins, anything];
+const FLAVOURS: &[fn(&mut Rng) -> Setup] = &[
+    one_lane,
+    two_lanes,
+    full,
+    equal,
+    many_groups,
+    one_heavy,
+    light,
+    extreme_longest,
+    twins,
+    three_heights,
+    anything,
+];
 
 pub fn setup(rng: &mut Rng) -> Setup {
     let flavour = rng.pick(FLAVOURS);
@@ -68,7 +79,8 @@ fn of_weights(rng: &mut Rng, weights: &[u16], mut longest: impl FnMut(&mut Rng) 
 }
 
 fn one_lane(rng: &mut Rng) -> Setup {
-    let weight = if rng.once_in(2) { rng.pick(&[1, 2, 3, 512, 1_023, 1_024]) } else { rng.between(1, 1_024) as u16 };
+    let weight =
+        if rng.once_in(2) { rng.pick(&[1, 2, 3, 512, 1_023, 1_024]) } else { rng.between(1, 1_024) as u16 };
     of_weights(rng, &[weight], longest)
 }
 
@@ -146,6 +158,22 @@ fn twins(rng: &mut Rng) -> Setup {
     let count = rng.between(1, 8) as usize;
     let weights = [weight, weight / 2].repeat(count);
     of_weights(rng, &weights, |rng| rng.pick(&[64, 128]))
+}
+
+/// A lane of a low group that moves the clock in small steps, one or two of a middle group, and lanes of a high group
+/// that fill the line and their slots.
+fn three_heights(rng: &mut Rng) -> Setup {
+    let high = rng.pick(&[16_u16, 32]);
+    let middle = high * rng.pick(&[2, 4]);
+    let mut weights = vec![rng.pick(&[256, 512]), middle];
+    if rng.once_in(2) {
+        weights.push(middle);
+    }
+    let filled: u16 = weights.iter().sum();
+    let low = weights.len();
+    weights.resize(low + usize::from((1_024 - filled) / high), high);
+    let longest = rng.pick(&[64, 128]);
+    of_weights(rng, &weights, move |_| longest)
 }
 
 fn anything(rng: &mut Rng) -> Setup {

@@ -62,7 +62,8 @@ impl Fairness {
                     watch.x += UNITS_PER_BYTE_SENT * i128::from(taken.length);
                     if watch.number == taken.lane {
                         watch.x -= watch.units_per_byte * i128::from(taken.length);
-                        watch.held = watch.held.checked_sub(1).ok_or("a record was taken that no put gave")?;
+                        watch.held =
+                            watch.held.checked_sub(1).ok_or("a record was taken that no put gave")?;
                     }
                     if watch.held == 0 {
                         continue;

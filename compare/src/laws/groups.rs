@@ -24,7 +24,8 @@ pub fn laws_of(state: &State, words: [u64; 4]) -> Result<(), String> {
     let mut last = i128::MIN;
     for group in (0..64).filter(|i| eligible_ready >> i & 1 == 1) {
         let lanes = state.holding().filter(|lane| lane.group == group);
-        let finish = lanes.map(|lane| lane.rounded_finish()).min().expect("a group of the word holds a record");
+        let finish =
+            lanes.map(|lane| lane.rounded_finish()).min().expect("a group of the word holds a record");
         if finish < last {
             return Err(format!("finishes fall along the eligible-ready word at group {group}"));
         }

@@ -18,7 +18,6 @@ impl Flow {
     fn round(&self) -> u64 {
         self.start >> self.group << self.group
     }
-
 }
 
 pub struct Engine {
@@ -33,7 +32,11 @@ impl Engine {
     pub fn new(lanes: &[(usize, u64, u64)], slip: Slip) -> Engine {
         let mut flows: Vec<Option<Flow>> = (0..64).map(|_| None).collect();
         for &(number, weight, longest) in lanes {
-            let cost = if slip == Slip::CostRoundedDown { (1 << 20) / weight } else { (1_u64 << 20).div_ceil(weight) };
+            let cost = if slip == Slip::CostRoundedDown {
+                (1 << 20) / weight
+            } else {
+                (1_u64 << 20).div_ceil(weight)
+            };
             let most = longest * cost + u64::from(slip == Slip::GroupTooHigh);
             let group = most.next_power_of_two().trailing_zeros();
             flows[number] = Some(Flow { weight, longest, cost, group, start: 0, finish: 0, queue: vec![] });
@@ -43,7 +46,9 @@ impl Engine {
 
     fn held(&self) -> impl Iterator<Item = (usize, &Flow)> {
         let flows = self.flows.iter().enumerate();
-        flows.filter_map(|(n, flow)| flow.as_ref().map(|flow| (n, flow))).filter(|(_, flow)| !flow.queue.is_empty())
+        flows
+            .filter_map(|(n, flow)| flow.as_ref().map(|flow| (n, flow)))
+            .filter(|(_, flow)| !flow.queue.is_empty())
     }
 
     fn may_go(&self, round: u64) -> bool {
@@ -162,7 +167,8 @@ impl Engine {
             _ => {}
         }
         if holds {
-            let start = if self.slip == Slip::HoldingLaneTakesClock { finish.max(self.clock) } else { finish };
+            let start =
+                if self.slip == Slip::HoldingLaneTakesClock { finish.max(self.clock) } else { finish };
             self.begin(lane, start);
         } else {
             self.turns.retain(|&other| other != lane);

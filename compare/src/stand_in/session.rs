@@ -61,7 +61,13 @@ pub fn run(unit: &mut StandIn, session: &[u8], limit: u64, table: &mut [u8], ans
     Run { answered, written, stop }
 }
 
-fn requests(reader: &mut Reader, engine: &mut Engine, lines: &mut Lines, limit: u64, slip: Slip) -> (u64, Stop) {
+fn requests(
+    reader: &mut Reader,
+    engine: &mut Engine,
+    lines: &mut Lines,
+    limit: u64,
+    slip: Slip,
+) -> (u64, Stop) {
     let first = reader.place();
     let mut answered = 0;
     let mut walked = 0;
@@ -119,7 +125,9 @@ fn line(engine: &mut Engine, tag: u8, value: &[u8], slip: Slip) -> String {
         0x21 => engine.take().map(|r| format!("take {} {} {}", r.lane, r.mark, r.length)),
         0x22 => engine.look().map(|r| format!("look {} {} {}", r.lane, r.mark, r.length)),
         0x23 => Ok(engine.sets()).map(|[a, b, c, d]| format!("sets {a} {b} {c} {d}")),
-        0x24 if slip == Slip::SignLost => engine.lag(value[0]).map(|lag| format!("lag {}", lag.unsigned_abs())),
+        0x24 if slip == Slip::SignLost => {
+            engine.lag(value[0]).map(|lag| format!("lag {}", lag.unsigned_abs()))
+        }
         0x24 => engine.lag(value[0]).map(|lag| format!("lag {lag}")),
         _ => engine.restart().map(|()| "restart ok".to_string()),
     };
