@@ -43,6 +43,11 @@ pub struct Reference {
 }
 
 impl Reference {
+    /// A table with any contents, those too that calls would take long to make.
+    pub fn lay(&mut self, state: State, table: &mut [u8]) {
+        self.shelf.put(state, table);
+    }
+
     /// A call that changes the state unless it is refused.
     fn change<T>(&mut self, table: &mut [u8], call: impl Fn(&mut State) -> Result<T, u8>) -> Result<T, u8> {
         let answer = call(self.shelf.open(table).ok_or(refusal::NOT_GOOD)?)?;

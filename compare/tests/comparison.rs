@@ -3,6 +3,7 @@
 use compare::driver::report::Tally;
 use compare::driver::{self, clock, Budget};
 use compare::pipes;
+use compare::rules::State;
 use compare::stand_in::{Slip, StandIn, ALL};
 use compare::unit::{Reference, Unit};
 use std::path::Path;
@@ -55,9 +56,23 @@ fn a_difference_in_a_list_is_shown_by_a_short_list() {
 fn toward_the_clocks_edge() {
     let mut tally = Tally::default();
     let spent = clock::drive(&mut StandIn::new(Slip::None), 20_000, &mut tally).map_err(|found| found.what);
-    assert_eq!((spent, tally.calls), (Ok(false), 40_020));
-    let slip = clock::drive(&mut StandIn::new(Slip::ForgetsFinish), 20_000, &mut tally);
-    assert!(slip.is_err(), "the lags show the clock");
+    assert_eq!((spent, tally.calls), (Ok(false), 40_021));
+    let slip = clock::drive(&mut StandIn::new(Slip::ClockBeforeNewStart), 20_000, &mut tally);
+    assert!(slip.is_err(), "the clock stays behind the only lane");
+}
+
+#[test]
+fn at_the_clocks_edge() {
+    let mut state = State::fresh(&clock::setup());
+    // As after very many pairs: the lane is idle, and V is 2^33 below the edge.
+    state.clock = (1 << 62) - (1 << 33);
+    state.lanes[0].finish = state.clock;
+    let mut unit = Reference::default();
+    let mut table = vec![0; unit.table_size()];
+    unit.lay(state.clone(), &mut table);
+    let mut tally = Tally::default();
+    let spent = clock::drive_from(&mut unit, &mut table, state, 10, &mut tally).map_err(|found| found.what);
+    assert_eq!(spent, Ok(true), "14 within ten pairs; the rest of the drive follows");
 }
 
 #[test]

@@ -10,17 +10,32 @@ use crate::rules::State;
 use crate::setup::{LanePlan, Setup};
 use crate::unit::Unit;
 
-/// Runs at most `pairs` pairs; true if 14 was reached. Then the spent table is drained, restarted and used again.
+/// The setup of the drive.
+pub fn setup() -> Setup {
+    Setup { lanes: vec![LanePlan { number: 0, weight: 1, longest: 1_500 }] }
+}
+
+/// Runs at most `pairs` pairs from a fresh table; true if 14 was reached.
 pub fn drive<U: Unit>(unit: &mut U, pairs: u64, tally: &mut Tally) -> Result<bool, Found> {
-    let setup = Setup { lanes: vec![LanePlan { number: 0, weight: 1, longest: 1_500 }] };
-    let bytes = setups::bytes(&mut Rng::new(0), &setup);
+    let bytes = setups::bytes(&mut Rng::new(0), &setup());
     let mut table = vec![0; unit.table_size()];
     if unit.make(&bytes, &mut table) != Ok(1) {
         return Err(Found::new("a valid setup was refused", vec![]));
     }
-    let mut state = State::fresh(&setup);
+    drive_from(unit, &mut table, State::fresh(&setup()), pairs, tally)
+}
+
+/// The same from a table with these contents. One record is always held, so that at 14 the spent table has something
+/// to drain; then it is restarted and used again.
+pub fn drive_from<U: Unit>(
+    unit: &mut U,
+    table: &mut [u8],
+    mut state: State,
+    pairs: u64,
+    tally: &mut Tally,
+) -> Result<bool, Found> {
     let mut call = |call: Call| {
-        let (expected, answer) = (state.answer(call), unit.answer(&mut table, call));
+        let (expected, answer) = (state.answer(call), unit.answer(table, call));
         tally.calls += 1;
         if answer == expected {
             return Ok(answer);
@@ -29,6 +44,7 @@ pub fn drive<U: Unit>(unit: &mut U, pairs: u64, tally: &mut Tally) -> Result<boo
         Err(Found::new(what, vec![format!("{} pairs of put 0/7/1500 and take", tally.calls / 2)]))
     };
     let put = Call::Put { lane: 0, mark: 7, length: 1_500 };
+    call(put)?;
     for pair in 0..pairs {
         if pair.is_multiple_of(1_000) {
             call(Call::Lag { lane: 0 })?;
@@ -37,17 +53,9 @@ pub fn drive<U: Unit>(unit: &mut U, pairs: u64, tally: &mut Tally) -> Result<boo
             call(Call::Take)?;
             continue;
         }
-        for last in [
-            Call::Lag { lane: 0 },
-            Call::Sets,
-            Call::Take,
-            put,
-            Call::Restart,
-            put,
-            put,
-            Call::Sets,
-            Call::Take,
-        ] {
+        let spent =
+            [Call::Lag { lane: 0 }, Call::Sets, Call::Look, Call::Restart, Call::Take, put, Call::Take];
+        for last in spent.into_iter().chain([Call::Restart, put, put, Call::Sets, Call::Take]) {
             call(last)?;
         }
         return Ok(true);
