@@ -3,9 +3,9 @@
 // A fresh table is begun with no lane in it; then each lane of the setup is added. Words of lanes that are not in the setup, and places of a ring
 // that hold no record, are left as they stand: they mean nothing. The one division, for c, is made here.
 ghost use mathlib.Core.Path.{_≡_};
-ghost use mathlib.Core.List.{[], _∷_};
-ghost use Prim.Native.Nat.{_+_, _*_, _^_, _<_, _≤_};
-ghost use Rattle.rules.specs.State.{laneAt, noSetting, setupOf};
+ghost use mathlib.Core.List.{[]};
+ghost use Prim.Native.Nat.{_+_, _*_, _<_};
+ghost use Rattle.rules.specs.State.{laneAt, setupOf};
 ghost use Rattle.rules.specs.Setup.{InNumbers, Setup};
 ghost use Rattle.rules.specs.Calls.{idle, fresh};
 ghost use Rattle.table.specs.Layout.{Room};

@@ -5,9 +5,8 @@
 // present lanes is walked by its set bits. Then the tie order, against the word of the lanes that were found to hold records.
 ghost use mathlib.Core.Path.{_≡_};
 ghost use mathlib.Core.Bool.{true};
-ghost use Prim.Native.Nat.{_+_, _*_, _^_, _<_, _≤_};
-ghost use lib.ListN.{getD};
-ghost use Rattle.table.specs.Layout.{Room, cells, presentWord};
+ghost use Prim.Native.Nat.{_+_, _^_, _<_, _≤_};
+ghost use Rattle.table.specs.Layout.{Room, cells};
 ghost use Rattle.lane_test.specs.Says.{Says};
 ghost use Rattle.good.specs.Pass.{Noted, PassSays, Ordered};
 ghost use Rattle.good.specs.Table.{GoodTable};

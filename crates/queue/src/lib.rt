@@ -4,7 +4,7 @@
 // These are inner functions: a `requires` says what a good state gives.
 ghost use mathlib.Core.Path.{_≡_};
 ghost use mathlib.Core.Bool.{true, false};
-ghost use Prim.Native.Nat.{_+_, _*_, _^_, _<_, _≤_, max};
+ghost use Prim.Native.Nat.{_+_, _^_, _<_, _≤_, max};
 ghost use lib.ListN.{length};
 ghost use Rattle.rules.specs.State.{laneAt, holds, laneDepth};
 ghost use Rattle.rules.specs.Calls.{appended, woken};
