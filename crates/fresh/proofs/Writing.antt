@@ -14,8 +14,9 @@ use Rattle.table.specs.Layout.{Room, Now, cells, holdingWord, orderWord}
 use Rattle.table.specs.Means.{meant, Sound, Leaves, withLane, withOrder, withClock}
 use Rattle.table.proofs.Stores.{length-cells}
 use Rattle.table.proofs.Leave.{leave-order, leaves-then}
-use Rattle.fresh.specs.Makes.{Makes, settings, settingOf, upTo, restedTo}
-use Rattle.fresh.specs.declared.Given.{Given}
+use Rattle.fresh.specs.Makes.{Makes, settings, upTo, restedTo}
+use Rattle.plan.specs.Read.{settingOf}
+use Rattle.plan.specs.declared.Lane as plan
 use Rattle.fresh.proofs.States.{up-none, up-more, up-skip, up-at, up-all, rested-all}
 use Rattle.fresh.proofs.Leaves.{lanes-size}
 
@@ -25,10 +26,10 @@ pub makes-sound : (t₀ t : List ℕ) (gs : List Setting) → Room t → Makes t
 unfolding fresh
 makes-sound t₀ t gs room m = record { room = room; few = rw (m .state) (omega arith); beside = m .beside }
 
-abbrev pub none : Given
+abbrev pub none : plan.Lane
 none = record { weight = 0; longest = record { 0 = 0 } }
 
-module _ (lanes : List Given) (t₀ t : List ℕ) (k : ℕ) (hk : k < 64) (m : Makes t₀ t (upTo k (settings lanes))) where
+module _ (lanes : List plan.Lane) (t₀ t : List ℕ) (k : ℕ) (hk : k < 64) (m : Makes t₀ t (upTo k (settings lanes))) where
   at : settingAt (settings lanes) k ≡ settingOf (getD lanes k none)
   at = List·getD-map settingOf lanes k none
 
@@ -55,10 +56,10 @@ module _ (lanes : List Given) (t₀ t : List ℕ) (k : ℕ) (hk : k < 64) (m : M
       (s .each k) in
       record { state = m .state ∙ ap fresh (up-skip (settings lanes) k hk absent); beside = m .beside; rest = m .rest }
 
-pub write-none : (lanes : List Given) (t₀ t : List ℕ) → Makes t₀ t (upTo 0 []) → Makes t t (upTo 0 (settings lanes))
+pub write-none : (lanes : List plan.Lane) (t₀ t : List ℕ) → Makes t₀ t (upTo 0 []) → Makes t t (upTo 0 (settings lanes))
 write-none lanes t₀ t m = record { state = m .state ∙ ap fresh (up-none (settings lanes)); beside = m .beside; rest = refl }
 
-pub write-all : (lanes : List Given) (t t₀ t′ : List ℕ) (k : ℕ) → k ≡ 64 → Setup (settings lanes) → Makes t t₀ (upTo 0 []) → Makes t₀ t′ (upTo k (settings lanes)) → Makes t t′ (settings lanes)
+pub write-all : (lanes : List plan.Lane) (t t₀ t′ : List ℕ) (k : ℕ) → k ≡ 64 → Setup (settings lanes) → Makes t t₀ (upTo 0 []) → Makes t₀ t′ (upTo k (settings lanes)) → Makes t t′ (settings lanes)
 write-all lanes t t₀ t′ k e s a b =
     record { state = b .state ∙ ap (λ (n : ℕ). fresh (upTo n (settings lanes))) e ∙ ap fresh (up-all (settings lanes) (s .size)); beside = b .beside; rest = b .rest ∙ a .rest }
 

@@ -18,7 +18,8 @@ use Rattle.rules.specs.State.{if_then_else_, Setting, State, noSetting, setting
 use Rattle.rules.specs.Calls.{idle, fresh}
 use Rattle.table.specs.Layout.{WORDS, cells, rowOf}
 use Rattle.table.specs.Means.{meant, Beside, RowAgrees, givenOf}
-use Rattle.fresh.specs.declared.Given.{Given}
+use Rattle.plan.specs.Read.{settingOf}
+use Rattle.plan.specs.declared.Lane.{Lane}
 
 -- "Fresh: V = 0, each lane idle with F = 0."
 pub record Makes (before after : List ℕ) (gs : List Setting) : Type 0 where
@@ -26,10 +27,7 @@ pub record Makes (before after : List ℕ) (gs : List Setting) : Type 0 where
   pub beside : Beside (cells after)
   pub rest : drop (WORDS * 8) after ≡ drop (WORDS * 8) before
 
-abbrev pub settingOf : Given → Setting
-settingOf g = record { weight = g .weight; longest = g .longest .0 }
-
-abbrev pub settings : List Given → List Setting
+abbrev pub settings : List Lane → List Setting
 settings gs = map settingOf gs
 
 unfoldable pub mixed : {A : Type 0} → ℕ → (ℕ → A) → (ℕ → A) → List A

@@ -11,6 +11,7 @@ ghost use Rattle.rules.specs.Calls.{idle, fresh};
 ghost use Rattle.table.specs.Layout.{Room};
 ghost use Rattle.table.specs.Means.{meant, Sound, Leaves, withLane};
 ghost use Rattle.fresh.specs.Makes.{Makes, SettingWord, settings, upTo, restedTo};
+use plan::Lane;
 use table::CLOCK;
 use table::GROUP_UNIT;
 use table::HOLDING;
@@ -33,12 +34,6 @@ use units::Clock;
 use units::group_index;
 use units::lane_charge;
 use units::lane_rate;
-
-// What a setup gives a lane; weight 0 where the lane is not in the setup.
-pub struct Given {
-    pub weight: u64,
-    pub longest: Bytes,
-}
 
 // The setting word of a lane.
 fn setting_word(weight: u64, longest: Bytes) -> u64
@@ -83,7 +78,7 @@ pub fn add_lane(t: &mut [u8], k: usize, weight: u64, longest: Bytes)
 }
 
 // Writes the fresh table of a setup.
-pub fn write(t: &mut [u8], lanes: [Given; LANES])
+pub fn write(t: &mut [u8], lanes: [Lane; LANES])
     requires { ⌜ Room (now t) × Setup (settings lanes) ⌝ }
     ensures { λ _. ⌜ Makes (now (t .entry)) (now (t .exit)) (settings lanes) ⌝ }
 {
