@@ -6,15 +6,15 @@ use mathlib.Core.List.{List, [], _∷_}
 use native.Mathlib.Omega.{arith}
 use lib.ListN.{length, getD}
 use Rattle.words.specs.Runs.{tab}
-use Rattle.words.proofs.Runs.{getD-tab, length-tab}
+use Rattle.words.proofs.Runs.{getD-tab}
 use Rattle.units.specs.Numbers.{roundDown}
 use Rattle.rules.specs.State.{Rec, Setting, Lane, slot, group, laneDepth, charge, rate}
 use Rattle.rules.specs.Good.{Lengths, Times}
 use Rattle.table.specs.Layout.{rowAt, placeWord}
 use Rattle.table.specs.Means.{presentAt, recOf, ringOf, givenOf, timed, RowAgrees, laneOf}
 use Rattle.table.specs.declared.LaneRow.{LaneRow}
-use Rattle.table.proofs.Rows.{lane-present}
-use Rattle.table.proofs.Timed.{timed-given, timed-queue}
+use Rattle.table.proofs.Rows.{lane-present, length-ring, given-row, queue-row, count-row}
+use Rattle.table.proofs.Timed.{timed-queue}
 use Rattle.lane_test.specs.Says.{TimeGood, LaneGood}
 
 -- ---- lengths
@@ -43,18 +43,14 @@ module _ (g : Setting) (w : List ℕ) (k h n : ℕ) where
   unfolding ringOf entry
   length-of i p = ap (λ (r : Rec). r .len) (getD-tab n i (λ j. recOf (getD w (placeWord k (h + j)) 0)) noRec p)
 
-  size : length (ringOf w k h n) ≡ n
-  unfolding ringOf
-  size = length-tab n (λ j. recOf (getD w (placeWord k (h + j)) 0))
-
   pub ring-length : (i : ℕ) → i < n → Lengths g (ringOf w k h n) → InLength (g .longest) (getD w (placeWord k (h + i)) 0 / 2 ^ 32)
   unfolding entry
-  ring-length i p l = subst (InLength (g .longest)) (length-of i p) (lengths-at g (ringOf w k h n) i (omega (arith, size)) l)
+  ring-length i p l = subst (InLength (g .longest)) (length-of i p) (lengths-at g (ringOf w k h n) i (omega (arith, length-ring w k h n)) l)
 
   pub ring-lengths : ((i : ℕ) → i < n → InLength (g .longest) (getD w (placeWord k (h + i)) 0 / 2 ^ 32)) → Lengths g (ringOf w k h n)
   unfolding entry
   ring-lengths f =
-      lengths-all g (ringOf w k h n) (λ i p. let q : i < n = omega (arith, size) in subst (InLength (g .longest)) (sym (length-of i q)) (f i q))
+      lengths-all g (ringOf w k h n) (λ i p. let q : i < n = omega (arith, length-ring w k h n) in subst (InLength (g .longest)) (sym (length-of i q)) (f i q))
 
 -- ---- times
 
@@ -90,30 +86,24 @@ module _ (v : ℕ) (w : List ℕ) (k : ℕ) (p : presentAt w k ≡ true) where
   is : laneOf w k ≡ timed (givenOf row) (row .time .0) ring
   is = lane-present w k p
 
-  given-is : laneOf w k .given ≡ givenOf row
-  given-is = ap (λ (l : Lane). l .given) is ∙ timed-given _ _ _
-
-  queue-is : laneOf w k .queue ≡ ring
-  queue-is = ap (λ (l : Lane). l .queue) is ∙ timed-queue _ _ _
-
   count-is : length ring ≡ row .count
-  count-is = size (givenOf row) w k (row .head) (row .count)
+  count-is = length-ring w k (row .head) (row .count)
 
   pub lane-made : RowAgrees row → row .count ≤ laneDepth → TimeGood v row → Lengths (givenOf row) ring → LaneGood v w k
   lane-made a r t l =
       record {
         agrees = a;
-        room = omega (arith, ap length queue-is, count-is);
-        lengths = rw (given-is, queue-is) l;
+        room = omega (arith, count-row w k p);
+        lengths = rw (given-row w k p, queue-row w k p) l;
         numbers = subst (λ (l : Lane). Times v l (l .queue)) (sym is) (subst (Times v (timed (givenOf row) (row .time .0) ring)) (sym (timed-queue _ _ _)) (times-of v row ring count-is a t));
       }
 
   module _ (g : LaneGood v w k) where
     pub lane-room : row .count ≤ laneDepth
-    lane-room = omega (arith, g .room, ap length queue-is, count-is)
+    lane-room = omega (arith, g .room, count-row w k p)
 
     pub lane-time : TimeGood v row
     lane-time = time-of v row ring count-is (g .agrees) (subst (Times v (timed (givenOf row) (row .time .0) ring)) (timed-queue _ _ _) (subst (λ (l : Lane). Times v l (l .queue)) is (g .numbers)))
 
     pub lane-lengths : Lengths (givenOf row) ring
-    lane-lengths = rw (given-is, queue-is) at (g .lengths)
+    lane-lengths = rw (given-row w k p, queue-row w k p) at (g .lengths)

@@ -15,10 +15,10 @@ use Rattle.table.specs.declared.LaneRow.{LaneRow}
 use Rattle.table.proofs.Stores.{length-cells}
 use Rattle.table.proofs.Footprint.{Outside, lane-is}
 use Rattle.table.proofs.Leave.{leave-lane}
-use Rattle.table.proofs.Rows.{retimed, outside-trans, outside-row, outside-place, lane-put, lane-present, row-place, present-place, weight-present, holds-present}
-use Rattle.table.proofs.Timed.{timed-queue, timed-appended, timed-woken, timed-served}
+use Rattle.table.proofs.Rows.{retimed, outside-trans, outside-row, outside-place, lane-put, row-place, present-place, lane-present, weight-present, holds-present, queue-row, count-row}
+use Rattle.table.proofs.Timed.{timed-appended, timed-woken, timed-served}
 use Rattle.queue.specs.Queue.{waiting, behind, First, Takes}
-use Rattle.queue.proofs.Ring.{length-ring, recOf-entryWord, ring-snoc, ring-one, ring-cons, none-held, one-held}
+use Rattle.queue.proofs.Ring.{recOf-entryWord, ring-snoc, ring-one, ring-cons, none-held, one-held}
 
 -- words in which at most a record of lane k's ring was stored
 record Stage (w u : List ℕ) (k : ℕ) : Type 0 where
@@ -47,20 +47,20 @@ rewritten t t₁ t′ u k x h n s hk small p g a b =
 -- ---- a lane by its row
 
 module _ (w : List ℕ) (k : ℕ) (hk : k < 64) (p : presentAt w k ≡ true) where
-  pub lane-row : laneAt (stateOf w) k ≡ timed (givenOf (rowAt w k)) (rowAt w k .time .0) (ringOf w k (rowAt w k .head) (rowAt w k .count))
+  lane-row : laneAt (stateOf w) k ≡ timed (givenOf (rowAt w k)) (rowAt w k .time .0) (ringOf w k (rowAt w k .head) (rowAt w k .count))
   lane-row = lane-is w k hk ∙ lane-present w k p
 
-  pub queue-row : laneAt (stateOf w) k .queue ≡ ringOf w k (rowAt w k .head) (rowAt w k .count)
-  queue-row = ap (λ (l : Lane). l .queue) lane-row ∙ timed-queue _ _ _
+  queue-of : laneAt (stateOf w) k .queue ≡ ringOf w k (rowAt w k .head) (rowAt w k .count)
+  queue-of = ap (λ (l : Lane). l .queue) (lane-is w k hk) ∙ queue-row w k p
 
-  pub count-row : length (laneAt (stateOf w) k .queue) ≡ rowAt w k .count
-  count-row = ap length queue-row ∙ length-ring w k _ _
+  count-of : length (laneAt (stateOf w) k .queue) ≡ rowAt w k .count
+  count-of = ap (λ (l : Lane). length (l .queue)) (lane-is w k hk) ∙ count-row w k p
 
-  pub holds-row : holds (laneAt (stateOf w) k) ≡ true → 0 < rowAt w k .count
-  holds-row h = omega (arith, one-held (laneAt (stateOf w) k .queue) h, count-row)
+  holds-row : holds (laneAt (stateOf w) k) ≡ true → 0 < rowAt w k .count
+  holds-row h = omega (arith, one-held (laneAt (stateOf w) k .queue) h, count-of)
 
-  pub idle-row : holds (laneAt (stateOf w) k) ≡ false → laneAt (stateOf w) k ≡ timed (givenOf (rowAt w k)) (rowAt w k .time .0) []
-  idle-row h = lane-row ∙ ap (timed (givenOf (rowAt w k)) (rowAt w k .time .0)) (sym queue-row ∙ none-held _ h)
+  idle-row : holds (laneAt (stateOf w) k) ≡ false → laneAt (stateOf w) k ≡ timed (givenOf (rowAt w k)) (rowAt w k .time .0) []
+  idle-row h = lane-row ∙ ap (timed (givenOf (rowAt w k)) (rowAt w k .time .0)) (sym queue-of ∙ none-held _ h)
 
 -- ---- append
 
@@ -73,9 +73,9 @@ append-at t t₁ t′ k e s hk small head held room a b =
     let l = rowAt w k in
     let p = holds-present w k hk held in
     let q = ringOf w k (l .head) (l .count) in
-    let r : l .count < 16 = omega (arith, count-row w k hk p) in
+    let r : l .count < 16 = omega (arith, count-of w k hk p) in
     let ring : ringOf (set w (placeWord k (l .head + l .count)) (entryWord e)) k (l .head) (l .count + 1) ≡ q ++ waiting e ∷ [] = ring-snoc w k (l .head) (l .count) (entryWord e) (length-cells t) hk r ∙ rw (recOf-entryWord e small) in
-    let same : timed (givenOf l) (l .time .0) (ringOf (set w (placeWord k (l .head + l .count)) (entryWord e)) k (l .head) (l .count + 1)) ≡ appended (laneAt (meant t) k) (waiting e) = ap (timed (givenOf l) (l .time .0)) ring ∙ sym (timed-appended (givenOf l) (l .time .0) q (waiting e) (sym (ap some? (queue-row w k hk p)) ∙ held)) ∙ ap (λ (x : Lane). appended x (waiting e)) (sym (lane-row w k hk p)) in
+    let same : timed (givenOf l) (l .time .0) (ringOf (set w (placeWord k (l .head + l .count)) (entryWord e)) k (l .head) (l .count + 1)) ≡ appended (laneAt (meant t) k) (waiting e) = ap (timed (givenOf l) (l .time .0)) ring ∙ sym (timed-appended (givenOf l) (l .time .0) q (waiting e) (sym (ap some? (queue-of w k hk p)) ∙ held)) ∙ ap (λ (x : Lane). appended x (waiting e)) (sym (lane-row w k hk p)) in
     rw (← same) (rewritten t t₁ t′ _ k _ _ _ s hk head p (stage-place w k (l .head + l .count) (entryWord e) hk (length-cells t)) a b)
 
 pub append-leaves : (t t₁ t′ : List ℕ) (k : ℕ) (e : Entry) (l : LaneRow) → l ≡ rowAt (cells t) k → Sound t → k < 64 → e .mark < 2 ^ 32 → l .head < 16 → holds (laneAt (meant t) k) ≡ true → length (laneAt (meant t) k .queue) < 16
@@ -180,7 +180,7 @@ first-leaves t k l e q r hk held =
 -- the bounds that the code needs
 pub room-row : (t : List ℕ) (k n : ℕ) (l : LaneRow) → l ≡ rowAt (cells t) k → k < 64 → holds (laneAt (meant t) k) ≡ true → length (laneAt (meant t) k .queue) ≤ n → l .count ≤ n
 room-row t k n l q hk held h =
-    subst (λ (l : LaneRow). l .count ≤ n) (sym q) (omega (arith, count-row (cells t) k hk (holds-present (cells t) k hk held)))
+    subst (λ (l : LaneRow). l .count ≤ n) (sym q) (omega (arith, count-of (cells t) k hk (holds-present (cells t) k hk held)))
 
 pub some-row : (t : List ℕ) (k : ℕ) (l : LaneRow) → l ≡ rowAt (cells t) k → k < 64 → holds (laneAt (meant t) k) ≡ true → 0 < l .count
 some-row t k l q hk held = subst (λ (l : LaneRow). 0 < l .count) (sym q) (holds-row (cells t) k hk (holds-present (cells t) k hk held) held)

@@ -8,16 +8,12 @@ use native.Mathlib.Omega.{arith}
 use lib.ListN.{length, drop, getD, set}
 use lib.Seq.{getD-set-same, getD-set-other}
 use Rattle.words.specs.Runs.{tab, tabFrom}
-use Rattle.words.proofs.Runs.{tab-ext, tab-snoc, tab-cons, length-tab}
+use Rattle.words.proofs.Runs.{tab-ext, tab-snoc, tab-cons}
 use Rattle.rules.specs.State.{Rec, some?}
 use Rattle.table.specs.Layout.{placeWord, entryWord}
 use Rattle.table.specs.Means.{recOf, ringOf}
 use Rattle.table.specs.declared.Entry.{Entry}
 use Rattle.queue.specs.Queue.{waiting}
-
-pub length-ring : (w : List ℕ) (k h n : ℕ) → length (ringOf w k h n) ≡ n
-unfolding ringOf
-length-ring w k h n = length-tab n _
 
 -- a record in one word
 pub recOf-entryWord : (e : Entry) → e .mark < 2 ^ 32 → recOf (entryWord e) ≡ waiting e

@@ -60,7 +60,7 @@ none-if : (b : Bool) → _≡_ {A = ℕ} (if b then (if false then 1 else 0) els
 none-if true = refl
 none-if false = refl
 
-take-tied : (s : State) (o : Option Pick) → PickIs s o → Tied s → Tied ((takeOf s o) .state)
+pub take-tied : (s : State) (o : Option Pick) → PickIs s o → Tied s → Tied ((takeOf s o) .state)
 unfolding takeOf serve Tied
 take-tied s none h t k = t k
 take-tied s (some p) h t k =

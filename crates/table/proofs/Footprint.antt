@@ -10,13 +10,13 @@ use lib.Seq.{getD-set-same, getD-set-other}
 use Rattle.words.specs.Runs.{reads, tab}
 use Rattle.words.proofs.Runs.{reads-ext, length-reads, tab-ext, tab-set, getD-tab}
 use Rattle.rules.specs.State.{Lane, State, noLane, laneAt}
-use Rattle.table.specs.Layout.{presentWord, holdingWord, laneWord, placeWord, rowAt, rowOf}
+use Rattle.table.specs.Layout.{presentWord, holdingWord, orderWord, laneWord, placeWord, rowAt, rowOf}
 use Rattle.table.specs.Means.{presentAt, recOf, ringOf, rowLane, laneOf, stateOf, RowAgrees, Beside, withClock, withLane, withOrder}
 use Rattle.table.proofs.Stores.{rowOf-eq}
 
 -- words that agree on lane k
 pub record SameLane (w u : List ℕ) (k : ℕ) : Type 0 where
-  pub present : getD u presentWord 0 ≡ getD w presentWord 0
+  pub present : presentAt u k ≡ presentAt w k
   pub row : (i : ℕ) → laneWord k ≤ i → i < laneWord k + 3 → getD u i 0 ≡ getD w i 0
   pub ring : (i : ℕ) → 336 + 16 * k ≤ i → i < 336 + 16 * k + 16 → getD u i 0 ≡ getD w i 0
 
@@ -36,7 +36,7 @@ ring-kept w u k h n s =
 
 pub lane-kept : (w u : List ℕ) (k : ℕ) → SameLane w u k → laneOf u k ≡ laneOf w k
 unfolding laneOf rowLane
-lane-kept w u k s = rw (present-kept w u k (s .present), row-kept w u k (s .row), ring-kept w u k _ _ (s .ring))
+lane-kept w u k s = rw (s .present, row-kept w u k (s .row), ring-kept w u k _ _ (s .ring))
 
 pub lane-is : (w : List ℕ) (k : ℕ) → k < 64 → laneAt (stateOf w) k ≡ laneOf w k
 unfolding stateOf
@@ -45,6 +45,10 @@ lane-is w k h = getD-tab 64 k (laneOf w) noLane h
 pub order-is : (w : List ℕ) → length (stateOf w .order) ≡ getD w holdingWord 0
 unfolding stateOf
 order-is w = length-reads w 16 (getD w holdingWord 0)
+
+pub reads-order : (w : List ℕ) (n : ℕ) → n ≡ length (stateOf w .order) → reads w orderWord n ≡ stateOf w .order
+unfolding stateOf
+reads-order w n e = ap (reads w orderWord) (e ∙ order-is w)
 
 -- ---- a change in one lane's words but its setting
 
@@ -60,7 +64,7 @@ module _ (w u : List ℕ) (k : ℕ) (hk : k < 64) (o : Outside w u k) where
       let holding : getD u 2 0 ≡ getD w 2 0 = o .kept 2 (λ p q. omega arith) (λ p q. omega arith) in
       let order : reads u 16 (getD w 2 0) ≡ reads w 16 (getD w 2 0) = reads-ext w u 16 (getD w 2 0) (λ i p q. o .kept i (λ x y. omega arith) (λ x y. omega arith)) in
       let lanes : tab 64 (laneOf u) ≡ set (tab 64 (laneOf w)) k (laneOf u k) = tab-set 64 k (laneOf w) (laneOf u) hk (λ j h ne. lane-kept w u j (record {
-        present = o .kept 1 (λ p q. omega arith) (λ p q. omega arith);
+        present = present-kept w u j (o .kept 1 (λ p q. omega arith) (λ p q. omega arith));
         row = λ i p q. o .kept i (λ x y. omega arith) (λ x y. omega arith);
         ring = λ i p q. o .kept i (λ x y. omega arith) (λ x y. omega arith);
       })) in
@@ -99,7 +103,7 @@ pub record OutsideOrder (w u : List ℕ) : Type 0 where
 
 lanes-kept : (w u : List ℕ) → getD u 1 0 ≡ getD w 1 0 → ((i : ℕ) → 80 ≤ i → getD u i 0 ≡ getD w i 0) → tab 64 (laneOf u) ≡ tab 64 (laneOf w)
 lanes-kept w u e f =
-    tab-ext 64 (laneOf u) (laneOf w) (λ k h. lane-kept w u k (record { present = e; row = λ i p q. f i (omega arith); ring = λ i p q. f i (omega arith) }))
+    tab-ext 64 (laneOf u) (laneOf w) (λ k h. lane-kept w u k (record { present = present-kept w u k e; row = λ i p q. f i (omega arith); ring = λ i p q. f i (omega arith) }))
 
 pub order-changed : (w u : List ℕ) → OutsideOrder w u → stateOf u ≡ withOrder (stateOf w) (reads u 16 (getD u 2 0))
 unfolding stateOf

@@ -3,3 +3,5 @@ pub mod Footprint
 pub mod Leave
 pub mod Rows
 pub mod Timed
+pub mod Few
+pub mod Next

@@ -1,4 +1,5 @@
--- What a store to a lane's row or ring does to the lane. Assumes nothing.
+-- A lane by its row: what a store to the row or the ring does to the lane, which lanes are in the setup, and what a row says of its lane.
+-- Assumes nothing.
 use mathlib.Core.Path.{_≡_, refl, sym, ap, _∙_}
 use mathlib.Core.Bool.{Bool, true, false}
 use Prim.Native.Nat.{ℕ, zero, suc, _+_, _*_, _/_, _%_, _≤_, _<_}
@@ -6,10 +7,12 @@ use mathlib.Core.List.{List, [], _∷_}
 use native.Mathlib.Omega.{arith}
 use lib.ListN.{length, getD, set, length-set}
 use lib.Seq.{getD-set-same, getD-set-other}
-use Rattle.rules.specs.State.{if_then_else_, Rec, Lane, State, laneAt, holds, some?, noLane}
 use Rattle.table.specs.Layout.{presentWord, laneWord, placeWord, rowOf, rowAt, putRow}
 use Rattle.table.specs.Means.{presentAt, recOf, ringOf, givenOf, timed, rowLane, laneOf, stateOf}
 use Rattle.table.specs.declared.LaneRow.{LaneRow}
+use Rattle.words.proofs.Runs.{length-tab}
+use Rattle.rules.specs.State.{Lane, laneAt, holds, noLane}
+use Rattle.table.proofs.Timed.{timed-given, timed-queue}
 use Rattle.table.proofs.Footprint.{Outside, present-kept, row-kept, ring-kept, lane-is}
 
 -- ---- where the stores lie
@@ -65,10 +68,10 @@ lane-put w k x h n len hk small p =
 pub row-place : (w : List ℕ) (k i e : ℕ) → k < 64 → rowAt (set w (placeWord k i) e) k ≡ rowAt w k
 row-place w k i e hk = row-kept w (set w (placeWord k i) e) k (λ j p q. getD-set-other w (placeWord k i) j e 0 (omega arith))
 
--- ---- lanes by their rows
-
 pub present-place : (w : List ℕ) (k i e : ℕ) → presentAt (set w (placeWord k i) e) k ≡ presentAt w k
 present-place w k i e = present-kept w (set w (placeWord k i) e) k (getD-set-other w (placeWord k i) presentWord e 0 (omega arith))
+
+-- ---- which lanes are in the setup, and what their rows say of them
 
 pub lane-present : (w : List ℕ) (k : ℕ) → presentAt w k ≡ true → laneOf w k ≡ timed (givenOf (rowAt w k)) (rowAt w k .time .0) (ringOf w k (rowAt w k .head) (rowAt w k .count))
 unfolding laneOf rowLane
@@ -93,3 +96,19 @@ by-holds w k false e h = sym (ap holds (lane-absent w k e)) ∙ h
 -- and so is one that holds records
 pub holds-present : (w : List ℕ) (k : ℕ) → k < 64 → holds (laneAt (stateOf w) k) ≡ true → presentAt w k ≡ true
 holds-present w k hk h = by-holds w k (presentAt w k) refl (rw (lane-is w k hk) at h)
+
+-- ---- what its row says of a lane in the setup
+
+pub length-ring : (w : List ℕ) (k h n : ℕ) → length (ringOf w k h n) ≡ n
+unfolding ringOf
+length-ring w k h n = length-tab n _
+
+module _ (w : List ℕ) (k : ℕ) (p : presentAt w k ≡ true) where
+  pub given-row : laneOf w k .given ≡ givenOf (rowAt w k)
+  given-row = ap (λ (l : Lane). l .given) (lane-present w k p) ∙ timed-given _ _ _
+
+  pub queue-row : laneOf w k .queue ≡ ringOf w k (rowAt w k .head) (rowAt w k .count)
+  queue-row = ap (λ (l : Lane). l .queue) (lane-present w k p) ∙ timed-queue _ _ _
+
+  pub count-row : length (laneOf w k .queue) ≡ rowAt w k .count
+  count-row = ap length queue-row ∙ length-ring w k _ _

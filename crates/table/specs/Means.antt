@@ -1,6 +1,7 @@
 -- The state that a table's words mean, in the terms of `rules`.
 --
 --   presentAt   lane k is in the setup: bit k of the word of present lanes
+--   Next        the next lane in the setup
 --   timed       a lane by its setting, its one clock word and its queue
 --   laneOf      lane k; one that is not in the setup means nothing, whatever its words hold
 --   stateOf     the state
@@ -15,6 +16,7 @@ use Prim.Native.Nat.{ℕ, _+_, _*_, _/_, _%_, _^_, _≤_, _<_}
 use mathlib.Core.List.{List, [], _∷_}
 use lib.Dec.{eqb}
 use lib.ListN.{length, drop, getD, set}
+use Rattle.words.specs.Bits.{bit}
 use Rattle.words.specs.Runs.{reads, tab}
 use Rattle.rules.specs.State.{if_then_else_, Rec, Setting, Lane, State, charge, rate, group, noLane}
 use Rattle.rules.specs.Setup.{InNumbers}
@@ -22,7 +24,14 @@ use Rattle.table.specs.Layout.{WORDS, Room, cells, clockWord, presentWor
 use Rattle.table.specs.declared.LaneRow.{LaneRow}
 
 unfoldable pub presentAt : List ℕ → ℕ → Bool
-presentAt w k = eqb (getD w presentWord 0 / 2 ^ k % 2) 1
+presentAt w k = eqb (bit k (getD w presentWord 0)) 1
+
+-- the first lane from a number on that a word of present lanes names; 64 where there is none
+pub record Next (lanes from k : ℕ) : Type 0 where
+  pub on : from ≤ k
+  pub ends : k ≤ 64
+  pub absent : (i : ℕ) → from ≤ i → i < k → bit i lanes ≡ 0
+  pub present : k < 64 → bit k lanes ≡ 1
 
 abbrev pub recOf : ℕ → Rec
 recOf e = record { mark = e % 2 ^ 32; len = e / 2 ^ 32 }

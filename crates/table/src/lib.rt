@@ -10,7 +10,7 @@ ghost use Prim.Native.Nat.{_+_, _*_, _^_, _<_, _≤_};
 ghost use lib.ListN.{length, getD, set};
 ghost use Rattle.table.specs.Layout.{Room, WORDS, Now, cells, rowAt, putRow, entryOf, entryWord, placeWord};
 ghost use Rattle.rules.specs.State.{charge};
-ghost use Rattle.table.specs.Means.{presentAt, givenOf, meant, Sound, Leaves, withClock};
+ghost use Rattle.table.specs.Means.{presentAt, Next, givenOf, meant, Sound, Leaves, withClock};
 use units::Bytes;
 use units::Clock;
 use units::Rate;
@@ -120,6 +120,21 @@ pub fn present(t: &[u8], k: usize) -> bool
 {
     let lanes = cell(t, PRESENT);
     (lanes >> (k as u32)) % 2 == 1
+}
+
+// The first lane from `from` on that is in the setup, `lanes` being the word of present lanes; 64 where there is none.
+pub fn next_present(lanes: u64, from: usize) -> usize
+    requires { ⌜ from ≤ 64 ⌝ }
+    ensures { λ r. ⌜ Next lanes from r ⌝ }
+{
+    if from >= 64 {
+        return 64;
+    }
+    let rest = lanes >> (from as u32);
+    if rest == 0 {
+        return 64;
+    }
+    from + (u64::trailing_zeros(rest) as usize)
 }
 
 // The clock V.

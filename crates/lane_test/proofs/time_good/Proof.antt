@@ -28,7 +28,7 @@ add-if3-2 : tie.Need-add-if3-2
 add-if3-2 c = search needs
 
 returns-3 : tie.Need-returns-3
-returns-3 c = λ t. omega (arith, t .above (omega (arith, c .before .before .before .if2 .left)), c .before .before .rounded-start .ensures .0, c .before .before .before .before .before .before .before .before .before .slot .ensures .0, c .if3 .taken)
+returns-3 c = λ t. omega (arith, t .above (omega arith))
 
 returns-4 : tie.Need-returns-4
 returns-4 c = search needs

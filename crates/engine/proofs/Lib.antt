@@ -1,0 +1,6 @@
+pub mod RowIs
+pub mod Verdicts
+pub mod Waking
+pub mod Signed
+pub mod Replies
+pub mod Serving

@@ -1,0 +1,143 @@
+-- From what a call found to what it promises. Assumes nothing.
+use Prim.Native.Nat.{ℕ, _^_, _≤_, _<_, max}
+use native.Mathlib.Omega.{arith}
+use mathlib.Core.Path.{_≡_, refl, sym, ap, subst, _∙_}
+use mathlib.Core.Bool.{true, false, false≢true}
+use mathlib.Core.List.{List, [], _∷_}
+use mathlib.Core.Option.{Option, none, some}
+use lib.IntN.{ℤ, subℕ}
+use borrow.Author.Tests.{lt-ltb, le-ltb}
+use Rattle.rules.specs.State.{anyHolds, Rec, Setting, State, holds, laneAt, setupOf}
+use Rattle.rules.specs.Choice.{Candidate, choose}
+use Rattle.rules.specs.Calls.{restart, fresh, doRestart, Call, put, take, look, lag, lagged, lagOf, doLag, refused, Outcome, no, putRefusal, accept, putOf, doPut, Pick, firstOf, pickOf, picked, takeOf, doTake, lookOf, doLook, step}
+use Rattle.rules.specs.Reads.{number, placeOf}
+use Rattle.rules.specs.declared.Refusal.{Refusal}
+use Rattle.rules.specs.declared.Answer.the-variants.{Restarted, Accepted, Taken, Seen, Refused}
+use Rattle.rules.specs.declared.Record.{Record}
+use Rattle.rules.specs.Good.{Times, Good}
+use Rattle.rules.proofs.Lane.{slot-most}
+use Rattle.rules.proofs.SameSetup.{setting-lane}
+use Rattle.rules.proofs.Fair.{longest-most}
+use Rattle.rules.proofs.Queues.{idle-queue}
+use Rattle.rules.proofs.Keep.{Picked, PickIs, pick-is, Allowed, PutOk, put-ok}
+use Rattle.rules.proofs.Chosen.{Choice, chosen}
+use Rattle.rules.proofs.BySets.{laneOf}
+use Rattle.table.specs.Means.{meant, Leaves}
+use Rattle.engine.specs.Does.{Says, Does, Serves}
+
+-- ---- refusals
+
+pub leaves-same : (t : List ℕ) (s : State) → meant t ≡ s → Leaves t t s
+leaves-same t s e = record { state = e; beside = λ b. b; rest = refl }
+
+pub refusal-says : (c : Call) (t : List ℕ) (x : Refusal) → placeOf x ≡ none → step (meant t) c ≡ no (number x) (meant t) → Says c t (Refused x)
+refusal-says c t x p e = ap (refused (number x)) p ∙ sym (ap (λ (o : Outcome). o .reply) e)
+
+pub refusal-does : (c : Call) (t : List ℕ) (x : Refusal) → placeOf x ≡ none → step (meant t) c ≡ no (number x) (meant t) → Does c t (Refused x) t
+refusal-does c t x p e = record { says = refusal-says c t x p e; leaves = leaves-same t _ (sym (ap (λ (o : Outcome). o .state) e)); unchanged = refl }
+
+-- ---- put
+
+pub put-refused : (s : State) (j m n r : ℕ) → some r ≡ putRefusal s j n → step s (put j m n) ≡ no r s
+unfolding step doPut putOf
+put-refused s j m n r e = ap (putOf s j (record { mark = m; len = n })) (sym e)
+
+put-accepted : (s : State) (j m n : ℕ) → none ≡ putRefusal s j n → step s (put j m n) ≡ putOf s j (record { mark = m; len = n }) none
+unfolding step doPut
+put-accepted s j m n e = ap (putOf s j (record { mark = m; len = n })) (sym e)
+
+pub put-allowed : (s : State) (j n : ℕ) → none ≡ putRefusal s j n → Allowed s j n
+put-allowed s j n e = subst (PutOk s j n) (sym e) (put-ok s j n)
+
+pub put-does : (t u : List ℕ) (j m n : ℕ) → none ≡ putRefusal (meant t) j n → Leaves t u (accept (meant t) j (record { mark = m; len = n })) → Does (put j m n) t Accepted u
+unfolding putOf
+put-does t u j m n e l =
+    let o = put-accepted (meant t) j m n e in
+    record { says = sym (ap (λ (x : Outcome). x .reply) o); leaves = subst (Leaves t u) (sym (ap (λ (x : Outcome). x .state) o)) l; unchanged = tt }
+
+-- ---- take and look
+
+none-picked : (s : State) → none ≡ laneOf (choose s) → picked s ≡ none
+unfolding picked pickOf
+none-picked s e = go (choose s) e
+  where
+    go : (o : Option Candidate) → none ≡ laneOf o → pickOf s o ≡ none
+    go none q = refl
+    go (some c) q = let z : _≡_ {A = ℕ} 0 1 = cc in absurd (omega arith)
+
+pub take-none : (s : State) → none ≡ laneOf (choose s) → step s take ≡ no 16 s
+unfolding step doTake takeOf
+take-none s e = ap (takeOf s) (none-picked s e)
+
+pub look-none : (s : State) → none ≡ laneOf (choose s) → step s look ≡ no 16 s
+unfolding step doLook lookOf
+look-none s e = ap (lookOf s) (none-picked s e)
+
+-- what is picked where lane k is chosen: the lane's first record
+pub record Found (s : State) (k : ℕ) : Type 0 where
+  pub pick : Pick
+  pub picks : picked s ≡ some pick
+  pub lane : pick .lane ≡ k
+  pub is : Picked s pick
+
+pub found : (s : State) (k : ℕ) → laneOf (choose s) ≡ some k → Found s k
+unfolding picked pickOf firstOf choose
+found s k e = go (choose s) refl e (pick-is s)
+  where
+    first : (c : Candidate) (q : List Rec) → laneAt s (c .lane) .queue ≡ q → choose s ≡ some c → c .lane ≡ k → PickIs s (firstOf (c .lane) q) → Found s k
+    first c [] eq ec el h =
+        let ch = subst (Choice (s .clock) (s .order) 0 (s .lanes)) ec (chosen (s .clock) (s .order) 0 (s .lanes)) in
+        absurd (false≢true (sym (h (ch .at)) ∙ ch .is))
+    first c (r ∷ rs) eq ec el h = record { pick = record { lane = c .lane; first = r; rest = rs }; picks = ap (pickOf s) ec ∙ ap (firstOf (c .lane)) eq; lane = el; is = h }
+
+    go : (o : Option Candidate) → choose s ≡ o → laneOf o ≡ some k → PickIs s (picked s) → Found s k
+    go none ec q h = let z : _≡_ {A = ℕ} 0 1 = cc in absurd (omega arith)
+    go (some c) ec q h = first c (laneAt s (c .lane) .queue) refl ec (cc) (subst (λ (o : Option Candidate). PickIs s (pickOf s o)) ec h)
+
+pub take-does : (t u : List ℕ) (r : Record) → Serves t r u → Does take t (Taken r) u
+unfolding step doTake takeOf
+take-does t u r s = record {
+  says = rw (s .picks, s .lane, s .mark, s .size);
+  leaves = rw (s .picks) (s .leaves);
+  unchanged = tt;
+}
+
+pub look-says : (t : List ℕ) (r : Record) (p : Pick) → picked (meant t) ≡ some p → r .lane ≡ p .lane → r .mark ≡ p .first .mark → r .length .0 ≡ p .first .len → Says look t (Seen r)
+unfolding step doLook lookOf
+look-says t r p e l m n = rw (e, l, m, n)
+
+-- ---- lag
+
+module _ (s : State) (j : ℕ) where
+  pub lag-none : laneAt s j .given .weight ≡ 0 → step s (lag j) ≡ no 11 s
+  unfolding step doLag
+  lag-none w = simp (lt-ltb (laneAt s j .given .weight) 1 (omega (arith, w)))
+
+  lag-some : 0 < laneAt s j .given .weight → (step s (lag j)) .reply ≡ lagged (lagOf (s .clock) (laneAt s j))
+  unfolding step doLag
+  lag-some w = simp (le-ltb (laneAt s j .given .weight) 1 w)
+
+  pub lag-busy : 0 < laneAt s j .given .weight → holds (laneAt s j) ≡ true → (z : ℤ) → z ≡ subℕ (s .clock) (laneAt s j .start) → lagged z ≡ (step s (lag j)) .reply
+  unfolding lagOf
+  lag-busy w h z e = ap lagged (e ∙ simp h) ∙ sym (lag-some w)
+
+  pub lag-idle : 0 < laneAt s j .given .weight → holds (laneAt s j) ≡ false → (z : ℤ) → z ≡ subℕ (s .clock) (max (laneAt s j .finish) (s .clock)) → lagged z ≡ (step s (lag j)) .reply
+  unfolding lagOf
+  lag-idle w h z e = ap lagged (e ∙ simp h) ∙ sym (lag-some w)
+
+  -- an idle lane's F is below 2 ^ 63
+  pub idle-small : Good s → holds (laneAt s j) ≡ false → laneAt s j .finish < 2 ^ 63
+  idle-small g e =
+      let n : Times (s .clock) (laneAt s j) [] = subst (Times (s .clock) (laneAt s j)) (idle-queue (laneAt s j .queue) e) (g .numbers j) in
+      let long : laneAt s j .given .longest ≤ 1500 = subst (λ (x : Setting). x .longest ≤ 1500) (setting-lane s j) (longest-most (setupOf s) (g .setup) j) in
+      omega (arith, n, g .clock, slot-most (laneAt s j .given) long)
+
+-- ---- restart
+
+pub restart-held : (s : State) → anyHolds (s .lanes) ≡ true → step s restart ≡ no 15 s
+unfolding step doRestart
+restart-held s e = simp e
+
+pub restart-does : (t u : List ℕ) → anyHolds (meant t .lanes) ≡ false → Leaves t u (fresh (setupOf (meant t))) → Does restart t Restarted u
+unfolding step doRestart
+restart-does t u e l = record { says = simp e; leaves = simp e l; unchanged = tt }

@@ -1,0 +1,99 @@
+-- What a lane's row says of the lane that the table means. Assumes nothing.
+use Prim.Native.Nat.{ℕ, _≤_, _<_}
+use native.Mathlib.Omega.{arith}
+use mathlib.Core.Path.{_≡_, refl, sym, ap, _∙_}
+use mathlib.Core.Bool.{true, false, false≢true}
+use mathlib.Core.List.{List, [], _∷_}
+use lib.ListN.{length, List·getD-eq-default}
+use Rattle.rules.specs.State.{Rec, Setting, Lane, noLane, group, rate, some?, holds, laneAt}
+use Rattle.rules.proofs.Lane.{group-most, group-least}
+use Rattle.words.proofs.Runs.{length-tab}
+use Rattle.table.specs.Layout.{cells, rowAt}
+use Rattle.table.specs.Means.{presentAt, ringOf, givenOf, timed, meant, RowAgrees, Sound}
+use Rattle.table.specs.declared.LaneRow.{LaneRow}
+use Rattle.table.proofs.Footprint.{lane-is}
+use Rattle.table.proofs.Rows.{lane-present, lane-absent}
+use Rattle.table.proofs.Timed.{timed-given, timed-queue}
+use Rattle.choice.proofs.Held.{lanes-many}
+
+-- a lane that the setup does not have
+pub absent-lane : (t : List ℕ) (k : ℕ) → k < 64 → presentAt (cells t) k ≡ false → laneAt (meant t) k ≡ noLane
+absent-lane t k h e = lane-is (cells t) k h ∙ lane-absent (cells t) k e
+
+pub far-lane : (t : List ℕ) (k : ℕ) → 64 ≤ k → laneAt (meant t) k ≡ noLane
+far-lane t k h = List·getD-eq-default (meant t .lanes) noLane {n = k} (omega (arith, lanes-many t))
+
+pub record RowIs (l : Lane) (r : LaneRow) : Type 0 where
+  pub given : l .given ≡ givenOf r
+  pub weight : 0 < r .weight
+  pub rated : r .rate .0 ≡ rate (l .given)
+  pub grouped : r .group ≡ group (l .given)
+  pub low : 16 ≤ r .group
+  pub high : r .group ≤ 31
+  pub held : length (l .queue) ≡ r .count
+  pub busy : holds l ≡ true → l .start ≡ r .time .0
+  pub idle : holds l ≡ false → l .finish ≡ r .time .0
+
+queue-count : (q : List Rec) → some? q ≡ true → 0 < length q
+queue-count [] e = absurd (false≢true e)
+queue-count (x ∷ xs) e = omega arith
+
+pub count-holds : (l : Lane) (n : ℕ) → length (l .queue) ≡ n → 0 < n → holds l ≡ true
+count-holds l n e h = go (l .queue) e
+  where
+    go : (q : List Rec) → length q ≡ n → some? q ≡ true
+    go [] e = absurd (omega arith)
+    go (x ∷ xs) e = refl
+
+pub count-idle : (l : Lane) → length (l .queue) ≡ 0 → holds l ≡ false
+count-idle l e = go (l .queue) e
+  where
+    go : (q : List Rec) → length q ≡ 0 → some? q ≡ false
+    go [] e = refl
+    go (x ∷ xs) e = absurd (omega arith)
+
+timed-start : (g : Setting) (x : ℕ) (q : List Rec) → some? q ≡ true → (timed g x q) .start ≡ x
+unfolding timed
+timed-start g x [] e = absurd (false≢true e)
+timed-start g x (r ∷ rs) e = refl
+
+timed-finish : (g : Setting) (x : ℕ) (q : List Rec) → some? q ≡ false → (timed g x q) .finish ≡ x
+unfolding timed
+timed-finish g x [] e = refl
+timed-finish g x (r ∷ rs) e = absurd (false≢true (sym e))
+
+module _ (t : List ℕ) (sound : Sound t) (k : ℕ) (small : k < 64) (here : presentAt (cells t) k ≡ true) where
+  abbrev r : LaneRow
+  r = rowAt (cells t) k
+
+  abbrev q : List Rec
+  q = ringOf (cells t) k (r .head) (r .count)
+
+  abbrev l : Lane
+  l = laneAt (meant t) k
+
+  is-timed : l ≡ timed (givenOf r) (r .time .0) q
+  is-timed = lane-is (cells t) k small ∙ lane-present (cells t) k here
+
+  agrees : RowAgrees r
+  agrees = sound .beside .rows k small here
+
+  same-given : l .given ≡ givenOf r
+  same-given = ap (λ (x : Lane). x .given) is-timed ∙ timed-given (givenOf r) (r .time .0) q
+
+  same-queue : l .queue ≡ q
+  same-queue = ap (λ (x : Lane). x .queue) is-timed ∙ timed-queue (givenOf r) (r .time .0) q
+
+  pub row-is : RowIs l r
+  unfolding ringOf
+  row-is = record {
+    given = same-given;
+    weight = agrees .numbers .weight-low;
+    rated = agrees .rated ∙ ap rate (sym same-given);
+    grouped = agrees .grouped ∙ ap group (sym same-given);
+    low = omega (arith, agrees .grouped, group-least (givenOf r) (agrees .numbers));
+    high = omega (arith, agrees .grouped, group-most (givenOf r) (agrees .numbers .longest-high));
+    held = ap length same-queue ∙ length-tab (r .count) _;
+    busy = λ e. ap (λ (x : Lane). x .start) is-timed ∙ timed-start (givenOf r) (r .time .0) q (sym (ap some? same-queue) ∙ e);
+    idle = λ e. ap (λ (x : Lane). x .finish) is-timed ∙ timed-finish (givenOf r) (r .time .0) q (sym (ap some? same-queue) ∙ e);
+  }

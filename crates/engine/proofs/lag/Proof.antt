@@ -1,0 +1,108 @@
+-- `lag` meets its contract. Assumes nothing.
+use mathlib.Core.Path.{refl, sym, ap, _∙_}
+use Prim.Native.Nat.{_<_}
+use native.Mathlib.Nat.{pos-of-ne-zero}
+use native.Mathlib.Omega.{arith}
+use mir.Syntax.{w64}
+use mir.ValLaws.{toZ-ofZ}
+use borrow.Author.Tests.{not-true, not-false}
+use Rattle.rules.specs.State.{Lane, laneAt}
+use Rattle.rules.specs.Calls.{lag}
+use Rattle.rules.specs.declared.Refusal.the-variants.{NoLane}
+use Rattle.table.specs.Means.{meant}
+use Rattle.choice.proofs.Held.{known-steady}
+use Rattle.engine.proofs.RowIs.{RowIs, row-is, absent-lane, far-lane, count-idle, count-holds}
+use Rattle.engine.proofs.Replies.{refusal-says, lag-none, lag-busy, lag-idle, idle-small}
+use borrow.Author.Needs.{needs}
+use Rattle.engine.proofs.lag.Statement.{statement}
+use Rattle.engine.proofs.lag.Tie as tie
+use Rattle.engine.proofs.lag.Reads as reads
+use Rattle.engine.proofs.lag.Lts as lts
+use Rattle.engine.proofs.difference.Reads as difference-reads
+use Rattle.table.proofs.clock.Reads as clock-reads
+use Rattle.table.proofs.present.Reads as present-reads
+use Rattle.table.proofs.row.Reads as row-reads
+use Rattle.units.proofs.later.Reads as later-reads
+
+returns : tie.Need-returns
+returns c =
+    let s = c .before .before in
+    refusal-says (lag _) (s .args .t .now) NoLane refl (lag-none (meant (s .args .t .now)) (s .args .lane) (ap (λ (l : Lane). l .given .weight) (far-lane (s .args .t .now) (s .args .lane) (c .if1 .taken))))
+
+present-requires : tie.Need-present-requires
+present-requires c κs = search needs
+
+returns-2 : tie.Need-returns-2
+returns-2 c =
+    let s = c .before .before .before .before in
+    refusal-says (lag _) (s .args .t .now) NoLane refl
+    (lag-none (meant (s .args .t .now)) (s .args .lane)
+    (ap (λ (l : Lane). l .given .weight) (absent-lane (s .args .t .now) (s .args .lane) (c .before .before .if1 .left) (sym (c .before .present .ensures) ∙ not-true (c .before .present .result) (c .if2 .taken)))))
+
+row-requires : tie.Need-row-requires
+row-requires c κs = search needs
+
+clock-requires : tie.Need-clock-requires
+clock-requires c κs = search needs
+
+later-requires : tie.Need-later-requires
+later-requires c κs = search needs
+
+difference-requires : tie.Need-difference-requires
+difference-requires c κs =
+    let s = c .before .before .before .before .before .before .before .before .before in
+    let t = s .args .t .now in
+    let k = s .args .lane in
+    let is : RowIs (laneAt (meant t) k) (c .before .before .before .before .row .result) = rw (c .before .before .before .before .row .ensures .0) (row-is t (s .pre .sound) k (c .before .before .before .before .before .before .before .if1 .left) (sym (c .before .before .before .before .before .before .present .ensures) ∙ not-false (c .before .before .before .before .before .before .present .result) (c .before .before .before .before .before .if2 .left))) in
+    let w : 0 < laneAt (meant t) k .given .weight = rw (is .given) (is .weight) in
+    let v = c .before .before .before .clock .ensures in
+    let idle = count-idle (laneAt (meant t) k) (is .held ∙ c .before .if3 .taken) in
+    (omega (arith, v, s .pre .good .clock), omega (arith, c .later .ensures, v, s .pre .good .clock, is .idle idle, idle-small (meant t) k (s .pre .good) idle))
+
+returns-3 : tie.Need-returns-3
+returns-3 c =
+    let s = c .before .before .before .before .before .before .before .before .before .before in
+    let t = s .args .t .now in
+    let k = s .args .lane in
+    let is : RowIs (laneAt (meant t) k) (c .before .before .before .before .before .row .result) = rw (c .before .before .before .before .before .row .ensures .0) (row-is t (s .pre .sound) k (c .before .before .before .before .before .before .before .before .if1 .left) (sym (c .before .before .before .before .before .before .before .present .ensures) ∙ not-false (c .before .before .before .before .before .before .before .present .result) (c .before .before .before .before .before .before .if2 .left))) in
+    let w : 0 < laneAt (meant t) k .given .weight = rw (is .given) (is .weight) in
+    let v = c .before .before .before .before .clock .ensures in
+    let idle = count-idle (laneAt (meant t) k) (is .held ∙ c .before .before .if3 .taken) in
+    lag-idle (meant t) k w idle _ (toZ-ofZ w64 (c .difference .result) (record { sfits = c .difference .ok }) ∙ c .difference .ensures ∙ rw (c .before .later .ensures, v, is .idle idle))
+
+difference-requires-2 : tie.Need-difference-requires-2
+difference-requires-2 c κs =
+    let s = c .before .before .before .before .before .before .before .before in
+    let t = s .args .t .now in
+    let k = s .args .lane in
+    let is : RowIs (laneAt (meant t) k) (c .before .before .before .row .result) = rw (c .before .before .before .row .ensures .0) (row-is t (s .pre .sound) k (c .before .before .before .before .before .before .if1 .left) (sym (c .before .before .before .before .before .present .ensures) ∙ not-false (c .before .before .before .before .before .present .result) (c .before .before .before .before .if2 .left))) in
+    let w : 0 < laneAt (meant t) k .given .weight = rw (is .given) (is .weight) in
+    let v = c .before .before .clock .ensures in
+    let busy = count-holds (laneAt (meant t) k) _ (is .held) (pos-of-ne-zero (c .if3 .left)) in
+    (omega (arith, v, s .pre .good .clock), omega (arith, is .busy busy, known-steady t (s .pre) .early k busy))
+
+returns-4 : tie.Need-returns-4
+returns-4 c =
+    let s = c .before .before .before .before .before .before .before .before .before in
+    let t = s .args .t .now in
+    let k = s .args .lane in
+    let is : RowIs (laneAt (meant t) k) (c .before .before .before .before .row .result) = rw (c .before .before .before .before .row .ensures .0) (row-is t (s .pre .sound) k (c .before .before .before .before .before .before .before .if1 .left) (sym (c .before .before .before .before .before .before .present .ensures) ∙ not-false (c .before .before .before .before .before .before .present .result) (c .before .before .before .before .before .if2 .left))) in
+    let w : 0 < laneAt (meant t) k .given .weight = rw (is .given) (is .weight) in
+    let v = c .before .before .before .clock .ensures in
+    let busy = count-holds (laneAt (meant t) k) _ (is .held) (pos-of-ne-zero (c .before .if3 .left)) in
+    lag-busy (meant t) k w busy _ (toZ-ofZ w64 (c .difference2 .result) (record { sfits = c .difference2 .ok }) ∙ c .difference2 .ensures ∙ rw (v, is .busy busy))
+
+pub lag-spec : {M : Type 1} → statement M
+lag-spec =
+    tie.close
+    (tie.spec
+    returns
+    present-requires
+    returns-2
+    row-requires
+    clock-requires
+    later-requires
+    difference-requires
+    returns-3
+    difference-requires-2
+    returns-4)

@@ -1,0 +1,58 @@
+-- `put` meets its contract. Assumes nothing.
+use mathlib.Core.Path.{sym, ap, subst, _∙_}
+use Rattle.rules.specs.Calls.{put}
+use Rattle.table.specs.Means.{meant}
+use Rattle.engine.specs.Does.{verdictIs, Placeless}
+use Rattle.engine.proofs.Replies.{put-allowed, put-refused, put-does, refusal-does}
+use borrow.Author.Needs.{needs}
+use Rattle.engine.proofs.put.Statement.{statement}
+use Rattle.engine.proofs.put.Tie as tie
+use Rattle.engine.proofs.put.Reads as reads
+use Rattle.engine.proofs.put.Lts as lts
+use Rattle.engine.proofs.put_record.Reads as put-record-reads
+use Rattle.engine.proofs.put_verdict.Reads as put-verdict-reads
+
+put-verdict-requires : tie.Need-put-verdict-requires
+put-verdict-requires c κs = search needs
+
+enum-known-verdict : tie.Need-enum-known-verdict
+enum-known-verdict c = search needs
+
+enum-told : tie.Need-enum-told
+enum-told c = search needs
+
+put-record-requires : tie.Need-put-record-requires
+put-record-requires c κs =
+    let s = c .before .before .before .before .before .before in
+    (s .pre, put-allowed (meant (s .args .t .now)) (s .args .lane) (s .args .length .0) (sym (ap verdictIs (c .before .enum-told .given .1)) ∙ c .before .before .before .put-verdict .ensures .0))
+
+same-length : tie.Need-same-length
+same-length c = search needs
+
+returns : tie.Need-returns
+returns c =
+    let s = c .before .before .before .before .before .before in
+    let v = c .before .before .before .put-verdict .ensures in
+    let e = c .before .verdict .given .1 in
+    refusal-does (put _ _ _) (s .args .t .now) _ (subst Placeless e (v .1)) (put-refused (meant (s .args .t .now)) (s .args .lane) (s .args .mark) (s .args .length .0) _ (sym (ap verdictIs e) ∙ v .0))
+
+same-length-2 : tie.Need-same-length-2
+same-length-2 c = search needs
+
+returns-2 : tie.Need-returns-2
+returns-2 c =
+    let s = c .before .before .before .before .before .before .before .before .before in
+    put-does (s .args .t .now) _ (s .args .lane) (s .args .mark) (s .args .length .0) (sym (ap verdictIs (c .before .before .before .before .enum-told .given .1)) ∙ c .before .before .before .before .before .before .put-verdict .ensures .0) (c .before .before .put-record .ensures)
+
+pub put-spec : {M : Type 1} → statement M
+put-spec =
+    tie.close
+    (tie.spec
+    put-verdict-requires
+    enum-known-verdict
+    enum-told
+    put-record-requires
+    same-length
+    returns
+    same-length-2
+    returns-2)

@@ -1,0 +1,64 @@
+-- `put_record` meets its contract. Assumes nothing.
+use mathlib.Core.Path.{_∙_}
+use native.Mathlib.Nat.{pos-of-ne-zero}
+use Rattle.rules.specs.State.{laneAt}
+use Rattle.table.specs.Means.{meant}
+use Rattle.queue.specs.Queue.{waiting}
+use Rattle.engine.proofs.RowIs.{RowIs, count-idle, count-holds}
+use Rattle.engine.proofs.Waking.{put-small, put-row, put-length, accept-busy}
+use borrow.Author.Needs.{needs}
+use Rattle.engine.proofs.put_record.Statement.{statement}
+use Rattle.engine.proofs.put_record.Tie as tie
+use Rattle.engine.proofs.put_record.Reads as reads
+use Rattle.engine.proofs.put_record.Lts as lts
+use Rattle.engine.proofs.put_first.Reads as put-first-reads
+use Rattle.queue.proofs.append.Reads as append-reads
+use Rattle.table.proofs.row.Reads as row-reads
+
+row-requires : tie.Need-row-requires
+row-requires c κs =
+    let s = c .before .before in
+    (s .pre .0 .sound .room, put-small (s .args .t .now) (s .pre .0) (s .args .k) (s .args .e .length .0) (s .pre .1))
+
+put-first-requires : tie.Need-put-first-requires
+put-first-requires c κs =
+    let s = c .before .before .before .before .before .before in
+    let t = s .args .t .now in
+    let is : RowIs (laneAt (meant t) (s .args .k)) (c .before .before .before .row .result) = rw (c .before .before .before .row .ensures .0) (put-row t (s .pre .0) (s .args .k) (s .args .e .length .0) (s .pre .1)) in
+    (s .pre .0, s .pre .1, count-idle (laneAt (meant t) (s .args .k)) (is .held ∙ c .before .if1 .taken))
+
+append-requires : tie.Need-append-requires
+append-requires c κs =
+    let s = c .before .before .before .before .before .before in
+    let t = s .args .t .now in
+    let is : RowIs (laneAt (meant t) (s .args .k)) (c .before .before .before .row .result) = rw (c .before .before .before .row .ensures .0) (put-row t (s .pre .0) (s .args .k) (s .args .e .length .0) (s .pre .1)) in
+    let a = s .pre .1 in
+    (s .pre .0 .sound, put-small t (s .pre .0) (s .args .k) (s .args .e .length .0) a, put-length t (s .pre .0) (s .args .k) (s .args .e .length .0) a, count-holds (laneAt (meant t) (s .args .k)) _ (is .held) (pos-of-ne-zero (c .before .if1 .left)), a .room)
+
+same-length : tie.Need-same-length
+same-length c = search needs
+
+returns : tie.Need-returns
+returns c = search needs
+
+same-length-2 : tie.Need-same-length-2
+same-length-2 c = search needs
+
+returns-2 : tie.Need-returns-2
+returns-2 c =
+    let s = c .before .before .before .before .before .before .before .before .before in
+    let t = s .args .t .now in
+    let is : RowIs (laneAt (meant t) (s .args .k)) (c .before .before .before .before .before .before .row .result) = rw (c .before .before .before .before .before .before .row .ensures .0) (put-row t (s .pre .0) (s .args .k) (s .args .e .length .0) (s .pre .1)) in
+    rw (accept-busy (meant t) (s .args .k) (waiting (s .args .e)) (count-holds (laneAt (meant t) (s .args .k)) _ (is .held) (pos-of-ne-zero (c .before .before .before .before .if1 .left)))) (c .before .before .append .ensures)
+
+pub put-record-spec : {M : Type 1} → statement M
+put-record-spec =
+    tie.close
+    (tie.spec
+    row-requires
+    put-first-requires
+    append-requires
+    same-length
+    returns
+    same-length-2
+    returns-2)

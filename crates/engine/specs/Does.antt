@@ -1,0 +1,61 @@
+-- What an inner call promises, on a table known to be good: it does what the rules do with the state that the table means.
+--
+--   Says     the answer reads as the rules' reply
+--   Does     and the bytes after it mean the rules' state; a refusal leaves every byte
+--   Serves   a record is handed out
+--
+-- Assumes nothing.
+use Prim.Native.Nat.{ℕ}
+use mathlib.Core.Path.{_≡_}
+use mathlib.Core.List.{List}
+use mathlib.Core.Option.{Option, none, some}
+use mathlib.Core.Bool.{false}
+use Rattle.rules.specs.State.{State, holds, laneAt}
+use Rattle.rules.specs.Calls.{Call, Reply, accepted, taken, seen, words, lagged, restarted, refused, Pick, picked, serve, step}
+use Rattle.rules.specs.Reads.{reads, number, placeOf}
+use Rattle.rules.specs.declared.Answer.{Answer}
+use Rattle.rules.specs.declared.Record.{Record}
+use Rattle.table.specs.Means.{meant, Leaves}
+use Rattle.engine.specs.declared.Verdict.{Verdict}
+use Rattle.engine.specs.declared.Verdict.the-variants.{Allowed, Refused}
+
+abbrev pub Says : Call → List ℕ → Answer → Type 0
+Says c t a = reads a ≡ (step (meant t) c) .reply
+
+-- "A refusal changes no lent table"
+abbrev pub Unchanged : Reply → List ℕ → List ℕ → Type 0
+Unchanged accepted before after = Unit {0}
+Unchanged (taken j m n) before after = Unit {0}
+Unchanged (seen j m n) before after = Unit {0}
+Unchanged (words a b c d) before after = Unit {0}
+Unchanged (lagged z) before after = Unit {0}
+Unchanged restarted before after = Unit {0}
+Unchanged (refused n p) before after = after ≡ before
+
+pub record Does (c : Call) (before : List ℕ) (a : Answer) (after : List ℕ) : Type 0 where
+  pub says : Says c before a
+  pub leaves : Leaves before after ((step (meant before) c) .state)
+  pub unchanged : Unchanged (reads a) before after
+
+-- a put's refusal, by its number
+abbrev pub verdictIs : Verdict → Option ℕ
+verdictIs Allowed = none
+verdictIs (Refused x) = some (number x)
+
+-- 11 to 14 have no place
+abbrev pub Placeless : Verdict → Type 0
+Placeless Allowed = Unit {0}
+Placeless (Refused x) = placeOf x ≡ none
+
+-- r is the record that the rules pick, and the bytes after mean the state in which it is served
+pub record Serves (before : List ℕ) (r : Record) (after : List ℕ) : Type 0 where
+  pub pick : Pick
+  pub picks : picked (meant before) ≡ some pick
+  pub lane : r .lane ≡ pick .lane
+  pub mark : r .mark ≡ pick .first .mark
+  pub size : r .length .0 ≡ pick .first .len
+  pub leaves : Leaves before after (serve (meant before) (pick .lane) (pick .first) (pick .rest))
+
+-- lane k holds no record
+abbrev pub Idle : State → ℕ → Type 0
+Idle s k = holds (laneAt s k) ≡ false

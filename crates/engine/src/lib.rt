@@ -1,0 +1,258 @@
+// The calls on a table known to be good: document 01, "The plain rules", worked in the table's own words.
+//
+// Each does what the rules do (specs/Does.antt) with the state that the table means. They rest on `Known`: what the good-table test shows, and what every
+// call from a fresh table keeps. The public calls, which test the table each time, are in `scheduler`.
+//
+// Units: lengths are `Bytes`, times are `Clock`; only `lane_charge` and `line_charge` of `units` turn the first into the second.
+ghost use mathlib.Core.Path.{_≡_};
+ghost use mathlib.Core.List.{[], _∷_, _++_};
+ghost use mathlib.Core.Option.{some};
+ghost use Prim.Native.Nat.{_<_, _^_};
+ghost use lib.IntN.{subℕ};
+ghost use lib.ListN.{length};
+ghost use Rattle.rules.specs.State.{if_then_else_};
+ghost use Rattle.rules.specs.Choice.{choose};
+ghost use Rattle.rules.specs.Calls as Calls;
+ghost use Rattle.rules.specs.Calls.{accept, putRefusal, without, settled};
+ghost use Rattle.rules.proofs.Keep.{Allowed};
+ghost use Rattle.rules.proofs.BySets.{laneOf};
+ghost use Rattle.table.specs.Means.{meant, Sound, Leaves, withClock, withOrder};
+ghost use Rattle.queue.specs.Queue.{waiting};
+ghost use Rattle.choice.specs.Known.{Known, Steady};
+ghost use Rattle.engine.specs.Does.{Says, Does, verdictIs, Placeless, Idle, Serves};
+use choice::Choice;
+use choice::Least;
+use choice::chosen;
+use choice::least_start;
+use choice::set_words;
+use fresh::renew;
+use order::join;
+use order::leave;
+use order::move_last;
+use queue::append;
+use queue::first;
+use queue::take_first;
+use queue::wake;
+use rules::Answer;
+use rules::Record;
+use rules::Refusal;
+use table::Entry;
+use table::LaneRow;
+use table::charged;
+use table::clock;
+use table::holding;
+use table::present;
+use table::row;
+use table::set_clock;
+use units::Bytes;
+use units::Clock;
+use units::later;
+use units::line_charge;
+use units::plus;
+use units::rounded_start;
+
+// Whether a put is allowed.
+pub enum Verdict {
+    Allowed,
+    Refused(Refusal),
+}
+
+// V at which puts are refused: 2^62.
+const SPENT: u64 = 4611686018427387904;
+
+// "Calls: in rising number": 11, 12, 13, 14.
+fn put_verdict(t: &[u8], lane: u8, length: Bytes) -> Verdict
+    requires { ⌜ Known (now t) ⌝ }
+    ensures { λ r. ⌜ (verdictIs r ≡ putRefusal (meant (now (t .entry))) lane (length .0)) × Placeless r ⌝ }
+{
+    let k = lane as usize;
+    if 64 <= k {
+        return Verdict::Refused(Refusal::NoLane);
+    }
+    if !present(t, k) {
+        return Verdict::Refused(Refusal::NoLane);
+    }
+    let l = row(t, k);
+    if length.0 == 0 {
+        return Verdict::Refused(Refusal::BadLength);
+    }
+    if l.longest.0 < length.0 {
+        return Verdict::Refused(Refusal::BadLength);
+    }
+    if 16 <= l.count {
+        return Verdict::Refused(Refusal::LaneFull);
+    }
+    let v = clock(t);
+    if SPENT <= v.0 {
+        return Verdict::Refused(Refusal::ClockSpent);
+    }
+    Verdict::Allowed
+}
+
+// "S = the greater of F and V .. If no other lane holds a record and V is below R, then V = R."
+fn put_first(t: &mut [u8], k: usize, e: Entry)
+    requires { ⌜ Known (now t) × Allowed (meant (now t)) k (e .length .0) × Idle (meant (now t)) k ⌝ }
+    ensures { λ _. ⌜ Leaves (now (t .entry)) (now (t .exit)) (accept (meant (now (t .entry))) k (waiting e)) ⌝ }
+{
+    let l = row(t, k);
+    let v = clock(t);
+    let alone = holding(t) == 0;
+    let start = later(l.time, v);
+    wake(t, k, start, e);
+    join(t, k);
+    let r = rounded_start(start, l.group);
+    if alone {
+        set_clock(t, later(v, r));
+    }
+}
+
+// "Put appends the record."
+fn put_record(t: &mut [u8], k: usize, e: Entry)
+    requires { ⌜ Known (now t) × Allowed (meant (now t)) k (e .length .0) ⌝ }
+    ensures { λ _. ⌜ Leaves (now (t .entry)) (now (t .exit)) (accept (meant (now (t .entry))) k (waiting e)) ⌝ }
+{
+    let l = row(t, k);
+    if l.count == 0 {
+        put_first(t, k, e);
+    } else {
+        append(t, k, e);
+    }
+}
+
+// Put: appends the record, or refuses.
+pub fn put(t: &mut [u8], lane: u8, mark: u32, length: Bytes) -> Answer
+    requires { ⌜ Known (now t) ⌝ }
+    ensures { λ r. ⌜ Does (Calls.put lane mark (length .0)) (now (t .entry)) r (now (t .exit)) ⌝ }
+{
+    let verdict = put_verdict(t, lane, length);
+    match verdict {
+        Verdict::Refused(x) => Answer::Refused(x),
+        Verdict::Allowed => {
+            put_record(t, lane as usize, Entry { mark, length });
+            Answer::Accepted
+        }
+    }
+}
+
+// Lane `k` got a new S, or holds no more: it goes to the end of the tie order, or out of it.
+fn requeue(t: &mut [u8], k: usize, more: bool)
+    requires { ⌜ Sound (now t) × (length (without k (meant (now t) .order)) < 64) ⌝ }
+    ensures { λ _. ⌜ Leaves (now (t .entry)) (now (t .exit)) (withOrder (meant (now (t .entry))) (without k (meant (now (t .entry)) .order) ++ (if more then k ∷ [] else []))) ⌝ }
+{
+    if more {
+        move_last(t, k);
+    } else {
+        leave(t, k);
+    }
+}
+
+// "Last, if records are held and no lane is eligible, V becomes the least R."
+fn settle(t: &mut [u8], v: Clock)
+    requires { ⌜ Steady (now t) ⌝ }
+    ensures { λ _. ⌜ Leaves (now (t .entry)) (now (t .exit)) (withClock (meant (now (t .entry))) (settled (v .0) (meant (now (t .entry)) .lanes))) ⌝ }
+{
+    let least = least_start(t);
+    match least {
+        Least::At(r) => set_clock(t, later(v, r)),
+        Least::Nothing => set_clock(t, v),
+    }
+}
+
+// Hands out the first record of lane `k`, which was chosen.
+fn serve_lane(t: &mut [u8], k: usize) -> Record
+    requires { ⌜ Known (now t) × (laneOf (choose (meant (now t))) ≡ some k) ⌝ }
+    ensures { λ r. ⌜ Serves (now (t .entry)) r (now (t .exit)) ⌝ }
+{
+    let l = row(t, k);
+    let v = clock(t);
+    let e = take_first(t, k);
+    requeue(t, k, 1 < l.count);
+    let length = e.length;
+    settle(t, plus(v, line_charge(charged(l, length))));
+    Record {
+        lane: k as u8,
+        mark: e.mark,
+        length,
+    }
+}
+
+// Take: hands out the chosen lane's first record.
+pub fn take(t: &mut [u8]) -> Answer
+    requires { ⌜ Known (now t) ⌝ }
+    ensures { λ r. ⌜ Does Calls.take (now (t .entry)) r (now (t .exit)) ⌝ }
+{
+    let choice = chosen(t);
+    match choice {
+        Choice::Serve(k) => Answer::Taken(serve_lane(t, k)),
+        Choice::Idle => Answer::Refused(Refusal::NothingHeld),
+    }
+}
+
+// Look: what take would hand out.
+pub fn look(t: &[u8]) -> Answer
+    requires { ⌜ Known (now t) ⌝ }
+    ensures { λ r. ⌜ Says Calls.look (now (t .entry)) r ⌝ }
+{
+    let choice = chosen(t);
+    match choice {
+        Choice::Serve(k) => {
+            let e = first(t, k);
+            let length = e.length;
+            let record = Record {
+                lane: k as u8,
+                mark: e.mark,
+                length,
+            };
+            Answer::Seen(record)
+        }
+        Choice::Idle => Answer::Refused(Refusal::NothingHeld),
+    }
+}
+
+// Sets: the four words.
+pub fn sets(t: &[u8]) -> Answer
+    requires { ⌜ Known (now t) ⌝ }
+    ensures { λ r. ⌜ Says Calls.sets (now (t .entry)) r ⌝ }
+{
+    Answer::Sets(set_words(t))
+}
+
+// The exact difference of two times, below, at or above zero.
+fn difference(v: Clock, s: Clock) -> i64
+    requires { ⌜ (v .0 < 2 ^ 63) × (s .0 < 2 ^ 63) ⌝ }
+    ensures { λ r. ⌜ r ≡ subℕ (v .0) (s .0) ⌝ }
+{
+    (v.0 as i64) - (s.0 as i64)
+}
+
+// Lag: "V minus S .. for an idle lane V minus the greater of F and V".
+pub fn lag(t: &[u8], lane: u8) -> Answer
+    requires { ⌜ Known (now t) ⌝ }
+    ensures { λ r. ⌜ Says (Calls.lag lane) (now (t .entry)) r ⌝ }
+{
+    let k = lane as usize;
+    if 64 <= k {
+        return Answer::Refused(Refusal::NoLane);
+    }
+    if !present(t, k) {
+        return Answer::Refused(Refusal::NoLane);
+    }
+    let l = row(t, k);
+    let v = clock(t);
+    if l.count == 0 {
+        return Answer::Lag(difference(v, later(l.time, v)));
+    }
+    Answer::Lag(difference(v, l.time))
+}
+
+// Restart: the fresh table of the same setup.
+pub fn restart(t: &mut [u8]) -> Answer
+    requires { ⌜ Known (now t) ⌝ }
+    ensures { λ r. ⌜ Does Calls.restart (now (t .entry)) r (now (t .exit)) ⌝ }
+{
+    if holding(t) != 0 {
+        return Answer::Refused(Refusal::StillHolds);
+    }
+    renew(t);
+    Answer::Restarted
+}

@@ -1,0 +1,98 @@
+-- From the stores of `add_lane` and `rest_lane`, and the loops over them, to the state that they leave. Assumes nothing.
+use mathlib.Core.Path.{_≡_, refl, sym, ap, subst, _∙_}
+use Prim.Native.Nat.{ℕ, zero, suc, _+_, _*_, _%_, _^_, _≤_, _<_}
+use mathlib.Core.List.{List, [], _∷_}
+use native.Mathlib.Omega.{arith}
+use lib.ListN.{length, getD, set}
+use Rattle.words.specs.Bits.{bit}
+use Rattle.words.specs.Runs.{tab, tabFrom}
+use Rattle.words.proofs.Bits.{shift-one}
+use Rattle.words.proofs.Runs.{length-tab}
+use Rattle.rules.specs.State.{Setting, Lane, State, laneAt, noLane}
+use Rattle.rules.specs.Calls.{idle}
+use Rattle.table.specs.Layout.{Now, cells, presentWord, laneWord, rowAt, putRow}
+use Rattle.table.specs.Means.{Next, ringOf, givenOf, laneOf, stateOf, meant, Sound, Leaves, withLane}
+use Rattle.table.specs.declared.LaneRow.{LaneRow}
+use Rattle.table.proofs.Stores.{length-cells, now-then}
+use Rattle.table.proofs.Footprint.{lane-is}
+use Rattle.table.proofs.Leave.{sound-few, leave-lane, leaves-then}
+use Rattle.table.proofs.Next.{bit-present, bit-absent}
+use Rattle.table.proofs.Rows.{retimed, outside-row, lane-put, given-row, lane-absent, weight-present}
+use Rattle.table.proofs.Timed.{timed-idle}
+use Rattle.fresh.specs.Makes.{SettingWord, restedTo}
+use Rattle.fresh.proofs.States.{rested-none, rested-at, rested-more, rested-next}
+use Rattle.fresh.proofs.Added.{weightless, stored-other, added-state, added-beside}
+
+-- ---- add_lane
+
+module _ (t t₁ t₂ t₃ : List ℕ) (k word : ℕ) (g : Setting) (s : Sound t) (hk : k < 64) (none : laneAt (meant t) k .given .weight ≡ 0) (a : SettingWord g word)
+    (one : Now t t₁ (set (cells t) (laneWord k) word)) (two : Now t₁ t₂ (set (cells t₁) (laneWord k + 1) 0)) (three : Now t₂ t₃ (set (cells t₂) (laneWord k + 2) 0)) where
+  pub off : bit k (getD (cells t) presentWord 0) ≡ 0
+  off = weightless t k s hk none
+
+  so-far : Now t t₃ (set (set (set (cells t) (laneWord k) word) (laneWord k + 1) 0) (laneWord k + 2) 0)
+  so-far = now-then t₃ (laneWord k + 2) 0 (now-then t₂ (laneWord k + 1) 0 one two) three
+
+  pub lanes-kept : getD (cells t₃) presentWord 0 ≡ getD (cells t) presentWord 0
+  lanes-kept = ap (λ (w : List ℕ). getD w presentWord 0) (so-far .words) ∙ stored-other (cells t) k word g (length-cells t) hk off a presentWord (λ p q. omega arith)
+
+  pub add-leaves : (t′ : List ℕ) (lanes : ℕ) → lanes ≡ getD (cells t₃) presentWord 0 → Now t₃ t′ (set (cells t₃) presentWord (1 * 2 ^ k % 2 ^ 64 + lanes)) → Leaves t t′ (withLane (meant t) k (idle g))
+  add-leaves t′ lanes e four =
+      let word-is : 1 * 2 ^ k % 2 ^ 64 + lanes ≡ 2 ^ k + getD (cells t) presentWord 0 = rw (shift-one k hk, e, lanes-kept) in
+      let n = now-then t′ presentWord (1 * 2 ^ k % 2 ^ 64 + lanes) so-far four in
+      let words = n .words ∙ ap (set (set (set (set (cells t) (laneWord k) word) (laneWord k + 1) 0) (laneWord k + 2) 0) presentWord) word-is in
+      record {
+        state = rw words (added-state (cells t) k word g (length-cells t) hk off a (sound-few t s));
+        beside = λ b. rw words (added-beside (cells t) k word g (length-cells t) hk off a b);
+        rest = n .rest;
+      }
+
+-- ---- rest_lane
+
+rest-at : (t t′ : List ℕ) (k : ℕ) → Sound t → k < 64 → 0 < laneAt (meant t) k .given .weight → Now t t′ (putRow (cells t) k (retimed (rowAt (cells t) k) 0 0 0))
+    → Leaves t t′ (withLane (meant t) k (idle (laneAt (meant t) k .given)))
+unfolding ringOf tab tabFrom
+rest-at t t′ k s hk weight n =
+    let w = cells t in
+    let p = weight-present w k hk weight in
+    let given : laneAt (meant t) k .given ≡ givenOf (rowAt w k) = ap (λ (l : Lane). l .given) (lane-is w k hk) ∙ given-row w k p in
+    leave-lane t t′ (putRow w k (retimed (rowAt w k) 0 0 0)) k (idle (laneAt (meant t) k .given)) s hk n (outside-row w k (retimed (rowAt w k) 0 0 0)) (lane-put w k 0 0 0 (length-cells t) hk (omega arith) p ∙ sym (timed-idle (givenOf (rowAt w k))) ∙ ap idle (sym given))
+
+pub rest-leaves : (t t′ : List ℕ) (k : ℕ) (l : LaneRow) → l ≡ rowAt (cells t) k → Sound t → k < 64 → 0 < laneAt (meant t) k .given .weight → Now t t′ (putRow (cells t) k (retimed l 0 0 0))
+    → Leaves t t′ (withLane (meant t) k (idle (laneAt (meant t) k .given)))
+rest-leaves t t′ k l e s hk weight n =
+    rest-at t t′ k s hk weight (subst (λ (l : LaneRow). Now t t′ (putRow (cells t) k (retimed l 0 0 0))) e n)
+
+-- ---- the lanes that the word of present lanes names
+
+pub lanes-size : (t : List ℕ) → length (meant t .lanes) ≡ 64
+unfolding stateOf
+lanes-size t = length-tab 64 (laneOf (cells t))
+
+pub named-weight : (t : List ℕ) (k : ℕ) → Sound t → k < 64 → bit k (getD (cells t) presentWord 0) ≡ 1 → 0 < laneAt (meant t) k .given .weight
+named-weight t k s hk b =
+    let p = bit-present (cells t) k b in
+    omega (arith, s .beside .rows k hk p .numbers .weight-low, ap (λ (g : Setting). g .weight) (given-row (cells t) k p), ap (λ (l : Lane). l .given .weight) (lane-is (cells t) k hk))
+
+pub unnamed-lane : (t : List ℕ) (k : ℕ) → k < 64 → bit k (getD (cells t) presentWord 0) ≡ 0 → laneAt (meant t) k ≡ noLane
+unnamed-lane t k hk b = lane-is (cells t) k hk ∙ lane-absent (cells t) k (bit-absent (cells t) k b)
+
+-- ---- the loop of `rest_lanes`
+
+module _ (t₀ : List ℕ) (lanes : ℕ) (word : lanes ≡ getD (cells t₀) presentWord 0) where
+  passed : (n k : ℕ) → Next lanes n k → restedTo n (meant t₀) ≡ restedTo k (meant t₀)
+  passed n k x =
+      rested-next (meant t₀) (lanes-size t₀) n k (x .on) (x .ends) (λ i p q. unnamed-lane t₀ i (omega (arith, x .ends)) (subst (λ (m : ℕ). bit i m ≡ 0) word (x .absent i p q)))
+
+  pub rest-none : (k : ℕ) → Next lanes 0 k → Leaves t₀ t₀ (restedTo k (meant t₀))
+  rest-none k x = record { state = sym (rested-none (meant t₀) (lanes-size t₀)) ∙ passed 0 k x; beside = λ b. b; rest = refl }
+
+  module _ (t : List ℕ) (k : ℕ) (hk : k < 64) (l : Leaves t₀ t (restedTo k (meant t₀))) where
+    pub rest-weight : Sound t₀ → bit k lanes ≡ 1 → 0 < laneAt (meant t) k .given .weight
+    rest-weight s b =
+        subst (λ (x : Lane). 0 < x .given .weight) (sym (ap (λ (u : State). laneAt u k) (l .state) ∙ rested-at (meant t₀) (lanes-size t₀) k hk)) (named-weight t₀ k s hk (subst (λ (m : ℕ). bit k m ≡ 1) word b))
+
+    pub rest-more : (t′ : List ℕ) (k′ : ℕ) → Leaves t t′ (withLane (meant t) k (idle (laneAt (meant t) k .given))) → Next lanes (k + 1) k′ → Leaves t₀ t′ (restedTo k′ (meant t₀))
+    rest-more t′ k′ r x =
+        let step : withLane (meant t) k (idle (laneAt (meant t) k .given)) ≡ restedTo k′ (meant t₀) = ap (λ (u : State). withLane u k (idle (laneAt u k .given))) (l .state) ∙ ap (λ (y : Lane). withLane (restedTo k (meant t₀)) k (idle (y .given))) (rested-at (meant t₀) (lanes-size t₀) k hk) ∙ rested-more (meant t₀) (lanes-size t₀) k hk ∙ passed (k + 1) k′ x in
+        leaves-then l (record { state = r .state ∙ step; beside = r .beside; rest = r .rest })

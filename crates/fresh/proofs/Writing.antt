@@ -1,0 +1,79 @@
+-- The loop of `write`, and the last stores of `renew`. Assumes nothing.
+use mathlib.Core.Path.{_≡_, refl, sym, ap, subst, _∙_}
+use mathlib.Core.Logic.{_⊎_, ⊎-elim}
+use Prim.Native.Nat.{ℕ, _+_, _*_, _≤_, _<_}
+use mathlib.Core.List.{List, [], _∷_}
+use native.Mathlib.Omega.{arith}
+use lib.ListN.{length, drop, getD, set, List·getD-map}
+use lib.Seq.{getD-set-same, getD-set-other}
+use Rattle.words.specs.Runs.{reads}
+use Rattle.rules.specs.State.{Setting, Lane, State, laneAt, setupOf, settingAt, noSetting}
+use Rattle.rules.specs.Setup.{InNumbers, Setup}
+use Rattle.rules.specs.Calls.{idle, fresh}
+use Rattle.table.specs.Layout.{WORDS, Room, Now, cells, holdingWord, orderWord}
+use Rattle.table.specs.Means.{meant, Sound, Leaves, withLane, withOrder, withClock}
+use Rattle.table.proofs.Stores.{length-cells}
+use Rattle.table.proofs.Leave.{leave-order, leaves-then}
+use Rattle.fresh.specs.Makes.{Makes, settings, upTo, restedTo}
+use Rattle.plan.specs.Read.{settingOf}
+use Rattle.plan.specs.declared.Lane as plan
+use Rattle.fresh.proofs.States.{up-none, up-more, up-skip, up-at, up-all, rested-all}
+use Rattle.fresh.proofs.Leaves.{lanes-size}
+
+-- ---- write
+
+pub makes-sound : (t₀ t : List ℕ) (gs : List Setting) → Room t → Makes t₀ t gs → Sound t
+unfolding fresh
+makes-sound t₀ t gs room m = record { room = room; few = rw (m .state) (omega arith); beside = m .beside }
+
+abbrev pub none : plan.Lane
+none = record { weight = 0; longest = record { 0 = 0 } }
+
+module _ (lanes : List plan.Lane) (t₀ t : List ℕ) (k : ℕ) (hk : k < 64) (m : Makes t₀ t (upTo k (settings lanes))) where
+  at : settingAt (settings lanes) k ≡ settingOf (getD lanes k none)
+  at = List·getD-map settingOf lanes k none
+
+  pub write-weight : laneAt (meant t) k .given .weight ≡ 0
+  write-weight = ap (λ (s : State). laneAt s k .given .weight) (m .state) ∙ up-at (settings lanes) k hk
+
+  pub write-numbers : Setup (settings lanes) → (getD lanes k none .weight ≡ 0 → ⊥) → InNumbers (settingOf (getD lanes k none))
+  write-numbers s ne =
+      ⊎-elim
+      (λ (n : InNumbers (settingAt (settings lanes) k)). subst InNumbers at n)
+      (λ (e : settingAt (settings lanes) k ≡ noSetting). absurd (ne (ap (λ (g : Setting). g .weight) (sym at ∙ e))))
+      (s .each k)
+
+  pub write-more : (t′ : List ℕ) → Leaves t t′ (withLane (meant t) k (idle (settingOf (getD lanes k none)))) → Makes t₀ t′ (upTo (k + 1) (settings lanes))
+  write-more t′ l =
+      let step : withLane (meant t) k (idle (settingOf (getD lanes k none))) ≡ fresh (upTo (k + 1) (settings lanes)) = ap (λ (s : State). withLane s k (idle (settingOf (getD lanes k none)))) (m .state) ∙ ap (λ (g : Setting). withLane (fresh (upTo k (settings lanes))) k (idle g)) (sym at) ∙ up-more (settings lanes) k hk in
+      record { state = l .state ∙ step; beside = l .beside (m .beside); rest = l .rest ∙ m .rest }
+
+  pub write-skip : Setup (settings lanes) → getD lanes k none .weight ≡ 0 → Makes t₀ t (upTo (k + 1) (settings lanes))
+  write-skip s e =
+      let absent : settingAt (settings lanes) k ≡ noSetting = ⊎-elim
+      (λ (n : InNumbers (settingAt (settings lanes) k)). absurd (omega (arith, n .weight-low, e, ap (λ (g : Setting). g .weight) at)))
+      (λ (q : settingAt (settings lanes) k ≡ noSetting). q)
+      (s .each k) in
+      record { state = m .state ∙ ap fresh (up-skip (settings lanes) k hk absent); beside = m .beside; rest = m .rest }
+
+pub write-none : (lanes : List plan.Lane) (t₀ t : List ℕ) → Makes t₀ t (upTo 0 []) → Makes t t (upTo 0 (settings lanes))
+write-none lanes t₀ t m = record { state = m .state ∙ ap fresh (up-none (settings lanes)); beside = m .beside; rest = refl }
+
+pub write-all : (lanes : List plan.Lane) (t t₀ t′ : List ℕ) (k : ℕ) → k ≡ 64 → Setup (settings lanes) → Makes t t₀ (upTo 0 []) → Makes t₀ t′ (upTo k (settings lanes)) → Makes t t′ (settings lanes)
+write-all lanes t t₀ t′ k e s a b =
+    record { state = b .state ∙ ap (λ (n : ℕ). fresh (upTo n (settings lanes))) e ∙ ap fresh (up-all (settings lanes) (s .size)); beside = b .beside; rest = b .rest ∙ a .rest }
+
+-- ---- renew
+
+pub no-order : (t t′ : List ℕ) → Now t t′ (set (cells t) holdingWord 0) → Leaves t t′ (withOrder (meant t) [])
+no-order t t′ n =
+    let w = cells t in
+    let other : (i : ℕ) → (i ≡ holdingWord → ⊥) → getD (set w holdingWord 0) i 0 ≡ getD w i 0 = λ i ne. getD-set-other w holdingWord i 0 0 ne in
+    leave-order t t′ (set w holdingWord 0) [] n (record { clock = other 0 (omega arith); present = other 1 (omega arith); above = λ i h. other i (omega arith) }) (ap (reads (set w holdingWord 0) orderWord) (getD-set-same w holdingWord 0 0 (omega (arith, length-cells t))))
+
+pub renew-leaves : (t t₁ t₂ t′ : List ℕ) → Leaves t t₁ (restedTo 64 (meant t)) → Leaves t₁ t₂ (withClock (meant t₁) 0) → Now t₂ t′ (set (cells t₂) holdingWord 0) → Leaves t t′ (fresh (setupOf (meant t)))
+unfolding fresh
+renew-leaves t t₁ t₂ t′ a b n =
+    let c = no-order t₂ t′ n in
+    let state : meant t′ ≡ withOrder (withClock (restedTo 64 (meant t)) 0) [] = c .state ∙ ap (λ (s : State). withOrder s []) (b .state ∙ ap (λ (s : State). withClock s 0) (a .state)) in
+    leaves-then (leaves-then a b) (record { state = state ∙ rw (rested-all (meant t) (lanes-size t)); beside = c .beside; rest = c .rest })

@@ -1,0 +1,46 @@
+-- What a fresh table is.
+--
+--   Makes        the bytes are the fresh table of a list of settings, and those past the table are as they were
+--   settings     the settings of a list of given lanes
+--   mixed        64 elements: by one rule below k, by another from k on
+--   upTo         the settings of the lanes below k, and none of the others
+--   restedTo     a state whose lanes below k are idle with F = 0
+--   SettingWord  a setting word that agrees with its setting
+--
+-- Assumes nothing.
+use mathlib.Core.Path.{_≡_}
+use mathlib.Core.Bool.{Bool, true, false}
+use Prim.Native.Nat.{ℕ, _*_, _<_}
+use mathlib.Core.List.{List, map}
+use lib.Dec.{ltb}
+use lib.ListN.{drop}
+use Rattle.words.specs.Runs.{tab}
+use Rattle.rules.specs.State.{if_then_else_, Setting, State, noSetting, settingAt, laneAt}
+use Rattle.rules.specs.Calls.{idle, fresh}
+use Rattle.table.specs.Layout.{WORDS, cells, rowOf}
+use Rattle.table.specs.Means.{meant, Beside, RowAgrees, givenOf}
+use Rattle.plan.specs.Read.{settingOf}
+use Rattle.plan.specs.declared.Lane.{Lane}
+
+-- "Fresh: V = 0, each lane idle with F = 0."
+pub record Makes (before after : List ℕ) (gs : List Setting) : Type 0 where
+  pub state : meant after ≡ fresh gs
+  pub beside : Beside (cells after)
+  pub rest : drop (WORDS * 8) after ≡ drop (WORDS * 8) before
+
+abbrev pub settings : List Lane → List Setting
+settings gs = map settingOf gs
+
+unfoldable pub mixed : {A : Type 0} → ℕ → (ℕ → A) → (ℕ → A) → List A
+mixed k f g = tab 64 (λ i. if ltb i k then f i else g i)
+
+abbrev pub upTo : ℕ → List Setting → List Setting
+upTo k gs = mixed k (settingAt gs) (λ i. noSetting)
+
+abbrev pub restedTo : ℕ → State → State
+restedTo k s = record { clock = s .clock; lanes = mixed k (λ i. idle (laneAt s i .given)) (laneAt s); order = s .order }
+
+-- whatever the clock and the ring hold
+pub record SettingWord (g : Setting) (word : ℕ) : Type 0 where
+  pub given : (time ring : ℕ) → givenOf (rowOf word time ring) ≡ g
+  pub agrees : (time ring : ℕ) → RowAgrees (rowOf word time ring)

@@ -1,0 +1,125 @@
+// Fresh tables: document 01's "Fresh: V = 0, each lane idle with F = 0" and "Restart gives the fresh table of the same setup".
+//
+// A fresh table is begun with no lane in it; then each lane of the setup is added. Words of lanes that are not in the setup, and places of a ring
+// that hold no record, are left as they stand: they mean nothing. The one division, for c, is made here.
+ghost use mathlib.Core.Path.{_≡_};
+ghost use mathlib.Core.List.{[], _∷_};
+ghost use Prim.Native.Nat.{_+_, _*_, _^_, _<_, _≤_};
+ghost use Rattle.rules.specs.State.{laneAt, noSetting, setupOf};
+ghost use Rattle.rules.specs.Setup.{InNumbers, Setup};
+ghost use Rattle.rules.specs.Calls.{idle, fresh};
+ghost use Rattle.table.specs.Layout.{Room};
+ghost use Rattle.table.specs.Means.{meant, Sound, Leaves, withLane};
+ghost use Rattle.fresh.specs.Makes.{Makes, SettingWord, settings, upTo, restedTo};
+use plan::Lane;
+use table::CLOCK;
+use table::HOLDING;
+use table::LaneRow;
+use table::PRESENT;
+use table::cell;
+use table::charged;
+use table::next_present;
+use table::row;
+use table::set_cell;
+use table::set_clock;
+use table::set_row;
+use units::Bytes;
+use units::Clock;
+use units::group_index;
+use units::lane_charge;
+use units::lane_rate;
+
+// The setting word of a lane.
+fn setting_word(weight: u64, longest: Bytes) -> u64
+    requires { ⌜ InNumbers (record { weight = weight; longest = longest .0 }) ⌝ }
+    ensures { λ r. ⌜ SettingWord (record { weight = weight; longest = longest .0 }) r ⌝ }
+{
+    let c = lane_rate(weight);
+    let lane = LaneRow {
+        longest: longest,
+        weight: weight,
+        group: 0,
+        rate: c,
+        time: Clock(0),
+        head: 0,
+        count: 0,
+    };
+    let group = group_index(lane_charge(charged(lane, longest), c));
+    longest.0 + 65536 * weight + 4294967296 * (group as u64) + 1099511627776 * c.0
+}
+
+// Begins a table with no lane in it.
+pub fn begin(t: &mut [u8])
+    requires { ⌜ Room (now t) ⌝ }
+    ensures { λ _. ⌜ Makes (now (t .entry)) (now (t .exit)) (upTo 0 []) ⌝ }
+{
+    set_cell(t, CLOCK, 0);
+    set_cell(t, PRESENT, 0);
+    set_cell(t, HOLDING, 0);
+}
+
+// Adds lane `k`, which is not in the setup yet: idle, with F = 0.
+pub fn add_lane(t: &mut [u8], k: usize, weight: u64, longest: Bytes)
+    requires { ⌜ Sound (now t) × (k < 64) × InNumbers (record { weight = weight; longest = longest .0 }) × (laneAt (meant (now t)) k .given .weight ≡ 0) ⌝ }
+    ensures { λ _. ⌜ Leaves (now (t .entry)) (now (t .exit)) (withLane (meant (now (t .entry))) k (idle (record { weight = weight; longest = longest .0 }))) ⌝ }
+{
+    let base = 80 + 4 * k;
+    set_cell(t, base, setting_word(weight, longest));
+    set_cell(t, base + 1, 0);
+    set_cell(t, base + 2, 0);
+    let lanes = cell(t, PRESENT);
+    set_cell(t, PRESENT, (1u64 << (k as u32)) + lanes);
+}
+
+// Writes the fresh table of a setup.
+pub fn write(t: &mut [u8], lanes: [Lane; 64])
+    requires { ⌜ Room (now t) × Setup (settings lanes) ⌝ }
+    ensures { λ _. ⌜ Makes (now (t .entry)) (now (t .exit)) (settings lanes) ⌝ }
+{
+    begin(t);
+    let mut k = 0;
+    while k < 64 {
+        let g = lanes[k];
+        if g.weight != 0 {
+            add_lane(t, k, g.weight, g.longest);
+        }
+        k += 1;
+    }
+}
+
+// Makes lane `k`, which is in the setup, idle with F = 0. What its ring held means nothing any more.
+fn rest_lane(t: &mut [u8], k: usize)
+    requires { ⌜ Sound (now t) × (k < 64) × (0 < laneAt (meant (now t)) k .given .weight) ⌝ }
+    ensures { λ _. ⌜ Leaves (now (t .entry)) (now (t .exit)) (withLane (meant (now (t .entry))) k (idle (laneAt (meant (now (t .entry))) k .given))) ⌝ }
+{
+    let l = row(t, k);
+    let never = Clock(0);
+    let mut next = l;
+    next.time = never;
+    next.head = 0;
+    next.count = 0;
+    set_row(t, k, next);
+}
+
+// Makes the lanes of the setup idle with F = 0.
+fn rest_lanes(t: &mut [u8])
+    requires { ⌜ Sound (now t) ⌝ }
+    ensures { λ _. ⌜ Leaves (now (t .entry)) (now (t .exit)) (restedTo 64 (meant (now (t .entry)))) ⌝ }
+{
+    let lanes = cell(t, PRESENT);
+    let mut k = next_present(lanes, 0);
+    while k < 64 {
+        rest_lane(t, k);
+        k = next_present(lanes, k + 1);
+    }
+}
+
+// Gives the fresh table of the same setup.
+pub fn renew(t: &mut [u8])
+    requires { ⌜ Sound (now t) ⌝ }
+    ensures { λ _. ⌜ Leaves (now (t .entry)) (now (t .exit)) (fresh (setupOf (meant (now (t .entry))))) ⌝ }
+{
+    rest_lanes(t);
+    set_clock(t, Clock(0));
+    set_cell(t, HOLDING, 0);
+}

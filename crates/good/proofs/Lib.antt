@@ -1,0 +1,5 @@
+pub mod Times
+pub mod Lanes
+pub mod Sums
+pub mod Whole
+pub mod Encodes

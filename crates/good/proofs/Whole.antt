@@ -1,0 +1,164 @@
+-- What the test finds, and a good table: each gives the other. Assumes nothing.
+use mathlib.Core.Path.{_≡_, refl, sym, ap, subst, _∙_}
+use mathlib.Core.Logic.{_⊎_, inl, inr}
+use mathlib.Core.Bool.{Bool, true, false, false≢true}
+use Prim.Native.Nat.{ℕ, zero, suc, _+_, _*_, _^_, _≤_, _<_}
+use mathlib.Core.List.{List, [], _∷_, map}
+use native.Mathlib.Omega.{arith}
+use native.Mathlib.Decide.{decLt}
+use lib.Pow.{pow-pos, pow-mono}
+use lib.ListN.{length, length-map, getD, List·getD-eq-default}
+use Rattle.words.specs.Runs.{reads, tab}
+use Rattle.words.proofs.Runs.{length-tab}
+use Rattle.rules.specs.State.{if_then_else_, Setting, Lane, State, laneAt, holds, eligible, slot, noLane, noSetting, setupOf, settingAt, laneDepth}
+use Rattle.rules.specs.Setup.{InNumbers, Setup, weights}
+use Rattle.rules.specs.Good.{Good, Lengths, Times, times}
+use Rattle.rules.specs.Sets.{wordOf, anyBelow, count}
+use Rattle.rules.proofs.Lane.{slot-pos}
+use Rattle.rules.proofs.Word.{word-lt, word-bit}
+use Rattle.rules.proofs.SameSetup.{setting-lane}
+use Rattle.table.specs.Layout.{Room, cells, rowAt, clockWord, holdingWord, orderWord}
+use Rattle.table.specs.Means.{presentAt, laneOf, stateOf, meant, Beside}
+use Rattle.table.proofs.Footprint.{lane-is, reads-order}
+use Rattle.table.proofs.Rows.{lane-absent, given-row}
+use Rattle.lane_test.specs.Says.{Says, LaneGood}
+use Rattle.words.specs.Bits.{bit}
+use Rattle.good.specs.Pass.{FoundSays, Ordered, sumTo, weightAt, holdsAt, eligibleAt}
+use Rattle.good.specs.Table.{GoodTable}
+use Rattle.good.specs.declared.Found.{Found}
+use Rattle.words.proofs.Bits.{bit-above}
+use Rattle.good.proofs.Sums.{sum-map, sum-tab, any-some, any-at, word-some}
+
+abbrev one : Bool → ℕ
+one b = if b then 1 else 0
+
+count-one : (b : Bool) → count b ≡ one b
+count-one true = refl
+count-one false = refl
+
+-- ---- every number's lane
+
+module _ (w : List ℕ) where
+  pub far-lane : (k : ℕ) → 64 ≤ k → laneAt (stateOf w) k ≡ noLane
+  unfolding stateOf
+  far-lane k h = List·getD-eq-default (tab 64 (laneOf w)) noLane {n = k} (omega (arith, length-tab 64 (laneOf w)))
+
+  module _ (P : Lane → Type 0) (none : P noLane) (f : (k : ℕ) → k < 64 → presentAt w k ≡ true → P (laneOf w k)) where
+    present-or-not : (k : ℕ) → k < 64 → (b : Bool) → presentAt w k ≡ b → P (laneOf w k)
+    present-or-not k h true e = f k h e
+    present-or-not k h false e = subst P (sym (lane-absent w k e)) none
+
+    pub each-lane : (k : ℕ) → P (laneAt (stateOf w) k)
+    each-lane k =
+        elim (decLt k 64) [
+          | yes h ↦ subst P (sym (lane-is w k h)) (present-or-not k h (presentAt w k) refl)
+          | no h ↦ subst P (sym (far-lane k (omega arith))) none
+        ]
+
+  pub weights-are : weights (setupOf (stateOf w)) ≡ sumTo 64 (weightAt w)
+  unfolding stateOf
+  weights-are = sum-map (λ (g : Setting). g .weight) (λ (l : Lane). l .given) (tab 64 (laneOf w)) ∙ sum-tab (λ (l : Lane). l .given .weight) 64 (laneOf w)
+
+  setup-size : length (setupOf (stateOf w)) ≡ 64
+  unfolding stateOf
+  setup-size = length-map (tab 64 (laneOf w)) (λ (l : Lane). l .given) ∙ length-tab 64 (laneOf w)
+
+  -- the word of the holding lanes, bit by bit
+  held-bit : (k : ℕ) → bit k (wordOf (holdsAt w) 64) ≡ (if holds (laneAt (stateOf w) k) then 1 else 0)
+  held-bit k =
+      elim (decLt k 64) [
+        | yes h ↦ word-bit (holdsAt w) 64 k h ∙ count-one (holdsAt w k) ∙ ap (λ (l : Lane). one (holds l)) (sym (lane-is w k h))
+        | no h ↦ bit-above k (wordOf (holdsAt w) 64) (omega (arith, word-lt (holdsAt w) 64, pow-mono {i = 64} {j = k} (omega arith))) ∙ ap (λ (l : Lane). one (holds l)) (sym (far-lane k (omega arith)))
+      ]
+
+-- ---- from the test to a good table
+
+some-bit : (k x : ℕ) → bit k x ≡ 1 → 0 < x
+some-bit k zero e = absurd (omega (arith, bit-above k 0 (pow-pos k)))
+some-bit k (suc x) e = omega arith
+
+module _ (t : List ℕ) (v : ℕ) (f : Found) (clock : v ≡ meant t .clock) (s : FoundSays v (cells t) 64 f) where
+  bit-held : (k : ℕ) → bit k (f .held) ≡ (if holds (laneAt (meant t) k) then 1 else 0)
+  bit-held k = ap (bit k) (s .held) ∙ held-bit (cells t) k
+
+  weight-sum : weights (setupOf (meant t)) ≡ f .weights
+  weight-sum = weights-are (cells t) ∙ sym (s .weights)
+
+  module _ (n : ℕ) (holding : n ≡ length (meant t .order)) where
+    -- from what the test found to a good table
+    module _ (room : Room t) (end : v < 2 ^ 62 + 2 ^ 42) (some : 0 < f .weights) (total : f .weights ≤ 1024) (live : 0 < f .held → f .eligible ≡ true) (ordered : Ordered (cells t) n (f .held)) where
+      in-setup : (k : ℕ) → k < 64 → presentAt (cells t) k ≡ true → InNumbers (laneOf (cells t) k .given) ⊎ (laneOf (cells t) k .given ≡ noSetting)
+      in-setup k h p = inl (subst InNumbers (sym (given-row (cells t) k p)) (s .lanes k h p .agrees .numbers))
+
+      setup : Setup (setupOf (meant t))
+      setup =
+          record {
+            size = setup-size (cells t);
+            each = λ k. subst (λ (g : Setting). InNumbers g ⊎ (g ≡ noSetting)) (sym (setting-lane (meant t) k)) (each-lane (cells t) (λ (l : Lane). InNumbers (l .given) ⊎ (l .given ≡ noSetting)) (inr refl) in-setup k);
+            some-lane = omega (arith, weight-sum);
+            total = omega (arith, weight-sum);
+          }
+
+      eligible-lane : (k : ℕ) → holds (laneAt (meant t) k) ≡ true → (i : ℕ) × (eligible v (laneAt (meant t) i) ≡ true)
+      eligible-lane k h =
+          let bit-set : bit k (f .held) ≡ 1 = bit-held k ∙ ap one h in
+          let held : 0 < f .held = some-bit k (f .held) bit-set in
+          let x = any-some (eligibleAt v (cells t)) 64 (sym (s .eligible) ∙ live held) in
+          (x .0, ap (eligible v) (lane-is (cells t) (x .0) (x .1)) ∙ x .2)
+
+      pub whole-good : GoodTable t
+      whole-good =
+          record {
+            room = room;
+            beside = record { rows = λ k h p. s .lanes k h p .agrees };
+            good = record {
+              setup = setup;
+              room = each-lane (cells t) (λ (l : Lane). length (l .queue) ≤ laneDepth) (omega arith) (λ k h p. s .lanes k h p .room);
+              lengths = each-lane (cells t) (λ (l : Lane). Lengths (l .given) (l .queue)) tt (λ k h p. s .lanes k h p .lengths);
+              clock = omega (arith, clock);
+              numbers = λ k. subst (λ (v : ℕ). Times v (laneAt (meant t) k) (laneAt (meant t) k .queue)) clock (each-lane (cells t) (λ (l : Lane). Times v l (l .queue)) (omega (arith, slot-pos noSetting)) (λ k h p. s .lanes k h p .numbers) k);
+              live = λ k h. subst (λ (v : ℕ). (i : ℕ) × (eligible v (laneAt (meant t) i) ≡ true)) clock (eligible-lane k h);
+              order = λ k. ap (times k) (sym (reads-order (cells t) n holding)) ∙ ordered k ∙ bit-held k;
+            };
+          }
+
+    -- and back
+    module _ (g : GoodTable t) where
+      pub good-weights : (0 < f .weights) × (f .weights ≤ 1024)
+      good-weights = (omega (arith, weight-sum, g .good .setup .some-lane), omega (arith, weight-sum, g .good .setup .total))
+
+      eligible-below : (i : ℕ) → eligible v (laneAt (meant t) i) ≡ true → anyBelow (eligibleAt v (cells t)) 64 ≡ true
+      unfolding eligible
+      eligible-below i e =
+          elim (decLt i 64) [
+            | yes h ↦ any-at (eligibleAt v (cells t)) 64 i h (ap (eligible v) (sym (lane-is (cells t) i h)) ∙ e)
+            | no h ↦ absurd (false≢true (ap (eligible v) (sym (far-lane (cells t) i (omega arith))) ∙ e))
+          ]
+
+      pub good-live : 0 < f .held → f .eligible ≡ true
+      good-live h =
+          let x = word-some (holdsAt (cells t)) 64 (subst (λ (m : ℕ). 0 < m) (s .held) h) in
+          let y = g .good .live (x .0) (ap holds (lane-is (cells t) (x .0) (x .1)) ∙ x .2) in
+          s .eligible ∙ eligible-below (y .0) (subst (λ (v : ℕ). eligible v (laneAt (meant t) (y .0)) ≡ true) (sym clock) (y .1))
+
+      pub good-ordered : Ordered (cells t) n (f .held)
+      good-ordered k = ap (times k) (reads-order (cells t) n holding) ∙ g .good .order k ∙ sym (bit-held k)
+
+-- a good table's lanes are good
+pub good-lanes : (t : List ℕ) (v : ℕ) → v ≡ meant t .clock → GoodTable t → (k : ℕ) → k < 64 → presentAt (cells t) k ≡ true → LaneGood v (cells t) k
+good-lanes t v clock g k h p =
+    let e = lane-is (cells t) k h in
+    record {
+      agrees = g .beside .rows k h p;
+      room = subst (λ (l : Lane). length (l .queue) ≤ laneDepth) e (g .good .room k);
+      lengths = subst (λ (l : Lane). Lengths (l .given) (l .queue)) e (g .good .lengths k);
+      numbers = subst (λ (l : Lane). Times v l (l .queue)) e (subst (λ (v : ℕ). Times v (laneAt (meant t) k) (laneAt (meant t) k .queue)) (sym clock) (g .good .numbers k));
+    }
+
+pub says-iff : {P Q : Type 0} (b : Bool) → (P → Q) → (Q → P) → Says b P → Says b Q
+says-iff true f g s = f s
+says-iff false f g s = λ q. s (g q)
+
+pub says-live : (b : Bool) (h : ℕ) → 0 < h → Says b (0 < h → b ≡ true)
+says-live true h p = λ q. refl
+says-live false h p = λ f. false≢true (f p)

@@ -1,0 +1,74 @@
+use Rattle.good.proofs.Whole.{whole-good, good-weights, good-live, good-ordered, good-lanes, says-iff}
+use Rattle.table.proofs.Few.{few-good}
+use Rattle.good.specs.declared.Pass.{Pass}
+use Rattle.good.specs.Pass.{PassSays}
+use Rattle.table.specs.Layout.{cells}
+use mathlib.Core.Path.{_≡_, refl, ap, sym, subst, _∙_}
+use native.Mathlib.Omega.{arith}
+use borrow.Author.Needs.{needs}
+use Rattle.good.proofs.good.Statement.{statement}
+use Rattle.good.proofs.good.Tie as tie
+
+returns : tie.Need-returns
+returns c = search needs
+
+clock-requires : tie.Need-clock-requires
+clock-requires c κs = search needs
+
+returns-2 : tie.Need-returns-2
+returns-2 c = search needs
+
+holding-requires : tie.Need-holding-requires
+holding-requires c κs = search needs
+
+returns-3 : tie.Need-returns-3
+returns-3 c = λ g. omega (arith, few-good _ (g .good), c .before .holding .ensures, c .if3 .taken)
+
+lanes-good-requires : tie.Need-lanes-good-requires
+lanes-good-requires c κs = search needs
+
+enum-told : tie.Need-enum-told
+enum-told c = search needs
+
+enum-known-f : tie.Need-enum-known-f
+enum-known-f c = search needs
+
+found-good-requires : tie.Need-found-good-requires
+found-good-requires c κs = search needs
+
+returns-4 : tie.Need-returns-4
+unfolding PassSays
+returns-4 c =
+    let t = c .before .before .before .before .before .before .before .before .before .before .args .t .now in
+    let v = c .before .before .before .before .before .before .before .clock .result .0 in
+    λ g. (subst (λ (r : Pass). PassSays v (cells t) r) (c .enum-told .given .1) (c .before .before .lanes-good .ensures)) (good-lanes t v (c .before .before .before .before .before .before .before .clock .ensures) g)
+
+returns-5 : tie.Need-returns-5
+unfolding PassSays
+returns-5 c =
+    let t = c .before .before .before .before .before .before .before .before .before .before .before .before .args .t .now in
+    let v = c .before .before .before .before .before .before .before .before .before .clock .result .0 in
+    let n = c .before .before .before .before .before .before .holding .result in
+    let clock = c .before .before .before .before .before .before .before .before .before .clock .ensures in
+    let holding = c .before .before .before .before .before .before .holding .ensures in
+    let found = subst (λ (r : Pass). PassSays v (cells t) r) (c .before .before .f .given .1) (c .before .before .before .before .lanes-good .ensures) in
+    says-iff (c .found-good .result)
+    (λ q. whole-good t v _ clock found n holding (c .before .before .before .before .before .before .before .before .before .before .if1 .left) (c .before .before .before .before .before .before .before .if2 .left) (q .0) (q .1) (q .2) (q .3))
+    (λ g. let sums = good-weights t v _ clock found n holding g in (sums .0, sums .1, good-live t v _ clock found n holding g, good-ordered t v _ clock found n holding g))
+    (c .found-good .ensures)
+
+pub good-spec : {M : Type 1} → statement M
+good-spec =
+    tie.close
+    (tie.spec
+    returns
+    clock-requires
+    returns-2
+    holding-requires
+    returns-3
+    lanes-good-requires
+    enum-told
+    enum-known-f
+    found-good-requires
+    returns-4
+    returns-5)

@@ -1,0 +1,171 @@
+// The good-table test: document 01, "A good table". It asks nothing of the bytes: for every slice it answers true exactly if they are a good table
+// (`GoodTable`, specs/Table.antt).
+//
+// One pass over the lanes that are in the setup and the records that they hold; lanes that are not in the setup cost nothing, for the word of
+// present lanes is walked by its set bits. Then the tie order, against the word of the lanes that were found to hold records.
+ghost use mathlib.Core.Path.{_≡_};
+ghost use mathlib.Core.Bool.{true};
+ghost use Prim.Native.Nat.{_+_, _*_, _^_, _<_, _≤_};
+ghost use lib.ListN.{getD};
+ghost use Rattle.table.specs.Layout.{Room, cells, presentWord};
+ghost use Rattle.lane_test.specs.Says.{Says};
+ghost use Rattle.good.specs.Pass.{Noted, PassSays, Ordered};
+ghost use Rattle.good.specs.Table.{GoodTable};
+use lane_test::lane_good;
+use table::LaneRow;
+use table::ORDER;
+use table::PRESENT;
+use table::SIZE;
+use table::cell;
+use table::clock;
+use table::holding;
+use table::next_present;
+use table::row;
+use units::Clock;
+use units::rounded_start;
+
+// V stays below 2^62 + 2^42.
+const CLOCK_END: u64 = 4611690416473899008;
+
+// The weights of the lanes seen, the word of those that hold records, and whether one of them is eligible.
+pub struct Found {
+    pub weights: u64,
+    pub held: u64,
+    pub eligible: bool,
+}
+
+pub enum Pass {
+    // A lane is not good.
+    Bad,
+    Fine(Found),
+}
+
+// What is found, once lane `k` with the row `l` is seen too.
+fn note(f: Found, k: usize, l: LaneRow, v: Clock) -> Found
+    requires { ⌜ (k < 64) × (f .weights + l .weight < 2 ^ 64) × (f .held < 2 ^ k) × (l .group ≤ 31) ⌝ }
+    ensures { λ r. ⌜ Noted f k l (v .0) r ⌝ }
+{
+    let weights = f.weights + l.weight;
+    let eligible = f.eligible;
+    if l.count == 0 {
+        return Found {
+            weights: weights,
+            held: f.held,
+            eligible: eligible,
+        };
+    }
+    let held = (1u64 << (k as u32)) + f.held;
+    if rounded_start(l.time, l.group).0 <= v.0 {
+        return Found {
+            weights: weights,
+            held: held,
+            eligible: true,
+        };
+    }
+    Found {
+        weights: weights,
+        held: held,
+        eligible: eligible,
+    }
+}
+
+// The pass over the lanes of the setup.
+fn lanes_good(t: &[u8], v: Clock) -> Pass
+    requires { ⌜ Room (now t) × (v .0 < 2 ^ 63) ⌝ }
+    ensures { λ r. ⌜ PassSays (v .0) (cells (now (t .entry))) r ⌝ }
+{
+    let lanes = cell(t, PRESENT);
+    let mut found = Found {
+        weights: 0,
+        held: 0,
+        eligible: false,
+    };
+    let mut k = next_present(lanes, 0);
+    while k < 64 {
+        let l = row(t, k);
+        let good = lane_good(t, k, l, v);
+        if !good {
+            return Pass::Bad;
+        }
+        found = note(found, k, l, v);
+        k = next_present(lanes, k + 1);
+    }
+    Pass::Fine(found)
+}
+
+// Whether the tie order, of `n` entries, names each lane of the word `held` once, and no other.
+fn order_good(t: &[u8], n: usize, held: u64) -> bool
+    requires { ⌜ Room (now t) × (n ≤ 64) ⌝ }
+    ensures { λ r. ⌜ Says r (Ordered (cells (now (t .entry))) n held) ⌝ }
+{
+    let mut seen: u64 = 0;
+    let mut i = 0;
+    while i < n {
+        let k = cell(t, ORDER + i);
+        if k >= 64 {
+            return false;
+        }
+        if (seen >> (k as u32)) % 2 == 1 {
+            return false;
+        }
+        seen += 1u64 << (k as u32);
+        i += 1;
+    }
+    if seen != held {
+        return false;
+    }
+    true
+}
+
+// Whether a lane is eligible, if any holds records.
+fn live_good(f: Found) -> bool
+    ensures { λ r. ⌜ Says r (0 < f .held → f .eligible ≡ true) ⌝ }
+{
+    if f.held == 0 {
+        return true;
+    }
+    f.eligible
+}
+
+// Whether what the pass found makes a good table: a setup, an eligible lane if any holds, and a tie order.
+fn found_good(t: &[u8], f: Found, n: usize) -> bool
+    requires { ⌜ Room (now t) × (n ≤ 64) ⌝ }
+    ensures { λ r. ⌜ Says r ((0 < f .weights) × (f .weights ≤ 1024) × (0 < f .held → f .eligible ≡ true) × Ordered (cells (now (t .entry))) n (f .held)) ⌝ }
+{
+    if f.weights < 1 {
+        return false;
+    }
+    if f.weights > 1024 {
+        return false;
+    }
+    let live = live_good(f);
+    if !live {
+        return false;
+    }
+    let ordered = order_good(t, n, f.held);
+    if !ordered {
+        return false;
+    }
+    true
+}
+
+// Whether the bytes are a good table.
+pub fn good(t: &[u8]) -> bool
+    ensures { λ r. ⌜ Says r (GoodTable (now (t .entry))) ⌝ }
+{
+    if t.len() < SIZE {
+        return false;
+    }
+    let v = clock(t);
+    if v.0 >= CLOCK_END {
+        return false;
+    }
+    let n = holding(t);
+    if n > 64 {
+        return false;
+    }
+    match lanes_good(t, v) {
+        Pass::Bad => false,
+        Pass::Fine(f) => found_good(t, f, n),
+    }
+}
