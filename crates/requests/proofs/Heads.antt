@@ -1,12 +1,12 @@
 -- Laws of `headAt` and `itemAt` of specs/Request.antt: each way that a field goes.
 --
---   head-none .. head-right      a header, judged
---   head-within                  a header that is right is whole, and its value short
---   item-wrong .. item-request   a field
+--   head-none .. head-right             a header, judged
+--   head-whole, head-size, head-short   what a header that is right is
+--   item-wrong .. item-request          a field
 --
 -- Assumes nothing.
 use Prim.Native.Nat.{ℕ, _+_, _≤_, _<_}
-use mathlib.Core.Path.{_≡_, refl, sym, ap, _∙_}
+use mathlib.Core.Path.{_≡_, refl, sym, ap, subst, _∙_}
 use mathlib.Core.Bool.{Bool, true, false, _||_}
 use mathlib.Core.List.{List}
 use mathlib.Core.Option.{Option, none, some}
@@ -65,25 +65,36 @@ size-most t =
 never : {A : Type 0} (n : ℕ) (p : Option ℕ) (t k : ℕ) (x : Heading) → x ≡ wrong n p → x ≡ right t k → A
 never n p t k x e f = let z : _≡_ {A = ℕ} 0 1 = cc in absurd (omega arith)
 
-few : (at t m : ℕ) (o : Option ℕ) → Most 7 o → (tag n : ℕ) → sized at t m o ≡ right tag n → n ≤ 7
-few at t m none h tag n e = never 2 (some at) tag n (sized at t m none) refl e
-few at t m (some k) h tag n e = go (eqb m k) refl e
+known-size : (at t m : ℕ) (o : Option ℕ) → sizeOf t ≡ o → (tag n : ℕ) → sized at t m o ≡ right tag n → sizeOf tag ≡ some n
+known-size at t m none q tag n e = never 2 (some at) tag n (sized at t m none) refl e
+known-size at t m (some k) q tag n e = go (eqb m k) refl e
   where
-    go : (b : Bool) → eqb m k ≡ b → (if b then right t m else wrong 3 (some at)) ≡ right tag n → n ≤ 7
-    go true q f = let r : m ≡ n = cc in omega (arith, eqb-true m k q)
-    go false q f = never 3 (some at) tag n (wrong 3 (some at)) refl f
+    go : (b : Bool) → eqb m k ≡ b → (if b then right t m else wrong 3 (some at)) ≡ right tag n → sizeOf tag ≡ some n
+    go true h f =
+        let x : t ≡ tag = cc in
+        let y : m ≡ n = cc in
+        rw (← x, ← y, eqb-true m k h) q
+    go false h f = never 3 (some at) tag n (wrong 3 (some at)) refl f
 
--- a header that is right is whole, and its value short
-pub head-within : (s : List ℕ) (at tag n : ℕ) → headAt s at ≡ right tag n → (at + 3 ≤ length s) × (n ≤ 7)
-unfolding headAt
-head-within s at tag n e =
+-- a header that is right is whole ..
+pub head-whole : (s : List ℕ) (at tag n : ℕ) → headAt s at ≡ right tag n → at + 3 ≤ length s
+head-whole s at tag n e =
     elim (decLe (at + 3) (length s)) [
-      | yes a ↦ (a, few at (byteAt s at) (big s (at + 1) 2) (sizeOf (byteAt s at)) (size-most (byteAt s at)) tag n (sym (ap (headed s at) (header-whole s at a)) ∙ e))
+      | yes a ↦ a
       | no a ↦ elim (decLe (length s) at) [
         | yes b ↦ never 1 (some (length s)) tag n (headAt s at) (head-none s at (header-none s at b)) e
         | no b ↦ never 1 (some at) tag n (headAt s at) (head-cut s at (header-cut s at (omega arith) (omega arith))) e
       ]
     ]
+
+-- .. its length is the one for its tag ..
+pub head-size : (s : List ℕ) (at tag n : ℕ) → headAt s at ≡ right tag n → sizeOf tag ≡ some n
+unfolding headAt
+head-size s at tag n e = known-size at (byteAt s at) (big s (at + 1) 2) (sizeOf (byteAt s at)) refl tag n (sym (ap (headed s at) (header-whole s at (head-whole s at tag n e))) ∙ e)
+
+-- .. and short
+pub head-short : (s : List ℕ) (at tag n : ℕ) → headAt s at ≡ right tag n → n ≤ 7
+head-short s at tag n e = subst (Most 7) (head-size s at tag n e) (size-most tag)
 
 -- ---- a field
 
