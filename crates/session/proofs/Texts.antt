@@ -92,7 +92,7 @@ module _ (s : List ℕ) (limit : ℕ) where
 
   -- the requests on the fresh table
   pub begun-is : (gs : List Setting) (lanes at : ℕ) {t t₁ t′ a a′ : List ℕ} {r : RunResult} → plan.readPlan s 0 ≡ plan.read gs lanes at
-      → Makes t t₁ gs → Is t₁ t′ a a′ r (finished lanes (walk limit s at [] 0 (meant t₁))) → Is t t′ a a′ r (script s limit)
+      → Makes t t₁ gs → Is t₁ t′ a a′ r (finished lanes (walk limit s at 0 [] (meant t₁))) → Is t t′ a a′ r (script s limit)
   unfolding script
   begun-is gs lanes at e m x =
       rw e (let y = rw (m .state) at x in record {

@@ -32,20 +32,20 @@ use Rattle.session.specs.declared.Stop as Stop
 -- ---- the script's walk, one turn
 
 module _ (s : List ℕ) (limit at n : ℕ) (lines : List ℕ) (σ : State) where
-  pub walk-limit : limit ≤ n → walk (limit - n) s at lines n σ ≡ record { lines = lines; count = n; why = atLimit; state = σ }
+  pub walk-limit : limit ≤ n → walk (limit - n) s at n lines σ ≡ record { lines = lines; count = n; why = atLimit; state = σ }
   unfolding walk
   walk-limit h = let l : limit - n ≡ 0 = omega arith in rw l
 
-  pub walk-bad : n < limit → (r : ℕ) (p : Option ℕ) → itemAt s at ≡ bad r p → walk (limit - n) s at lines n σ ≡ record { lines = lines; count = n; why = refusal r p; state = σ }
+  pub walk-bad : n < limit → (r : ℕ) (p : Option ℕ) → itemAt s at ≡ bad r p → walk (limit - n) s at n lines σ ≡ record { lines = lines; count = n; why = refusal r p; state = σ }
   unfolding walk
   walk-bad h r p e = let l : limit - n ≡ suc (limit - (n + 1)) = omega arith in rw (l, e)
 
-  pub walk-last : n < limit → (at′ : ℕ) → itemAt s at ≡ last at′ → walk (limit - n) s at lines n σ ≡ record { lines = lines; count = n; why = closed s at′; state = σ }
+  pub walk-last : n < limit → (at′ : ℕ) → itemAt s at ≡ last at′ → walk (limit - n) s at n lines σ ≡ record { lines = lines; count = n; why = closed s at′; state = σ }
   unfolding walk
   walk-last h at′ e = let l : limit - n ≡ suc (limit - (n + 1)) = omega arith in rw (l, e)
 
   pub walk-request : n < limit → (c : Call) (at′ : ℕ) → itemAt s at ≡ request c at′
-      → walk (limit - n) s at lines n σ ≡ walk (limit - (n + 1)) s at′ (lines ++ lineOf ((step σ c) .reply)) (n + 1) ((step σ c) .state)
+      → walk (limit - n) s at n lines σ ≡ walk (limit - (n + 1)) s at′ (n + 1) (lines ++ lineOf ((step σ c) .reply)) ((step σ c) .state)
   unfolding walk
   walk-request h c at′ e = let l : limit - n ≡ suc (limit - (n + 1)) = omega arith in rw (l, e)
 
@@ -53,7 +53,7 @@ module _ (s : List ℕ) (limit at n : ℕ) (lines : List ℕ) (σ : State) where
 
 pub record Stands (s : List ℕ) (from limit : ℕ) (t₀ a₀ : List ℕ) (start : ℕ) (t a : List ℕ) (at next n : ℕ) : Type 0 where
   pub lines : List ℕ
-  pub same : walk (limit - n) s at lines n (meant t) ≡ walk limit s from [] 0 (meant t₀)
+  pub same : walk (limit - n) s at n lines (meant t) ≡ walk limit s from 0 [] (meant t₀)
   pub wrote : Wrote a₀ a start lines next
   pub long : length lines ≤ 64 * n
   pub made : Made t
@@ -99,7 +99,7 @@ module _ {s : List ℕ} {from limit : ℕ} {t₀ a₀ : List ℕ} {start : ℕ} 
     few = omega arith;
   }
 
-  pub stops : (w : Stop.Stop) → walk (limit - n) s at (i .lines) n (meant t) ≡ record { lines = i .lines; count = n; why = whyIs w; state = meant t }
+  pub stops : (w : Stop.Stop) → walk (limit - n) s at n (i .lines) (meant t) ≡ record { lines = i .lines; count = n; why = whyIs w; state = meant t }
       → next + 64 * lineCount w ≤ 64 * (limit + 2)
-      → Walks limit t₀ t a₀ a start (record { answered = n; next = next; why = w }) (walk limit s from [] 0 (meant t₀))
+      → Walks limit t₀ t a₀ a start (record { answered = n; next = next; why = w }) (walk limit s from 0 [] (meant t₀))
   stops w e f = rw (sym (i .same) ∙ e) (record { count = refl; why = refl; wrote = i .wrote; state = refl; made = i .made; rest = i .rest; fits = f })

@@ -40,15 +40,15 @@ closed s at = if ltb at (length s) then refusal 4 (some at) else atEnd
 
 -- "It leaves the walk at the end field, at a refused field ..": neither is counted. A request is, also where its line is a `no` line: "Numbers 10 to 16
 -- answer their request with a `no` line and the walk goes on."
-abbrev pub next : List ℕ → Item → List ℕ → ℕ → State → (ℕ → List ℕ → State → Walked) → Walked
-next s (bad r p) lines n σ go = record { lines = lines; count = n; why = refusal r p; state = σ }
-next s (last at) lines n σ go = record { lines = lines; count = n; why = closed s at; state = σ }
-next s (request c at) lines n σ go = go at (lines ++ lineOf ((step σ c) .reply)) ((step σ c) .state)
+abbrev pub next : List ℕ → ℕ → List ℕ → State → Item → (ℕ → ℕ → List ℕ → State → Walked) → Walked
+next s n lines σ (bad r p) go = record { lines = lines; count = n; why = refusal r p; state = σ }
+next s n lines σ (last at) go = record { lines = lines; count = n; why = closed s at; state = σ }
+next s n lines σ (request c at) go = go at (n + 1) (lines ++ lineOf ((step σ c) .reply)) ((step σ c) .state)
 
 -- "the limit is looked at before each field after the setup", the end field included: n requests are answered, by these lines, and so many more are allowed
-unfoldable pub walk : ℕ → List ℕ → ℕ → List ℕ → ℕ → State → Walked
-walk zero s at lines n σ = record { lines = lines; count = n; why = atLimit; state = σ }
-walk (suc left) s at lines n σ = next s (itemAt s at) lines n σ (λ at′ lines′ σ′. walk left s at′ lines′ (n + 1) σ′)
+unfoldable pub walk : ℕ → List ℕ → ℕ → ℕ → List ℕ → State → Walked
+walk zero s at n lines σ = record { lines = lines; count = n; why = atLimit; state = σ }
+walk (suc left) s at n lines σ = next s n lines σ (itemAt s at) (walk left s)
 
 -- ---- the run
 
@@ -76,7 +76,7 @@ finished lanes w = record {
 -- "a refused setup writes that `no` line alone"; else `lanes N`, and the requests on the fresh table of the setup
 abbrev pub begun : List ℕ → ℕ → plan.Reply → Script
 begun s limit (plan.refused r p) = record { text = noLine r p; count = 0; why = refusal r p; state = none }
-begun s limit (plan.read gs lanes at) = finished lanes (walk limit s at [] 0 (fresh gs))
+begun s limit (plan.read gs lanes at) = finished lanes (walk limit s at 0 [] (fresh gs))
 
 -- "Session: a setup, then requests, then 0x7F."
 unfoldable pub script : List ℕ → ℕ → Script

@@ -67,7 +67,7 @@ fn closed(s: &[u8], at: usize) -> Stop
 // Walks the requests from a place on: for each its call, and its line. "It leaves the walk at the end field, at a refused field, or at the limit".
 fn walk(s: &[u8], from: usize, limit: u64, t: &mut [u8], a: &mut [u8], start: usize) -> Walked
     requires { ⌜ Made (now t) × (limit ≤ 1000) × (start ≤ 64) × (64 * (limit + 2) ≤ length (now a)) ⌝ }
-    ensures { λ r. ⌜ Walks limit (now (t .entry)) (now (t .exit)) (now (a .entry)) (now (a .exit)) start r (walk limit (now (s .entry)) from [] 0 (meant (now (t .entry)))) ⌝ }
+    ensures { λ r. ⌜ Walks limit (now (t .entry)) (now (t .exit)) (now (a .entry)) (now (a .exit)) start r (walk limit (now (s .entry)) from 0 [] (meant (now (t .entry)))) ⌝ }
 {
     let mut at = from;
     let mut next = start;
@@ -126,7 +126,7 @@ fn put_closing(a: &mut [u8], at: usize, why: Stop, n: u64) -> usize
 // The requests on a fresh table, from a place on: `lanes N`, their lines, and the last lines.
 fn requested(s: &[u8], at: usize, limit: u64, t: &mut [u8], a: &mut [u8], lanes: u64) -> RunResult
     requires { ⌜ Made (now t) × (limit ≤ 1000) × (64 * (limit + 2) ≤ length (now a)) ⌝ }
-    ensures { λ r. ⌜ Is (now (t .entry)) (now (t .exit)) (now (a .entry)) (now (a .exit)) r (finished lanes (walk limit (now (s .entry)) at [] 0 (meant (now (t .entry))))) ⌝ }
+    ensures { λ r. ⌜ Is (now (t .entry)) (now (t .exit)) (now (a .entry)) (now (a .exit)) r (finished lanes (walk limit (now (s .entry)) at 0 [] (meant (now (t .entry))))) ⌝ }
 {
     let start = lines::put_lanes(a, 0, lanes);
     let w = walk(s, at, limit, t, a, start);
