@@ -1,0 +1,27 @@
+-- A request answered: what is left of the table and of the answer area.
+--
+--   Made      a table that calls made from a fresh one: what the session run rests on, in place of a test for each request
+--   Answers   the call is done, and its line is written
+--
+-- Assumes nothing.
+use Prim.Native.Nat.{ℕ, _*_}
+use mathlib.Core.Path.{_≡_}
+use mathlib.Core.List.{List}
+use lib.ListN.{drop}
+use Rattle.rules.specs.Calls.{Call, step}
+use Rattle.rules.proofs.AlwaysGood.{Reached}
+use Rattle.table.specs.Layout.{WORDS, Room, cells}
+use Rattle.table.specs.Means.{meant, Beside}
+use Rattle.lines.specs.Line.{lineOf, Line}
+
+-- "No table made by these calls from a fresh one is ever found not good": `Reached` is what a fresh state has and every call keeps, and it gives `Good`.
+pub record Made (t : List ℕ) : Type 0 where
+  pub room : Room t
+  pub beside : Beside (cells t)
+  pub reached : Reached (meant t)
+
+pub record Answers (c : Call) (t t′ a a′ : List ℕ) (at next : ℕ) : Type 0 where
+  pub made : Made t′
+  pub state : meant t′ ≡ (step (meant t) c) .state
+  pub rest : drop (WORDS * 8) t′ ≡ drop (WORDS * 8) t
+  pub line : Line a a′ at (lineOf ((step (meant t) c) .reply)) next

@@ -1,0 +1,24 @@
+-- What the unit's program prints.
+--
+--   printed   the text of an input
+--   Prints    the text stands at the front of the answer area
+--
+-- Assumes nothing.
+use Prim.Native.Nat.{ℕ, _≤_}
+use mathlib.Core.Path.{_≡_}
+use mathlib.Core.List.{List, _++_}
+use mathlib.Core.Option.{none}
+use lib.Dec.{ltb}
+use lib.ListN.{length, drop}
+use Rattle.rules.specs.State.{if_then_else_}
+use Rattle.lines.specs.Line.{noLine}
+use Rattle.session.specs.Script.{script}
+
+-- "18: program's input over 32,768 bytes"; "18 prints `no 18` alone". "The program reads standard input; its limit is 1,000."
+abbrev pub printed : List ℕ → List ℕ
+printed s = if ltb 32768 (length s) then noLine 18 none else script s 1000 .text
+
+pub record Prints (s a a′ : List ℕ) (n : ℕ) : Type 0 where
+  pub is : a′ ≡ printed s ++ drop (length (printed s)) a
+  pub size : n ≡ length (printed s)
+  pub within : n ≤ length a′

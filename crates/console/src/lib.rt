@@ -1,0 +1,39 @@
+// The unit's program: document 01, "A session in full". It reads standard input, runs it as a session with a limit of 1,000, and writes the lines.
+//
+// `answered` is the work, on slices, with its promise (specs/Prints.antt); `serve` adds standard input and output, of which no contract can speak.
+ghost use Prim.Native.Nat.{_*_, _≤_};
+ghost use lib.ListN.{length};
+ghost use Rattle.table.specs.Layout.{Room};
+ghost use Rattle.console.specs.Prints.{Prints};
+use rules::Refusal;
+
+// "18: program's input over 32,768 bytes."
+pub const MOST_INPUT: usize = 32768;
+
+// One byte more than the most, to see an input that is too long.
+pub const INPUT: usize = 32769;
+
+// 64 x (1,000 + 2): the answer area for the most requests.
+pub const AREA: usize = 64128;
+
+// The text of an input, in the answer area; how many bytes it has.
+pub fn answered(input: &[u8], table: &mut [u8], area: &mut [u8]) -> usize
+    requires { ⌜ Room (now table) × (64 * 1002 ≤ length (now area)) ⌝ }
+    ensures { λ r. ⌜ Prints (now (input .entry)) (now (area .entry)) (now (area .exit)) r ⌝ }
+{
+    if input.len() > MOST_INPUT {
+        return lines::put_no(area, 0, Refusal::InputLong);
+    }
+    let result = session::run(input, session::MOST_REQUESTS, table, area);
+    result.written
+}
+
+// Reads standard input until it ends or is too long, and writes its text to standard output. Short reads and writes are gone on with.
+pub fn serve() {
+    let mut input = [0u8; INPUT];
+    let n = io::read_full(libc::STDIN_FILENO, &mut input);
+    let mut table = [0u8; table::SIZE];
+    let mut area = [0u8; AREA];
+    let m = answered(&input[..n], &mut table, &mut area);
+    io::write_all(libc::STDOUT_FILENO, &area[..m]);
+}

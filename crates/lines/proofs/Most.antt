@@ -1,0 +1,74 @@
+-- No answer line is longer than 64 bytes. Assumes nothing.
+use Prim.Native.Nat.{ℕ, _+_, _^_, _≤_, _<_}
+use native.Mathlib.Omega.{arith}
+use mathlib.Core.Path.{_≡_}
+use mathlib.Core.List.{List, [], _∷_, _++_}
+use mathlib.Core.Option.{Option, none, some}
+use lib.ListN.{length, length-append}
+use Rattle.text.specs.Decimal.{decimal, signed}
+use Rattle.text.proofs.Widths.{length-decimal, width-le}
+use Rattle.text.proofs.Signed.{signed-most}
+use Rattle.rules.specs.Calls.{Reply, accepted, taken, seen, words, lagged, restarted, refused}
+use Rattle.lines.proofs.Writing.{line-long}
+use Rattle.lines.specs.Line.{spaced, line, takeWord, lookWord, setsWord, lagWord, noWord, lanesWord, endWord, noLine, lineOf, lanesLine, endLine, ShortPlace, Short}
+
+-- a number below 10 ^ k has at most k digits
+written : (n k : ℕ) → 0 < k → n < 10 ^ k → length (decimal n) ≤ k
+written n k p h = omega (arith, length-decimal n, width-le n k p h)
+
+-- the numbers that the types allow, by their bits
+byte : (n : ℕ) → n < 2 ^ 8 → length (decimal n) ≤ 3
+byte n h = written n 3 (omega arith) (omega arith)
+
+half : (n : ℕ) → n < 2 ^ 32 → length (decimal n) ≤ 10
+half n h = written n 10 (omega arith) (omega arith)
+
+full : (n : ℕ) → n < 2 ^ 64 → length (decimal n) ≤ 20
+full n h = written n 20 (omega arith) (omega arith)
+
+more : (n : ℕ) (ns : List ℕ) (k : ℕ) → length (decimal n) ≤ k → length (spaced (n ∷ ns)) ≤ 1 + k + length (spaced ns)
+unfolding spaced
+more n ns k h = omega (arith, length-append (32 ∷ decimal n) (spaced ns))
+
+ended : (word ns : List ℕ) → length (line word ns) ≡ length word + length (spaced ns) + 1
+ended word ns = omega (arith, length-append (spaced ns) (10 ∷ []), line-long word ns)
+
+pub record-most : (word : List ℕ) (l m n : ℕ) → length word ≤ 10 → Short (taken l m n) → length (line word (l ∷ m ∷ n ∷ [])) ≤ 64
+unfolding spaced
+record-most word l m n e h =
+    omega (arith, ended word (l ∷ m ∷ n ∷ []), more l (m ∷ n ∷ []) 3 (byte l (h .0)), more m (n ∷ []) 10 (half m (h .1)), more n [] 20 (full n (h .2)))
+
+pub one-most : (word : List ℕ) (n : ℕ) → length word ≤ 10 → n < 2 ^ 64 → length (line word (n ∷ [])) ≤ 64
+unfolding spaced
+one-most word n e h = omega (arith, ended word (n ∷ []), more n [] 20 (full n h))
+
+pub no-most : (n : ℕ) (p : Option ℕ) → Short (refused n p) → length (noLine n p) ≤ 64
+unfolding spaced
+no-most n none h = one-most noWord n (omega arith) (omega (arith, h .0))
+no-most n (some p) h =
+    omega (arith, ended noWord (n ∷ p ∷ []), more n (p ∷ []) 3 (byte n (h .0)), more p [] 20 (full p (h .1)))
+
+-- the line of a reply
+pub line-most : (r : Reply) → Short r → length (lineOf r) ≤ 64
+unfolding spaced
+line-most accepted h = omega arith
+line-most (taken l m n) h = record-most takeWord l m n (omega arith) h
+line-most (seen l m n) h = record-most lookWord l m n (omega arith) h
+line-most (words er ir eb ib) h =
+    omega (
+      arith,
+      ended setsWord (er ∷ ir ∷ eb ∷ ib ∷ []),
+      more er (ir ∷ eb ∷ ib ∷ []) 10 (half er (h .0)),
+      more ir (eb ∷ ib ∷ []) 10 (half ir (h .1)),
+      more eb (ib ∷ []) 10 (half eb (h .2)),
+      more ib [] 10 (half ib (h .3)),
+    )
+line-most (lagged z) h = omega (arith, length-append (signed z) (10 ∷ []), signed-most z h)
+line-most restarted h = omega arith
+line-most (refused n p) h = no-most n p h
+
+pub lanes-most : (n : ℕ) → n < 2 ^ 64 → length (lanesLine n) ≤ 64
+lanes-most n h = one-most lanesWord n (omega arith) h
+
+pub end-most : (n : ℕ) → n < 2 ^ 64 → length (endLine n) ≤ 64
+end-most n h = one-most endWord n (omega arith) h

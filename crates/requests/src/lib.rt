@@ -1,0 +1,100 @@
+// The fields behind a session's setup: document 01, "Setup and session fields", with the refusals 1 to 3 of "Numbers given back".
+//
+// A field is read in two steps, for the order in a field is 1 (header), 2, 3, 1 (value): `head_at` judges the header; the caller then reads the value, as
+// one number, and `request_of` takes that apart. Each request's shape stands in `size_of` and `request_of` alone.
+//
+// Units: a place is a number of bytes from the first byte of the input; a record's length is in `Bytes`.
+ghost use mathlib.Core.Path.{_≡_};
+ghost use Rattle.requests.specs.Request.{sizeOf, sizeIs, headAt, headIs, callIs, numbered};
+use fields::Field;
+use rules::Refusal;
+use units::Bytes;
+
+pub const PUT: u8 = 0x20;
+
+pub const TAKE: u8 = 0x21;
+
+pub const LOOK: u8 = 0x22;
+
+pub const SETS: u8 = 0x23;
+
+pub const LAG: u8 = 0x24;
+
+pub const RESTART: u8 = 0x25;
+
+pub const END: u8 = 0x7F;
+
+pub enum Request {
+    Put { lane: u8, mark: u32, length: Bytes },
+    Take,
+    Look,
+    Sets,
+    Lag(u8),
+    Restart,
+}
+
+// How long the value of a tag is.
+pub enum Size {
+    Of(usize),
+    Unknown,
+}
+
+pub enum Head {
+    // A tag that is known, and the length of its value, which may be cut.
+    Right(u8, usize),
+    Refused(Refusal),
+}
+
+// "put (lane u8, mark u32, length u16) .. lag (lane u8)"; the others have no value.
+pub fn size_of(tag: u8) -> Size
+    ensures { λ r. ⌜ sizeIs r ≡ sizeOf tag ⌝ }
+{
+    match tag {
+        PUT => Size::Of(7),
+        LAG => Size::Of(1),
+        TAKE | LOOK | SETS | RESTART | END => Size::Of(0),
+        _ => Size::Unknown,
+    }
+}
+
+// The header at a place, judged: refusals 1 (header), 2 and 3.
+pub fn head_at(s: &[u8], at: usize) -> Head
+    ensures { λ r. ⌜ headIs r ≡ headAt (now (s .entry)) at ⌝ }
+{
+    match fields::field_at(s, at) {
+        Field::Nothing => Head::Refused(Refusal::Cut(s.len())),
+        Field::Cut => Head::Refused(Refusal::Cut(at)),
+        Field::Header {
+            tag,
+            value: _,
+            length,
+        } => match size_of(tag) {
+            Size::Unknown => Head::Refused(Refusal::UnknownTag(at)),
+            Size::Of(n) => {
+                if length == n {
+                    Head::Right(tag, length)
+                } else {
+                    Head::Refused(Refusal::WrongLength(at))
+                }
+            }
+        },
+    }
+}
+
+// The request of a tag other than the end's, by its value as one number.
+pub fn request_of(tag: u8, x: u64) -> Request
+    ensures { λ r. ⌜ callIs r ≡ numbered tag x ⌝ }
+{
+    match tag {
+        PUT => Request::Put {
+            lane: (x / 281474976710656 % 256) as u8,
+            mark: (x / 65536 % 4294967296) as u32,
+            length: Bytes(x % 65536),
+        },
+        TAKE => Request::Take,
+        LOOK => Request::Look,
+        SETS => Request::Sets,
+        LAG => Request::Lag((x % 256) as u8),
+        _ => Request::Restart,
+    }
+}

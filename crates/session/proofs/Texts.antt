@@ -1,0 +1,126 @@
+-- A run's text in the answer area, and the run as a whole.
+--
+--   written        a text that is written from the area's first byte on
+--   closes-one, closes-two   the closing lines
+--   requested-is   lanes, requests and closing lines are the script's
+--   refused-is     a refused setup
+--   begun-is       a setup that is read
+--   nothing-is     nothing is written
+--   run-limit .. run-right   what a run is, by its limit, answer area and table
+--
+-- Assumes nothing.
+use Prim.Native.Nat.{ℕ, _+_, _*_, _≤_, _<_}
+use native.Mathlib.Nat.{zero-add}
+use native.Mathlib.Omega.{arith}
+use mathlib.Core.Path.{_≡_, refl, sym, ap, subst, _∙_}
+use mathlib.Core.List.{List, [], _∷_, _++_}
+use mathlib.Core.Option.{Option, none, some}
+use borrow.Author.Tests.{lt-ltb, le-ltb}
+use lib.ListN.{length, drop, length-append}
+use lib.Seq.{sets-eq}
+use Rattle.rules.specs.State.{State, Setting}
+use Rattle.rules.specs.Calls.{fresh}
+use Rattle.rules.specs.Reads.{number, placeOf}
+use Rattle.rules.specs.declared.Refusal.{Refusal}
+use Rattle.alike.proofs.Alike.{alike-refl}
+use Rattle.alike.specs.Alike.{Alike}
+use Rattle.plan.specs.Read as plan
+use Rattle.table.specs.Layout.{WORDS}
+use Rattle.table.specs.Means.{meant}
+use Rattle.table.specs.Encodes.{Encodes}
+use Rattle.fresh.specs.Makes.{Makes}
+use Rattle.lines.specs.Line.{noLine, lanesLine, endLine, Wrote, Line}
+use Rattle.lines.proofs.Writing.{wrote-both}
+use Rattle.answers.specs.Answers.{Made}
+use Rattle.session.specs.Script as Script
+use Rattle.session.specs.Script.{refusal, walk, closing, finished, begun, script, nothing, runOf}
+use Rattle.session.specs.Ran.{whyIs, Tabled, Table, Is}
+use Rattle.session.specs.Walks.{lineCount, Walks, Closes}
+use Rattle.session.specs.declared.Stop.{Stop}
+use Rattle.session.specs.declared.Stop.the-variants.{End, Limit, Refused}
+use Rattle.session.specs.declared.Walked as Walked
+use Rattle.session.specs.declared.RunResult.{RunResult}
+
+pub written : (a a′ text : List ℕ) {n : ℕ} → Wrote a a′ 0 text n → length text ≤ length a → a′ ≡ text ++ drop (length text) a
+written a a′ text w h = w .is ∙ sets-eq text a 0 (omega arith) ∙ rw (zero-add (length text))
+
+module _ {a a′ : List ℕ} {at n next : ℕ} where
+  pub closes-end : Line a a′ at (endLine n) next → Closes a a′ at End n next
+  closes-end l = record { wrote = l .wrote; most = omega (arith, l .most) }
+
+  pub closes-limit : Line a a′ at (endLine n) next → Closes a a′ at Limit n next
+  closes-limit l = record { wrote = l .wrote; most = omega (arith, l .most) }
+
+  pub closes-no : (x : Refusal) {b : List ℕ} {p : ℕ} → Line a b at (noLine (number x) (placeOf x)) p → Line b a′ p (endLine n) next → Closes a a′ at (Refused x) n next
+  closes-no x l m = record {
+    wrote = wrote-both (noLine (number x) (placeOf x)) (endLine n) (l .wrote) (m .wrote);
+    most = omega (arith, l .most, m .most, length-append (noLine (number x) (placeOf x)) (endLine n));
+  }
+
+encodes : (t : List ℕ) (σ : State) → Made t → meant t ≡ σ → Encodes t σ
+encodes t σ m e = record { room = m .room; alike = subst (Alike (meant t)) e (alike-refl (meant t)); beside = m .beside }
+
+pub requested-is : (lanes : ℕ) {limit : ℕ} {t t′ a a₁ a₂ a₃ : List ℕ} {start end : ℕ} {r : Walked.Walked} {w : Script.Walked}
+    → Line a a₁ 0 (lanesLine lanes) start → Walks limit t t′ a₁ a₂ start r w → Closes a₂ a₃ (r .next) (r .why) (r .answered) end → 64 * (limit + 2) ≤ length a
+    → Is t t′ a a₃ (record { answered = r .answered; written = end; why = r .why }) (finished lanes w)
+requested-is lanes {limit} {t} {t′} {a} {a₁} {a₂} {a₃} {start} {end} {r} {w} l k c h =
+    let last : List ℕ = closing (whyIs (r .why)) (r .answered) in
+    let same : last ≡ closing (w .why) (w .count) = rw (k .why, k .count) in
+    let text : List ℕ = lanesLine lanes ++ (w .lines ++ closing (w .why) (w .count)) in
+    let all : Wrote a a₃ 0 text end = wrote-both (lanesLine lanes) (w .lines ++ closing (w .why) (w .count)) (l .wrote) (rw (← same) (wrote-both (w .lines) last (k .wrote) (c .wrote))) in
+    record {
+      count = k .count;
+      written = all .past ∙ zero-add (length text);
+      why = k .why;
+      answers = written a a₃ text all (omega (arith, all .past, c .wrote .past, c .most, k .fits));
+      table = record { encodes = encodes t′ (w .state) (k .made) (k .state); rest = k .rest };
+    }
+
+module _ (s : List ℕ) (limit : ℕ) where
+  pub refused-is : (x : Refusal) {t a a′ : List ℕ} {end : ℕ} → plan.readPlan s 0 ≡ plan.refused (number x) (placeOf x)
+      → Line a a′ 0 (noLine (number x) (placeOf x)) end → 64 ≤ length a
+      → Is t t a a′ (record { answered = 0; written = end; why = Refused x }) (script s limit)
+  unfolding script
+  refused-is x {t} {a} {a′} e l h =
+      rw e (record {
+        count = refl;
+        written = l .wrote .past ∙ zero-add _;
+        why = refl;
+        answers = written a a′ (noLine (number x) (placeOf x)) (l .wrote) (omega (arith, l .most));
+        table = refl;
+      })
+
+  -- the requests on the fresh table
+  pub begun-is : (gs : List Setting) (lanes at : ℕ) {t t₁ t′ a a′ : List ℕ} {r : RunResult} → plan.readPlan s 0 ≡ plan.read gs lanes at
+      → Makes t t₁ gs → Is t₁ t′ a a′ r (finished lanes (walk limit s at 0 [] (meant t₁))) → Is t t′ a a′ r (script s limit)
+  unfolding script
+  begun-is gs lanes at e m x =
+      rw e (let y = rw (m .state) at x in record {
+        count = y .count;
+        written = y .written;
+        why = y .why;
+        answers = y .answers;
+        table = record { encodes = y .table .encodes; rest = y .table .rest ∙ m .rest };
+      })
+
+pub nothing-is : (x : Refusal) (t a : List ℕ) → Is t t a a (record { answered = 0; written = 0; why = Refused x }) (nothing (number x) (placeOf x))
+nothing-is x t a = record { count = refl; written = refl; why = refl; answers = refl; table = refl }
+
+-- ---- 17, then 7
+
+module _ (s : List ℕ) (limit table area : ℕ) where
+  pub run-limit : 1000 < limit → runOf s limit table area ≡ nothing 17 none
+  unfolding runOf
+  run-limit h = rw (lt-ltb 1000 limit h)
+
+  pub run-area : limit ≤ 1000 → area < 64 * (limit + 2) → runOf s limit table area ≡ nothing 17 none
+  unfolding runOf
+  run-area l h = rw (le-ltb 1000 limit l, lt-ltb area (64 * (limit + 2)) h)
+
+  pub run-table : limit ≤ 1000 → 64 * (limit + 2) ≤ area → table < WORDS * 8 → runOf s limit table area ≡ nothing 7 (some 0)
+  unfolding runOf
+  run-table l h t = rw (le-ltb 1000 limit l, le-ltb area (64 * (limit + 2)) h, lt-ltb table (WORDS * 8) t)
+
+  pub run-right : limit ≤ 1000 → 64 * (limit + 2) ≤ area → WORDS * 8 ≤ table → runOf s limit table area ≡ script s limit
+  unfolding runOf
+  run-right l h t = rw (le-ltb 1000 limit l, le-ltb area (64 * (limit + 2)) h, le-ltb table (WORDS * 8) t)

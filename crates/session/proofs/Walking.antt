@@ -1,0 +1,105 @@
+-- The walk over the requests: what its loop knows.
+--
+--   Stands         the walk stands at a place, with n requests answered
+--   stands-first   before the first field
+--   stands-room    there is room for a line more
+--   stands-next    a request is answered
+--   stops          the walk stops
+--   walk-limit, walk-bad, walk-last   where the script's walk stops
+--
+-- Assumes nothing.
+use Prim.Native.Nat.{ℕ, zero, suc, _+_, _-_, _*_, _≤_, _<_}
+use native.Mathlib.Nat.{sub-zero, add-zero}
+use native.Mathlib.Omega.{arith}
+use mathlib.Core.Path.{_≡_, refl, sym, ap, _∙_}
+use mathlib.Core.List.{List, [], _∷_, _++_}
+use mathlib.Core.Option.{Option, some}
+use lib.ListN.{length, drop, length-append}
+use lib.Seq.{length-sets}
+use Rattle.rules.specs.State.{State}
+use Rattle.rules.specs.Calls.{Call, step}
+use Rattle.table.specs.Layout.{WORDS}
+use Rattle.table.specs.Means.{meant}
+use Rattle.lines.specs.Line.{lineOf, Wrote}
+use Rattle.lines.proofs.Writing.{wrote-both}
+use Rattle.requests.specs.Request.{request, last, bad, itemAt}
+use Rattle.answers.specs.Answers.{Made, Answers}
+use Rattle.session.specs.Script.{Why, atLimit, refusal, Walked, closed, walk}
+use Rattle.session.specs.Ran.{whyIs}
+use Rattle.session.specs.Walks.{lineCount, Walks}
+use Rattle.session.specs.declared.Stop as Stop
+
+-- ---- the script's walk, one turn
+
+module _ (s : List ℕ) (limit at n : ℕ) (lines : List ℕ) (σ : State) where
+  pub walk-limit : limit ≤ n → walk (limit - n) s at n lines σ ≡ record { lines = lines; count = n; why = atLimit; state = σ }
+  unfolding walk
+  walk-limit h = let l : limit - n ≡ 0 = omega arith in rw l
+
+  pub walk-bad : n < limit → (r : ℕ) (p : Option ℕ) → itemAt s at ≡ bad r p → walk (limit - n) s at n lines σ ≡ record { lines = lines; count = n; why = refusal r p; state = σ }
+  unfolding walk
+  walk-bad h r p e = let l : limit - n ≡ suc (limit - (n + 1)) = omega arith in rw (l, e)
+
+  pub walk-last : n < limit → (at′ : ℕ) → itemAt s at ≡ last at′ → walk (limit - n) s at n lines σ ≡ record { lines = lines; count = n; why = closed s at′; state = σ }
+  unfolding walk
+  walk-last h at′ e = let l : limit - n ≡ suc (limit - (n + 1)) = omega arith in rw (l, e)
+
+  pub walk-request : n < limit → (c : Call) (at′ : ℕ) → itemAt s at ≡ request c at′
+      → walk (limit - n) s at n lines σ ≡ walk (limit - (n + 1)) s at′ (n + 1) (lines ++ lineOf ((step σ c) .reply)) ((step σ c) .state)
+  unfolding walk
+  walk-request h c at′ e = let l : limit - n ≡ suc (limit - (n + 1)) = omega arith in rw (l, e)
+
+-- ---- the code's walk
+
+pub record Stands (s : List ℕ) (from limit : ℕ) (t₀ a₀ : List ℕ) (start : ℕ) (t a : List ℕ) (at next n : ℕ) : Type 0 where
+  pub lines : List ℕ
+  pub same : walk (limit - n) s at n lines (meant t) ≡ walk limit s from 0 [] (meant t₀)
+  pub wrote : Wrote a₀ a start lines next
+  pub long : length lines ≤ 64 * n
+  pub made : Made t
+  pub rest : drop (WORDS * 8) t ≡ drop (WORDS * 8) t₀
+  pub few : n ≤ limit
+
+pub stands-first : (s : List ℕ) (from limit : ℕ) (t a : List ℕ) (start : ℕ) → Made t → Stands s from limit t a start t a from start 0
+stands-first s from limit t a start m = record {
+  lines = [];
+  same = rw sub-zero;
+  wrote = record { is = refl; past = sym (add-zero start) };
+  long = omega arith;
+  made = m;
+  rest = refl;
+  few = omega arith;
+}
+
+pub two-lines : (w : Stop.Stop) → lineCount w ≤ 2
+two-lines Stop.the-variants.End = omega arith
+two-lines Stop.the-variants.Limit = omega arith
+two-lines (Stop.the-variants.Refused x) = omega arith
+
+module _ {s : List ℕ} {from limit : ℕ} {t₀ a₀ : List ℕ} {start : ℕ} {t a : List ℕ} {at next n : ℕ} (i : Stands s from limit t₀ a₀ start t a at next n) where
+  pub same-area : length a ≡ length a₀
+  same-area = ap length (i .wrote .is) ∙ length-sets a₀ start (i .lines)
+
+  -- `lanes N` and a line for each request so far
+  pub text-most : start ≤ 64 → next ≤ 64 * (n + 1)
+  text-most h = omega (arith, i .wrote .past, i .long)
+
+  pub stands-room : start ≤ 64 → n < limit → 64 * (limit + 2) ≤ length a₀ → next + 64 ≤ length a
+  stands-room h l m = omega (arith, text-most h, same-area)
+
+  pub stands-next : n < limit → (c : Call) (at′ : ℕ) → itemAt s at ≡ request c at′ → {t′ a′ : List ℕ} {next′ : ℕ} → Answers c t t′ a a′ next next′
+      → Stands s from limit t₀ a₀ start t′ a′ at′ next′ (n + 1)
+  stands-next l c at′ e x = record {
+    lines = i .lines ++ lineOf ((step (meant t) c) .reply);
+    same = rw (x .state) (sym (walk-request s limit at n (i .lines) (meant t) l c at′ e) ∙ i .same);
+    wrote = wrote-both (i .lines) (lineOf ((step (meant t) c) .reply)) (i .wrote) (x .line .wrote);
+    long = omega (arith, i .long, x .line .most, length-append (i .lines) (lineOf ((step (meant t) c) .reply)));
+    made = x .made;
+    rest = x .rest ∙ i .rest;
+    few = omega arith;
+  }
+
+  pub stops : (w : Stop.Stop) → walk (limit - n) s at n (i .lines) (meant t) ≡ record { lines = i .lines; count = n; why = whyIs w; state = meant t }
+      → next + 64 * lineCount w ≤ 64 * (limit + 2)
+      → Walks limit t₀ t a₀ a start (record { answered = n; next = next; why = w }) (walk limit s from 0 [] (meant t₀))
+  stops w e f = rw (sym (i .same) ∙ e) (record { count = refl; why = refl; wrote = i .wrote; state = refl; made = i .made; rest = i .rest; fits = f })

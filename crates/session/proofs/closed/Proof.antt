@@ -1,0 +1,13 @@
+-- `closed` meets its contract. Assumes nothing.
+use borrow.Author.Tests.{lt-ltb, le-ltb}
+use Rattle.session.proofs.closed.Statement.{statement}
+use Rattle.session.proofs.closed.Tie as tie
+
+returns : tie.Need-returns
+returns c = simp (lt-ltb _ _ (c .if1 .taken))
+
+returns-2 : tie.Need-returns-2
+returns-2 c = simp (le-ltb _ _ (c .if1 .left))
+
+pub closed-spec : {M : Type 1} → statement M
+closed-spec = tie.close (tie.spec returns returns-2)

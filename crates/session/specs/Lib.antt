@@ -1,0 +1,4 @@
+pub mod Script
+pub mod Ran
+pub mod Walks
+pub mod Examples

@@ -1,0 +1,93 @@
+-- The script of a session (document 01, "Setup and session fields", "A session in full"): what a run writes, counts and leaves, and why it stops.
+--
+--   Why       why a run stops: at the end field, at the limit, or at a refusal with its number and place
+--   Walked    what the requests come to: their lines, how many were answered, why the walk stopped, the state
+--   walk      the requests, from a place on
+--   Script    what the whole run comes to: its text, the count, why it stopped, and the state, if a table was made
+--   script    a run whose limit, answer area and table are right
+--   runOf     any run
+--
+-- Assumes nothing.
+use Prim.Native.Nat.{ℕ, zero, suc, _+_, _*_}
+use mathlib.Core.Bool.{_||_}
+use mathlib.Core.List.{List, [], _++_}
+use mathlib.Core.Option.{Option, none, some}
+use lib.Dec.{ltb}
+use lib.ListN.{length}
+use Rattle.rules.specs.State.{if_then_else_, State}
+use Rattle.rules.specs.Calls.{fresh, step}
+use Rattle.plan.specs.Read as plan
+use Rattle.table.specs.Layout.{WORDS}
+use Rattle.lines.specs.Line.{noLine, lineOf, lanesLine, endLine}
+use Rattle.requests.specs.Request.{Item, request, last, bad, itemAt}
+
+-- "why it stopped: end field, limit, or a refusal with its number and place"
+pub data Why : Type 0 where
+  atEnd atLimit : Why
+  refusal : ℕ → Option ℕ → Why
+
+-- ---- the requests
+
+pub record Walked : Type 0 where
+  pub lines : List ℕ
+  pub count : ℕ
+  pub why : Why
+  pub state : State
+
+-- "4: byte after the last 0x7F. Place: that byte."
+abbrev pub closed : List ℕ → ℕ → Why
+closed s at = if ltb at (length s) then refusal 4 (some at) else atEnd
+
+-- "It leaves the walk at the end field, at a refused field ..": neither is counted. A request is, also where its line is a `no` line: "Numbers 10 to 16
+-- answer their request with a `no` line and the walk goes on."
+abbrev pub next : List ℕ → ℕ → List ℕ → State → Item → (ℕ → ℕ → List ℕ → State → Walked) → Walked
+next s n lines σ (bad r p) go = record { lines = lines; count = n; why = refusal r p; state = σ }
+next s n lines σ (last at) go = record { lines = lines; count = n; why = closed s at; state = σ }
+next s n lines σ (request c at) go = go at (n + 1) (lines ++ lineOf ((step σ c) .reply)) ((step σ c) .state)
+
+-- "the limit is looked at before each field after the setup", the end field included: n requests are answered, by these lines, and so many more are allowed
+unfoldable pub walk : ℕ → List ℕ → ℕ → ℕ → List ℕ → State → Walked
+walk zero s at n lines σ = record { lines = lines; count = n; why = atLimit; state = σ }
+walk (suc left) s at n lines σ = next s n lines σ (itemAt s at) (walk left s)
+
+-- ---- the run
+
+-- no state: no table was made, and the lent table stays as it was
+pub record Script : Type 0 where
+  pub text : List ℕ
+  pub count : ℕ
+  pub why : Why
+  pub state : Option State
+
+-- "The end field, or the limit, adds `end N` only. A refused session field, or a byte after the end field, adds `no R PLACE`, then `end N`"
+abbrev pub closing : Why → ℕ → List ℕ
+closing atEnd n = endLine n
+closing atLimit n = endLine n
+closing (refusal r p) n = noLine r p ++ endLine n
+
+abbrev pub finished : ℕ → Walked → Script
+finished lanes w = record {
+  text = lanesLine lanes ++ (w .lines ++ closing (w .why) (w .count));
+  count = w .count;
+  why = w .why;
+  state = some (w .state);
+}
+
+-- "a refused setup writes that `no` line alone"; else `lanes N`, and the requests on the fresh table of the setup
+abbrev pub begun : List ℕ → ℕ → plan.Reply → Script
+begun s limit (plan.refused r p) = record { text = noLine r p; count = 0; why = refusal r p; state = none }
+begun s limit (plan.read gs lanes at) = finished lanes (walk limit s at 0 [] (fresh gs))
+
+-- "Session: a setup, then requests, then 0x7F."
+unfoldable pub script : List ℕ → ℕ → Script
+script s limit = begun s limit (plan.readPlan s 0)
+
+-- "17: run's limit over 1,000, or answer area under 64 x (limit + 2) bytes", "7: lent table shorter than the fixed size": "nothing written for either"
+abbrev pub nothing : ℕ → Option ℕ → Script
+nothing r p = record { text = []; count = 0; why = refusal r p; state = none }
+
+-- "Run: 17, then 7 ..; then the setup", of a session's bytes and a limit, with a table and an answer area of so many bytes
+unfoldable pub runOf : List ℕ → ℕ → ℕ → ℕ → Script
+runOf s limit table area =
+    if ltb 1000 limit || ltb area (64 * (limit + 2)) then nothing 17 none
+    else (if ltb table (WORDS * 8) then nothing 7 (some 0) else script s limit)
