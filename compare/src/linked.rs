@@ -145,21 +145,20 @@ impl Unit for Linked {
             )
         });
         match answer {
-            // 17 and 7, which have no place of their own; the words are not asked for.
-            Err((number, _)) => {
-                Run { answered: 0, written: 0, stop: Stop::Refused(Fault { number, place: 0 }) }
+            Ok([answered, written, kind, _]) => Run { answered, written, stop: stop(kind) },
+            Err((number, [answered, written, kind, place])) => {
+                let number = if kind == 2 { number } else { OUT_OF_RANGE };
+                Run { answered, written, stop: Stop::Refused(Fault { number, place }) }
             }
-            Ok([answered, written, kind, why]) => Run { answered, written, stop: stop(kind, why) },
         }
     }
 }
 
-/// The stop kind: 0 end field, 1 limit, 2 refusal, whose number and place are number + 2^8 * place.
-fn stop(kind: u64, why: u64) -> Stop {
+/// Why a run stopped that was not refused: 0 the end field, 1 the limit.
+fn stop(kind: u64) -> Stop {
     match kind {
         0 => Stop::End,
         1 => Stop::Limit,
-        2 => Stop::Refused(Fault { number: why as u8, place: why >> 8 }),
         _ => Stop::Refused(Fault { number: OUT_OF_RANGE, place: kind }),
     }
 }

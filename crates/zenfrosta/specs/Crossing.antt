@@ -2,7 +2,7 @@
 --
 --   code, values   of a reply: 0 or the refusal's number; what stands in the four words
 --   spoken         a buffer with these words at its start
---   Crosses        the promise of an exported call
+--   Crosses        the promise of an exported call; CrossesMaking of zf_make, CrossesRun of zf_run
 --
 -- Assumes nothing.
 use Prim.Native.Nat.{ℕ, _≤_, _<_}
@@ -19,6 +19,9 @@ use Rattle.rules.specs.declared.Answer.{Answer}
 use Rattle.scheduler.specs.Make as making
 use Rattle.scheduler.specs.Make.{made, notMade}
 use Rattle.scheduler.specs.declared.Making.{Making}
+use Rattle.session.specs.Script.{Why, atEnd, atLimit, refusal}
+use Rattle.session.specs.Ran.{whyIs}
+use Rattle.session.specs.declared.RunResult.{RunResult}
 use Rattle.zenfrosta.specs.declared.Four.{Four}
 
 abbrev pub four : ℕ → ℕ → ℕ → ℕ → Four
@@ -58,6 +61,27 @@ abbrev pub makeValues : making.Reply → Four
 makeValues (made n) = four n 0 0 0
 makeValues (notMade n p) = four (placeOr0 p) 0 0 0
 
+-- 0: the run went as far as the end field or the limit. Else the number of the refusal that it stopped at.
+abbrev pub stopCode : Why → ℕ
+stopCode atEnd = 0
+stopCode atLimit = 0
+stopCode (refusal n p) = n
+
+-- why a run stopped: 0 the end field, 1 the limit, 2 a refusal
+abbrev pub stopKind : Why → ℕ
+stopKind atEnd = 0
+stopKind atLimit = 1
+stopKind (refusal n p) = 2
+
+abbrev pub stopPlace : Why → ℕ
+stopPlace atEnd = 0
+stopPlace atLimit = 0
+stopPlace (refusal n p) = placeOr0 p
+
+-- requests answered, answer bytes written, why it stopped, a refusal's place
+abbrev pub runValues : RunResult → Four
+runValues x = four (x .answered) (x .written) (stopKind (whyIs (x .why))) (stopPlace (whyIs (x .why)))
+
 -- the buffer with four words, low byte first, in its first 32 bytes
 unfoldable pub spoken : List ℕ → Four → List ℕ
 spoken out w = putWord (putWord (putWord (putWord out 0 (w .a)) 1 (w .b)) 2 (w .c)) 3 (w .d)
@@ -70,3 +94,7 @@ pub record Crosses (Call : Answer → Type 0) (same : Type 0) (out : List ℕ) (
 pub record CrossesMaking (Make : Making → Type 0) (same : Type 0) (out : List ℕ) (r : ℕ) (out′ : List ℕ) : Type 0 where
   pub short : length out < 32 → (r ≡ 255) × same × (out′ ≡ out)
   pub told : 32 ≤ length out → (a : Making) × Make a × (r ≡ makeCode (making.reads a)) × (out′ ≡ spoken out (makeValues (making.reads a)))
+
+pub record CrossesRun (Run : RunResult → Type 0) (same : Type 0) (out : List ℕ) (r : ℕ) (out′ : List ℕ) : Type 0 where
+  pub short : length out < 32 → (r ≡ 255) × same × (out′ ≡ out)
+  pub told : 32 ≤ length out → (x : RunResult) × Run x × (r ≡ stopCode (whyIs (x .why))) × (out′ ≡ spoken out (runValues x))

@@ -11,10 +11,13 @@ ghost use Rattle.rules.specs.Calls as Calls;
 ghost use Rattle.rules.specs.Reads as Reads;
 ghost use Rattle.scheduler.specs.Step.{Step};
 ghost use Rattle.scheduler.specs.Make as Make;
-ghost use Rattle.zenfrosta.specs.Crossing.{four, code, values, makeCode, makeValues, placeOr0, spoken, Crosses, CrossesMaking};
+ghost use Rattle.session.specs.Ran.{whyIs, Ran};
+ghost use Rattle.zenfrosta.specs.Crossing.{four, code, values, makeCode, makeValues, stopCode, runValues, placeOr0, spoken, Crosses, CrossesMaking, CrossesRun};
 use rules::Answer;
 use rules::Refusal;
 use scheduler::Making;
+use session::RunResult;
+use session::Stop;
 use units::Bytes;
 use words::set_word;
 
@@ -138,6 +141,43 @@ fn code_of(x: Answer) -> u64
     }
 }
 
+fn stop_code(why: Stop) -> u64
+    ensures { λ r. ⌜ r ≡ stopCode (whyIs why) ⌝ }
+{
+    match why {
+        Stop::End => 0,
+        Stop::Limit => 0,
+        Stop::Refused(x) => number(x),
+    }
+}
+
+// The words that tell how a run went.
+fn run_words(x: RunResult) -> Four
+    ensures { λ r. ⌜ r ≡ runValues x ⌝ }
+{
+    let why = x.why;
+    match why {
+        Stop::End => Four {
+            a: x.answered,
+            b: x.written as u64,
+            c: 0,
+            d: 0,
+        },
+        Stop::Limit => Four {
+            a: x.answered,
+            b: x.written as u64,
+            c: 1,
+            d: 0,
+        },
+        Stop::Refused(f) => Four {
+            a: x.answered,
+            b: x.written as u64,
+            c: 2,
+            d: place(f),
+        },
+    }
+}
+
 // Writes the four words.
 fn speak(out: &mut [u8], w: Four)
     requires { ⌜ 32 ≤ length (now out) ⌝ }
@@ -250,4 +290,24 @@ pub extern "C" fn zf_restart(table: &mut [u8], out: &mut [u8]) -> u64
         return 255;
     }
     tell(out, scheduler::restart(table))
+}
+
+// Runs a session on the lent table, and writes its lines into the answer area.
+#[no_mangle]
+pub extern "C" fn zf_run(
+    session: &[u8],
+    limit: u64,
+    table: &mut [u8],
+    answers: &mut [u8],
+    out: &mut [u8],
+) -> u64
+    ensures { λ r. ⌜ CrossesRun (Ran (now (session .entry)) limit (now (table .entry)) (now (table .exit)) (now (answers .entry)) (now (answers .exit))) ((now (table .exit) ≡ now (table .entry)) × (now (answers .exit) ≡ now (answers .entry))) (now (out .entry)) r (now (out .exit)) ⌝ }
+{
+    if out.len() < 32 {
+        return 255;
+    }
+    let result = session::run(session, limit, table, answers);
+    speak(out, run_words(result));
+    let why = result.why;
+    stop_code(why)
 }

@@ -1,0 +1,58 @@
+-- `zf_run` meets its contract. Assumes nothing.
+use mathlib.Core.Path.{refl, _∙_}
+use native.Mathlib.Omega.{arith}
+use borrow.Author.Needs.{needs}
+use Rattle.zenfrosta.proofs.zf_run.Statement.{statement}
+use Rattle.zenfrosta.proofs.zf_run.Tie as tie
+use Rattle.zenfrosta.proofs.zf_run.Reads as reads
+use Rattle.zenfrosta.proofs.zf_run.Lts as lts
+use Rattle.session.proofs.run.Reads as run-reads
+use Rattle.zenfrosta.proofs.run_words.Reads as run-words-reads
+use Rattle.zenfrosta.proofs.speak.Reads as speak-reads
+use Rattle.zenfrosta.proofs.stop_code.Reads as stop-code-reads
+
+returns : tie.Need-returns
+returns c = record { short = λ _. (refl, (refl, refl), refl); told = λ h. absurd (omega (arith, c .if1 .taken)) }
+
+run-requires : tie.Need-run-requires
+run-requires c κs = search needs
+
+run-words-requires : tie.Need-run-words-requires
+run-words-requires c κs = search needs
+
+speak-requires : tie.Need-speak-requires
+speak-requires c κs = search needs
+
+stop-code-requires : tie.Need-stop-code-requires
+stop-code-requires c κs = search needs
+
+same-length : tie.Need-same-length
+same-length c = search needs
+
+same-length-2 : tie.Need-same-length-2
+same-length-2 c = search needs
+
+same-length-3 : tie.Need-same-length-3
+same-length-3 c = search needs
+
+returns-2 : tie.Need-returns-2
+returns-2 c =
+    let m = c .before .before .before .before .before .before .before .before .before .before .run in
+    record {
+      short = λ h. absurd (omega (arith, c .before .before .before .before .before .before .before .before .before .before .before .before .before .if1 .left));
+      told = λ _. (m .result, m .ensures, c .stop-code .ensures, c .before .before .before .speak .ensures ∙ rw (c .before .before .before .before .run-words .ensures));
+    }
+
+pub zf-run-spec : {M : Type 1} → statement M
+zf-run-spec =
+    tie.close
+    (tie.spec
+    returns
+    run-requires
+    run-words-requires
+    speak-requires
+    stop-code-requires
+    same-length
+    same-length-2
+    same-length-3
+    returns-2)
