@@ -2,8 +2,8 @@
 use mathlib.Core.Path.{_≡_, refl, sym, ap, subst, _∙_}
 use mathlib.Core.Logic.{⊎-elim}
 use mathlib.Core.Bool.{Bool, true, false, false≢true}
-use Prim.Native.Nat.{ℕ, zero, suc, _+_, _*_, _^_, _≤_, _<_}
-use mathlib.Core.List.{List, [], _∷_, map}
+use Prim.Native.Nat.{ℕ, zero, suc, _+_, _^_, _≤_, _<_}
+use mathlib.Core.List.{List, [], map}
 use native.Mathlib.Omega.{arith}
 use borrow.Author.Tests.{eqb-false}
 use lib.Pow.{pow-pos}
@@ -13,16 +13,15 @@ use Rattle.words.specs.Bits.{bit}
 use Rattle.words.specs.Runs.{reads, tab, tabFrom}
 use Rattle.words.proofs.Bits.{bit-above, bit-add-same, bit-add-other}
 use Rattle.words.proofs.Runs.{reads-ext, tab-ext, tab-set, eq-or-ne}
-use Rattle.rules.specs.State.{Setting, Lane, State, laneAt, noLane, noSetting}
+use Rattle.rules.specs.State.{Setting, Lane, laneAt, noSetting}
 use Rattle.rules.specs.Calls.{idle, fresh}
 use Rattle.table.specs.Layout.{presentWord, laneWord, rowAt, rowOf, cells}
-use Rattle.table.specs.Means.{presentAt, ringOf, givenOf, timed, RowAgrees, laneOf, stateOf, meant, Beside, Sound, withLane}
-use Rattle.table.proofs.Footprint.{lane-kept, lane-is, row-kept, order-is}
+use Rattle.table.specs.Means.{presentAt, ringOf, RowAgrees, laneOf, stateOf, meant, Beside, Sound, withLane}
+use Rattle.table.proofs.Footprint.{lane-kept, lane-is, row-kept}
 use Rattle.table.proofs.Next.{bit-present, bit-absent}
 use Rattle.table.proofs.Rows.{lane-present, lane-absent, given-row}
-use Rattle.table.proofs.Stores.{length-cells}
 use Rattle.table.proofs.Timed.{timed-idle}
-use Rattle.fresh.specs.Makes.{SettingWord, mixed, upTo}
+use Rattle.fresh.specs.Makes.{SettingWord, upTo}
 use Rattle.fresh.proofs.Mixed.{mixed-none, map-tab}
 
 -- ---- begin

@@ -1,7 +1,7 @@
 -- The fresh table of a setup is good. Assumes nothing.
-use mathlib.Core.Path.{_≡_, sym, subst}
+use mathlib.Core.Path.{sym, subst}
 use Prim.Native.Nat.{ℕ}
-use mathlib.Core.List.{List, []}
+use mathlib.Core.List.{List}
 use Rattle.rules.specs.State.{Setting, State}
 use Rattle.rules.specs.Setup.{Setup}
 use Rattle.rules.specs.Good.{Good}

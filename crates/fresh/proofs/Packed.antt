@@ -1,15 +1,12 @@
 -- A setting in one word: longest + 2^16 weight + 2^32 group + 2^40 c. Assumes nothing.
-use mathlib.Core.Path.{_≡_, refl, sym, ap, _∙_}
-use Prim.Native.Nat.{ℕ, _+_, _*_, _/_, _%_, _^_, _≤_, _<_}
-use native.Mathlib.Nat.{mul-le-mul}
+use mathlib.Core.Path.{_≡_, ap, _∙_}
+use Prim.Native.Nat.{ℕ, _+_, _*_, _/_, _%_, _^_, _≤_}
 use native.Mathlib.Omega.{arith}
 use Rattle.units.specs.Numbers.{perByte, leastPower, Least}
 use Rattle.units.proofs.Group.{least-unique}
-use Rattle.rules.specs.State.{Setting, charge, rate, group}
+use Rattle.rules.specs.State.{Setting, charge, group}
 use Rattle.rules.specs.Setup.{InNumbers}
 use Rattle.rules.proofs.Lane.{group-most}
-use Rattle.table.specs.Layout.{rowOf}
-use Rattle.table.specs.Means.{givenOf, RowAgrees}
 use Rattle.fresh.specs.Makes.{SettingWord}
 
 module _ (w l i c : ℕ) (n : InNumbers (record { weight = w; longest = l })) (rated : c ≡ perByte w) (most : c ≤ 2 ^ 20) (least : Least (charge (record { weight = w; longest = l }) l * c) i) where

@@ -1,16 +1,15 @@
 -- Laws of the states that the loops over the lanes go through: lanes added one by one, and lanes made idle one by one. Assumes nothing.
-use mathlib.Core.Path.{_≡_, refl, sym, ap, subst, _∙_}
+use mathlib.Core.Path.{_≡_, refl, sym, ap, _∙_}
 use Prim.Native.Nat.{ℕ, zero, suc, _+_, _-_, _≤_, _<_}
 use mathlib.Core.List.{List, [], _∷_, map}
 use native.Mathlib.Nat.{add-zero, add-suc}
 use native.Mathlib.Numerals.{add-one}
 use native.Mathlib.Omega.{arith}
-use lib.ListN.{length, getD, set, List·getD-map}
-use Rattle.words.specs.Runs.{tab}
+use lib.ListN.{length, set, List·getD-map}
 use Rattle.rules.specs.State.{Setting, Lane, State, noSetting, noLane, settingAt, laneAt, setupOf}
 use Rattle.rules.specs.Calls.{idle, fresh}
 use Rattle.table.specs.Means.{withLane}
-use Rattle.fresh.specs.Makes.{mixed, upTo, restedTo}
+use Rattle.fresh.specs.Makes.{upTo, restedTo}
 use Rattle.fresh.proofs.Mixed.{mixed-none, mixed-all, mixed-at, mixed-more, mixed-skip, tab-getD, map-set, map-tab}
 
 -- ---- lanes added one by one

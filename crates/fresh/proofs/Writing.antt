@@ -1,16 +1,16 @@
 -- The loop of `write`, and the last stores of `renew`. Assumes nothing.
 use mathlib.Core.Path.{_≡_, refl, sym, ap, subst, _∙_}
 use mathlib.Core.Logic.{_⊎_, ⊎-elim}
-use Prim.Native.Nat.{ℕ, _+_, _*_, _≤_, _<_}
-use mathlib.Core.List.{List, [], _∷_}
+use Prim.Native.Nat.{ℕ, _+_, _<_}
+use mathlib.Core.List.{List, []}
 use native.Mathlib.Omega.{arith}
-use lib.ListN.{length, drop, getD, set, List·getD-map}
+use lib.ListN.{getD, set, List·getD-map}
 use lib.Seq.{getD-set-same, getD-set-other}
 use Rattle.words.specs.Runs.{reads}
-use Rattle.rules.specs.State.{Setting, Lane, State, laneAt, setupOf, settingAt, noSetting}
+use Rattle.rules.specs.State.{Setting, State, laneAt, setupOf, settingAt, noSetting}
 use Rattle.rules.specs.Setup.{InNumbers, Setup}
 use Rattle.rules.specs.Calls.{idle, fresh}
-use Rattle.table.specs.Layout.{WORDS, Room, Now, cells, holdingWord, orderWord}
+use Rattle.table.specs.Layout.{Room, Now, cells, holdingWord, orderWord}
 use Rattle.table.specs.Means.{meant, Sound, Leaves, withLane, withOrder, withClock}
 use Rattle.table.proofs.Stores.{length-cells}
 use Rattle.table.proofs.Leave.{leave-order, leaves-then}

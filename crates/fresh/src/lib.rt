@@ -3,9 +3,9 @@
 // A fresh table is begun with no lane in it; then each lane of the setup is added. Words of lanes that are not in the setup, and places of a ring
 // that hold no record, are left as they stand: they mean nothing. The one division, for c, is made here.
 ghost use mathlib.Core.Path.{_≡_};
-ghost use mathlib.Core.List.{[], _∷_};
-ghost use Prim.Native.Nat.{_+_, _*_, _^_, _<_, _≤_};
-ghost use Rattle.rules.specs.State.{laneAt, noSetting, setupOf};
+ghost use mathlib.Core.List.{[]};
+ghost use Prim.Native.Nat.{_+_, _*_, _<_};
+ghost use Rattle.rules.specs.State.{laneAt, setupOf};
 ghost use Rattle.rules.specs.Setup.{InNumbers, Setup};
 ghost use Rattle.rules.specs.Calls.{idle, fresh};
 ghost use Rattle.table.specs.Layout.{Room};
@@ -13,9 +13,15 @@ ghost use Rattle.table.specs.Means.{meant, Sound, Leaves, withLane};
 ghost use Rattle.fresh.specs.Makes.{Makes, SettingWord, settings, upTo, restedTo};
 use plan::Lane;
 use table::CLOCK;
+use table::GROUP_UNIT;
 use table::HOLDING;
+use table::LANES;
 use table::LaneRow;
 use table::PRESENT;
+use table::RATE_UNIT;
+use table::ROW_WORDS;
+use table::ROWS;
+use table::WEIGHT_UNIT;
 use table::cell;
 use table::charged;
 use table::next_present;
@@ -45,7 +51,7 @@ fn setting_word(weight: u64, longest: Bytes) -> u64
         count: 0,
     };
     let group = group_index(lane_charge(charged(lane, longest), c));
-    longest.0 + 65536 * weight + 4294967296 * (group as u64) + 1099511627776 * c.0
+    longest.0 + WEIGHT_UNIT * weight + GROUP_UNIT * (group as u64) + RATE_UNIT * c.0
 }
 
 // Begins a table with no lane in it.
@@ -63,7 +69,7 @@ pub fn add_lane(t: &mut [u8], k: usize, weight: u64, longest: Bytes)
     requires { ⌜ Sound (now t) × (k < 64) × InNumbers (record { weight = weight; longest = longest .0 }) × (laneAt (meant (now t)) k .given .weight ≡ 0) ⌝ }
     ensures { λ _. ⌜ Leaves (now (t .entry)) (now (t .exit)) (withLane (meant (now (t .entry))) k (idle (record { weight = weight; longest = longest .0 }))) ⌝ }
 {
-    let base = 80 + 4 * k;
+    let base = ROWS + ROW_WORDS * k;
     set_cell(t, base, setting_word(weight, longest));
     set_cell(t, base + 1, 0);
     set_cell(t, base + 2, 0);
@@ -72,13 +78,13 @@ pub fn add_lane(t: &mut [u8], k: usize, weight: u64, longest: Bytes)
 }
 
 // Writes the fresh table of a setup.
-pub fn write(t: &mut [u8], lanes: [Lane; 64])
+pub fn write(t: &mut [u8], lanes: [Lane; LANES])
     requires { ⌜ Room (now t) × Setup (settings lanes) ⌝ }
     ensures { λ _. ⌜ Makes (now (t .entry)) (now (t .exit)) (settings lanes) ⌝ }
 {
     begin(t);
     let mut k = 0;
-    while k < 64 {
+    while k < LANES {
         let g = lanes[k];
         if g.weight != 0 {
             add_lane(t, k, g.weight, g.longest);
@@ -108,7 +114,7 @@ fn rest_lanes(t: &mut [u8])
 {
     let lanes = cell(t, PRESENT);
     let mut k = next_present(lanes, 0);
-    while k < 64 {
+    while k < LANES {
         rest_lane(t, k);
         k = next_present(lanes, k + 1);
     }

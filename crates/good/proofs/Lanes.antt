@@ -1,8 +1,8 @@
 -- Laws of the pass: a lane that is not in the setup adds nothing, and one that is adds what `note` notes. Assumes nothing.
 use mathlib.Core.Path.{_≡_, refl, sym, ap, subst, _∙_}
 use mathlib.Core.Logic.{⊎-elim}
-use mathlib.Core.Bool.{Bool, true, false, _&&_, _||_, false≢true}
-use Prim.Native.Nat.{ℕ, zero, suc, _+_, _-_, _*_, _^_, _≤_, _<_}
+use mathlib.Core.Bool.{true, false, _&&_, false≢true}
+use Prim.Native.Nat.{ℕ, zero, suc, _+_, _-_, _^_, _≤_, _<_}
 use mathlib.Core.List.{List, [], _∷_}
 use native.Mathlib.Nat.{add-zero, add-suc}
 use native.Mathlib.Numerals.{add-one}
@@ -12,7 +12,7 @@ use lib.Dec.{leb, ltb}
 use lib.ListN.{length, getD}
 use Rattle.words.proofs.Runs.{eq-or-ne}
 use Rattle.units.specs.Numbers.{roundDown}
-use Rattle.rules.specs.State.{if_then_else_, Rec, Setting, Lane, holds, some?, eligible, slot, noLane}
+use Rattle.rules.specs.State.{Rec, Setting, Lane, holds, some?, eligible, slot, noLane}
 use Rattle.rules.specs.Sets.{wordOf, anyBelow}
 use Rattle.table.specs.Layout.{rowAt, presentWord}
 use Rattle.table.specs.Means.{presentAt, Next, ringOf, givenOf, timed, laneOf, RowAgrees}
@@ -20,7 +20,7 @@ use Rattle.table.specs.declared.LaneRow.{LaneRow}
 use Rattle.table.proofs.Rows.{lane-present, lane-absent, given-row, queue-row, length-ring}
 use Rattle.lane_test.specs.Says.{LaneGood}
 use Rattle.lane_test.proofs.Setting.{group-at-most}
-use Rattle.good.specs.Pass.{Noted, FoundSays, sumTo, weightAt, holdsAt, eligibleAt}
+use Rattle.good.specs.Pass.{Noted, FoundSays, sumTo, holdsAt, eligibleAt}
 use Rattle.good.specs.declared.Found.{Found}
 use Rattle.table.proofs.Next.{bit-absent}
 

@@ -2,23 +2,23 @@
 use mathlib.Core.Path.{_≡_, refl, sym, ap, subst, _∙_}
 use mathlib.Core.Logic.{_⊎_, inl, inr}
 use mathlib.Core.Bool.{Bool, true, false, false≢true}
-use Prim.Native.Nat.{ℕ, zero, suc, _+_, _*_, _^_, _≤_, _<_}
-use mathlib.Core.List.{List, [], _∷_, map}
+use Prim.Native.Nat.{ℕ, zero, suc, _+_, _^_, _≤_, _<_}
+use mathlib.Core.List.{List}
 use native.Mathlib.Omega.{arith}
 use native.Mathlib.Decide.{decLt}
 use lib.Pow.{pow-pos, pow-mono}
-use lib.ListN.{length, length-map, getD, List·getD-eq-default}
-use Rattle.words.specs.Runs.{reads, tab}
+use lib.ListN.{length, length-map, List·getD-eq-default}
+use Rattle.words.specs.Runs.{tab}
 use Rattle.words.proofs.Runs.{length-tab}
-use Rattle.rules.specs.State.{if_then_else_, Setting, Lane, State, laneAt, holds, eligible, slot, noLane, noSetting, setupOf, settingAt, laneDepth}
+use Rattle.rules.specs.State.{if_then_else_, Setting, Lane, laneAt, holds, eligible, noLane, noSetting, setupOf, laneDepth}
 use Rattle.rules.specs.Setup.{InNumbers, Setup, weights}
-use Rattle.rules.specs.Good.{Good, Lengths, Times, times}
+use Rattle.rules.specs.Good.{Lengths, Times, times}
 use Rattle.rules.specs.Sets.{wordOf, anyBelow, count}
 use Rattle.rules.proofs.Lane.{slot-pos}
 use Rattle.rules.proofs.Word.{word-lt, word-bit}
 use Rattle.rules.proofs.SameSetup.{setting-lane}
-use Rattle.table.specs.Layout.{Room, cells, rowAt, clockWord, holdingWord, orderWord}
-use Rattle.table.specs.Means.{presentAt, laneOf, stateOf, meant, Beside}
+use Rattle.table.specs.Layout.{Room, cells}
+use Rattle.table.specs.Means.{presentAt, laneOf, stateOf, meant}
 use Rattle.table.proofs.Footprint.{lane-is, reads-order}
 use Rattle.table.proofs.Rows.{lane-absent, given-row}
 use Rattle.lane_test.specs.Says.{Says, LaneGood}

@@ -5,13 +5,13 @@
 // present lanes is walked by its set bits. Then the tie order, against the word of the lanes that were found to hold records.
 ghost use mathlib.Core.Path.{_≡_};
 ghost use mathlib.Core.Bool.{true};
-ghost use Prim.Native.Nat.{_+_, _*_, _^_, _<_, _≤_};
-ghost use lib.ListN.{getD};
-ghost use Rattle.table.specs.Layout.{Room, cells, presentWord};
+ghost use Prim.Native.Nat.{_+_, _^_, _<_, _≤_};
+ghost use Rattle.table.specs.Layout.{Room, cells};
 ghost use Rattle.lane_test.specs.Says.{Says};
 ghost use Rattle.good.specs.Pass.{Noted, PassSays, Ordered};
 ghost use Rattle.good.specs.Table.{GoodTable};
 use lane_test::lane_good;
+use table::LANES;
 use table::LaneRow;
 use table::ORDER;
 use table::PRESENT;
@@ -23,6 +23,9 @@ use table::next_present;
 use table::row;
 use units::Clock;
 use units::rounded_start;
+
+// No lane has this number, nor a greater one.
+const NO_LANE: u64 = 64;
 
 // V stays below 2^62 + 2^42.
 const CLOCK_END: u64 = 4611690416473899008;
@@ -81,7 +84,7 @@ fn lanes_good(t: &[u8], v: Clock) -> Pass
         eligible: false,
     };
     let mut k = next_present(lanes, 0);
-    while k < 64 {
+    while k < LANES {
         let l = row(t, k);
         let good = lane_good(t, k, l, v);
         if !good {
@@ -102,7 +105,7 @@ fn order_good(t: &[u8], n: usize, held: u64) -> bool
     let mut i = 0;
     while i < n {
         let k = cell(t, ORDER + i);
-        if k >= 64 {
+        if k >= NO_LANE {
             return false;
         }
         if (seen >> (k as u32)) % 2 == 1 {
@@ -161,7 +164,7 @@ pub fn good(t: &[u8]) -> bool
         return false;
     }
     let n = holding(t);
-    if n > 64 {
+    if n > LANES {
         return false;
     }
     match lanes_good(t, v) {

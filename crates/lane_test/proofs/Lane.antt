@@ -1,14 +1,13 @@
 -- Laws behind the test of a lane: lengths record by record, times by the row's one clock word. Assumes nothing.
-use mathlib.Core.Path.{_≡_, refl, sym, ap, subst, _∙_}
-use mathlib.Core.Bool.{Bool, true, false}
+use mathlib.Core.Path.{_≡_, refl, sym, ap, subst}
+use mathlib.Core.Bool.{true}
 use Prim.Native.Nat.{ℕ, zero, suc, _+_, _-_, _*_, _/_, _^_, _≤_, _<_}
 use mathlib.Core.List.{List, [], _∷_}
 use native.Mathlib.Omega.{arith}
 use lib.ListN.{length, getD}
-use Rattle.words.specs.Runs.{tab}
 use Rattle.words.proofs.Runs.{getD-tab}
 use Rattle.units.specs.Numbers.{roundDown}
-use Rattle.rules.specs.State.{Rec, Setting, Lane, slot, group, laneDepth, charge, rate}
+use Rattle.rules.specs.State.{Rec, Setting, Lane, slot, group, laneDepth}
 use Rattle.rules.specs.Good.{Lengths, Times}
 use Rattle.table.specs.Layout.{rowAt, placeWord}
 use Rattle.table.specs.Means.{presentAt, recOf, ringOf, givenOf, timed, RowAgrees, laneOf}

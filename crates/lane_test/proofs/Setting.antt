@@ -1,16 +1,16 @@
 -- Laws behind the tests of a setting: c by its two bounds, the group by the slot. Assumes nothing.
-use mathlib.Core.Path.{_≡_, refl, sym, ap, _∙_}
+use mathlib.Core.Path.{_≡_, sym, ap, _∙_}
 use mathlib.Core.Bool.{Bool, true, false, not, false≢true}
 use Prim.Native.Nat.{ℕ, zero, suc, _+_, _-_, _*_, _^_, _≤_, _<_}
 use native.Mathlib.Nat.{two-pow-succ, mul-le-mul}
 use native.Mathlib.Decide.{decLe}
 use native.Mathlib.Omega.{arith}
-use lib.Pow.{pow-mono, pow-pos}
+use lib.Pow.{pow-mono}
 use Rattle.units.specs.Numbers.{perByte, leastPower, Least}
-use Rattle.units.proofs.PerByte.{rate-weight-ge, rate-weight-lt, rate-unique, rate-ge, rate-le}
+use Rattle.units.proofs.PerByte.{rate-weight-ge, rate-weight-lt, rate-ge}
 use Rattle.units.proofs.Group.{power-least, least-unique, group-le}
-use Rattle.rules.specs.State.{Setting, charge, rate, group}
-use Rattle.table.specs.Means.{RowAgrees, givenOf}
+use Rattle.rules.specs.State.{charge, rate, group}
+use Rattle.table.specs.Means.{givenOf}
 use Rattle.table.specs.declared.LaneRow.{LaneRow}
 use Rattle.lane_test.specs.Says.{Says}
 

@@ -5,13 +5,12 @@
 --   LaneGood   what the good-table rule asks of a lane that is in the setup
 --
 -- Assumes nothing.
-use mathlib.Core.Path.{_≡_}
 use mathlib.Core.Bool.{Bool, true, false}
 use Prim.Native.Nat.{ℕ, _+_, _*_, _^_, _≤_, _<_}
 use mathlib.Core.List.{List}
 use lib.ListN.{length}
 use Rattle.units.specs.Numbers.{roundDown}
-use Rattle.rules.specs.State.{Lane, laneDepth}
+use Rattle.rules.specs.State.{laneDepth}
 use Rattle.rules.specs.Good.{Lengths, Times}
 use Rattle.table.specs.Layout.{rowAt}
 use Rattle.table.specs.Means.{RowAgrees, laneOf}

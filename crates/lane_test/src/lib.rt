@@ -11,13 +11,27 @@ ghost use Rattle.rules.specs.Good.{Lengths};
 ghost use Rattle.table.specs.Layout.{Room, cells, rowAt};
 ghost use Rattle.table.specs.Means.{RowAgrees, givenOf, ringOf, presentAt};
 ghost use Rattle.lane_test.specs.Says.{Says, TimeGood, LaneGood};
+use table::DEPTH;
 use table::LaneRow;
 use table::charged;
 use table::record_at;
 use units::Clock;
+use units::RATE_OF_WEIGHT_ONE;
 use units::lane_charge;
 use units::rounded_start;
 use units::slot;
+
+// The numbers of a setting.
+const LEAST_WEIGHT: u64 = 1;
+
+const MOST_WEIGHT: u64 = 1024;
+
+const LEAST_LONGEST: u64 = 64;
+
+const MOST_LONGEST: u64 = 1500;
+
+// The greatest group index.
+const MOST_GROUP: u32 = 31;
 
 // 1,024 times the longest record of any lane: how far the clock may run ahead in one take.
 const REACH: u64 = 1536000;
@@ -28,10 +42,10 @@ fn rate_good(l: LaneRow) -> bool
     ensures { λ r. ⌜ Says r (l .rate .0 ≡ perByte (l .weight)) ⌝ }
 {
     let product = l.rate.0 * l.weight;
-    if product < 1048576 {
+    if product < RATE_OF_WEIGHT_ONE {
         return false;
     }
-    if product >= 1048576 + l.weight {
+    if product >= RATE_OF_WEIGHT_ONE + l.weight {
         return false;
     }
     true
@@ -43,7 +57,7 @@ fn group_good(l: LaneRow) -> bool
     ensures { λ r. ⌜ Says r (l .group ≡ group (givenOf l)) ⌝ }
 {
     let index = l.group;
-    if index > 31 {
+    if index > MOST_GROUP {
         return false;
     }
     let span = lane_charge(charged(l, l.longest), l.rate).0;
@@ -62,16 +76,16 @@ fn setting_good(l: LaneRow) -> bool
     requires { ⌜ l .rate .0 < 2 ^ 24 ⌝ }
     ensures { λ r. ⌜ Says r (RowAgrees l) ⌝ }
 {
-    if l.weight < 1 {
+    if l.weight < LEAST_WEIGHT {
         return false;
     }
-    if l.weight > 1024 {
+    if l.weight > MOST_WEIGHT {
         return false;
     }
-    if l.longest.0 < 64 {
+    if l.longest.0 < LEAST_LONGEST {
         return false;
     }
-    if l.longest.0 > 1500 {
+    if l.longest.0 > MOST_LONGEST {
         return false;
     }
     let rated = rate_good(l);
@@ -135,7 +149,7 @@ pub fn lane_good(t: &[u8], k: usize, l: LaneRow, v: Clock) -> bool
     if !agrees {
         return false;
     }
-    if l.count > 16 {
+    if l.count > DEPTH {
         return false;
     }
     let timed = time_good(l, v);

@@ -1,9 +1,9 @@
 -- From the stores of `leave` and `join` to the tie order that they leave. Assumes nothing.
-use mathlib.Core.Path.{_≡_, refl, sym, ap, subst, _∙_}
+use mathlib.Core.Path.{_≡_, ap, subst, _∙_}
 use Prim.Native.Nat.{ℕ, _+_, _*_, _≤_, _<_}
 use mathlib.Core.List.{List, [], _∷_, _++_}
 use native.Mathlib.Omega.{arith}
-use lib.ListN.{length, drop, getD, set}
+use lib.ListN.{length, drop, set}
 use Rattle.rules.specs.Calls.{without}
 use Rattle.table.specs.Layout.{WORDS, Now, cells, holdingWord, orderWord}
 use Rattle.table.specs.Means.{meant, Leaves, withOrder}

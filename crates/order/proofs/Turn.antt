@@ -1,7 +1,7 @@
 -- What the turns of `leave`, and the stores of `join`, do to the tie order's words. Assumes nothing.
-use mathlib.Core.Path.{_≡_, refl, sym, ap, _∙_}
+use mathlib.Core.Path.{_≡_, refl, sym, _∙_}
 use mathlib.Core.Bool.{Bool, true, false}
-use Prim.Native.Nat.{ℕ, zero, suc, _+_, _-_, _*_, _≤_, _<_}
+use Prim.Native.Nat.{ℕ, _+_, _-_, _≤_, _<_}
 use mathlib.Core.List.{List, [], _∷_, _++_, append-nil}
 use native.Mathlib.Omega.{arith}
 use borrow.Author.Tests.{eq-eqb, ne-eqb}
@@ -9,7 +9,7 @@ use lib.Dec.{eqb}
 use lib.ListN.{length, getD, set, length-set}
 use lib.Seq.{getD-set-same, getD-set-other}
 use Rattle.words.specs.Runs.{reads}
-use Rattle.words.proofs.Runs.{reads-ext, reads-snoc, length-reads}
+use Rattle.words.proofs.Runs.{reads-ext, reads-snoc}
 use Rattle.rules.specs.State.{if_then_else_}
 use Rattle.rules.specs.Calls.{without}
 use Rattle.table.specs.Layout.{holdingWord, orderWord}

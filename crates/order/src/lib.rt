@@ -2,9 +2,8 @@
 // got its present S earliest").
 //
 // It is a list of lane numbers and no counter, so nothing in it can run out. These are inner functions: a `requires` says what a good state gives.
-ghost use mathlib.Core.Path.{_≡_};
 ghost use mathlib.Core.List.{[], _∷_, _++_};
-ghost use Prim.Native.Nat.{_+_, _<_, _≤_};
+ghost use Prim.Native.Nat.{_+_, _<_};
 ghost use lib.ListN.{length};
 ghost use Rattle.rules.specs.Calls.{without};
 ghost use Rattle.table.specs.Means.{meant, Sound, Leaves, withOrder};

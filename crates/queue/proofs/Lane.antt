@@ -1,15 +1,15 @@
 -- From the stores of `append`, `wake` and `take_first` to the lane that they leave. Assumes nothing.
 use mathlib.Core.Path.{_≡_, refl, sym, ap, subst, _∙_}
-use mathlib.Core.Bool.{Bool, true, false}
-use Prim.Native.Nat.{ℕ, zero, suc, _+_, _-_, _*_, _/_, _%_, _^_, _≤_, _<_, max}
+use mathlib.Core.Bool.{true, false}
+use Prim.Native.Nat.{ℕ, suc, _+_, _-_, _*_, _/_, _%_, _^_, _≤_, _<_, max}
 use mathlib.Core.List.{List, [], _∷_, _++_}
 use native.Mathlib.Omega.{arith}
-use lib.ListN.{length, drop, set, length-set, getD}
+use lib.ListN.{length, set, length-set, getD}
 use Rattle.units.proofs.PerByte.{rate-le}
-use Rattle.rules.specs.State.{Rec, Lane, State, laneAt, holds, some?, charge, rate}
+use Rattle.rules.specs.State.{Lane, laneAt, holds, some?, charge, rate}
 use Rattle.rules.specs.Calls.{appended, woken, served}
 use Rattle.table.specs.Layout.{Now, cells, placeWord, rowAt, putRow, entryWord, entryOf}
-use Rattle.table.specs.Means.{presentAt, recOf, ringOf, givenOf, timed, laneOf, stateOf, meant, Sound, Leaves, withLane}
+use Rattle.table.specs.Means.{presentAt, recOf, ringOf, givenOf, timed, stateOf, meant, Sound, Leaves, withLane}
 use Rattle.table.specs.declared.Entry.{Entry}
 use Rattle.table.specs.declared.LaneRow.{LaneRow}
 use Rattle.table.proofs.Stores.{length-cells}

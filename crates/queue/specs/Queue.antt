@@ -8,7 +8,7 @@
 -- Assumes nothing.
 use mathlib.Core.Path.{_≡_}
 use Prim.Native.Nat.{ℕ}
-use mathlib.Core.List.{List, [], _∷_}
+use mathlib.Core.List.{List, _∷_}
 use lib.ListN.{drop}
 use Rattle.rules.specs.State.{Rec, Lane, laneAt}
 use Rattle.rules.specs.Calls.{served}

@@ -4,12 +4,13 @@
 // These are inner functions: a `requires` says what a good state gives.
 ghost use mathlib.Core.Path.{_≡_};
 ghost use mathlib.Core.Bool.{true, false};
-ghost use Prim.Native.Nat.{_+_, _*_, _^_, _<_, _≤_, max};
+ghost use Prim.Native.Nat.{_+_, _^_, _<_, _≤_, max};
 ghost use lib.ListN.{length};
 ghost use Rattle.rules.specs.State.{laneAt, holds, laneDepth};
 ghost use Rattle.rules.specs.Calls.{appended, woken};
 ghost use Rattle.table.specs.Means.{meant, Sound, Leaves, withLane};
 ghost use Rattle.queue.specs.Queue.{waiting, First, Takes};
+use table::DEPTH;
 use table::Entry;
 use table::charged;
 use table::record_at;
@@ -68,7 +69,7 @@ pub fn take_first(t: &mut [u8], k: usize) -> Entry
     let finish = plus(l.time, lane_charge(charged(l, e.length), l.rate));
     let mut next = l;
     next.time = finish;
-    next.head = (head + 1) % 16;
+    next.head = (head + 1) % DEPTH;
     next.count = l.count - 1;
     set_row(t, k, next);
     e

@@ -25,3 +25,6 @@ pub mod GoodTest
 pub mod GoodAgrees
 pub mod Computes
 pub mod Examples
+pub mod NotTen
+pub mod Local
+pub mod Drain

@@ -1,15 +1,13 @@
 -- Which words a lane and a state depend on. Assumes nothing.
-use mathlib.Core.Path.{_≡_, refl, sym, ap, _∙_}
-use mathlib.Core.Bool.{Bool, true, false}
-use Prim.Native.Nat.{ℕ, zero, suc, _+_, _*_, _%_, _≤_, _<_}
-use mathlib.Core.List.{List, [], _∷_}
-use native.Mathlib.Nat.{mod-lt}
+use mathlib.Core.Path.{_≡_, sym, ap, _∙_}
+use Prim.Native.Nat.{ℕ, _+_, _*_, _≤_, _<_}
+use mathlib.Core.List.{List}
 use native.Mathlib.Omega.{arith}
 use lib.ListN.{length, getD, set}
 use lib.Seq.{getD-set-same, getD-set-other}
 use Rattle.words.specs.Runs.{reads, tab}
 use Rattle.words.proofs.Runs.{reads-ext, length-reads, tab-ext, tab-set, getD-tab}
-use Rattle.rules.specs.State.{Lane, State, noLane, laneAt}
+use Rattle.rules.specs.State.{noLane, laneAt}
 use Rattle.table.specs.Layout.{presentWord, holdingWord, orderWord, laneWord, placeWord, rowAt, rowOf}
 use Rattle.table.specs.Means.{presentAt, recOf, ringOf, rowLane, laneOf, stateOf, RowAgrees, Beside, withClock, withLane, withOrder}
 use Rattle.table.proofs.Stores.{rowOf-eq}

@@ -1,5 +1,5 @@
 -- From the words that a function leaves to the state that it leaves. Assumes nothing.
-use mathlib.Core.Path.{_≡_, refl, sym, ap, subst, _∙_}
+use mathlib.Core.Path.{_≡_, subst, _∙_}
 use Prim.Native.Nat.{ℕ, _≤_, _<_}
 use mathlib.Core.List.{List}
 use lib.ListN.{length, getD}
@@ -8,10 +8,10 @@ use Rattle.words.specs.Runs.{reads}
 use Rattle.rules.specs.State.{Lane, State}
 use Rattle.alike.specs.Alike.{Alike}
 use Rattle.alike.proofs.Alike.{alike-refl}
-use Rattle.table.specs.Layout.{WORDS, Now, cells, laneWord}
-use Rattle.table.specs.Means.{laneOf, stateOf, meant, Beside, Sound, Leaves, withLane, withOrder}
+use Rattle.table.specs.Layout.{Now, cells, laneWord}
+use Rattle.table.specs.Means.{laneOf, meant, Sound, Leaves, withLane, withOrder}
 use Rattle.table.specs.Encodes.{Encodes}
-use Rattle.table.proofs.Footprint.{Outside, OutsideOrder, SameSettings, lane-changed, order-changed, order-is, beside-kept, outside-settings}
+use Rattle.table.proofs.Footprint.{Outside, OutsideOrder, lane-changed, order-changed, order-is, beside-kept, outside-settings}
 
 pub sound-few : (t : List ℕ) → Sound t → getD (cells t) 2 0 ≤ 64
 sound-few t s = omega (arith, order-is (cells t), s .few)

@@ -2,13 +2,13 @@
 -- Assumes nothing.
 use mathlib.Core.Path.{_≡_, refl, sym, ap, _∙_}
 use mathlib.Core.Bool.{Bool, true, false}
-use Prim.Native.Nat.{ℕ, zero, suc, _+_, _*_, _/_, _%_, _≤_, _<_}
-use mathlib.Core.List.{List, [], _∷_}
+use Prim.Native.Nat.{ℕ, _+_, _*_, _/_, _%_, _<_}
+use mathlib.Core.List.{List}
 use native.Mathlib.Omega.{arith}
 use lib.ListN.{length, getD, set, length-set}
 use lib.Seq.{getD-set-same, getD-set-other}
-use Rattle.table.specs.Layout.{presentWord, laneWord, placeWord, rowOf, rowAt, putRow}
-use Rattle.table.specs.Means.{presentAt, recOf, ringOf, givenOf, timed, rowLane, laneOf, stateOf}
+use Rattle.table.specs.Layout.{presentWord, laneWord, placeWord, rowAt, putRow}
+use Rattle.table.specs.Means.{presentAt, ringOf, givenOf, timed, rowLane, laneOf, stateOf}
 use Rattle.table.specs.declared.LaneRow.{LaneRow}
 use Rattle.words.proofs.Runs.{length-tab}
 use Rattle.rules.specs.State.{Lane, laneAt, holds, noLane}

@@ -20,7 +20,13 @@ use words::word;
 // The fixed size of a table, in bytes.
 pub const SIZE: usize = 10880;
 
-// Where the parts lie, in words.
+// Lanes are numbered 0 to 63.
+pub const LANES: usize = 64;
+
+// Each lane holds at most 16 records.
+pub const DEPTH: u64 = 16;
+
+// The words of the clock, of the present lanes, of the number of holding lanes, and the first ones of the tie order, the rows and the rings.
 pub const CLOCK: usize = 0;
 
 pub const PRESENT: usize = 1;
@@ -28,6 +34,30 @@ pub const PRESENT: usize = 1;
 pub const HOLDING: usize = 2;
 
 pub const ORDER: usize = 16;
+
+pub const ROWS: usize = 80;
+
+const PLACES: usize = 336;
+
+// Words of a row, and of a ring.
+pub const ROW_WORDS: usize = 4;
+
+const PLACE_WORDS: usize = 16;
+
+// Where weight, group and c begin in a setting word, after longest.
+pub const WEIGHT_UNIT: u64 = 65536;
+
+pub const GROUP_UNIT: u64 = 4294967296;
+
+pub const RATE_UNIT: u64 = 1099511627776;
+
+// Longest and weight have 2^16 values, a group 2^8.
+const PART: u64 = 65536;
+
+const GROUPS: u64 = 256;
+
+// Where the length begins in a record's word: after the mark's 32 bits.
+const LENGTH_UNIT: u64 = 4294967296;
 
 // A lane as the table keeps it: its setting, its one clock word (S while it holds records, F while it is idle), and its ring.
 pub struct LaneRow {
@@ -67,18 +97,18 @@ pub fn row(t: &[u8], k: usize) -> LaneRow
     requires { ⌜ Room (now t) × (k < 64) ⌝ }
     ensures { λ r. ⌜ (r ≡ rowAt (cells (now (t .entry))) k) × (r .head < 16) × (r .rate .0 < 2 ^ 24) ⌝ }
 {
-    let base = 80 + 4 * k;
+    let base = ROWS + ROW_WORDS * k;
     let setting = cell(t, base);
     let time = cell(t, base + 1);
     let ring = cell(t, base + 2);
     LaneRow {
-        longest: Bytes(setting % 65536),
-        weight: setting / 65536 % 65536,
-        group: (setting / 4294967296 % 256) as u32,
-        rate: Rate(setting / 1099511627776),
+        longest: Bytes(setting % PART),
+        weight: setting / WEIGHT_UNIT % PART,
+        group: (setting / GROUP_UNIT % GROUPS) as u32,
+        rate: Rate(setting / RATE_UNIT),
         time: Clock(time),
-        head: ring % 16,
-        count: ring / 16,
+        head: ring % DEPTH,
+        count: ring / DEPTH,
     }
 }
 
@@ -87,9 +117,9 @@ pub fn set_row(t: &mut [u8], k: usize, l: LaneRow)
     requires { ⌜ Room (now t) × (k < 64) × (l .head < 16) × (l .count ≤ 16) ⌝ }
     ensures { λ _. ⌜ Now (now (t .entry)) (now (t .exit)) (putRow (cells (now (t .entry))) k l) ⌝ }
 {
-    let base = 80 + 4 * k;
+    let base = ROWS + ROW_WORDS * k;
     set_cell(t, base + 1, l.time.0);
-    set_cell(t, base + 2, l.head + 16 * l.count);
+    set_cell(t, base + 2, l.head + DEPTH * l.count);
 }
 
 // The record at place `i` of lane `k`'s ring, `i` counted on past the ring's end.
@@ -97,10 +127,10 @@ pub fn record_at(t: &[u8], k: usize, i: u64) -> Entry
     requires { ⌜ Room (now t) × (k < 64) ⌝ }
     ensures { λ r. ⌜ (r ≡ entryOf (getD (cells (now (t .entry))) (placeWord k i) 0)) × (r .length .0 < 2 ^ 32) ⌝ }
 {
-    let e = cell(t, 336 + 16 * k + (i % 16) as usize);
+    let e = cell(t, PLACES + PLACE_WORDS * k + (i % DEPTH) as usize);
     Entry {
-        mark: (e % 4294967296) as u32,
-        length: Bytes(e / 4294967296),
+        mark: (e % LENGTH_UNIT) as u32,
+        length: Bytes(e / LENGTH_UNIT),
     }
 }
 
@@ -109,8 +139,8 @@ pub fn set_record(t: &mut [u8], k: usize, i: u64, e: Entry)
     requires { ⌜ Room (now t) × (k < 64) × (e .length .0 < 2 ^ 32) ⌝ }
     ensures { λ _. ⌜ Now (now (t .entry)) (now (t .exit)) (set (cells (now (t .entry))) (placeWord k i) (entryWord e)) ⌝ }
 {
-    let word = (e.mark as u64) + e.length.0 * 4294967296;
-    set_cell(t, 336 + 16 * k + (i % 16) as usize, word);
+    let word = (e.mark as u64) + e.length.0 * LENGTH_UNIT;
+    set_cell(t, PLACES + PLACE_WORDS * k + (i % DEPTH) as usize, word);
 }
 
 // Whether lane `k` is in the setup.
@@ -127,12 +157,12 @@ pub fn next_present(lanes: u64, from: usize) -> usize
     requires { ⌜ from ≤ 64 ⌝ }
     ensures { λ r. ⌜ Next lanes from r ⌝ }
 {
-    if from >= 64 {
-        return 64;
+    if from >= LANES {
+        return LANES;
     }
     let rest = lanes >> (from as u32);
     if rest == 0 {
-        return 64;
+        return LANES;
     }
     from + (u64::trailing_zeros(rest) as usize)
 }

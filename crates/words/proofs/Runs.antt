@@ -1,5 +1,5 @@
 -- Laws of runs and of lists made by a rule. Assumes nothing.
-use mathlib.Core.Path.{_≡_, refl, sym, ap, _∙_}
+use mathlib.Core.Path.{_≡_, refl, ap, _∙_}
 use mathlib.Core.Logic.{_⊎_, inl, inr, ⊎-elim}
 use Prim.Native.Nat.{ℕ, zero, suc, _+_, _≤_, _<_, zero-le, suc-le-suc}
 use mathlib.Core.List.{List, [], _∷_, _++_}
@@ -7,7 +7,7 @@ use native.Mathlib.Nat.{add-suc, suc-add, zero-add, add-zero}
 use native.Mathlib.Numerals.{add-one}
 use native.Mathlib.Omega.{arith}
 use lib.ListN.{length, drop, getD, set, length-set}
-use lib.Seq.{sets, length-sets, drop-set-lt, getD-set-same, getD-set-other}
+use lib.Seq.{sets, drop-set-lt, getD-set-same, getD-set-other}
 use Rattle.words.specs.Runs.{reads, tabFrom, tab}
 
 -- ---- cases

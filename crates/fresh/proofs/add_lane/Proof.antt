@@ -1,13 +1,8 @@
 use Rattle.words.specs.Bits.{bit}
 use Rattle.fresh.proofs.Leaves.{off, lanes-kept, add-leaves}
-use Rattle.table.proofs.Leave.{sound-few}
-use Rattle.table.proofs.Stores.{length-cells, now-then}
-use Rattle.table.specs.Layout.{cells, presentWord}
 use Rattle.words.proofs.Bits.{add-below, shift-one}
-use Rattle.fresh.proofs.Added.{weightless, stored-other, added-state, added-beside}
-use lib.ListN.{getD}
-use Prim.Native.Nat.{ℕ, _+_, _-_, _*_, _/_, _^_, _≤_, _<_}
-use mathlib.Core.Path.{_≡_, refl, ap, sym, subst, _∙_}
+use Prim.Native.Nat.{_-_}
+use mathlib.Core.Path.{_≡_, _∙_}
 use native.Mathlib.Omega.{arith}
 use borrow.Author.Needs.{needs}
 use Rattle.fresh.proofs.add_lane.Statement.{statement}

@@ -5,8 +5,8 @@ use Rattle.table.specs.Means.{meant, Sound, Leaves}
 use Rattle.words.specs.Bits.{bit}
 use lib.ListN.{length}
 use borrow.Author.Needs.{needs}
-use Prim.Native.Nat.{ℕ, _+_, _-_, _*_, _/_, _^_, _≤_, _<_}
-use mathlib.Core.Path.{_≡_, refl, ap, sym, subst, _∙_}
+use Prim.Native.Nat.{ℕ, _-_, _≤_, _<_}
+use mathlib.Core.Path.{_≡_, refl, subst, _∙_}
 use native.Mathlib.Omega.{arith}
 use Rattle.fresh.proofs.rest_lanes.Statement.{statement}
 use Rattle.fresh.proofs.rest_lanes.Tie as tie

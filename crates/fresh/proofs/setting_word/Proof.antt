@@ -1,8 +1,8 @@
 use Rattle.units.specs.Numbers.{Least}
-use Rattle.fresh.proofs.Packed.{packed, group-small}
+use Rattle.fresh.proofs.Packed.{packed}
 use native.Mathlib.Nat.{mul-le-mul}
-use Prim.Native.Nat.{ℕ, _+_, _-_, _*_, _/_, _^_, _≤_, _<_}
-use mathlib.Core.Path.{_≡_, refl, ap, sym, subst, _∙_}
+use Prim.Native.Nat.{ℕ, _-_, _*_}
+use mathlib.Core.Path.{ap, subst, _∙_}
 use native.Mathlib.Omega.{arith}
 use borrow.Author.Needs.{needs}
 use Rattle.fresh.proofs.setting_word.Statement.{statement}

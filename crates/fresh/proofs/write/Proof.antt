@@ -4,8 +4,8 @@ use Rattle.table.specs.Layout.{Room}
 use lib.ListN.{length}
 use mathlib.Core.Logic.{⊎-elim}
 use borrow.Author.Needs.{needs}
-use Prim.Native.Nat.{ℕ, _+_, _-_, _*_, _/_, _^_, _≤_, _<_}
-use mathlib.Core.Path.{_≡_, refl, ap, sym, subst, _∙_}
+use Prim.Native.Nat.{_-_, _≤_}
+use mathlib.Core.Path.{_≡_, refl, _∙_}
 use native.Mathlib.Omega.{arith}
 use Rattle.fresh.proofs.write.Statement.{statement}
 use Rattle.fresh.proofs.write.Tie as tie

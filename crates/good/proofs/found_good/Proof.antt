@@ -1,5 +1,4 @@
 use Rattle.lane_test.proofs.Setting.{says-yes, says-no}
-use native.Mathlib.Omega.{arith}
 use borrow.Author.Needs.{needs}
 use Rattle.good.proofs.found_good.Statement.{statement}
 use Rattle.good.proofs.found_good.Tie as tie

@@ -3,7 +3,7 @@ use Rattle.table.proofs.Few.{few-good}
 use Rattle.good.specs.declared.Pass.{Pass}
 use Rattle.good.specs.Pass.{PassSays}
 use Rattle.table.specs.Layout.{cells}
-use mathlib.Core.Path.{_≡_, refl, ap, sym, subst, _∙_}
+use mathlib.Core.Path.{subst}
 use native.Mathlib.Omega.{arith}
 use borrow.Author.Needs.{needs}
 use Rattle.good.proofs.good.Statement.{statement}

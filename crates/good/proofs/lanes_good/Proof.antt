@@ -5,10 +5,9 @@ use Rattle.words.specs.Bits.{bit}
 use Rattle.good.specs.Pass.{FoundSays, PassSays}
 use Rattle.lane_test.proofs.Setting.{says-yes, says-no}
 use Rattle.table.specs.Layout.{cells}
-use lib.Pow.{pow-mono}
 use borrow.Author.Needs.{needs}
-use Prim.Native.Nat.{ℕ, _+_, _-_, _*_, _/_, _^_, _≤_, _<_}
-use mathlib.Core.Path.{_≡_, refl, ap, sym, subst, _∙_}
+use Prim.Native.Nat.{ℕ, _-_, _*_, _≤_, _<_}
+use mathlib.Core.Path.{_≡_, subst}
 use native.Mathlib.Omega.{arith}
 use Rattle.good.proofs.lanes_good.Statement.{statement}
 use Rattle.good.proofs.lanes_good.Tie as tie

@@ -1,10 +1,9 @@
 use Rattle.words.proofs.Bits.{shift-one}
 use borrow.Author.Tests.{lt-ltb, le-ltb, le-leb, lt-leb}
 use native.Mathlib.Nat.{two-pow-succ}
-use lib.Pow.{pow-lt, pow-mono}
-use lib.Dec.{ltb, leb}
-use Prim.Native.Nat.{ℕ, _+_, _-_, _*_, _/_, _^_, _≤_, _<_}
-use mathlib.Core.Path.{_≡_, refl, ap, sym, subst, _∙_}
+use lib.Pow.{pow-mono}
+use Prim.Native.Nat.{_-_}
+use mathlib.Core.Path.{refl}
 use native.Mathlib.Omega.{arith}
 use borrow.Author.Needs.{needs}
 use Rattle.good.proofs.note.Statement.{statement}

@@ -3,8 +3,8 @@ use Rattle.words.proofs.Bits.{add-below, shift-one}
 use Rattle.words.specs.Bits.{bit}
 use Rattle.table.specs.Layout.{cells}
 use borrow.Author.Needs.{needs}
-use Prim.Native.Nat.{ℕ, _+_, _-_, _*_, _/_, _^_, _≤_, _<_}
-use mathlib.Core.Path.{_≡_, refl, ap, sym, subst, _∙_}
+use Prim.Native.Nat.{ℕ, _-_, _≤_}
+use mathlib.Core.Path.{_≡_, subst}
 use native.Mathlib.Omega.{arith}
 use Rattle.good.proofs.order_good.Statement.{statement}
 use Rattle.good.proofs.order_good.Tie as tie

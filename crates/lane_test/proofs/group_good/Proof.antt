@@ -1,7 +1,7 @@
 use Rattle.lane_test.proofs.Setting.{span, group-is, group-not-small, group-not-large, group-at-most, span-pos}
 use Rattle.units.proofs.PerByte.{rate-le}
-use Prim.Native.Nat.{ℕ, _+_, _-_, _*_, _/_, _^_, _≤_, _<_}
-use mathlib.Core.Path.{_≡_, ap, sym, _∙_}
+use Prim.Native.Nat.{ℕ, _-_, _*_}
+use mathlib.Core.Path.{_≡_, ap, _∙_}
 use native.Mathlib.Omega.{arith}
 use borrow.Author.Needs.{needs}
 use Rattle.lane_test.proofs.group_good.Statement.{statement}

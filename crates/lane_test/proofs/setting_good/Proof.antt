@@ -1,5 +1,4 @@
 use Rattle.lane_test.proofs.Setting.{says-yes, says-no}
-use native.Mathlib.Omega.{arith}
 use borrow.Author.Needs.{needs}
 use Rattle.lane_test.proofs.setting_good.Statement.{statement}
 use Rattle.lane_test.proofs.setting_good.Tie as tie

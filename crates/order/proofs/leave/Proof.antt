@@ -1,13 +1,13 @@
 use Rattle.table.proofs.Stores.{length-cells}
 use Rattle.order.proofs.Leaves.{leave-leaves}
-use Rattle.order.proofs.Turn.{Turn, turn-none, turn-skip, turn-keep, turn-outside, turn-done}
+use Rattle.order.proofs.Turn.{Turn, turn-none, turn-skip, turn-keep}
 use Rattle.table.specs.Layout.{WORDS, cells}
 use lib.ListN.{length, drop}
 use borrow.Author.Needs.{needs}
 use native.Mathlib.Omega.{arith}
-use Prim.Native.Nat.{ℕ, _+_, _-_, _*_, _≤_, _<_}
+use Prim.Native.Nat.{_-_, _*_, _≤_}
 use mathlib.Core.Logic.{⊎-elim}
-use mathlib.Core.Path.{_≡_, refl, sym, ap, _∙_}
+use mathlib.Core.Path.{_≡_, refl, sym, _∙_}
 use Rattle.order.proofs.leave.Statement.{statement}
 use Rattle.order.proofs.leave.Tie as tie
 

@@ -1,7 +1,7 @@
 use Rattle.table.proofs.Leave.{leaves-then, sound-after}
 use Rattle.table.specs.Means.{withOrder}
 use Rattle.rules.specs.State.{State}
-use mathlib.Core.List.{List, [], _∷_, _++_}
+use mathlib.Core.List.{[], _∷_, _++_}
 use mathlib.Core.Path.{ap, _∙_}
 use native.Mathlib.Omega.{arith}
 use borrow.Author.Needs.{needs}

@@ -1,4 +1,4 @@
-use Prim.Native.Nat.{_^_, _<_, _≤_}
+use Prim.Native.Nat.{_^_, _<_}
 use Rattle.queue.proofs.Lane.{append-leaves, room-row}
 use native.Mathlib.Omega.{arith}
 use borrow.Author.Needs.{needs}

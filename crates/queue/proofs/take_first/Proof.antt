@@ -1,8 +1,8 @@
 use Rattle.queue.proofs.Lane.{take-leaves, finish-row, room-row, some-row, rate-row}
 use Rattle.table.specs.Means.{meant}
 use Rattle.rules.specs.State.{laneAt}
-use mathlib.Core.Path.{_≡_, _∙_, ap, sym}
-use Prim.Native.Nat.{_^_, _<_, _≤_, ℕ, _+_, _*_}
+use mathlib.Core.Path.{_≡_, _∙_, ap}
+use Prim.Native.Nat.{ℕ, _+_, _*_}
 use native.Mathlib.Omega.{arith}
 use borrow.Author.Needs.{needs}
 use Rattle.queue.proofs.take_first.Statement.{statement}

@@ -1,5 +1,5 @@
 use Rattle.queue.proofs.Lane.{wake-leaves}
-use Prim.Native.Nat.{_^_, _<_, _≤_}
+use Prim.Native.Nat.{_^_, _<_}
 use native.Mathlib.Omega.{arith}
 use borrow.Author.Needs.{needs}
 use Rattle.queue.proofs.wake.Statement.{statement}

@@ -1,6 +1,6 @@
 use Rattle.table.proofs.Next.{next-none, next-below, next-some}
 use lib.Pow.{shr-le}
-use Prim.Native.Nat.{ℕ, _+_, _-_, _*_, _/_, _^_, _≤_, _<_}
+use Prim.Native.Nat.{_-_}
 use native.Mathlib.Omega.{arith}
 use borrow.Author.Needs.{needs}
 use Rattle.table.proofs.next_present.Statement.{statement}

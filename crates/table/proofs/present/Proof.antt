@@ -1,4 +1,3 @@
-use mathlib.Core.Path.{sym, ap}
 use Rattle.table.specs.Means.{presentAt}
 use borrow.Author.Needs.{needs}
 use Rattle.table.proofs.present.Statement.{statement}

@@ -1,4 +1,3 @@
-use native.Mathlib.Omega.{arith}
 use Rattle.table.specs.Layout.{entryOf}
 use mathlib.Core.Path.{ap}
 use borrow.Author.Needs.{needs}

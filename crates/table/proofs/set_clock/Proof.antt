@@ -2,7 +2,6 @@ use Rattle.table.proofs.Leave.{sound-few}
 use Rattle.table.proofs.Footprint.{clock-changed, beside-kept, clock-settings}
 use Rattle.table.proofs.Stores.{length-cells}
 use Rattle.table.specs.Layout.{cells}
-use mathlib.Core.Path.{_∙_}
 use borrow.Author.Needs.{needs}
 use Rattle.table.proofs.set_clock.Statement.{statement}
 use Rattle.table.proofs.set_clock.Tie as tie

@@ -1,0 +1,177 @@
+//! The comparison's command. `compare help` lists what it does.
+
+use compare::driver::report::Tally;
+use compare::driver::{self, Budget};
+use compare::pipes;
+use compare::stand_in::{StandIn, ALL};
+use compare::unit::Unit;
+use std::path::PathBuf;
+use std::process::ExitCode;
+use std::time::{Duration, Instant};
+
+const HELP: &str = "\
+compare short [--seed N]                       about a minute, the same cases every time
+compare long --seconds N | --cases N [--seed N]
+compare one --seed N --case N                  one case again, alone
+compare sessions PROGRAM... [--cases N] [--seed N] [--case N]
+                                               sessions by pipe; --case N begins at that case
+compare clock --pairs N                        one lane up to the clock's edge, or N pairs of put and take
+compare slips [--seed N]                       each slip of the stand-in, and the case that finds it
+";
+
+const SEED: u64 = 1;
+/// The cases of a short run.
+const SHORT: u64 = 20_000;
+/// A slip must be found within so many cases, far fewer than a short run has.
+const SLIP: u64 = 1_500;
+const SESSIONS: u64 = 2_000;
+
+/// The unit under test: the linked library, or the stand-in where there is none.
+#[cfg(feature = "unit")]
+fn under_test() -> impl Unit {
+    println!("The unit's library is linked: this run compares it.");
+    if let Err(wrong) = compare::linked::short_buffers() {
+        println!("DIFFERENCE at the boundary: {wrong}");
+        std::process::exit(1);
+    }
+    compare::linked::Linked
+}
+
+#[cfg(not(feature = "unit"))]
+fn under_test() -> impl Unit {
+    println!("The unit's library is not linked: this run compares the stand-in.");
+    StandIn::new(compare::stand_in::Slip::None)
+}
+
+struct Options {
+    seed: u64,
+    case: Option<u64>,
+    cases: Option<u64>,
+    seconds: Option<u64>,
+    pairs: Option<u64>,
+    programs: Vec<PathBuf>,
+}
+
+fn options(arguments: &[String]) -> Option<Options> {
+    let mut options =
+        Options { seed: SEED, case: None, cases: None, seconds: None, pairs: None, programs: vec![] };
+    let mut arguments = arguments.iter();
+    while let Some(argument) = arguments.next() {
+        let Some(name) = argument.strip_prefix("--") else {
+            options.programs.push(argument.into());
+            continue;
+        };
+        let number = arguments.next()?.replace('_', "").parse().ok()?;
+        match name {
+            "seed" => options.seed = number,
+            "case" => options.case = Some(number),
+            "cases" => options.cases = Some(number),
+            "seconds" => options.seconds = Some(number),
+            "pairs" => options.pairs = Some(number),
+            _ => return None,
+        }
+    }
+    Some(options)
+}
+
+fn main() -> ExitCode {
+    let arguments: Vec<String> = std::env::args().skip(1).collect();
+    let Some((mode, rest)) = arguments.split_first() else { return help() };
+    let Some(options) = options(rest) else { return help() };
+    match (mode.as_str(), options.programs.is_empty()) {
+        ("short", true) => calls(&options, 0, Budget::Cases(SHORT)),
+        ("long", true) => match (options.cases, options.seconds) {
+            (Some(cases), None) => calls(&options, 0, Budget::Cases(cases)),
+            (None, Some(seconds)) => calls(&options, 0, Budget::Time(Duration::from_secs(seconds))),
+            _ => help(),
+        },
+        ("one", true) => match options.case {
+            Some(case) => calls(&options, case, Budget::Cases(1)),
+            None => help(),
+        },
+        ("clock", true) => match options.pairs {
+            Some(pairs) => clock(pairs),
+            None => help(),
+        },
+        ("sessions", false) => sessions(&options),
+        ("slips", true) => slips(&options),
+        _ => help(),
+    }
+}
+
+fn help() -> ExitCode {
+    print!("{HELP}");
+    ExitCode::from(2)
+}
+
+fn calls(options: &Options, first: u64, budget: Budget) -> ExitCode {
+    let begin = Instant::now();
+    let mut tally = Tally::default();
+    let result = driver::compare(&mut under_test(), options.seed, first, budget, &mut tally);
+    println!("Seed {}, {:.1} s, {tally}", options.seed, begin.elapsed().as_secs_f64());
+    match result {
+        Ok(()) => {
+            println!("No difference.");
+            ExitCode::SUCCESS
+        }
+        Err(difference) => {
+            println!("{difference}");
+            ExitCode::FAILURE
+        }
+    }
+}
+
+fn clock(pairs: u64) -> ExitCode {
+    let mut tally = Tally::default();
+    match driver::clock::drive(&mut under_test(), pairs, &mut tally) {
+        Ok(spent) => {
+            println!(
+                "{} calls compared, {}: no difference.",
+                tally.calls,
+                if spent { "14 reached" } else { "14 not reached" }
+            );
+            ExitCode::SUCCESS
+        }
+        Err(found) => {
+            println!("DIFFERENCE: {:?}: {}", found.shown_by, found.what);
+            ExitCode::FAILURE
+        }
+    }
+}
+
+fn sessions(options: &Options) -> ExitCode {
+    let (first, cases) = match (options.case, options.cases) {
+        (Some(case), None) => (case, 1),
+        (case, cases) => (case.unwrap_or(0), cases.unwrap_or(SESSIONS)),
+    };
+    for program in &options.programs {
+        match pipes::compare(program, options.seed, first, cases) {
+            Ok(fed) => println!("{}: {cases} sessions, {fed} bytes: no difference.", program.display()),
+            Err(difference) => {
+                println!("{difference}");
+                return ExitCode::FAILURE;
+            }
+        }
+    }
+    ExitCode::SUCCESS
+}
+
+fn slips(options: &Options) -> ExitCode {
+    let mut missed = 0;
+    for &slip in ALL {
+        let mut tally = Tally::default();
+        match driver::compare(&mut StandIn::new(slip), options.seed, 0, Budget::Cases(SLIP), &mut tally) {
+            Err(difference) => println!("{slip:?}: found in case {}", difference.case),
+            Ok(()) => {
+                println!("{slip:?}: MISSED");
+                missed += 1;
+            }
+        }
+    }
+    println!("{} slips found, {missed} missed", ALL.len() - missed);
+    if missed == 0 {
+        ExitCode::SUCCESS
+    } else {
+        ExitCode::FAILURE
+    }
+}

@@ -1,0 +1,75 @@
+//! The calls and their answers as values: what a list of demand 2 and of demand 3 is made of.
+
+use std::fmt;
+
+/// A record that take handed out or that look names: "lane, mark and length inside it".
+#[derive(Clone, Copy, Debug, PartialEq, Eq)]
+pub struct Taken {
+    pub lane: u8,
+    pub mark: u32,
+    pub length: u64,
+}
+
+#[derive(Clone, Copy, Debug, PartialEq, Eq)]
+pub enum Call {
+    Put { lane: u8, mark: u32, length: u64 },
+    Take,
+    Look,
+    Sets,
+    Lag { lane: u8 },
+    Restart,
+}
+
+/// "A put's answer, a taken record and a refusal are separate cases".
+#[derive(Clone, Copy, Debug, PartialEq, Eq)]
+pub enum Answer {
+    Put,
+    Taken(Taken),
+    Looked(Taken),
+    Sets([u64; 4]),
+    Lag(i64),
+    Restarted,
+    /// A refusal, 10 to 16.
+    No(u8),
+}
+
+impl Call {
+    /// Look, sets and lag change nothing, whatever they answer.
+    pub fn only_reads(&self) -> bool {
+        matches!(self, Call::Look | Call::Sets | Call::Lag { .. })
+    }
+}
+
+impl Answer {
+    pub fn refused(&self) -> bool {
+        matches!(self, Answer::No(_))
+    }
+}
+
+impl fmt::Display for Call {
+    fn fmt(&self, f: &mut fmt::Formatter) -> fmt::Result {
+        match self {
+            Call::Put { lane, mark, length } => write!(f, "put {lane}/{mark}/{length}"),
+            Call::Take => write!(f, "take"),
+            Call::Look => write!(f, "look"),
+            Call::Sets => write!(f, "sets"),
+            Call::Lag { lane } => write!(f, "lag {lane}"),
+            Call::Restart => write!(f, "restart"),
+        }
+    }
+}
+
+/// The session's line for an answer, without its line feed ("A session in full").
+impl fmt::Display for Answer {
+    fn fmt(&self, f: &mut fmt::Formatter) -> fmt::Result {
+        match self {
+            Answer::Put => write!(f, "put ok"),
+            Answer::Taken(r) => write!(f, "take {} {} {}", r.lane, r.mark, r.length),
+            Answer::Looked(r) => write!(f, "look {} {} {}", r.lane, r.mark, r.length),
+            Answer::Sets([a, b, c, d]) => write!(f, "sets {a} {b} {c} {d}"),
+            Answer::Lag(n) => write!(f, "lag {n}"),
+            Answer::Restarted => write!(f, "restart ok"),
+            Answer::No(number) => write!(f, "no {number}"),
+        }
+    }
+}

@@ -1,0 +1,160 @@
+//! Lists of calls: the same calls to the unit and to the reference, answer by answer.
+
+use super::lent::Lent;
+use super::report::{hex, Found, Tally};
+use super::shrink;
+use crate::calls::{Answer, Call};
+use crate::gen::{caller::Caller, setups};
+use crate::laws::Laws;
+use crate::numbers::refusal;
+use crate::rng::Rng;
+use crate::rules::State;
+use crate::unit::Unit;
+
+pub fn case<U: Unit>(unit: &mut U, rng: &mut Rng, tally: &mut Tally) -> Result<(), Found> {
+    let setup = setups::setup(rng);
+    let bytes = setups::bytes(rng, &setup);
+    let mut table = Lent::new(rng, unit.table_size());
+    let mut shown_by = vec![format!("make {}", hex(&bytes))];
+    let made = unit.make(&bytes, table.bytes());
+    if made != Ok(setup.lanes.len() as u64) {
+        return Err(Found::new(
+            format!("a valid setup of {} lanes gave {made:?}", setup.lanes.len()),
+            shown_by,
+        ));
+    }
+    let fresh = State::fresh(&setup);
+    let mut list = List::new(unit, table, fresh.clone());
+    let result = list.run(rng, tally);
+    tally.lists += 1;
+    tally.stretch_ends += list.laws.fairness.checked;
+    tally.closest = tally.closest.max(list.laws.fairness.closest);
+    let (mut calls, unit) = (list.calls, list.unit);
+    result.map_err(|what| {
+        let mut differs = |calls: &[Call]| replay(unit, &bytes, &fresh, calls);
+        let short = shrink::list(calls.iter().map(|(call, _)| *call).collect(), &mut differs);
+        let what = match short {
+            Some((list, what)) => {
+                calls = list;
+                what
+            }
+            None => what,
+        };
+        shown_by.extend(calls.iter().map(|(call, answer)| format!("{call} -> {answer}")));
+        Found::new(what, shown_by)
+    })
+}
+
+/// What `replay` tells of a list that differs: the calls up to there with the rules' answers, and what differs.
+pub type Replayed = (Vec<(Call, Answer)>, String);
+
+/// The calls again on a new table: nothing, or where they differ.
+fn replay<U: Unit>(unit: &mut U, setup: &[u8], fresh: &State, calls: &[Call]) -> Option<Replayed> {
+    let mut table = Lent::new(&mut Rng::new(0), unit.table_size());
+    unit.make(setup, table.bytes()).ok()?;
+    let mut list = List::new(unit, table, fresh.clone());
+    let mut tally = Tally::default();
+    let differs = calls.iter().find_map(|call| list.call(*call, &mut tally).err());
+    let differs = differs.or_else(|| list.laws.end(&list.state).err());
+    differs.map(|what| (list.calls, what))
+}
+
+/// A list in the making.
+struct List<'a, U: Unit> {
+    unit: &'a mut U,
+    table: Lent,
+    state: State,
+    laws: Laws,
+    /// The calls so far, with the answers that the rules give.
+    calls: Vec<(Call, Answer)>,
+}
+
+impl<U: Unit> List<'_, U> {
+    fn new(unit: &mut U, table: Lent, fresh: State) -> List<'_, U> {
+        let laws = Laws::new(&fresh);
+        List { unit, table, state: fresh, laws, calls: vec![] }
+    }
+
+    fn run(&mut self, rng: &mut Rng, tally: &mut Tally) -> Result<(), String> {
+        let length = match rng.below(40) {
+            0 => 12_000,
+            1..=9 => rng.between(1, 40),
+            _ => rng.between(1, 1_500),
+        };
+        let mut caller = Caller::new(rng);
+        for _ in 0..length {
+            let call = caller.next(rng, &self.state);
+            caller.heard(self.call(call, tally)?);
+            if rng.once_in(200) {
+                self.table = self.table.moved(rng);
+            }
+            if rng.once_in(100) {
+                self.on_a_short_table(rng, call, tally)?;
+            }
+        }
+        self.end(rng, tally)
+    }
+
+    /// One call on both sides: the answer, and what the table's bytes may do.
+    fn call(&mut self, call: Call, tally: &mut Tally) -> Result<Answer, String> {
+        let expected = self.state.answer(call);
+        self.calls.push((call, expected));
+        let stays = call.only_reads() || expected.refused();
+        let before = stays.then(|| self.table.copy());
+        let answer = self.unit.answer(self.table.bytes(), call);
+        if answer != expected {
+            return Err(format!("the unit's answer to the last call: {answer}"));
+        }
+        if before.is_some_and(|before| !self.table.same(&before)) {
+            return Err("the last call changed the table".to_string());
+        }
+        self.table.guarded()?;
+        tally.call(answer);
+        self.laws.step(call, answer, &self.state)?;
+        Ok(answer)
+    }
+
+    /// A table cut short is not good: 10, before every other refusal, and nothing changes.
+    fn on_a_short_table(&mut self, rng: &mut Rng, call: Call, tally: &mut Tally) -> Result<(), String> {
+        let before = self.table.copy();
+        let size = self.unit.table_size();
+        let length = if rng.once_in(2) { size - 1 } else { rng.index(size) };
+        let answer = self.unit.answer(self.table.short(length), call);
+        if answer != Answer::No(refusal::NOT_GOOD) {
+            return Err(format!("{call} on the table's first {length} bytes gave: {answer}"));
+        }
+        if !self.table.same(&before) {
+            return Err(format!("{call} on a table cut short changed it"));
+        }
+        tally.call(answer);
+        self.table.guarded()
+    }
+
+    /// The list's end: the laws, every lane's lag, and often a drain that shows all that the table holds.
+    fn end(&mut self, rng: &mut Rng, tally: &mut Tally) -> Result<(), String> {
+        self.laws.end(&self.state)?;
+        for call in look_around(&self.state) {
+            self.call(call, tally)?;
+        }
+        if rng.once_in(2) {
+            return Ok(());
+        }
+        while self.call(Call::Take, tally)? != Answer::No(refusal::NOTHING_HELD) {
+            if rng.once_in(8) {
+                self.call(Call::Sets, tally)?;
+            }
+        }
+        self.call(Call::Restart, tally)?;
+        self.laws.end(&self.state)
+    }
+}
+
+/// The calls that show a table without changing it: every lane of the setup, and some numbers beside them.
+pub fn look_around(state: &State) -> Vec<Call> {
+    let mut calls = vec![Call::Sets, Call::Look, Call::Lag { lane: 64 }, Call::Lag { lane: 255 }];
+    for lane in &state.lanes {
+        calls.push(Call::Lag { lane: lane.plan.number });
+        calls.push(Call::Lag { lane: lane.plan.number + 1 });
+    }
+    calls
+}

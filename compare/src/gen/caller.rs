@@ -1,0 +1,222 @@
+//! Lists of calls. A caller has a mood for a while (a burst of puts, a drain, a steady load, ...) and then takes
+//! up another; calls that must be refused and calls that only look are strewn in.
+
+use crate::calls::{Answer, Call};
+use crate::numbers::DEPTH;
+use crate::rng::Rng;
+use crate::rules::State;
+
+#[derive(Clone, Copy, Debug)]
+enum Mood {
+    /// Puts to a few lanes.
+    Burst,
+    Drain,
+    /// Lanes stay filled: the served lane gets the next record.
+    Steady,
+    /// A put, a take, a put, ...
+    Sparse,
+    Mixed,
+    /// Puts to one lane, past its room.
+    Flood,
+    /// All lanes but one are kept busy; that one gets a record now and then.
+    Quiet,
+    /// The lanes of the highest group begin late in a slot, all at once: their finish is near, and lower groups,
+    /// which never run dry, come to be blocked.
+    Late,
+}
+
+const MOODS: &[Mood] = &[
+    Mood::Burst,
+    Mood::Drain,
+    Mood::Steady,
+    Mood::Sparse,
+    Mood::Mixed,
+    Mood::Flood,
+    Mood::Quiet,
+    Mood::Late,
+    Mood::Late,
+];
+
+#[derive(Clone, Copy, Debug)]
+enum Lengths {
+    One,
+    Longest,
+    /// The same for all lanes, so that starts and finishes meet.
+    Same(u64),
+    Powers,
+    Any,
+}
+
+pub struct Caller {
+    mood: Mood,
+    left: u64,
+    lengths: Lengths,
+    favourites: Vec<u8>,
+    same_marks: bool,
+    mark: u32,
+    last: Option<Answer>,
+}
+
+impl Caller {
+    pub fn new(rng: &mut Rng) -> Caller {
+        let same_marks = rng.once_in(3);
+        let mark = if rng.once_in(3) { rng.pick(&[0, 1, u32::MAX]) } else { rng.word() as u32 };
+        Caller {
+            mood: Mood::Mixed,
+            left: 0,
+            lengths: Lengths::Any,
+            favourites: vec![],
+            same_marks,
+            mark,
+            last: None,
+        }
+    }
+
+    /// The answer to the last call, which the steady mood goes by.
+    pub fn heard(&mut self, answer: Answer) {
+        self.last = Some(answer);
+    }
+
+    pub fn next(&mut self, rng: &mut Rng, state: &State) -> Call {
+        if self.left == 0 {
+            self.turn(rng, state);
+        }
+        self.left -= 1;
+        match rng.below(40) {
+            0 => return Call::Look,
+            1 | 2 => return Call::Sets,
+            3 | 4 => return Call::Lag { lane: any_lane(rng, state) },
+            5 if rng.once_in(2) => return Call::Restart,
+            6 => return self.faulty_put(rng, state),
+            _ => {}
+        }
+        match self.mood {
+            Mood::Burst => self.put_to_favourite(rng, state),
+            Mood::Drain => Call::Take,
+            Mood::Steady => self.steady(rng, state),
+            Mood::Sparse if state.holding().next().is_some() => Call::Take,
+            Mood::Sparse => self.put_to_favourite(rng, state),
+            Mood::Mixed if rng.once_in(2) => Call::Take,
+            Mood::Mixed => self.put_to_any(rng, state),
+            Mood::Flood => self.put(rng, state, self.favourites[0]),
+            Mood::Quiet => self.quiet(rng, state),
+            Mood::Late => self.late(rng, state),
+        }
+    }
+
+    fn turn(&mut self, rng: &mut Rng, state: &State) {
+        self.mood = rng.pick(MOODS);
+        self.left = match self.mood {
+            Mood::Late => rng.between(100, 800),
+            _ if rng.once_in(3) => rng.between(1, 8),
+            _ => rng.between(1, 160),
+        };
+        self.lengths = match rng.below(6) {
+            0 => Lengths::One,
+            1 => Lengths::Longest,
+            2 => Lengths::Same(rng.between(1, 64)),
+            3 => Lengths::Powers,
+            _ => Lengths::Any,
+        };
+        let count = rng.between(1, state.lanes.len().min(6) as u64);
+        self.favourites = (0..count).map(|_| own_lane(rng, state)).collect();
+    }
+
+    fn steady(&mut self, rng: &mut Rng, state: &State) -> Call {
+        if let Some(Answer::Taken(taken)) = self.last {
+            return self.put(rng, state, taken.lane);
+        }
+        let depth = if self.left.is_multiple_of(2) { DEPTH } else { 2 };
+        match state.lanes.iter().find(|lane| lane.queue.len() < depth) {
+            Some(lane) if !rng.once_in(8) => self.put(rng, state, lane.plan.number),
+            _ => Call::Take,
+        }
+    }
+
+    fn quiet(&mut self, rng: &mut Rng, state: &State) -> Call {
+        let quiet = self.favourites[0];
+        if rng.once_in(16) {
+            return self.put(rng, state, quiet);
+        }
+        if rng.once_in(2) {
+            return Call::Take;
+        }
+        let busy = own_lane(rng, state);
+        if busy == quiet {
+            Call::Take
+        } else {
+            self.put(rng, state, busy)
+        }
+    }
+
+    fn late(&mut self, rng: &mut Rng, state: &State) -> Call {
+        if rng.once_in(8) {
+            return Call::Sets;
+        }
+        let slot = state.lanes.iter().map(|lane| lane.slot()).max().expect("a setup has a lane");
+        let late_in_slot = state.clock % slot >= slot - slot / 8;
+        if late_in_slot {
+            if let Some(lane) = state.lanes.iter().find(|lane| lane.slot() == slot && !lane.holds()) {
+                let (lane, length) = (lane.plan.number, u64::from(lane.plan.longest));
+                return Call::Put { lane, mark: self.mark(), length };
+            }
+        }
+        let low = state.lanes.iter().find(|lane| lane.slot() < slot && lane.queue.len() < 2);
+        match low {
+            Some(lane) => self.put(rng, state, lane.plan.number),
+            None if state.holding().next().is_none() => self.put_to_any(rng, state),
+            None => Call::Take,
+        }
+    }
+
+    fn put_to_favourite(&mut self, rng: &mut Rng, state: &State) -> Call {
+        let lane = rng.pick(&self.favourites);
+        self.put(rng, state, lane)
+    }
+
+    fn put_to_any(&mut self, rng: &mut Rng, state: &State) -> Call {
+        let lane = own_lane(rng, state);
+        self.put(rng, state, lane)
+    }
+
+    fn put(&mut self, rng: &mut Rng, state: &State, lane: u8) -> Call {
+        let longest = u64::from(state.lane(lane).expect("a lane of the setup").plan.longest);
+        let length = match self.lengths {
+            Lengths::One => 1,
+            Lengths::Longest => longest - rng.below(2),
+            Lengths::Same(length) => length,
+            Lengths::Powers => rng.pick(&[1, 16, 32, 64, 128, 256, 512, 1_024]).min(longest),
+            Lengths::Any => rng.between(1, longest),
+        };
+        Call::Put { lane, mark: self.mark(), length }
+    }
+
+    /// A put that is refused, or would be but for the other refusal that it also meets.
+    fn faulty_put(&mut self, rng: &mut Rng, state: &State) -> Call {
+        let lane = any_lane(rng, state);
+        let longest = state.lane(lane).map_or(1_500, |lane| u64::from(lane.plan.longest));
+        let edges = [0, 0, 1, longest, longest + 1, longest + 1, 65_535, 65_536 + longest, 1 << 32, u64::MAX];
+        Call::Put { lane, mark: self.mark(), length: rng.pick(&edges) }
+    }
+
+    fn mark(&mut self) -> u32 {
+        if !self.same_marks {
+            self.mark = self.mark.wrapping_add(1);
+        }
+        self.mark
+    }
+}
+
+fn own_lane(rng: &mut Rng, state: &State) -> u8 {
+    state.lanes[rng.index(state.lanes.len())].plan.number
+}
+
+/// Mostly a lane of the setup; else any number, 64 to 255 too.
+fn any_lane(rng: &mut Rng, state: &State) -> u8 {
+    match rng.below(8) {
+        0 => rng.byte(),
+        1 => rng.pick(&[0, 63, 64, 65, 127, 128, 255]),
+        2 => rng.below(64) as u8,
+        _ => own_lane(rng, state),
+    }
+}

@@ -1,0 +1,11 @@
+//! Random inputs of many flavours. Every generator draws from an [`Rng`](crate::rng::Rng) and from nothing else.
+//!
+//! - [`setups`] — valid plans, and their bytes
+//! - [`caller`] — lists of calls, each chosen with the table's present contents in view
+//! - [`sessions`] — sessions for the run and for the program
+//! - [`damage`] — faults in setups and sessions, field by field and byte by byte
+
+pub mod caller;
+pub mod damage;
+pub mod sessions;
+pub mod setups;

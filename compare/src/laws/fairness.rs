@@ -1,0 +1,89 @@
+//! Demand 3: for a lane that holds a record before a stretch and after each call in it,
+//! 1,024 T is below c O + 4 slots + 1,536,000; and the tighter figure, 1,024 times the setup's greatest longest.
+//!
+//! A stretch runs from one point between calls to a later one, and the lane holds a record at every point of it.
+//! With X = 1,024 T - c O counted from the list's beginning, the claim is X(end) - X(begin) < bound. So it holds of
+//! all stretches exactly if it holds, at each point, against the least X since the lane last began to hold: one
+//! number a lane, and one pass.
+
+use crate::calls::{Answer, Call};
+use crate::numbers::*;
+use crate::rules::State;
+
+struct Watch {
+    number: u8,
+    units_per_byte: i128,
+    four_slots: i128,
+    /// "more puts to it were accepted than records of it handed out by take"
+    held: u64,
+    x: i128,
+    /// The least X at the points since the lane began to hold.
+    least: i128,
+}
+
+pub struct Fairness {
+    lanes: Vec<Watch>,
+    margin: i128,
+    /// The greatest part of a lane's bound that a stretch has used, in thousandths.
+    pub closest: i128,
+    /// Points and lanes at which all stretches that end there were checked.
+    pub checked: u64,
+}
+
+impl Fairness {
+    /// "c and the slot come from the setup."
+    pub fn new(fresh: &State) -> Fairness {
+        let longest = fresh.lanes.iter().map(|lane| lane.plan.longest).max().expect("a setup has a lane");
+        let margin = UNITS_PER_BYTE_SENT * i128::from(longest);
+        assert!(margin <= LONGEST_IN_UNITS, "the tighter figure gives demand 3's");
+        let watch = |lane: &crate::rules::Lane| Watch {
+            number: lane.plan.number,
+            units_per_byte: lane.units_per_byte,
+            four_slots: 4 * lane.slot(),
+            held: 0,
+            x: 0,
+            least: 0,
+        };
+        Fairness { lanes: fresh.lanes.iter().map(watch).collect(), margin, closest: 0, checked: 0 }
+    }
+
+    pub fn step(&mut self, call: Call, answer: Answer) -> Result<(), String> {
+        match (call, answer) {
+            (Call::Put { lane, .. }, Answer::Put) => {
+                let watch = self.lanes.iter_mut().find(|watch| watch.number == lane);
+                let watch = watch.ok_or("a put to a lane that is not in the setup was accepted")?;
+                watch.held += 1;
+                if watch.held == 1 {
+                    watch.least = watch.x;
+                }
+            }
+            (Call::Take, Answer::Taken(taken)) => {
+                for watch in &mut self.lanes {
+                    watch.x += UNITS_PER_BYTE_SENT * i128::from(taken.length);
+                    if watch.number == taken.lane {
+                        watch.x -= watch.units_per_byte * i128::from(taken.length);
+                        watch.held =
+                            watch.held.checked_sub(1).ok_or("a record was taken that no put gave")?;
+                    }
+                    if watch.held == 0 {
+                        continue;
+                    }
+                    let bound = watch.four_slots + self.margin;
+                    let used = watch.x - watch.least;
+                    if used >= bound {
+                        return Err(format!(
+                            "demand 3 fails for lane {}: 1,024 T - c O is {used} and not below {bound}",
+                            watch.number
+                        ));
+                    }
+                    self.closest = self.closest.max(1_000 * used / bound);
+                    self.checked += 1;
+                    watch.least = watch.least.min(watch.x);
+                }
+            }
+            // "Refused calls and looks add nothing."
+            _ => {}
+        }
+        Ok(())
+    }
+}

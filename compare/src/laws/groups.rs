@@ -1,0 +1,35 @@
+//! "The four words ... part the groups that hold records. The first set bit of the eligible-ready word is the chosen
+//! lane's group, and finishes never fall along that word."
+
+use crate::rules::State;
+
+pub fn check(state: &State) -> Result<(), String> {
+    laws_of(state, state.sets())
+}
+
+/// The laws of four words that are said to be the state's.
+pub fn laws_of(state: &State, words: [u64; 4]) -> Result<(), String> {
+    let holding = state.holding().fold(0_u64, |groups, lane| groups | 1 << lane.group);
+    let union = words.iter().fold(0, |union, word| union | word);
+    let bits: u32 = words.iter().map(|word| word.count_ones()).sum();
+    if union != holding || bits != holding.count_ones() {
+        return Err(format!("{words:?} do not part the groups {holding} that hold records"));
+    }
+    let eligible_ready = words[0];
+    let first = (eligible_ready != 0).then(|| eligible_ready.trailing_zeros());
+    let chosen = state.chosen().map(|lane| lane.group);
+    if first != chosen {
+        return Err(format!("the first eligible-ready group is {first:?}, the chosen lane's {chosen:?}"));
+    }
+    let mut last = i128::MIN;
+    for group in (0..64).filter(|i| eligible_ready >> i & 1 == 1) {
+        let lanes = state.holding().filter(|lane| lane.group == group);
+        let finish =
+            lanes.map(|lane| lane.rounded_finish()).min().expect("a group of the word holds a record");
+        if finish < last {
+            return Err(format!("finishes fall along the eligible-ready word at group {group}"));
+        }
+        last = finish;
+    }
+    Ok(())
+}

@@ -1,0 +1,49 @@
+//! What must be true of every list of calls, whoever answers it. A law is fed the list call by call and stops the
+//! run with a sentence where it is broken.
+//!
+//! - [`fairness`] — demand 3, on every stretch of the list and every lane
+//! - [`order`] — accepted records are handed out once, in order, or still held
+//! - [`groups`] — the four words part the groups, name the chosen lane's group, and are in order of finish
+//! - [`good`] — the clock's range and every other clause of "A good table"
+
+pub mod fairness;
+pub mod good;
+pub mod groups;
+pub mod order;
+
+use crate::calls::{Answer, Call};
+use crate::rules::State;
+
+/// All laws together.
+pub struct Laws {
+    pub fairness: fairness::Fairness,
+    pub order: order::Order,
+    clock: i128,
+}
+
+impl Laws {
+    pub fn new(fresh: &State) -> Laws {
+        Laws { fairness: fairness::Fairness::new(fresh), order: order::Order::default(), clock: fresh.clock }
+    }
+
+    /// One more call of the list, its answer, and the table's contents after it.
+    pub fn step(&mut self, call: Call, answer: Answer, after: &State) -> Result<(), String> {
+        self.fairness.step(call, answer)?;
+        self.order.step(call, answer)?;
+        if call.only_reads() || answer.refused() {
+            return Ok(());
+        }
+        groups::check(after)?;
+        good::check(after)?;
+        if answer != Answer::Restarted && after.clock < self.clock {
+            return Err(format!("the clock fell from {} to {}", self.clock, after.clock));
+        }
+        self.clock = after.clock;
+        Ok(())
+    }
+
+    /// The list's end: what was accepted and not handed out is held.
+    pub fn end(&self, after: &State) -> Result<(), String> {
+        self.order.end(after)
+    }
+}

@@ -1,0 +1,27 @@
+//! An independent implementation of document 01 ("The line scheduler defined, with its exact rules") and the
+//! machinery that compares the unit with it over long random lists of calls and random inputs.
+//!
+//! The implementation: [`numbers`], [`calls`], [`rules`], [`fields`], [`setup`], [`session`].
+//! The machinery: [`rng`], [`gen`], [`laws`], [`unit`], [`stand_in`], [`driver`], [`pipes`].
+//!
+//! Units: a *byte* is a byte of a record; a *clock unit* is the clock's smallest step, 1,024 of them for each
+//! byte sent (QFQ calls the clock virtual time). Clock units are `i128` here, so that no sum can leave its range.
+
+#![deny(unsafe_code)]
+
+pub mod calls;
+pub mod driver;
+pub mod fields;
+pub mod gen;
+pub mod laws;
+#[cfg(feature = "unit")]
+pub mod linked;
+pub mod numbers;
+pub mod pipes;
+pub mod rng;
+pub mod rules;
+pub mod session;
+pub mod setup;
+pub mod shelf;
+pub mod stand_in;
+pub mod unit;

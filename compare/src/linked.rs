@@ -1,0 +1,210 @@
+//! The unit's static library through its C boundary (feature `unit`).
+//!
+//! Every function takes byte areas as pointer and length and answers a 64-bit number: 0 for done, else document
+//! 01's refusal number, or 255 where the lent answer buffer is shorter than 32 bytes and nothing was done. Values
+//! come in the answer buffer as four 64-bit words, low byte first.
+
+#![allow(unsafe_code)]
+
+use crate::calls::Taken;
+use crate::fields::Fault;
+use crate::session::{Run, Stop};
+use crate::unit::Unit;
+
+extern "C" {
+    fn zf_table_size() -> u64;
+    fn zf_make(
+        setup: *const u8,
+        setup_len: usize,
+        table: *mut u8,
+        table_len: usize,
+        out: *mut u8,
+        out_len: usize,
+    ) -> u64;
+    fn zf_put(
+        table: *mut u8,
+        table_len: usize,
+        lane: u8,
+        mark: u32,
+        length: u64,
+        out: *mut u8,
+        out_len: usize,
+    ) -> u64;
+    fn zf_take(table: *mut u8, table_len: usize, out: *mut u8, out_len: usize) -> u64;
+    fn zf_look(table: *mut u8, table_len: usize, out: *mut u8, out_len: usize) -> u64;
+    fn zf_sets(table: *mut u8, table_len: usize, out: *mut u8, out_len: usize) -> u64;
+    fn zf_lag(table: *mut u8, table_len: usize, lane: u8, out: *mut u8, out_len: usize) -> u64;
+    fn zf_restart(table: *mut u8, table_len: usize, out: *mut u8, out_len: usize) -> u64;
+    fn zf_run(
+        session: *const u8,
+        session_len: usize,
+        limit: u64,
+        table: *mut u8,
+        table_len: usize,
+        answers: *mut u8,
+        answers_len: usize,
+        out: *mut u8,
+        out_len: usize,
+    ) -> u64;
+}
+
+/// The answer buffer's least length.
+const OUT: usize = 32;
+/// Given where the answer buffer is shorter.
+pub const OUT_SHORT: u64 = 255;
+/// Stands for an answer that the boundary cannot give, such as a lane over 255: no rule gives it, so it differs.
+const OUT_OF_RANGE: u8 = 254;
+
+/// The linked library.
+pub struct Linked;
+
+/// The four words of an answer buffer.
+fn words(out: &[u8; OUT]) -> [u64; 4] {
+    let word = |at: usize| u64::from_le_bytes(out[8 * at..8 * at + 8].try_into().expect("eight bytes"));
+    [word(0), word(1), word(2), word(3)]
+}
+
+fn refusal(number: u64) -> u8 {
+    u8::try_from(number).unwrap_or(OUT_OF_RANGE)
+}
+
+/// Lends an answer buffer to a call: its words, or the refusal with the buffer's words.
+fn call(call: impl FnOnce(*mut u8, usize) -> u64) -> Result<[u64; 4], (u8, [u64; 4])> {
+    let mut out = [0xA5; OUT];
+    match call(out.as_mut_ptr(), out.len()) {
+        0 => Ok(words(&out)),
+        number => Err((refusal(number), words(&out))),
+    }
+}
+
+fn taken(words: [u64; 4]) -> Result<Taken, u8> {
+    let [lane, mark, length, _] = words;
+    let lane = u8::try_from(lane).map_err(|_| OUT_OF_RANGE)?;
+    let mark = u32::try_from(mark).map_err(|_| OUT_OF_RANGE)?;
+    Ok(Taken { lane, mark, length })
+}
+
+// SAFETY, for every call below: each pointer comes from a slice with its own length, the slices do not overlap, and
+// the library keeps no pointer after it returns.
+impl Unit for Linked {
+    fn table_size(&self) -> usize {
+        usize::try_from(unsafe { zf_table_size() }).expect("a size of at most 131,072")
+    }
+
+    fn make(&mut self, setup: &[u8], table: &mut [u8]) -> Result<u64, Fault> {
+        call(|out, len| unsafe {
+            zf_make(setup.as_ptr(), setup.len(), table.as_mut_ptr(), table.len(), out, len)
+        })
+        .map(|words| words[0])
+        .map_err(|(number, words)| Fault { number, place: words[0] })
+    }
+
+    fn put(&mut self, table: &mut [u8], lane: u8, mark: u32, length: u64) -> Result<(), u8> {
+        let answer =
+            call(|out, len| unsafe { zf_put(table.as_mut_ptr(), table.len(), lane, mark, length, out, len) });
+        answer.map(|_| ()).map_err(|(number, _)| number)
+    }
+
+    fn take(&mut self, table: &mut [u8]) -> Result<Taken, u8> {
+        let answer = call(|out, len| unsafe { zf_take(table.as_mut_ptr(), table.len(), out, len) });
+        taken(answer.map_err(|(number, _)| number)?)
+    }
+
+    fn look(&mut self, table: &mut [u8]) -> Result<Taken, u8> {
+        let answer = call(|out, len| unsafe { zf_look(table.as_mut_ptr(), table.len(), out, len) });
+        taken(answer.map_err(|(number, _)| number)?)
+    }
+
+    fn sets(&mut self, table: &mut [u8]) -> Result<[u64; 4], u8> {
+        let answer = call(|out, len| unsafe { zf_sets(table.as_mut_ptr(), table.len(), out, len) });
+        answer.map_err(|(number, _)| number)
+    }
+
+    fn lag(&mut self, table: &mut [u8], lane: u8) -> Result<i64, u8> {
+        let answer = call(|out, len| unsafe { zf_lag(table.as_mut_ptr(), table.len(), lane, out, len) });
+        answer.map(|words| words[0] as i64).map_err(|(number, _)| number)
+    }
+
+    fn restart(&mut self, table: &mut [u8]) -> Result<(), u8> {
+        let answer = call(|out, len| unsafe { zf_restart(table.as_mut_ptr(), table.len(), out, len) });
+        answer.map(|_| ()).map_err(|(number, _)| number)
+    }
+
+    fn run(&mut self, session: &[u8], limit: u64, table: &mut [u8], answers: &mut [u8]) -> Run {
+        let answer = call(|out, len| unsafe {
+            zf_run(
+                session.as_ptr(),
+                session.len(),
+                limit,
+                table.as_mut_ptr(),
+                table.len(),
+                answers.as_mut_ptr(),
+                answers.len(),
+                out,
+                len,
+            )
+        });
+        match answer {
+            // 17 and 7, which have no place of their own; the words are not asked for.
+            Err((number, _)) => {
+                Run { answered: 0, written: 0, stop: Stop::Refused(Fault { number, place: 0 }) }
+            }
+            Ok([answered, written, kind, why]) => Run { answered, written, stop: stop(kind, why) },
+        }
+    }
+}
+
+/// The stop kind: 0 end field, 1 limit, 2 refusal, whose number and place are number + 2^8 * place.
+fn stop(kind: u64, why: u64) -> Stop {
+    match kind {
+        0 => Stop::End,
+        1 => Stop::Limit,
+        2 => Stop::Refused(Fault { number: why as u8, place: why >> 8 }),
+        _ => Stop::Refused(Fault { number: OUT_OF_RANGE, place: kind }),
+    }
+}
+
+/// With an answer buffer shorter than 32 bytes every call gives 255, and neither the table, the answer area nor the
+/// buffer is written. Answers what is wrong.
+pub fn short_buffers() -> Result<(), String> {
+    let setup: &[u8] = &[0x01, 0, 2, 0, 1, 0x10, 0, 3, 0, 2, 0, 0x7F, 0, 0];
+    let session = [setup, &[0x21, 0, 0, 0x7F, 0, 0]].concat();
+    let size = Linked.table_size();
+    let mut table = vec![0x33; size];
+    Linked.make(setup, &mut table).map_err(|fault| format!("a valid setup gave {fault}"))?;
+    // A record is held, so that take, look and restart have something to do.
+    Linked.put(&mut table, 0, 1, 64).map_err(|number| format!("a valid put gave {number}"))?;
+    let before = table.clone();
+    let mut answers = vec![0x44; 64 * 1_002];
+    for length in 0..OUT {
+        let mut out = [0x55; OUT];
+        let (o, t) = (out.as_mut_ptr(), table.as_mut_ptr());
+        let given = unsafe {
+            [
+                zf_make(setup.as_ptr(), setup.len(), t, size, o, length),
+                zf_put(t, size, 0, 1, 64, o, length),
+                zf_take(t, size, o, length),
+                zf_look(t, size, o, length),
+                zf_sets(t, size, o, length),
+                zf_lag(t, size, 0, o, length),
+                zf_restart(t, size, o, length),
+                zf_run(
+                    session.as_ptr(),
+                    session.len(),
+                    1_000,
+                    t,
+                    size,
+                    answers.as_mut_ptr(),
+                    answers.len(),
+                    o,
+                    length,
+                ),
+            ]
+        };
+        let written = out != [0x55; OUT] || table != before || answers.iter().any(|byte| *byte != 0x44);
+        if given != [OUT_SHORT; 8] || written {
+            return Err(format!("an answer buffer of {length} bytes: {given:?}, written: {written}"));
+        }
+    }
+    Ok(())
+}

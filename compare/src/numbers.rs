@@ -1,0 +1,54 @@
+//! Document 01's numbers, each named once.
+
+use std::ops::RangeInclusive;
+
+/// "Lanes 1 to 64, numbered 0 to 63."
+pub const LANES: u8 = 64;
+/// "Weight w: 1 to 1,024".
+pub const WEIGHT: RangeInclusive<u16> = 1..=1_024;
+/// "weights sum to at most 1,024".
+pub const WEIGHT_SUM: u32 = 1_024;
+/// "Longest record of a lane: 64 to 1,500 bytes."
+pub const LONGEST: RangeInclusive<u16> = 64..=1_500;
+/// "A lane field of length 3 has no longest and means 1,500."
+pub const LONGEST_UNSAID: u16 = 1_500;
+/// "Each lane holds at most 16 records".
+pub const DEPTH: usize = 16;
+
+/// "c = 1,048,576 / w, rounded up: clock units per byte of this lane."
+pub const UNITS_OF_A_FULL_LINE: i128 = 1_048_576;
+/// "Sending one byte of any lane moves the clock V by 1,024."
+pub const UNITS_PER_BYTE_SENT: i128 = 1_024;
+/// Refusal 14: "V is 2^62 or more on put".
+pub const CLOCK_EDGE: i128 = 1 << 62;
+/// "V below 2^62 + 2^42" in a good table.
+pub const CLOCK_END: i128 = (1 << 62) + (1 << 42);
+/// Demand 3 and the good table: 1,024 times the longest record that any setup allows.
+pub const LONGEST_IN_UNITS: i128 = 1_536_000;
+
+/// "The run gets a limit of 0 to 1,000 requests"; the program's limit is the greatest.
+pub const LIMIT: u64 = 1_000;
+/// Refusal 17: the answer area has 64 bytes for each of limit + 2 lines.
+pub const BYTES_PER_LINE: u128 = 64;
+/// Refusal 18: "program's input over 32,768 bytes".
+pub const PROGRAM_INPUT: usize = 32_768;
+
+/// The table "Numbers given back".
+pub mod refusal {
+    pub const CUT: u8 = 1;
+    pub const TAG: u8 = 2;
+    pub const LENGTH_OF_FIELD: u8 = 3;
+    pub const ORDER: u8 = 4;
+    pub const VALUE: u8 = 5;
+    pub const WEIGHTS: u8 = 6;
+    pub const TABLE_SHORT: u8 = 7;
+    pub const NOT_GOOD: u8 = 10;
+    pub const NO_SUCH_LANE: u8 = 11;
+    pub const LENGTH: u8 = 12;
+    pub const LANE_FULL: u8 = 13;
+    pub const CLOCK_SPENT: u8 = 14;
+    pub const STILL_HELD: u8 = 15;
+    pub const NOTHING_HELD: u8 = 16;
+    pub const RUN_AREA: u8 = 17;
+    pub const INPUT_LONG: u8 = 18;
+}

@@ -1,0 +1,216 @@
+//! "The plain rules" of document 01, over all lanes: no group lists, no links, no stored sets.
+//!
+//! A lane keeps its S, R and F as they were worked out when it got its S, and the number of that event, which
+//! orders lanes by who "got its present S earliest".
+
+use crate::calls::{Answer, Call, Taken};
+use crate::numbers::{refusal, *};
+use crate::setup::{LanePlan, Setup};
+use std::collections::VecDeque;
+
+#[derive(Clone, Copy, Debug, PartialEq, Eq)]
+pub struct Record {
+    pub mark: u32,
+    pub length: u64,
+}
+
+#[derive(Clone, Debug, PartialEq, Eq)]
+pub struct Lane {
+    pub plan: LanePlan,
+    /// c: clock units per byte of this lane.
+    pub units_per_byte: i128,
+    /// i: the least i with 2^i at least longest times c.
+    pub group: u32,
+    pub queue: VecDeque<Record>,
+    /// S and R, of no meaning while the lane is idle.
+    pub start: i128,
+    pub rounded_start: i128,
+    /// F, which an idle lane keeps.
+    pub finish: i128,
+    /// The number of the event that gave the lane its present S.
+    pub since: u64,
+}
+
+impl Lane {
+    fn fresh(plan: LanePlan) -> Lane {
+        let weight = i128::from(plan.weight);
+        let units_per_byte = (UNITS_OF_A_FULL_LINE + weight - 1) / weight;
+        let most = i128::from(plan.longest) * units_per_byte;
+        let group = (0..).find(|i| (1_i128 << i) >= most).expect("some power of two is large enough");
+        let queue = VecDeque::new();
+        Lane { plan, units_per_byte, group, queue, start: 0, rounded_start: 0, finish: 0, since: 0 }
+    }
+
+    pub fn slot(&self) -> i128 {
+        1 << self.group
+    }
+
+    pub fn holds(&self) -> bool {
+        !self.queue.is_empty()
+    }
+
+    pub fn rounded_finish(&self) -> i128 {
+        self.rounded_start + 2 * self.slot()
+    }
+
+    /// "A lane with a record is eligible when R is at most V."
+    pub fn eligible(&self, clock: i128) -> bool {
+        self.holds() && self.rounded_start <= clock
+    }
+
+    /// A new S for the lane's first record, and the R and F that follow from it.
+    fn begin(&mut self, start: i128, event: u64) {
+        let first = self.queue.front().expect("a lane that gets an S holds a record");
+        self.start = start;
+        self.rounded_start = start - start % self.slot();
+        self.finish = start + i128::from(first.length) * self.units_per_byte;
+        self.since = event;
+    }
+}
+
+/// A table's contents: the setup's lanes by rising number, and the clock V.
+#[derive(Clone, Debug, PartialEq, Eq)]
+pub struct State {
+    pub clock: i128,
+    pub lanes: Vec<Lane>,
+    events: u64,
+}
+
+impl State {
+    /// "Fresh: V = 0, each lane idle with F = 0."
+    pub fn fresh(setup: &Setup) -> State {
+        State { clock: 0, lanes: setup.lanes.iter().copied().map(Lane::fresh).collect(), events: 0 }
+    }
+
+    pub fn lane(&self, number: u8) -> Option<&Lane> {
+        self.lanes.iter().find(|lane| lane.plan.number == number)
+    }
+
+    pub fn holding(&self) -> impl Iterator<Item = &Lane> {
+        self.lanes.iter().filter(|lane| lane.holds())
+    }
+
+    fn place(&self, number: u8) -> Result<usize, u8> {
+        self.lanes.iter().position(|lane| lane.plan.number == number).ok_or(refusal::NO_SUCH_LANE)
+    }
+
+    fn event(&mut self) -> u64 {
+        self.events += 1;
+        self.events
+    }
+
+    pub fn put(&mut self, number: u8, mark: u32, length: u64) -> Result<(), u8> {
+        let at = self.place(number)?;
+        let lane = &self.lanes[at];
+        if length == 0 || length > u64::from(lane.plan.longest) {
+            return Err(refusal::LENGTH);
+        }
+        if lane.queue.len() >= DEPTH {
+            return Err(refusal::LANE_FULL);
+        }
+        if self.clock >= CLOCK_EDGE {
+            return Err(refusal::CLOCK_SPENT);
+        }
+        let was_idle = !lane.holds();
+        let event = self.event();
+        let lane = &mut self.lanes[at];
+        lane.queue.push_back(Record { mark, length });
+        if was_idle {
+            lane.begin(lane.finish.max(self.clock), event);
+        }
+        // "If no other lane holds a record and V is below R, then V = R"
+        let rounded_start = self.lanes[at].rounded_start;
+        if self.holding().count() == 1 && self.clock < rounded_start {
+            self.clock = rounded_start;
+        }
+        Ok(())
+    }
+
+    /// "choose among eligible lanes the least rounded finish; ties go to the lowest group, then to the lane that
+    /// got its present S earliest." Nothing if no lane is eligible.
+    pub fn chosen(&self) -> Option<&Lane> {
+        self.lanes
+            .iter()
+            .filter(|lane| lane.eligible(self.clock))
+            .min_by_key(|lane| (lane.rounded_finish(), lane.group, lane.since))
+    }
+
+    pub fn look(&self) -> Result<Taken, u8> {
+        let lane = self.chosen().ok_or(refusal::NOTHING_HELD)?;
+        let first = lane.queue[0];
+        Ok(Taken { lane: lane.plan.number, mark: first.mark, length: first.length })
+    }
+
+    pub fn take(&mut self) -> Result<Taken, u8> {
+        let taken = self.look()?;
+        let at = self.place(taken.lane)?;
+        let event = self.event();
+        let lane = &mut self.lanes[at];
+        lane.queue.pop_front();
+        self.clock += UNITS_PER_BYTE_SENT * i128::from(taken.length);
+        if lane.holds() {
+            lane.begin(lane.finish, event);
+        }
+        // "Last, if records are held and no lane is eligible, V becomes the least R."
+        if self.chosen().is_none() {
+            if let Some(least) = self.holding().map(|lane| lane.rounded_start).min() {
+                self.clock = least;
+            }
+        }
+        Ok(taken)
+    }
+
+    /// The four words: eligible ready, ineligible ready, eligible blocked, ineligible blocked.
+    pub fn sets(&self) -> [u64; 4] {
+        // A group's start and finish: the least R and the least R + 2s of its lanes that hold records.
+        let mut groups: Vec<Option<(i128, i128)>> = vec![None; 32];
+        for lane in self.holding() {
+            let (start, finish) = (lane.rounded_start, lane.rounded_finish());
+            let group = &mut groups[lane.group as usize];
+            *group = Some(group.map_or((start, finish), |(s, f)| (s.min(start), f.min(finish))));
+        }
+        let mut words = [0; 4];
+        for (i, group) in groups.iter().enumerate() {
+            let Some((start, finish)) = *group else { continue };
+            let eligible = start <= self.clock;
+            let above = groups[i + 1..].iter().flatten();
+            let blocked = above.into_iter().any(|&(s, f)| s <= self.clock && f < finish);
+            let word = match (eligible, blocked) {
+                (true, false) => 0,
+                (false, false) => 1,
+                (true, true) => 2,
+                (false, true) => 3,
+            };
+            words[word] |= 1 << i;
+        }
+        words
+    }
+
+    /// "Lag of a lane is V minus S ...; for an idle lane V minus the greater of F and V."
+    pub fn lag(&self, number: u8) -> Result<i64, u8> {
+        let lane = self.lane(number).ok_or(refusal::NO_SUCH_LANE)?;
+        let from = if lane.holds() { lane.start } else { lane.finish.max(self.clock) };
+        Ok(i64::try_from(self.clock - from).expect("a lag fits 64 bits"))
+    }
+
+    /// "Restart gives the fresh table of the same setup."
+    pub fn restart(&mut self) -> Result<(), u8> {
+        if self.holding().next().is_some() {
+            return Err(refusal::STILL_HELD);
+        }
+        *self = State::fresh(&Setup { lanes: self.lanes.iter().map(|lane| lane.plan).collect() });
+        Ok(())
+    }
+
+    pub fn answer(&mut self, call: Call) -> Answer {
+        let answer = match call {
+            Call::Put { lane, mark, length } => self.put(lane, mark, length).map(|()| Answer::Put),
+            Call::Take => self.take().map(Answer::Taken),
+            Call::Look => self.look().map(Answer::Looked),
+            Call::Sets => Ok(Answer::Sets(self.sets())),
+            Call::Lag { lane } => self.lag(lane).map(Answer::Lag),
+            Call::Restart => self.restart().map(|()| Answer::Restarted),
+        };
+        answer.unwrap_or_else(Answer::No)
+    }
+}

@@ -1,0 +1,75 @@
+//! "Setup: 0x01 (format, u16 = 1) first and once; one or more 0x10 (lane u8, weight u16, longest u16) with rising
+//! lane numbers; 0x7F, empty."
+
+use crate::fields::{field, Fault, Field, Part};
+use crate::numbers::{refusal, *};
+
+pub const FORMAT: u8 = 0x01;
+pub const LANE: u8 = 0x10;
+pub const END: u8 = 0x7F;
+
+const FIELDS: &Part = &[(FORMAT, &[2]), (LANE, &[3, 5]), (END, &[0])];
+
+#[derive(Clone, Copy, Debug, PartialEq, Eq)]
+pub struct LanePlan {
+    pub number: u8,
+    pub weight: u16,
+    pub longest: u16,
+}
+
+/// What a setup says, lanes by rising number.
+#[derive(Clone, Debug, PartialEq, Eq)]
+pub struct Setup {
+    pub lanes: Vec<LanePlan>,
+}
+
+/// Making a table: the whole input is the setup, and a byte after its 0x7F is refused by 4 at that byte.
+pub fn whole(input: &[u8]) -> Result<Setup, Fault> {
+    let (setup, end) = read(input)?;
+    if end < input.len() {
+        return Err(Fault::at(refusal::ORDER, end));
+    }
+    Ok(setup)
+}
+
+/// The setup at the input's start, and where it ends. "In a session the setup's 0x7F does not close the input."
+pub fn read(input: &[u8]) -> Result<(Setup, usize), Fault> {
+    let mut lanes: Vec<LanePlan> = Vec::new();
+    let mut place = 0;
+    loop {
+        let field = field(input, place, FIELDS)?;
+        let first = place == 0;
+        if first != (field.tag == FORMAT) {
+            return Err(field.fault(refusal::ORDER));
+        }
+        match field.tag {
+            FORMAT if field.value != [0, 1] => return Err(field.fault(refusal::VALUE)),
+            FORMAT => {}
+            LANE => lanes.push(lane(&field, &lanes)?),
+            _ if lanes.is_empty() => return Err(field.fault(refusal::ORDER)),
+            _ => return Ok((Setup { lanes }, field.next)),
+        }
+        place = field.next;
+    }
+}
+
+/// One lane field after `before`: 4, then 5, then 6.
+fn lane(field: &Field, before: &[LanePlan]) -> Result<LanePlan, Fault> {
+    let number = field.value[0];
+    let weight = u16::from_be_bytes([field.value[1], field.value[2]]);
+    let longest = match field.value[3..] {
+        [high, low] => u16::from_be_bytes([high, low]),
+        _ => LONGEST_UNSAID,
+    };
+    if before.last().is_some_and(|last| number <= last.number) {
+        return Err(field.fault(refusal::ORDER));
+    }
+    if number >= LANES || !WEIGHT.contains(&weight) || !LONGEST.contains(&longest) {
+        return Err(field.fault(refusal::VALUE));
+    }
+    let so_far: u32 = before.iter().map(|lane| u32::from(lane.weight)).sum();
+    if so_far + u32::from(weight) > WEIGHT_SUM {
+        return Err(field.fault(refusal::WEIGHTS));
+    }
+    Ok(LanePlan { number, weight, longest })
+}

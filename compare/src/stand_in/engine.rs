@@ -1,0 +1,229 @@
+//! The stand-in's scheduler. It is built otherwise than the reference: 64-bit numbers, the choice goes through the
+//! group sets, and ties by a list of lanes, the one with the oldest S first.
+
+use super::slips::Slip;
+use crate::calls::Taken;
+
+pub struct Flow {
+    pub weight: u64,
+    pub longest: u64,
+    cost: u64,
+    group: u32,
+    start: u64,
+    finish: u64,
+    queue: Vec<(u32, u64)>,
+}
+
+impl Flow {
+    fn round(&self) -> u64 {
+        self.start >> self.group << self.group
+    }
+}
+
+pub struct Engine {
+    slip: Slip,
+    clock: u64,
+    flows: Vec<Option<Flow>>,
+    turns: Vec<usize>,
+}
+
+impl Engine {
+    /// Lanes as (number, weight, longest).
+    pub fn new(lanes: &[(usize, u64, u64)], slip: Slip) -> Engine {
+        let mut flows: Vec<Option<Flow>> = (0..64).map(|_| None).collect();
+        for &(number, weight, longest) in lanes {
+            let cost = if slip == Slip::CostRoundedDown {
+                (1 << 20) / weight
+            } else {
+                (1_u64 << 20).div_ceil(weight)
+            };
+            let most = longest * cost + u64::from(slip == Slip::GroupTooHigh);
+            let group = most.next_power_of_two().trailing_zeros();
+            flows[number] = Some(Flow { weight, longest, cost, group, start: 0, finish: 0, queue: vec![] });
+        }
+        Engine { slip, clock: 0, flows, turns: vec![] }
+    }
+
+    fn held(&self) -> impl Iterator<Item = (usize, &Flow)> {
+        let flows = self.flows.iter().enumerate();
+        flows
+            .filter_map(|(n, flow)| flow.as_ref().map(|flow| (n, flow)))
+            .filter(|(_, flow)| !flow.queue.is_empty())
+    }
+
+    fn may_go(&self, round: u64) -> bool {
+        if self.slip == Slip::EligibleBelowClock {
+            round < self.clock
+        } else {
+            round <= self.clock
+        }
+    }
+
+    fn renew(&mut self, lane: usize) {
+        self.turns.retain(|&other| other != lane);
+        self.turns.push(lane);
+    }
+
+    fn begin(&mut self, lane: usize, start: u64) {
+        let slip = self.slip;
+        let flow = self.flows[lane].as_mut().expect("only lanes of the setup begin");
+        let before = flow.round();
+        flow.start = start;
+        flow.finish = start + flow.queue[0].1 * flow.cost;
+        let keeps = slip == Slip::SameRoundKeepsTurn && flow.round() == before && self.turns.contains(&lane);
+        if !keeps {
+            self.renew(lane);
+        }
+    }
+
+    pub fn put(&mut self, lane: u8, mark: u32, mut length: u64) -> Result<(), u8> {
+        if self.slip == Slip::LengthCut {
+            length &= 0xFFFF;
+        }
+        if self.slip == Slip::LengthBeforeLane && (length == 0 || length > 1_500) {
+            return Err(12);
+        }
+        let lane = usize::from(lane);
+        let flow = self.flows.get_mut(lane).and_then(Option::as_mut).ok_or(11)?;
+        let room = match self.slip {
+            Slip::RoomForFifteen => 15,
+            Slip::RoomForSeventeen => 17,
+            _ => 16,
+        };
+        let full = flow.queue.len() >= room;
+        if full && self.slip == Slip::FullBeforeLength {
+            return Err(13);
+        }
+        if length == 0 || length > flow.longest {
+            return Err(12);
+        }
+        if full {
+            return Err(13);
+        }
+        if self.clock >> 62 != 0 {
+            return Err(14);
+        }
+        flow.queue.push((mark, length));
+        let finish = if self.slip == Slip::ForgetsFinish { 0 } else { flow.finish };
+        if flow.queue.len() > 1 {
+            if self.slip == Slip::PutRenewsTurn {
+                self.renew(lane);
+            }
+            return Ok(());
+        }
+        self.begin(lane, finish.max(self.clock));
+        if self.held().count() == 1 && self.slip != Slip::NoJumpOnPut {
+            let flow = self.flows[lane].as_ref().expect("the lane is in the setup");
+            let to = if self.slip == Slip::JumpToExactStart { flow.start } else { flow.round() };
+            self.clock = self.clock.max(to);
+        }
+        Ok(())
+    }
+
+    fn chosen(&self) -> Option<usize> {
+        let turn = |lane: usize| self.turns.iter().position(|&other| other == lane).unwrap_or(0);
+        if self.slip == Slip::ExactFinish {
+            let may_go = self.held().filter(|(_, flow)| self.may_go(flow.round()));
+            return may_go.min_by_key(|(n, flow)| (flow.finish, flow.group, turn(*n))).map(|(n, _)| n);
+        }
+        let [ready, ..] = self.sets();
+        let in_group = self.held().filter(|(_, flow)| ready != 0 && flow.group == ready.trailing_zeros());
+        let best = in_group.min_by_key(|&(n, flow)| {
+            let tie = match self.slip {
+                Slip::TiesToLaterLane => self.turns.len() - turn(n),
+                Slip::TiesToLowestLane => n,
+                _ => turn(n),
+            };
+            (flow.round(), tie)
+        });
+        best.map(|(n, _)| n)
+    }
+
+    pub fn look(&self) -> Result<Taken, u8> {
+        let lane = self.chosen().ok_or(16)?;
+        let (mark, length) = self.flows[lane].as_ref().expect("the chosen lane is in the setup").queue[0];
+        Ok(Taken { lane: lane as u8, mark, length })
+    }
+
+    /// V becomes the least R if none of the held lanes may go.
+    fn jump(&mut self, leave_out: Option<usize>) {
+        let rounds = self.held().filter(|(n, _)| Some(*n) != leave_out).map(|(_, flow)| flow.round());
+        if let Some(least) = rounds.min() {
+            self.clock = self.clock.max(least);
+        }
+    }
+
+    pub fn take(&mut self) -> Result<Taken, u8> {
+        let taken = self.look()?;
+        let lane = usize::from(taken.lane);
+        let flow = self.flows[lane].as_mut().expect("the chosen lane is in the setup");
+        flow.queue.remove(0);
+        let charged = if self.slip == Slip::ChargesLongest { flow.longest } else { taken.length };
+        let (finish, holds) = (flow.finish, !flow.queue.is_empty());
+        self.clock += 1_024 * charged;
+        match self.slip {
+            Slip::ClockBeforeNewStart => self.jump(None),
+            Slip::ClockWithoutServedLane => self.jump(Some(lane)),
+            _ => {}
+        }
+        if holds {
+            let start =
+                if self.slip == Slip::HoldingLaneTakesClock { finish.max(self.clock) } else { finish };
+            self.begin(lane, start);
+        } else {
+            self.turns.retain(|&other| other != lane);
+        }
+        if self.slip != Slip::ClockBeforeNewStart {
+            self.jump(None);
+        }
+        Ok(taken)
+    }
+
+    pub fn sets(&self) -> [u64; 4] {
+        let mut rounds: [Option<u64>; 40] = [None; 40];
+        for (_, flow) in self.held() {
+            let round = &mut rounds[flow.group as usize];
+            *round = Some(round.map_or(flow.round(), |round| round.min(flow.round())));
+        }
+        let mut words = [0; 4];
+        let mut least: Option<u64> = None;
+        // From the highest group down: `least` is the least finish of the eligible groups above.
+        for (group, round) in rounds.iter().enumerate().rev() {
+            let Some(round) = *round else { continue };
+            let due = round + (2 << group);
+            let blocked = match self.slip {
+                Slip::EqualFinishBlocks => least.is_some_and(|least| least <= due),
+                _ => least.is_some_and(|least| least < due),
+            };
+            let eligible = self.may_go(round);
+            words[usize::from(!eligible) + 2 * usize::from(blocked)] |= 1 << group;
+            if eligible {
+                least = Some(least.map_or(due, |least| least.min(due)));
+            }
+        }
+        words
+    }
+
+    pub fn lag(&self, lane: u8) -> Result<i64, u8> {
+        let flow = self.flows.get(usize::from(lane)).and_then(Option::as_ref).ok_or(11)?;
+        let from = if !flow.queue.is_empty() {
+            flow.start
+        } else if self.slip == Slip::LagOfIdleFromFinish {
+            flow.finish
+        } else {
+            flow.finish.max(self.clock)
+        };
+        Ok(self.clock.wrapping_sub(from) as i64)
+    }
+
+    pub fn restart(&mut self) -> Result<(), u8> {
+        if self.held().next().is_some() && self.slip != Slip::RestartDropsRecords {
+            return Err(15);
+        }
+        let flows = self.flows.iter().enumerate();
+        let lanes: Vec<_> = flows.filter_map(|(n, f)| f.as_ref().map(|f| (n, f.weight, f.longest))).collect();
+        let clock = if self.slip == Slip::RestartKeepsClock { self.clock } else { 0 };
+        *self = Engine { clock, ..Engine::new(&lanes, self.slip) };
+        Ok(())
+    }
+}

@@ -1,0 +1,130 @@
+//! The stand-in's reader of setups and requests: it eats its input from the front.
+
+use super::slips::Slip;
+
+/// A number and a place.
+pub type Refused = (u8, usize);
+
+pub struct Reader<'a> {
+    input: &'a [u8],
+    at: usize,
+    slip: Slip,
+}
+
+/// Lanes as (number, weight, longest).
+pub type Lanes = Vec<(usize, u64, u64)>;
+
+impl<'a> Reader<'a> {
+    pub fn new(input: &'a [u8], slip: Slip) -> Reader<'a> {
+        Reader { input, at: 0, slip }
+    }
+
+    pub fn place(&self) -> usize {
+        self.at
+    }
+
+    pub fn left(&self) -> usize {
+        self.input.len() - self.at
+    }
+
+    fn refuse<T>(&self, number: u8, place: usize) -> Result<T, Refused> {
+        Err((number, place + usize::from(self.slip == Slip::PlaceOffByOne)))
+    }
+
+    /// A field's tag and value; `lengths` gives the right lengths of a tag, none for an unknown one.
+    pub fn field(&mut self, lengths: fn(u8) -> &'static [usize]) -> Result<(u8, &'a [u8]), Refused> {
+        let at = self.at;
+        if self.left() < 3 {
+            return self.refuse(1, at);
+        }
+        let tag = self.input[at];
+        let mut length = usize::from(self.input[at + 1]) << 8 | usize::from(self.input[at + 2]);
+        if self.slip == Slip::LowLengthByteOnly {
+            length &= 0xFF;
+        }
+        if lengths(tag).is_empty() {
+            return self.refuse(2, at);
+        }
+        let cut = self.left() - 3 < length;
+        if cut && self.slip == Slip::CutBeforeLength {
+            return self.refuse(1, at);
+        }
+        if !lengths(tag).contains(&length) {
+            return self.refuse(3, at);
+        }
+        if cut {
+            return self.refuse(1, at);
+        }
+        self.at += 3 + length;
+        Ok((tag, &self.input[at + 3..self.at]))
+    }
+
+    pub fn setup(&mut self) -> Result<Lanes, Refused> {
+        let mut lanes: Lanes = vec![];
+        loop {
+            let at = self.at;
+            let (tag, value) = self.field(of_setup)?;
+            if (tag == 0x01) == (at > 0) {
+                return self.refuse(4, at);
+            }
+            match tag {
+                0x01 if number(value) != 1 => return self.refuse(5, at),
+                0x01 => {}
+                0x10 => {
+                    let lane = self.lane(value);
+                    if let Some(refusal) = self.judge(lane, &lanes) {
+                        return self.refuse(refusal, at);
+                    }
+                    lanes.push(lane);
+                }
+                _ if lanes.is_empty() => return self.refuse(4, at),
+                _ => return Ok(lanes),
+            }
+        }
+    }
+
+    fn lane(&self, value: &[u8]) -> (usize, u64, u64) {
+        let unsaid = if self.slip == Slip::WrongDefault { 1_499 } else { 1_500 };
+        let longest = if value.len() == 5 { number(&value[3..]) } else { unsaid };
+        (usize::from(value[0]), number(&value[1..3]), longest)
+    }
+
+    /// The refusal that a lane gets after those before it.
+    fn judge(&self, lane: (usize, u64, u64), before: &Lanes) -> Option<u8> {
+        let (lane_number, weight, longest) = lane;
+        let next = before.last().map_or(0, |last| last.0 + usize::from(self.slip != Slip::EqualLaneRises));
+        let order = lane_number < next;
+        let value = lane_number > 63 || weight == 0 || weight > 1_024 || !(64..=1_500).contains(&longest);
+        let sum = before.iter().map(|lane| lane.1).sum::<u64>() + weight;
+        let weights = sum > 1_024 || (sum == 1_024 && self.slip == Slip::SumTooSmall);
+        let told = match self.slip {
+            Slip::ValueBeforeOrder => [(value, 5), (order, 4), (weights, 6)],
+            Slip::WeightsBeforeValue => [(order, 4), (weights, 6), (value, 5)],
+            _ => [(order, 4), (value, 5), (weights, 6)],
+        };
+        told.iter().find(|(broken, _)| *broken).map(|(_, refusal)| *refusal)
+    }
+}
+
+/// A number, high byte first.
+pub fn number(bytes: &[u8]) -> u64 {
+    bytes.iter().fold(0, |sum, byte| sum << 8 | u64::from(*byte))
+}
+
+fn of_setup(tag: u8) -> &'static [usize] {
+    match tag {
+        0x01 => &[2],
+        0x10 => &[3, 5],
+        0x7F => &[0],
+        _ => &[],
+    }
+}
+
+pub fn of_requests(tag: u8) -> &'static [usize] {
+    match tag {
+        0x20 => &[7],
+        0x24 => &[1],
+        0x21..=0x23 | 0x25 | 0x7F => &[0],
+        _ => &[],
+    }
+}

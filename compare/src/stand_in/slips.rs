@@ -1,0 +1,127 @@
+//! The slips that a stand-in can be told to make: document 01's "Plausible slips" and more of their kind. The
+//! comparison is worth something only if it finds every one.
+
+macro_rules! slips {
+    ($($(#[$meaning:meta])* $name:ident,)*) => {
+        #[derive(Clone, Copy, Debug, PartialEq, Eq)]
+        pub enum Slip {
+            /// None: the stand-in follows the rules.
+            None,
+            $($(#[$meaning])* $name,)*
+        }
+
+        pub const ALL: &[Slip] = &[$(Slip::$name,)*];
+    };
+}
+
+slips! {
+    // Document 01's own list.
+    /// Choosing by exact F in place of R + 2s.
+    ExactFinish,
+    /// Rounding c down.
+    CostRoundedDown,
+    /// S = max(F, V) for a lane that still holds records.
+    HoldingLaneTakesClock,
+    /// An equal finish blocks, which sends ties to the higher group.
+    EqualFinishBlocks,
+    /// V moves to the least R while the served lane has its old S.
+    ClockBeforeNewStart,
+    /// V moves to the least R of the other lanes.
+    ClockWithoutServedLane,
+
+    // The plain rules.
+    /// Ties inside a group go to the lane that got its S last.
+    TiesToLaterLane,
+    /// Ties inside a group go to the lowest lane number.
+    TiesToLowestLane,
+    /// A put on a lane that holds records counts as getting a new S.
+    PutRenewsTurn,
+    /// A lane whose R stays the same keeps its turn in ties.
+    SameRoundKeepsTurn,
+    /// An idle lane forgets its F.
+    ForgetsFinish,
+    /// Put to an empty table does not move V to R.
+    NoJumpOnPut,
+    /// Put moves V to S in place of R.
+    JumpToExactStart,
+    /// Eligible only when R is below V.
+    EligibleBelowClock,
+    /// V grows by 1,024 times the lane's longest.
+    ChargesLongest,
+    /// 2^i above longest times c, in place of at least.
+    GroupTooHigh,
+    /// Lag of an idle lane is V minus F.
+    LagOfIdleFromFinish,
+    /// Restart keeps the clock.
+    RestartKeepsClock,
+    /// Restart is accepted while records are held.
+    RestartDropsRecords,
+    /// A lane has room for 15.
+    RoomForFifteen,
+    /// A lane has room for 17.
+    RoomForSeventeen,
+    /// A put's length is cut to 16 bits.
+    LengthCut,
+
+    // Refusals and lent bytes.
+    /// 12 is told before 11.
+    LengthBeforeLane,
+    /// 13 is told before 12.
+    FullBeforeLength,
+    /// A refused put writes the table.
+    RefusalWrites,
+    /// A look writes the table.
+    LookWrites,
+    /// A byte past the fixed size is written.
+    WritesPastTable,
+    /// A refused making has already written the table.
+    MakeWritesEarly,
+
+    // Setups.
+    /// A fault's place is the byte after its tag.
+    PlaceOffByOne,
+    /// An input cut in a value is told by 1 before its length by 3.
+    CutBeforeLength,
+    /// 5 is told before 4.
+    ValueBeforeOrder,
+    /// 6 is told before 5.
+    WeightsBeforeValue,
+    /// Only the low byte of a field's length is read.
+    LowLengthByteOnly,
+    /// 1,024 in sum is too much already.
+    SumTooSmall,
+    /// An equal lane number counts as rising.
+    EqualLaneRises,
+    /// A lane field of length 3 means a longest of 1,499.
+    WrongDefault,
+    /// A byte after the setup is let pass.
+    TrailingByteTaken,
+
+    // Sessions.
+    /// The limit is looked at after the field.
+    LimitAfterField,
+    /// The limit is not looked at before the end field.
+    LimitAfterEnd,
+    /// A `no` line is not counted.
+    NoLineNotCounted,
+    /// A refused field is counted.
+    RefusedFieldCounted,
+    /// Places are counted from the first request.
+    PlaceFromRequests,
+    /// A lane over 63 in a request is refused as a field, by 5.
+    RequestLaneJudged,
+    /// A byte after the end field is let pass.
+    TrailingByteAfterEnd,
+    /// A line without its line feed.
+    LineFeedMissing,
+    /// A lag below zero is written without its sign.
+    SignLost,
+    /// 7 is told before 17.
+    TableBeforeArea,
+    /// 17 only below 64 times (limit + 1) bytes.
+    AreaTooSmall,
+    /// A byte past the last line is written.
+    WritesPastLine,
+    /// A run that is refused at a request loses what the answered ones made.
+    RunForgets,
+}

@@ -1,0 +1,109 @@
+//! The unit under test as the comparison sees it: the public calls on lent bytes.
+//!
+//! Every call gets its table for writing, the ones that only read too, so that a write would be seen.
+
+use crate::calls::{Answer, Call, Taken};
+use crate::fields::Fault;
+use crate::numbers::refusal;
+use crate::rules::State;
+use crate::session::{self, Run};
+use crate::setup;
+use crate::shelf::{Shelf, TABLE_SIZE};
+
+pub trait Unit {
+    /// The table's fixed size in bytes.
+    fn table_size(&self) -> usize;
+    /// The number of lanes, or a refusal 1 to 7 with its place.
+    fn make(&mut self, setup: &[u8], table: &mut [u8]) -> Result<u64, Fault>;
+    fn put(&mut self, table: &mut [u8], lane: u8, mark: u32, length: u64) -> Result<(), u8>;
+    fn take(&mut self, table: &mut [u8]) -> Result<Taken, u8>;
+    fn look(&mut self, table: &mut [u8]) -> Result<Taken, u8>;
+    fn sets(&mut self, table: &mut [u8]) -> Result<[u64; 4], u8>;
+    fn lag(&mut self, table: &mut [u8], lane: u8) -> Result<i64, u8>;
+    fn restart(&mut self, table: &mut [u8]) -> Result<(), u8>;
+    fn run(&mut self, session: &[u8], limit: u64, table: &mut [u8], answers: &mut [u8]) -> Run;
+
+    fn answer(&mut self, table: &mut [u8], call: Call) -> Answer {
+        let answer = match call {
+            Call::Put { lane, mark, length } => self.put(table, lane, mark, length).map(|()| Answer::Put),
+            Call::Take => self.take(table).map(Answer::Taken),
+            Call::Look => self.look(table).map(Answer::Looked),
+            Call::Sets => self.sets(table).map(Answer::Sets),
+            Call::Lag { lane } => self.lag(table, lane).map(Answer::Lag),
+            Call::Restart => self.restart(table).map(|()| Answer::Restarted),
+        };
+        answer.unwrap_or_else(Answer::No)
+    }
+}
+
+/// The reference behind the unit's face. Its state stays on a shelf outside the lent bytes.
+#[derive(Default)]
+pub struct Reference {
+    shelf: Shelf<State>,
+}
+
+impl Reference {
+    /// A table with any contents, those too that calls would take long to make.
+    pub fn lay(&mut self, state: State, table: &mut [u8]) {
+        self.shelf.put(state, table);
+    }
+
+    /// A call that changes the state unless it is refused.
+    fn change<T>(&mut self, table: &mut [u8], call: impl Fn(&mut State) -> Result<T, u8>) -> Result<T, u8> {
+        let answer = call(self.shelf.open(table).ok_or(refusal::NOT_GOOD)?)?;
+        self.shelf.sign(table);
+        Ok(answer)
+    }
+
+    fn read<T>(&mut self, table: &[u8], call: impl Fn(&State) -> Result<T, u8>) -> Result<T, u8> {
+        call(self.shelf.open(table).ok_or(refusal::NOT_GOOD)?)
+    }
+}
+
+impl Unit for Reference {
+    fn table_size(&self) -> usize {
+        TABLE_SIZE
+    }
+
+    fn make(&mut self, setup: &[u8], table: &mut [u8]) -> Result<u64, Fault> {
+        if table.len() < TABLE_SIZE {
+            return Err(Fault::at(refusal::TABLE_SHORT, 0));
+        }
+        let setup = setup::whole(setup)?;
+        self.shelf.put(State::fresh(&setup), table);
+        Ok(setup.lanes.len() as u64)
+    }
+
+    fn put(&mut self, table: &mut [u8], lane: u8, mark: u32, length: u64) -> Result<(), u8> {
+        self.change(table, |state| state.put(lane, mark, length))
+    }
+
+    fn take(&mut self, table: &mut [u8]) -> Result<Taken, u8> {
+        self.change(table, State::take)
+    }
+
+    fn look(&mut self, table: &mut [u8]) -> Result<Taken, u8> {
+        self.read(table, State::look)
+    }
+
+    fn sets(&mut self, table: &mut [u8]) -> Result<[u64; 4], u8> {
+        self.read(table, |state| Ok(state.sets()))
+    }
+
+    fn lag(&mut self, table: &mut [u8], lane: u8) -> Result<i64, u8> {
+        self.read(table, |state| state.lag(lane))
+    }
+
+    fn restart(&mut self, table: &mut [u8]) -> Result<(), u8> {
+        self.change(table, State::restart)
+    }
+
+    fn run(&mut self, session: &[u8], limit: u64, table: &mut [u8], answers: &mut [u8]) -> Run {
+        let outcome = session::run(session, limit, table.len(), TABLE_SIZE, answers.len());
+        answers[..outcome.text.len()].copy_from_slice(outcome.text.as_bytes());
+        if let Some(state) = outcome.state {
+            self.shelf.put(state, table);
+        }
+        outcome.result
+    }
+}

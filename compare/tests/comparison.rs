@@ -1,0 +1,100 @@
+//! The comparison itself: it finds no difference where there is none, and every slip.
+
+use compare::driver::report::Tally;
+use compare::driver::{self, clock, Budget};
+use compare::pipes;
+use compare::rules::State;
+use compare::stand_in::{Slip, StandIn, ALL};
+use compare::unit::{Reference, Unit};
+use std::path::Path;
+
+fn run<U: Unit>(mut unit: U, seed: u64, cases: u64) -> Tally {
+    let mut tally = Tally::default();
+    if let Err(difference) = driver::compare(&mut unit, seed, 0, Budget::Cases(cases), &mut tally) {
+        panic!("{difference}");
+    }
+    tally
+}
+
+#[test]
+fn the_reference_with_itself_and_with_the_stand_in() {
+    let itself = run(Reference::default(), 5, 600);
+    let other = run(StandIn::new(Slip::None), 5, 600);
+    assert_eq!(itself, other, "the same seed gives the same cases");
+    assert!(itself.calls > 100_000 && itself.inputs() > 5_000, "{itself}");
+    assert!(itself.refused.iter().enumerate().all(|(at, count)| at == 4 || *count > 100), "{itself}");
+    assert!(itself.words.iter().all(|count| *count > 10), "{itself}");
+}
+
+#[test]
+fn every_slip_is_found() {
+    for &slip in ALL {
+        let mut tally = Tally::default();
+        let found = driver::compare(&mut StandIn::new(slip), 7, 0, Budget::Cases(1_500), &mut tally);
+        let difference = found.expect_err(&format!("{slip:?} is not found"));
+        let again = driver::one(&mut StandIn::new(slip), 7, difference.case, &mut Tally::default());
+        assert!(again.is_err(), "{slip:?} is not found again by its case alone");
+    }
+}
+
+#[test]
+fn a_difference_in_a_list_is_shown_by_a_short_list() {
+    let slips = [Slip::RoomForFifteen, Slip::LookWrites, Slip::TiesToLaterLane, Slip::ForgetsFinish];
+    for slip in slips {
+        let lists = (0..).map(|case| driver::one(&mut StandIn::new(slip), 3, case, &mut Tally::default()));
+        let shown: Vec<usize> = lists
+            .take(60)
+            .filter_map(Result::err)
+            .filter(|difference| difference.found.shown_by.len() > 1)
+            .map(|difference| difference.found.shown_by.len())
+            .collect();
+        assert!(!shown.is_empty() && shown.iter().all(|lines| *lines <= 40), "{slip:?}: {shown:?}");
+    }
+}
+
+#[test]
+fn toward_the_clocks_edge() {
+    let mut tally = Tally::default();
+    let spent = clock::drive(&mut StandIn::new(Slip::None), 20_000, &mut tally).map_err(|found| found.what);
+    assert_eq!((spent, tally.calls), (Ok(false), 40_021));
+    let slip = clock::drive(&mut StandIn::new(Slip::ClockBeforeNewStart), 20_000, &mut tally);
+    assert!(slip.is_err(), "the clock stays behind the only lane");
+}
+
+#[test]
+fn at_the_clocks_edge() {
+    let mut state = State::fresh(&clock::setup());
+    // As after very many pairs: the lane is idle, and V is 2^33 below the edge.
+    state.clock = (1 << 62) - (1 << 33);
+    state.lanes[0].finish = state.clock;
+    let mut unit = Reference::default();
+    let mut table = vec![0; unit.table_size()];
+    unit.lay(state.clone(), &mut table);
+    let mut tally = Tally::default();
+    let spent = clock::drive_from(&mut unit, &mut table, state, 10, &mut tally).map_err(|found| found.what);
+    assert_eq!(spent, Ok(true), "14 within ten pairs; the rest of the drive follows");
+}
+
+#[test]
+fn programs_by_pipe() {
+    let reference = Path::new(env!("CARGO_BIN_EXE_reference"));
+    let fed = pipes::compare(reference, 1, 0, 150).unwrap_or_else(|difference| panic!("{difference}"));
+    assert!(fed > 50_000);
+    let another = Path::new(env!("CARGO_BIN_EXE_compare"));
+    assert!(pipes::compare(another, 1, 0, 1).is_err(), "a program that prints something else");
+    assert!(pipes::compare(Path::new("./no-such-program"), 1, 0, 1).is_err());
+}
+
+#[test]
+fn the_reference_program_at_the_edge_of_its_input() {
+    let reference = Path::new(env!("CARGO_BIN_EXE_reference"));
+    for (length, printed) in
+        [(0, "no 1 0\n"), (32_768, "no 2 0\n"), (32_769, "no 18\n"), (200_000, "no 18\n")]
+    {
+        assert_eq!(
+            pipes::output(reference, &vec![0; length]),
+            Ok(printed.as_bytes().to_vec()),
+            "{length} bytes"
+        );
+    }
+}

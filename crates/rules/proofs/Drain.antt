@@ -1,0 +1,74 @@
+-- "Take is never refused for 14, so a spent unit can be drained and restarted": from any state that calls make from a fresh one, as many takes as records are
+-- held hand each out, whatever the clock, and restart is accepted then. Assumes nothing.
+use Prim.Native.Nat.{ℕ, zero, suc, _<_}
+use native.Mathlib.Omega.{arith}
+use mathlib.Core.Path.{_≡_, refl, sym, ap}
+use mathlib.Core.Bool.{true, false, false≢true}
+use mathlib.Core.List.{List, [], _∷_}
+use mathlib.Core.Option.{Option, none, some}
+use lib.ListN.{length, getD, replicate}
+use Rattle.rules.specs.State.{sum, Rec, Lane, noLane, State, some?, holds, laneAt, setupOf, anyHolds}
+use Rattle.rules.specs.Calls.{take, restart, restarted, taken, served, serve, Pick, picked, takeOf, doTake, fresh, doRestart, step}
+use Rattle.rules.specs.Runs.{after}
+use Rattle.rules.proofs.Bools.{not-passed}
+use Rattle.rules.proofs.Lists.{sum-set, le-sum}
+use Rattle.rules.proofs.Keep.{PickIs, pick-is}
+use Rattle.rules.proofs.Queues.{held-inside, served-queue}
+use Rattle.rules.proofs.Range.{heldIn}
+use Rattle.rules.proofs.Live.{Live, nothing-held, some-holds}
+use Rattle.rules.proofs.SameSetup.{setup-kept}
+use Rattle.rules.proofs.AlwaysGood.{Reached, step-reached}
+
+abbrev pub heldBy : State → ℕ
+heldBy s = sum heldIn (s .lanes)
+
+-- one lane holds at most what all hold
+held-some : (s : State) (k : ℕ) → holds (laneAt s k) ≡ true → 0 < heldBy s
+held-some s k e = go (laneAt s k .queue) refl e
+  where
+    go : (q : List Rec) → laneAt s k .queue ≡ q → some? q ≡ true → 0 < heldBy s
+    go [] h t = absurd (false≢true t)
+    go (r ∷ rs) h t = omega (arith, le-sum heldIn (s .lanes) noLane k (held-inside (s .lanes) k r rs h), ap length h)
+
+none-held : (ls : List Lane) → ((k : ℕ) → holds (getD ls k noLane) ≡ false) → sum heldIn ls ≡ 0
+none-held [] h = refl
+none-held (l ∷ ls) h = omega (arith, empty (l .queue) (h 0), none-held ls (λ k. h (suc k)))
+  where
+    empty : (q : List Rec) → some? q ≡ false → length q ≡ 0
+    empty [] e = refl
+    empty (r ∷ rs) e = absurd (false≢true (sym e))
+
+-- a take while records are held hands one out
+pub take-one : (s : State) (n : ℕ) → Live s → heldBy s ≡ suc n → (j m l : ℕ) × ((step s take) .reply ≡ taken j m l) × (heldBy ((step s take) .state) ≡ n)
+unfolding step doTake takeOf serve
+take-one s n live e = go (picked s) (pick-is s)
+  where
+    go : (o : Option Pick) → PickIs s o → (j m l : ℕ) × ((takeOf s o) .reply ≡ taken j m l) × (heldBy ((takeOf s o) .state) ≡ n)
+    go none h = absurd (omega (arith, none-held (s .lanes) (nothing-held s live h)))
+    go (some p) h = (
+      p .lane,
+      p .first .mark,
+      p .first .len,
+      refl,
+      omega (
+        arith,
+        sum-set heldIn (s .lanes) (p .lane) (served (laneAt s (p .lane)) (p .rest)) noLane (held-inside (s .lanes) (p .lane) (p .first) (p .rest) (h .queue)),
+        ap length (h .queue),
+        ap length (served-queue (laneAt s (p .lane)) (p .rest)),
+      ),
+    )
+
+-- as many takes as records are held leave none
+pub drained : (s : State) (n : ℕ) → Reached s → heldBy s ≡ n → anyHolds (after s (replicate n take) .lanes) ≡ false
+unfolding after
+drained s zero r e = not-passed (anyHolds (s .lanes)) (λ h. let i = some-holds (s .lanes) h in omega (arith, held-some s (i .0) (i .1)))
+drained s (suc n) r e = drained ((step s take) .state) n (step-reached s take r) (take-one s n (r .live) e .4)
+
+-- and then restart gives the fresh table of the same setup
+pub restarts : (s : State) → Reached s
+    → ((step (after s (replicate (heldBy s) take)) restart) .reply ≡ restarted)
+    × ((step (after s (replicate (heldBy s) take)) restart) .state ≡ fresh (setupOf s))
+unfolding step doRestart
+restarts s r =
+    let d = drained s (heldBy s) r refl in
+    (simp d, simp d (ap fresh (setup-kept s (replicate (heldBy s) take))))

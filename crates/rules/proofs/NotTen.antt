@@ -1,0 +1,57 @@
+-- The rules never answer 10: they know no bytes. Assumes nothing.
+use Prim.Native.Nat.{ℕ, _^_}
+use native.Mathlib.Omega.{arith}
+use mathlib.Core.Path.{_≡_}
+use mathlib.Core.Bool.{_||_}
+use mathlib.Core.Option.{Option, none, some}
+use lib.Dec.{leb, ltb}
+use lib.ListN.{length}
+use Rattle.rules.specs.State.{Rec, State, laneDepth, laneAt, anyHolds}
+use Rattle.rules.specs.Calls.{Call, put, take, look, sets, lag, restart, Reply, accepted, taken, seen, words, lagged, restarted, refused, Outcome, putRefusal, putOf, doPut, Pick, picked, takeOf, doTake, lookOf, doLook, doSets, doLag, doRestart, step}
+use Rattle.rules.proofs.Bools.{if-ind}
+
+-- a reply other than 10
+abbrev pub NotTen : Reply → Type 0
+NotTen accepted = Unit {0}
+NotTen (taken j m n) = Unit {0}
+NotTen (seen j m n) = Unit {0}
+NotTen (words a b c d) = Unit {0}
+NotTen (lagged z) = Unit {0}
+NotTen restarted = Unit {0}
+NotTen (refused n p) = n ≡ 10 → ⊥
+
+OtherThanTen : Option ℕ → Type 0
+OtherThanTen none = Unit {0}
+OtherThanTen (some n) = n ≡ 10 → ⊥
+
+put-other : (s : State) (j n : ℕ) → OtherThanTen (putRefusal s j n)
+unfolding putRefusal OtherThanTen
+put-other s j n =
+    if-ind OtherThanTen (ltb (laneAt s j .given .weight) 1) _ _ (λ e q. omega arith) λ e.
+    if-ind OtherThanTen (ltb n 1 || ltb (laneAt s j .given .longest) n) _ _ (λ e q. omega arith) λ e.
+    if-ind OtherThanTen (leb laneDepth (length (laneAt s j .queue))) _ _ (λ e q. omega arith) λ e.
+    if-ind OtherThanTen (leb (2 ^ 62) (s .clock)) _ _ (λ e q. omega arith) λ e. tt
+
+put-not-ten : (s : State) (j : ℕ) (r : Rec) (o : Option ℕ) → OtherThanTen o → NotTen ((putOf s j r o) .reply)
+unfolding putOf OtherThanTen
+put-not-ten s j r none h = tt
+put-not-ten s j r (some n) h = h
+
+take-not-ten : (s : State) (o : Option Pick) → NotTen ((takeOf s o) .reply)
+unfolding takeOf
+take-not-ten s none = λ q. omega arith
+take-not-ten s (some p) = tt
+
+look-not-ten : (s : State) (o : Option Pick) → NotTen ((lookOf s o) .reply)
+unfolding lookOf
+look-not-ten s none = λ q. omega arith
+look-not-ten s (some p) = tt
+
+pub step-not-ten : (s : State) (c : Call) → NotTen ((step s c) .reply)
+unfolding step doPut doTake doLook doSets doLag doRestart
+step-not-ten s (put j m n) = put-not-ten s j (record { mark = m; len = n }) (putRefusal s j n) (put-other s j n)
+step-not-ten s take = take-not-ten s (picked s)
+step-not-ten s look = look-not-ten s (picked s)
+step-not-ten s sets = tt
+step-not-ten s (lag j) = if-ind (λ (o : Outcome). NotTen (o .reply)) (ltb (laneAt s j .given .weight) 1) _ _ (λ e q. omega arith) (λ e. tt)
+step-not-ten s restart = if-ind (λ (o : Outcome). NotTen (o .reply)) (anyHolds (s .lanes)) _ _ (λ e q. omega arith) (λ e. tt)

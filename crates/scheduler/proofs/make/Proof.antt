@@ -1,0 +1,54 @@
+-- `make` meets its contract. Assumes nothing.
+use Rattle.scheduler.proofs.Made.{make-short, make-refused, make-made, read-setup-good}
+use borrow.Author.Needs.{needs}
+use Rattle.scheduler.proofs.make.Statement.{statement}
+use Rattle.scheduler.proofs.make.Tie as tie
+use Rattle.scheduler.proofs.make.Reads as reads
+use Rattle.scheduler.proofs.make.Lts as lts
+use Rattle.fresh.proofs.write.Reads as write-reads
+use Rattle.plan.proofs.read_setup.Reads as read-setup-reads
+
+returns : tie.Need-returns
+returns c = make-short (c .before .before .before .args .setup .now) (c .before .before .before .args .t .now) (c .if1 .taken)
+
+read-setup-requires : tie.Need-read-setup-requires
+read-setup-requires c κs = search needs
+
+enum-known-outcome : tie.Need-enum-known-outcome
+enum-known-outcome c = search needs
+
+enum-told : tie.Need-enum-told
+enum-told c = search needs
+
+write-requires : tie.Need-write-requires
+write-requires c κs =
+    let r = c .before .before .before .before .before .read-setup in
+    let o = c .before .before .before .enum-told .given in
+    (c .before .before .before .before .before .before .if1 .left, read-setup-good (c .before .before .before .before .before .before .before .before .before .args .setup .now) (r .result) (o .0 .0) (r .ensures) (o .1))
+
+returns-2 : tie.Need-returns-2
+returns-2 c = make-refused (c .before .before .before .before .before .before .before .args .setup .now) (c .before .before .before .before .before .before .before .args .t .now) _ (c .before .before .before .before .if1 .left) (c .before .before .before .read-setup .result) (c .before .before .before .read-setup .ensures) (c .before .outcome .given .1)
+
+same-length : tie.Need-same-length
+same-length c = search needs
+
+returns-3 : tie.Need-returns-3
+returns-3 c =
+    let s = c .before .before .before .before .before .before .before .before .before .before .before .before in
+    let r = c .before .before .before .before .before .before .before .before .read-setup in
+    let o = c .before .before .before .before .before .before .enum-told .given in
+    let w = c .before .before .write in
+    make-made (s .args .setup .now) (s .args .t .now) _ (c .before .before .before .before .before .before .before .before .before .if1 .left) (r .result) (o .0 .0) (r .ensures) (o .1) (w .kept .0) (w .ensures)
+
+pub make-spec : {M : Type 1} → statement M
+make-spec =
+    tie.close
+    (tie.spec
+    returns
+    read-setup-requires
+    enum-known-outcome
+    enum-told
+    write-requires
+    returns-2
+    same-length
+    returns-3)

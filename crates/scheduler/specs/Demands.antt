@@ -1,0 +1,44 @@
+-- What holds of every list of public calls that begins with a table that `make` left: the demands, of the calls' own answers.
+--
+--   FairCalls    demand 3
+--   NeverTen     "No table made by these calls from a fresh one is ever found not good."
+--   OrderKept    "Each accepted record is handed out once, in its lane's order, or is still held."
+--   SetupKept    no call changes the setup
+--
+-- Assumes nothing.
+use Prim.Native.Nat.{ℕ, _+_, _*_, _<_}
+use mathlib.Core.Path.{_≡_}
+use mathlib.Core.List.{List, _∷_, _++_}
+use mathlib.Core.Option.{none}
+use Rattle.units.specs.Numbers.{lineRate}
+use Rattle.rules.specs.State.{Setting, settingAt, State, rate, slot, laneAt, setupOf}
+use Rattle.rules.specs.Setup.{margin}
+use Rattle.rules.specs.Calls.{refused}
+use Rattle.rules.specs.Runs.{Event, acceptedOf, sentOf}
+use Rattle.rules.specs.Fair.{bytesSent, bytesSentOf, Holding}
+use Rattle.table.specs.Encodes.{Encodes}
+use Rattle.good.specs.Table.{GoodTable}
+use Rattle.scheduler.specs.Chain.{Chain, Begins}
+
+-- "For every list of the calls put, take, look, sets, lag and restart, refused ones included, from a fresh table of any setup, each call getting the table
+-- the last one left: for any lane and any stretch of the list in which it holds a record before the stretch and after each call in it, with T the bytes
+-- sent in the stretch and O those from this lane, 1,024 T < c O + 4 slots + 1,536,000."
+unfoldable pub FairCalls : Type 0
+FairCalls =
+    (gs : List Setting) (t u : List ℕ) (calls : List Event) → Begins gs t → Chain t calls u
+    → (past stretch rest : List Event) → calls ≡ past ++ stretch ++ rest
+    → (k : ℕ) → ((p q : List Event) → p ++ q ≡ stretch → Holding k (past ++ p))
+    → lineRate * bytesSent gs stretch < rate (settingAt gs k) * bytesSentOf gs k stretch + 4 * slot (settingAt gs k) + margin
+
+unfoldable pub NeverTen : Type 0
+NeverTen =
+    (gs : List Setting) (t u : List ℕ) (calls : List Event) → Begins gs t → Chain t calls u
+    → GoodTable u × ((past rest : List Event) (e : Event) → calls ≡ past ++ e ∷ rest → e .reply ≡ refused 10 none → ⊥)
+
+unfoldable pub OrderKept : Type 0
+OrderKept =
+    (gs : List Setting) (t u : List ℕ) (calls : List Event) → Begins gs t → Chain t calls u
+    → (s : State) → Encodes u s → (k : ℕ) → acceptedOf k calls ≡ sentOf k calls ++ laneAt s k .queue
+
+unfoldable pub SetupKept : Type 0
+SetupKept = (gs : List Setting) (t u : List ℕ) (calls : List Event) → Begins gs t → Chain t calls u → (s : State) → Encodes u s → setupOf s ≡ gs

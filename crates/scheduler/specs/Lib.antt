@@ -1,0 +1,4 @@
+pub mod Step
+pub mod Make
+pub mod Chain
+pub mod Demands

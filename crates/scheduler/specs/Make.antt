@@ -1,0 +1,39 @@
+-- The promise of making a table, whole: for every setup and every lent table.
+--
+--   Reply       what making answers: the number of lanes, or a refusal's number and its place
+--   reads       the code's answer as a `Reply`
+--   MakeStep    the promise
+--
+-- Assumes nothing.
+use Prim.Native.Nat.{ℕ, _*_, _≤_, _<_}
+use mathlib.Core.Path.{_≡_}
+use mathlib.Core.List.{List}
+use mathlib.Core.Option.{Option, some}
+use lib.ListN.{length, drop}
+use Rattle.rules.specs.Calls.{fresh}
+use Rattle.rules.specs.Reads.{number, placeOf}
+use Rattle.plan.specs.Read as plan
+use Rattle.plan.specs.Read.{read, refused, readSetup}
+use Rattle.table.specs.Layout.{WORDS}
+use Rattle.table.specs.Encodes.{Encodes}
+use Rattle.scheduler.specs.declared.Making.{Making}
+use Rattle.scheduler.specs.declared.Making.the-variants.{Made, Refused}
+
+pub data Reply : Type 0 where
+  made : ℕ → Reply
+  notMade : ℕ → Option ℕ → Reply
+
+abbrev pub reads : Making → Reply
+reads (Made n) = made n
+reads (Refused x) = notMade (number x) (placeOf x)
+
+-- Long enough, the setup decides: "Making: 7 first, then fields in order". "The fresh table of an accepted setup", or nothing is written.
+abbrev pub Follows : plan.Reply → List ℕ → Making → List ℕ → Type 0
+Follows (refused n p) before a after = (reads a ≡ notMade n p) × (after ≡ before)
+Follows (read gs n at) before a after = (reads a ≡ made n) × Encodes after (fresh gs) × (drop (WORDS * 8) after ≡ drop (WORDS * 8) before)
+
+pub record MakeStep (setup before : List ℕ) (a : Making) (after : List ℕ) : Type 0 where
+  -- "7: lent table shorter than the fixed size, on making one. Place 0."
+  pub short : length before < WORDS * 8 → (reads a ≡ notMade 7 (some 0)) × (after ≡ before)
+  pub follows : WORDS * 8 ≤ length before → Follows (readSetup setup) before a after
+  pub size : length after ≡ length before

@@ -1,0 +1,47 @@
+-- `speak` meets its contract. Assumes nothing.
+use mathlib.Core.Path.{ap, _∙_}
+use mathlib.Core.List.{List}
+use Prim.Native.Nat.{ℕ}
+use Rattle.words.specs.Words.{putWord}
+use Rattle.zenfrosta.specs.Crossing.{spoken}
+use borrow.Author.Needs.{needs}
+use Rattle.zenfrosta.proofs.speak.Statement.{statement}
+use Rattle.zenfrosta.proofs.speak.Tie as tie
+use Rattle.zenfrosta.proofs.speak.Reads as reads
+use Rattle.zenfrosta.proofs.speak.Lts as lts
+use Rattle.words.proofs.set_word.Reads as set-word-reads
+
+set-word-requires : tie.Need-set-word-requires
+set-word-requires c κs = search needs
+
+set-word-requires-2 : tie.Need-set-word-requires-2
+set-word-requires-2 c κs = search needs
+
+set-word-requires-3 : tie.Need-set-word-requires-3
+set-word-requires-3 c κs = search needs
+
+set-word-requires-4 : tie.Need-set-word-requires-4
+set-word-requires-4 c κs = search needs
+
+same-length : tie.Need-same-length
+same-length c = search needs
+
+returns : tie.Need-returns
+unfolding spoken
+returns c =
+    let w = c .before .before .before .before .before .before .before .before .before .before .before .before .before .before .before .before .before .args .w in
+    c .before .before .set-word4 .ensures
+    ∙ ap (λ (o : List ℕ). putWord o 3 (w .d)) (c .before .before .before .before .before .before .set-word3 .ensures
+    ∙ ap (λ (o : List ℕ). putWord o 2 (w .c)) (c .before .before .before .before .before .before .before .before .before .before .set-word2 .ensures
+    ∙ ap (λ (o : List ℕ). putWord o 1 (w .b)) (c .before .before .before .before .before .before .before .before .before .before .before .before .before .before .set-word .ensures)))
+
+pub speak-spec : {M : Type 1} → statement M
+speak-spec =
+    tie.close
+    (tie.spec
+    set-word-requires
+    set-word-requires-2
+    set-word-requires-3
+    set-word-requires-4
+    same-length
+    returns)

@@ -1,0 +1,30 @@
+-- `tell` meets its contract. Assumes nothing.
+use mathlib.Core.Path.{ap, _∙_}
+use Rattle.zenfrosta.specs.Crossing.{spoken}
+use borrow.Author.Needs.{needs}
+use Rattle.zenfrosta.proofs.tell.Statement.{statement}
+use Rattle.zenfrosta.proofs.tell.Tie as tie
+use Rattle.zenfrosta.proofs.tell.Reads as reads
+use Rattle.zenfrosta.proofs.tell.Lts as lts
+use Rattle.zenfrosta.proofs.code_of.Reads as code-of-reads
+use Rattle.zenfrosta.proofs.speak.Reads as speak-reads
+use Rattle.zenfrosta.proofs.words_of.Reads as words-of-reads
+
+words-of-requires : tie.Need-words-of-requires
+words-of-requires c κs = search needs
+
+speak-requires : tie.Need-speak-requires
+speak-requires c κs = search needs
+
+code-of-requires : tie.Need-code-of-requires
+code-of-requires c κs = search needs
+
+same-length : tie.Need-same-length
+same-length c = search needs
+
+returns : tie.Need-returns
+returns c = (c .code-of .ensures, c .before .before .before .speak .ensures ∙ ap (spoken (c .before .before .before .before .before .before .before .args .out .now)) (c .before .before .before .before .words-of .ensures))
+
+pub tell-spec : {M : Type 1} → statement M
+tell-spec =
+    tie.close (tie.spec words-of-requires speak-requires code-of-requires same-length returns)

@@ -1,0 +1,94 @@
+-- `zf_make` meets its contract. Assumes nothing.
+use mathlib.Core.Path.{refl, _∙_}
+use native.Mathlib.Omega.{arith}
+use borrow.Author.Needs.{needs}
+use Rattle.zenfrosta.proofs.zf_make.Statement.{statement}
+use Rattle.zenfrosta.proofs.zf_make.Tie as tie
+use Rattle.zenfrosta.proofs.zf_make.Reads as reads
+use Rattle.zenfrosta.proofs.zf_make.Lts as lts
+use Rattle.scheduler.proofs.make.Reads as make-reads
+use Rattle.zenfrosta.proofs.number.Reads as number-reads
+use Rattle.zenfrosta.proofs.one.Reads as one-reads
+use Rattle.zenfrosta.proofs.place.Reads as place-reads
+use Rattle.zenfrosta.proofs.speak.Reads as speak-reads
+
+returns : tie.Need-returns
+returns c = record { short = λ _. (refl, refl, refl); told = λ h. absurd (omega (arith, c .if1 .taken)) }
+
+make-requires : tie.Need-make-requires
+make-requires c κs = search needs
+
+enum-known-n : tie.Need-enum-known-n
+enum-known-n c = search needs
+
+one-requires : tie.Need-one-requires
+one-requires c κs = search needs
+
+speak-requires : tie.Need-speak-requires
+speak-requires c κs = search needs
+
+enum-known-x : tie.Need-enum-known-x
+enum-known-x c = search needs
+
+place-requires : tie.Need-place-requires
+place-requires c κs = search needs
+
+one-requires-2 : tie.Need-one-requires-2
+one-requires-2 c κs = search needs
+
+speak-requires-2 : tie.Need-speak-requires-2
+speak-requires-2 c κs = search needs
+
+number-requires : tie.Need-number-requires
+number-requires c κs = search needs
+
+same-length : tie.Need-same-length
+same-length c = search needs
+
+same-length-2 : tie.Need-same-length-2
+same-length-2 c = search needs
+
+returns-2 : tie.Need-returns-2
+returns-2 c =
+    let m = c .before .before .before .before .before .before .before .before .before .before .make in
+    let e = c .before .before .before .before .before .before .n .given .1 in
+    record {
+      short = λ h. absurd (omega (arith, c .before .before .before .before .before .before .before .before .before .before .before .before .if1 .left));
+      told = λ _. (m .result, m .ensures, rw e, c .before .before .speak .ensures ∙ rw (c .before .before .before .one .ensures, e));
+    }
+
+same-length-3 : tie.Need-same-length-3
+same-length-3 c = search needs
+
+same-length-4 : tie.Need-same-length-4
+same-length-4 c = search needs
+
+returns-3 : tie.Need-returns-3
+returns-3 c =
+    let m = c .before .before .before .before .before .before .before .before .before .before .before .before .make in
+    let e = c .before .before .before .before .before .before .before .before .x .given .1 in
+    record {
+      short = λ h. absurd (omega (arith, c .before .before .before .before .before .before .before .before .before .before .before .before .before .before .if1 .left));
+      told = λ _. (m .result, m .ensures, c .number .ensures ∙ rw e, c .before .before .before .speak2 .ensures ∙ rw (c .before .before .before .before .one2 .ensures, c .before .before .before .before .before .place .ensures, e));
+    }
+
+pub zf-make-spec : {M : Type 1} → statement M
+zf-make-spec =
+    tie.close
+    (tie.spec
+    returns
+    make-requires
+    enum-known-n
+    one-requires
+    speak-requires
+    enum-known-x
+    place-requires
+    one-requires-2
+    speak-requires-2
+    number-requires
+    same-length
+    same-length-2
+    returns-2
+    same-length-3
+    same-length-4
+    returns-3)

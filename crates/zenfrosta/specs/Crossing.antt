@@ -1,0 +1,72 @@
+-- How an answer crosses to a host in C or Rust: a code, and four words in a lent buffer.
+--
+--   code, values   of a reply: 0 or the refusal's number; what stands in the four words
+--   spoken         a buffer with these words at its start
+--   Crosses        the promise of an exported call
+--
+-- Assumes nothing.
+use Prim.Native.Nat.{ℕ, _≤_, _<_}
+use mathlib.Core.Path.{_≡_}
+use mathlib.Core.List.{List}
+use mathlib.Core.Option.{Option, none, some}
+use lib.ListN.{length}
+use mir.Syntax.{w64}
+use mir.Val.{ofZ}
+use Rattle.words.specs.Words.{putWord}
+use Rattle.rules.specs.Calls.{Reply, accepted, taken, seen, words, lagged, restarted, refused}
+use Rattle.rules.specs.Reads.{reads}
+use Rattle.rules.specs.declared.Answer.{Answer}
+use Rattle.scheduler.specs.Make as making
+use Rattle.scheduler.specs.Make.{made, notMade}
+use Rattle.scheduler.specs.declared.Making.{Making}
+use Rattle.zenfrosta.specs.declared.Four.{Four}
+
+abbrev pub four : ℕ → ℕ → ℕ → ℕ → Four
+four a b c d = record { a = a; b = b; c = c; d = d }
+
+-- a place, 0 where the list has none
+abbrev pub placeOr0 : Option ℕ → ℕ
+placeOr0 none = 0
+placeOr0 (some p) = p
+
+-- 0: done. Else document 01's number of the refusal.
+abbrev pub code : Reply → ℕ
+code accepted = 0
+code (taken j m n) = 0
+code (seen j m n) = 0
+code (words a b c d) = 0
+code (lagged z) = 0
+code restarted = 0
+code (refused n p) = n
+
+-- A record: lane, mark, length. The sets: their four words. A lag: in two's complement. A refusal: its place. What is left is 0.
+abbrev pub values : Reply → Four
+values accepted = four 0 0 0 0
+values (taken j m n) = four j m n 0
+values (seen j m n) = four j m n 0
+values (words a b c d) = four a b c d
+values (lagged z) = four (ofZ w64 z) 0 0 0
+values restarted = four 0 0 0 0
+values (refused n p) = four (placeOr0 p) 0 0 0
+
+abbrev pub makeCode : making.Reply → ℕ
+makeCode (made n) = 0
+makeCode (notMade n p) = n
+
+-- the number of lanes; a refusal: its place
+abbrev pub makeValues : making.Reply → Four
+makeValues (made n) = four n 0 0 0
+makeValues (notMade n p) = four (placeOr0 p) 0 0 0
+
+-- the buffer with four words, low byte first, in its first 32 bytes
+unfoldable pub spoken : List ℕ → Four → List ℕ
+spoken out w = putWord (putWord (putWord (putWord out 0 (w .a)) 1 (w .b)) 2 (w .c)) 3 (w .d)
+
+-- A buffer shorter than 32 bytes gives 255, and nothing is done. Else the call is made, and its answer is told.
+pub record Crosses (Call : Answer → Type 0) (same : Type 0) (out : List ℕ) (r : ℕ) (out′ : List ℕ) : Type 0 where
+  pub short : length out < 32 → (r ≡ 255) × same × (out′ ≡ out)
+  pub told : 32 ≤ length out → (a : Answer) × Call a × (r ≡ code (reads a)) × (out′ ≡ spoken out (values (reads a)))
+
+pub record CrossesMaking (Make : Making → Type 0) (same : Type 0) (out : List ℕ) (r : ℕ) (out′ : List ℕ) : Type 0 where
+  pub short : length out < 32 → (r ≡ 255) × same × (out′ ≡ out)
+  pub told : 32 ≤ length out → (a : Making) × Make a × (r ≡ makeCode (making.reads a)) × (out′ ≡ spoken out (makeValues (making.reads a)))

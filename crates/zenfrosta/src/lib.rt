@@ -1,0 +1,253 @@
+// The public calls for hosts in C and Rust: exported functions on numbers and byte slices. include/zenfrosta.h documents each.
+//
+// One rule for every answer (specs/Crossing.antt): the result is 0, or document 01's number of the refusal; values stand in a lent buffer of at least 32 bytes as
+// four 64-bit words, low byte first. A shorter buffer gives 255, and nothing is done. The table and the buffer must not overlap.
+ghost use mathlib.Core.Path.{_≡_};
+ghost use Prim.Native.Nat.{_≤_};
+ghost use mir.Syntax.{w64};
+ghost use mir.Val.{ofZ};
+ghost use lib.ListN.{length};
+ghost use Rattle.rules.specs.Calls as Calls;
+ghost use Rattle.rules.specs.Reads as Reads;
+ghost use Rattle.scheduler.specs.Step.{Step};
+ghost use Rattle.scheduler.specs.Make as Make;
+ghost use Rattle.zenfrosta.specs.Crossing.{four, code, values, makeCode, makeValues, placeOr0, spoken, Crosses, CrossesMaking};
+use rules::Answer;
+use rules::Refusal;
+use scheduler::Making;
+use units::Bytes;
+use words::set_word;
+
+// The four words of an answer.
+pub struct Four {
+    pub a: u64,
+    pub b: u64,
+    pub c: u64,
+    pub d: u64,
+}
+
+fn number(x: Refusal) -> u64
+    ensures { λ r. ⌜ r ≡ Reads.number x ⌝ }
+{
+    match x {
+        Refusal::Cut(_) => 1,
+        Refusal::UnknownTag(_) => 2,
+        Refusal::WrongLength(_) => 3,
+        Refusal::OutOfOrder(_) => 4,
+        Refusal::OutsideNumbers(_) => 5,
+        Refusal::WeightsOver(_) => 6,
+        Refusal::TableShort => 7,
+        Refusal::NotGood => 10,
+        Refusal::NoLane => 11,
+        Refusal::BadLength => 12,
+        Refusal::LaneFull => 13,
+        Refusal::ClockSpent => 14,
+        Refusal::StillHolds => 15,
+        Refusal::NothingHeld => 16,
+        Refusal::RunBounds => 17,
+        Refusal::InputLong => 18,
+    }
+}
+
+fn place(x: Refusal) -> u64
+    ensures { λ r. ⌜ r ≡ placeOr0 (Reads.placeOf x) ⌝ }
+{
+    match x {
+        Refusal::Cut(p) => p as u64,
+        Refusal::UnknownTag(p) => p as u64,
+        Refusal::WrongLength(p) => p as u64,
+        Refusal::OutOfOrder(p) => p as u64,
+        Refusal::OutsideNumbers(p) => p as u64,
+        Refusal::WeightsOver(p) => p as u64,
+        Refusal::TableShort => 0,
+        Refusal::NotGood => 0,
+        Refusal::NoLane => 0,
+        Refusal::BadLength => 0,
+        Refusal::LaneFull => 0,
+        Refusal::ClockSpent => 0,
+        Refusal::StillHolds => 0,
+        Refusal::NothingHeld => 0,
+        Refusal::RunBounds => 0,
+        Refusal::InputLong => 0,
+    }
+}
+
+// A signed number in two's complement.
+fn complement(z: i64) -> u64
+    ensures { λ r. ⌜ r ≡ ofZ w64 z ⌝ }
+{
+    if z < 0 {
+        18446744073709551615 - ((-(z + 1)) as u64)
+    } else {
+        z as u64
+    }
+}
+
+fn one(a: u64) -> Four
+    ensures { λ r. ⌜ r ≡ four a 0 0 0 ⌝ }
+{
+    Four {
+        a,
+        b: 0,
+        c: 0,
+        d: 0,
+    }
+}
+
+// The words that tell an answer.
+fn words_of(x: Answer) -> Four
+    ensures { λ r. ⌜ r ≡ values (Reads.reads x) ⌝ }
+{
+    match x {
+        Answer::Accepted => one(0),
+        Answer::Taken(r) => Four {
+            a: r.lane as u64,
+            b: r.mark as u64,
+            c: r.length.0,
+            d: 0,
+        },
+        Answer::Seen(r) => Four {
+            a: r.lane as u64,
+            b: r.mark as u64,
+            c: r.length.0,
+            d: 0,
+        },
+        Answer::Sets(w) => Four {
+            a: w.er,
+            b: w.ir,
+            c: w.eb,
+            d: w.ib,
+        },
+        Answer::Lag(z) => one(complement(z)),
+        Answer::Restarted => one(0),
+        Answer::Refused(x) => one(place(x)),
+    }
+}
+
+fn code_of(x: Answer) -> u64
+    ensures { λ r. ⌜ r ≡ code (Reads.reads x) ⌝ }
+{
+    match x {
+        Answer::Accepted => 0,
+        Answer::Taken(_) => 0,
+        Answer::Seen(_) => 0,
+        Answer::Sets(_) => 0,
+        Answer::Lag(_) => 0,
+        Answer::Restarted => 0,
+        Answer::Refused(x) => number(x),
+    }
+}
+
+// Writes the four words.
+fn speak(out: &mut [u8], w: Four)
+    requires { ⌜ 32 ≤ length (now out) ⌝ }
+    ensures { λ _. ⌜ now (out .exit) ≡ spoken (now (out .entry)) w ⌝ }
+{
+    set_word(out, 0, w.a);
+    set_word(out, 1, w.b);
+    set_word(out, 2, w.c);
+    set_word(out, 3, w.d);
+}
+
+// Tells an answer: its words into the buffer, and its code.
+fn tell(out: &mut [u8], x: Answer) -> u64
+    requires { ⌜ 32 ≤ length (now out) ⌝ }
+    ensures { λ r. ⌜ (r ≡ code (Reads.reads x)) × (now (out .exit) ≡ spoken (now (out .entry)) (values (Reads.reads x))) ⌝ }
+{
+    speak(out, words_of(x));
+    code_of(x)
+}
+
+// The fixed size of a table, in bytes.
+#[no_mangle]
+pub extern "C" fn zf_table_size() -> u64
+    ensures { λ r. ⌜ r ≡ 10880 ⌝ }
+{
+    10880
+}
+
+// Makes the fresh table of a setup in the lent bytes: the number of lanes, or a refusal with its place.
+#[no_mangle]
+pub extern "C" fn zf_make(setup: &[u8], table: &mut [u8], out: &mut [u8]) -> u64
+    ensures { λ r. ⌜ CrossesMaking (λ a. Make.MakeStep (now (setup .entry)) (now (table .entry)) a (now (table .exit))) (now (table .exit) ≡ now (table .entry)) (now (out .entry)) r (now (out .exit)) ⌝ }
+{
+    if out.len() < 32 {
+        return 255;
+    }
+    match scheduler::make(setup, table) {
+        Making::Made(n) => {
+            speak(out, one(n as u64));
+            0
+        }
+        Making::Refused(x) => {
+            speak(out, one(place(x)));
+            number(x)
+        }
+    }
+}
+
+// Puts a record into a lane.
+#[no_mangle]
+pub extern "C" fn zf_put(table: &mut [u8], lane: u8, mark: u32, size: u64, out: &mut [u8]) -> u64
+    ensures { λ r. ⌜ Crosses (λ a. Step (Calls.put lane mark size) (now (table .entry)) a (now (table .exit))) (now (table .exit) ≡ now (table .entry)) (now (out .entry)) r (now (out .exit)) ⌝ }
+{
+    if out.len() < 32 {
+        return 255;
+    }
+    tell(out, scheduler::put(table, lane, mark, Bytes(size)))
+}
+
+// Takes the next record.
+#[no_mangle]
+pub extern "C" fn zf_take(table: &mut [u8], out: &mut [u8]) -> u64
+    ensures { λ r. ⌜ Crosses (λ a. Step Calls.take (now (table .entry)) a (now (table .exit))) (now (table .exit) ≡ now (table .entry)) (now (out .entry)) r (now (out .exit)) ⌝ }
+{
+    if out.len() < 32 {
+        return 255;
+    }
+    tell(out, scheduler::take(table))
+}
+
+// Looks at the record that take would hand out.
+#[no_mangle]
+pub extern "C" fn zf_look(table: &[u8], out: &mut [u8]) -> u64
+    ensures { λ r. ⌜ Crosses (λ a. Step Calls.look (now (table .entry)) a (now (table .entry))) (Unit {0}) (now (out .entry)) r (now (out .exit)) ⌝ }
+{
+    if out.len() < 32 {
+        return 255;
+    }
+    tell(out, scheduler::look(table))
+}
+
+// The four words of the group sets.
+#[no_mangle]
+pub extern "C" fn zf_sets(table: &[u8], out: &mut [u8]) -> u64
+    ensures { λ r. ⌜ Crosses (λ a. Step Calls.sets (now (table .entry)) a (now (table .entry))) (Unit {0}) (now (out .entry)) r (now (out .exit)) ⌝ }
+{
+    if out.len() < 32 {
+        return 255;
+    }
+    tell(out, scheduler::sets(table))
+}
+
+// How far the clock is ahead of a lane.
+#[no_mangle]
+pub extern "C" fn zf_lag(table: &[u8], lane: u8, out: &mut [u8]) -> u64
+    ensures { λ r. ⌜ Crosses (λ a. Step (Calls.lag lane) (now (table .entry)) a (now (table .entry))) (Unit {0}) (now (out .entry)) r (now (out .exit)) ⌝ }
+{
+    if out.len() < 32 {
+        return 255;
+    }
+    tell(out, scheduler::lag(table, lane))
+}
+
+// Gives the fresh table of the same setup, once no record is held.
+#[no_mangle]
+pub extern "C" fn zf_restart(table: &mut [u8], out: &mut [u8]) -> u64
+    ensures { λ r. ⌜ Crosses (λ a. Step Calls.restart (now (table .entry)) a (now (table .exit))) (now (table .exit) ≡ now (table .entry)) (now (out .entry)) r (now (out .exit)) ⌝ }
+{
+    if out.len() < 32 {
+        return 255;
+    }
+    tell(out, scheduler::restart(table))
+}
