@@ -1,14 +1,11 @@
 -- `run` meets its contract. Assumes nothing.
 use Prim.Native.Nat.{_-_, _≤_}
-use mathlib.Core.Path.{_≡_, refl, _∙_}
+use mathlib.Core.Path.{_≡_, refl}
 use native.Mathlib.Omega.{arith}
 use lib.ListN.{length}
 use borrow.Author.Needs.{needs}
 use Rattle.session_vectors.proofs.run.Statement.{statement}
 use Rattle.session_vectors.proofs.run.Tie as tie
-use Rattle.session_vectors.proofs.run.Reads as reads
-use Rattle.session_vectors.proofs.run.Lts as lts
-use Rattle.session_vectors.proofs.run_frame.Reads as run-frame-reads
 
 abbrev Inv-loop : tie.InvT-loop
 Inv-loop frames table₀ area₀ at₀ table area at = (at ≤ length frames) × (length table ≡ length table₀) × (length area ≡ length area₀)

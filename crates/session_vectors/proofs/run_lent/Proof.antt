@@ -4,9 +4,6 @@ use lib.Seq.{length-take-le}
 use borrow.Author.Needs.{needs}
 use Rattle.session_vectors.proofs.run_lent.Statement.{statement}
 use Rattle.session_vectors.proofs.run_lent.Tie as tie
-use Rattle.session_vectors.proofs.run_lent.Reads as reads
-use Rattle.session_vectors.proofs.run_lent.Lts as lts
-use Rattle.session_vectors.proofs.run_one.Reads as run-one-reads
 
 slice-relend-prefix-run-one : tie.Need-slice-relend-prefix-run-one
 slice-relend-prefix-run-one c = search needs

@@ -4,12 +4,6 @@ use lib.Seq.{length-take-le}
 use borrow.Author.Needs.{needs}
 use Rattle.session_vectors.proofs.run_one.Statement.{statement}
 use Rattle.session_vectors.proofs.run_one.Tie as tie
-use Rattle.session_vectors.proofs.run_one.Reads as reads
-use Rattle.session_vectors.proofs.run_one.Lts as lts
-use Rattle.io.proofs.print_decimal.Reads as print-decimal-reads
-use Rattle.io.proofs.write_all.Reads as write-all-reads
-use Rattle.session.proofs.run.Reads as run-reads
-use Rattle.session_vectors.proofs.print_stop.Reads as print-stop-reads
 
 run-requires : tie.Need-run-requires
 run-requires c κs = search needs
