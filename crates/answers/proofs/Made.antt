@@ -1,13 +1,12 @@
 -- A table that calls made from a fresh one is known to be good, and stays so. Assumes nothing.
 use Prim.Native.Nat.{ℕ}
-use mathlib.Core.Path.{_≡_, sym, subst}
+use mathlib.Core.Path.{sym, subst}
 use mathlib.Core.List.{List}
-use lib.ListN.{length}
-use Rattle.rules.specs.State.{State, Setting}
+use Rattle.rules.specs.State.{Setting}
 use Rattle.rules.specs.Setup.{Setup}
-use Rattle.rules.specs.Calls.{Call, step, fresh}
+use Rattle.rules.specs.Calls.{Call, step}
 use Rattle.rules.proofs.AlwaysGood.{Reached, fresh-reached, step-reached, reached-good}
-use Rattle.table.specs.Layout.{Room, cells}
+use Rattle.table.specs.Layout.{Room}
 use Rattle.table.specs.Means.{meant, Leaves}
 use Rattle.table.proofs.Few.{few-good}
 use Rattle.choice.specs.Known.{Known}

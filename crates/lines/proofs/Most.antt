@@ -2,7 +2,7 @@
 use Prim.Native.Nat.{ℕ, _+_, _^_, _≤_, _<_}
 use native.Mathlib.Omega.{arith}
 use mathlib.Core.Path.{_≡_}
-use mathlib.Core.List.{List, [], _∷_, _++_}
+use mathlib.Core.List.{List, [], _∷_}
 use mathlib.Core.Option.{Option, none, some}
 use lib.ListN.{length, length-append}
 use Rattle.text.specs.Decimal.{decimal, signed}
@@ -10,7 +10,7 @@ use Rattle.text.proofs.Widths.{length-decimal, width-le}
 use Rattle.text.proofs.Signed.{signed-most}
 use Rattle.rules.specs.Calls.{Reply, accepted, taken, seen, words, lagged, restarted, refused}
 use Rattle.lines.proofs.Writing.{line-long}
-use Rattle.lines.specs.Line.{spaced, line, takeWord, lookWord, setsWord, lagWord, noWord, lanesWord, endWord, noLine, lineOf, lanesLine, endLine, ShortPlace, Short}
+use Rattle.lines.specs.Line.{spaced, line, takeWord, lookWord, setsWord, noWord, lanesWord, endWord, noLine, lineOf, lanesLine, endLine, Short}
 
 -- a number below 10 ^ k has at most k digits
 written : (n k : ℕ) → 0 < k → n < 10 ^ k → length (decimal n) ≤ k

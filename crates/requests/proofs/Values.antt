@@ -15,8 +15,7 @@ use mathlib.Core.Option.{Option, some}
 use borrow.Author.Tests.{eqb-true}
 use lib.Dec.{eqb}
 use Rattle.fields.specs.Bytes.{byteAt, big}
-use Rattle.rules.specs.State.{if_then_else_}
-use Rattle.rules.specs.Calls.{Call, put, take, look, sets, lag, restart}
+use Rattle.rules.specs.Calls.{lag}
 use Rattle.requests.specs.Request.{sizeOf, callOf, numbered}
 
 pub big-more : (s : List ℕ) (n at : ℕ) → big s at (suc n) ≡ big s at n * 256 + byteAt s (at + n)

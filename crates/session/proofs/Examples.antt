@@ -10,7 +10,7 @@
 use Prim.Native.Nat.{ℕ}
 use mathlib.Core.Path.{_≡_, refl}
 use mathlib.Core.List.{List, [], _∷_, _++_}
-use mathlib.Core.Option.{Option, none, some}
+use mathlib.Core.Option.{some}
 use Rattle.fields.specs.Bytes.{big}
 use Rattle.text.specs.Decimal.{digits, widthFrom, width, decimal, signed}
 use Rattle.rules.proofs.Computes.{rules}

@@ -1,7 +1,7 @@
 -- A run's text in the answer area, and the run as a whole.
 --
 --   written        a text that is written from the area's first byte on
---   closes-one, closes-two   the closing lines
+--   closes-end, closes-limit, closes-no   the closing lines
 --   requested-is   lanes, requests and closing lines are the script's
 --   refused-is     a refused setup
 --   begun-is       a setup that is read
@@ -12,14 +12,13 @@
 use Prim.Native.Nat.{ℕ, _+_, _*_, _≤_, _<_}
 use native.Mathlib.Nat.{zero-add}
 use native.Mathlib.Omega.{arith}
-use mathlib.Core.Path.{_≡_, refl, sym, ap, subst, _∙_}
-use mathlib.Core.List.{List, [], _∷_, _++_}
-use mathlib.Core.Option.{Option, none, some}
+use mathlib.Core.Path.{_≡_, refl, subst, _∙_}
+use mathlib.Core.List.{List, [], _++_}
+use mathlib.Core.Option.{none, some}
 use borrow.Author.Tests.{lt-ltb, le-ltb}
 use lib.ListN.{length, drop, length-append}
 use lib.Seq.{sets-eq}
 use Rattle.rules.specs.State.{State, Setting}
-use Rattle.rules.specs.Calls.{fresh}
 use Rattle.rules.specs.Reads.{number, placeOf}
 use Rattle.rules.specs.declared.Refusal.{Refusal}
 use Rattle.alike.proofs.Alike.{alike-refl}
@@ -33,10 +32,9 @@ use Rattle.lines.specs.Line.{noLine, lanesLine, endLine, Wrote, Line}
 use Rattle.lines.proofs.Writing.{wrote-both}
 use Rattle.answers.specs.Answers.{Made}
 use Rattle.session.specs.Script as Script
-use Rattle.session.specs.Script.{refusal, walk, closing, finished, begun, script, nothing, runOf}
-use Rattle.session.specs.Ran.{whyIs, Tabled, Table, Is}
-use Rattle.session.specs.Walks.{lineCount, Walks, Closes}
-use Rattle.session.specs.declared.Stop.{Stop}
+use Rattle.session.specs.Script.{walk, closing, finished, script, nothing, runOf}
+use Rattle.session.specs.Ran.{whyIs, Follows}
+use Rattle.session.specs.Walks.{Walks, Closes}
 use Rattle.session.specs.declared.Stop.the-variants.{End, Limit, Refused}
 use Rattle.session.specs.declared.Walked as Walked
 use Rattle.session.specs.declared.RunResult.{RunResult}
@@ -62,7 +60,7 @@ encodes t σ m e = record { room = m .room; alike = subst (Alike (meant t)) e (a
 
 pub requested-is : (lanes : ℕ) {limit : ℕ} {t t′ a a₁ a₂ a₃ : List ℕ} {start end : ℕ} {r : Walked.Walked} {w : Script.Walked}
     → Line a a₁ 0 (lanesLine lanes) start → Walks limit t t′ a₁ a₂ start r w → Closes a₂ a₃ (r .next) (r .why) (r .answered) end → 64 * (limit + 2) ≤ length a
-    → Is t t′ a a₃ (record { answered = r .answered; written = end; why = r .why }) (finished lanes w)
+    → Follows t t′ a a₃ (record { answered = r .answered; written = end; why = r .why }) (finished lanes w)
 requested-is lanes {limit} {t} {t′} {a} {a₁} {a₂} {a₃} {start} {end} {r} {w} l k c h =
     let last : List ℕ = closing (whyIs (r .why)) (r .answered) in
     let same : last ≡ closing (w .why) (w .count) = rw (k .why, k .count) in
@@ -79,7 +77,7 @@ requested-is lanes {limit} {t} {t′} {a} {a₁} {a₂} {a₃} {start} {end} {r}
 module _ (s : List ℕ) (limit : ℕ) where
   pub refused-is : (x : Refusal) {t a a′ : List ℕ} {end : ℕ} → plan.readPlan s 0 ≡ plan.refused (number x) (placeOf x)
       → Line a a′ 0 (noLine (number x) (placeOf x)) end → 64 ≤ length a
-      → Is t t a a′ (record { answered = 0; written = end; why = Refused x }) (script s limit)
+      → Follows t t a a′ (record { answered = 0; written = end; why = Refused x }) (script s limit)
   unfolding script
   refused-is x {t} {a} {a′} e l h =
       rw e (record {
@@ -92,7 +90,7 @@ module _ (s : List ℕ) (limit : ℕ) where
 
   -- the requests on the fresh table
   pub begun-is : (gs : List Setting) (lanes at : ℕ) {t t₁ t′ a a′ : List ℕ} {r : RunResult} → plan.readPlan s 0 ≡ plan.read gs lanes at
-      → Makes t t₁ gs → Is t₁ t′ a a′ r (finished lanes (walk limit s at 0 [] (meant t₁))) → Is t t′ a a′ r (script s limit)
+      → Makes t t₁ gs → Follows t₁ t′ a a′ r (finished lanes (walk limit s at 0 [] (meant t₁))) → Follows t t′ a a′ r (script s limit)
   unfolding script
   begun-is gs lanes at e m x =
       rw e (let y = rw (m .state) at x in record {
@@ -103,7 +101,7 @@ module _ (s : List ℕ) (limit : ℕ) where
         table = record { encodes = y .table .encodes; rest = y .table .rest ∙ m .rest };
       })
 
-pub nothing-is : (x : Refusal) (t a : List ℕ) → Is t t a a (record { answered = 0; written = 0; why = Refused x }) (nothing (number x) (placeOf x))
+pub nothing-is : (x : Refusal) (t a : List ℕ) → Follows t t a a (record { answered = 0; written = 0; why = Refused x }) (nothing (number x) (placeOf x))
 nothing-is x t a = record { count = refl; written = refl; why = refl; answers = refl; table = refl }
 
 -- ---- 17, then 7

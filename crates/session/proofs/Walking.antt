@@ -8,12 +8,12 @@
 --   walk-limit, walk-bad, walk-last   where the script's walk stops
 --
 -- Assumes nothing.
-use Prim.Native.Nat.{ℕ, zero, suc, _+_, _-_, _*_, _≤_, _<_}
+use Prim.Native.Nat.{ℕ, suc, _+_, _-_, _*_, _≤_, _<_}
 use native.Mathlib.Nat.{sub-zero, add-zero}
 use native.Mathlib.Omega.{arith}
 use mathlib.Core.Path.{_≡_, refl, sym, ap, _∙_}
-use mathlib.Core.List.{List, [], _∷_, _++_}
-use mathlib.Core.Option.{Option, some}
+use mathlib.Core.List.{List, [], _++_}
+use mathlib.Core.Option.{Option}
 use lib.ListN.{length, drop, length-append}
 use lib.Seq.{length-sets}
 use Rattle.rules.specs.State.{State}
@@ -24,7 +24,7 @@ use Rattle.lines.specs.Line.{lineOf, Wrote}
 use Rattle.lines.proofs.Writing.{wrote-both}
 use Rattle.requests.specs.Request.{request, last, bad, itemAt}
 use Rattle.answers.specs.Answers.{Made, Answers}
-use Rattle.session.specs.Script.{Why, atLimit, refusal, Walked, closed, walk}
+use Rattle.session.specs.Script.{atLimit, refusal, closed, walk}
 use Rattle.session.specs.Ran.{whyIs}
 use Rattle.session.specs.Walks.{lineCount, Walks}
 use Rattle.session.specs.declared.Stop as Stop

@@ -1,11 +1,12 @@
 -- The promise of a session's run.
 --
---   whyIs    the code's reason as the script gives it
---   Table    what a run leaves of the lent table: untouched, or the script's state
---   Ran      the promise, for every input
+--   whyIs     the code's reason as the script gives it
+--   Table     what a run leaves of the lent table: untouched, or the script's state
+--   Follows   the result, the answer area and the table are those of a script
+--   Ran       the promise, for every input
 --
 -- Assumes nothing.
-use Prim.Native.Nat.{ℕ, _+_, _*_, _≤_}
+use Prim.Native.Nat.{ℕ, _+_, _*_}
 use mathlib.Core.Path.{_≡_}
 use mathlib.Core.List.{List, _++_}
 use mathlib.Core.Option.{Option, none, some}
@@ -33,8 +34,8 @@ abbrev pub Table : List ℕ → List ℕ → Option State → Type 0
 Table t t′ none = t′ ≡ t
 Table t t′ (some σ) = Tabled t t′ σ
 
--- A run of session bytes s with a limit on a table t and an answer area a, which leaves t′ and a′ and answers r.
-pub record Is (t t′ a a′ : List ℕ) (r : RunResult) (x : Script) : Type 0 where
+-- A run on a table t and an answer area a, which leaves t′ and a′ and answers r.
+pub record Follows (t t′ a a′ : List ℕ) (r : RunResult) (x : Script) : Type 0 where
   -- "Its result holds the number of requests answered, counted as the script's definition counts them"
   pub count : r .answered ≡ x .count
   -- ", the number of answer bytes written, and why it stopped"
@@ -44,5 +45,6 @@ pub record Is (t t′ a a′ : List ℕ) (r : RunResult) (x : Script) : Type 0 w
   pub answers : a′ ≡ x .text ++ drop (length (x .text)) a
   pub table : Table t t′ (x .state)
 
+-- A run of session bytes s with a limit: no input is left out.
 abbrev pub Ran : List ℕ → ℕ → List ℕ → List ℕ → List ℕ → List ℕ → RunResult → Type 0
-Ran s limit t t′ a a′ r = Is t t′ a a′ r (runOf s limit (length t) (length a))
+Ran s limit t t′ a a′ r = Follows t t′ a a′ r (runOf s limit (length t) (length a))

@@ -12,7 +12,7 @@ ghost use Rattle.table.specs.Layout.{Room};
 ghost use Rattle.table.specs.Means.{meant};
 ghost use Rattle.answers.specs.Answers.{Made};
 ghost use Rattle.session.specs.Script.{closed, walk, finished, script};
-ghost use Rattle.session.specs.Ran.{whyIs, Is, Ran};
+ghost use Rattle.session.specs.Ran.{whyIs, Follows, Ran};
 ghost use Rattle.session.specs.Walks.{lineCount, Walks, Closes};
 use plan::Outcome;
 use requests::END;
@@ -126,7 +126,7 @@ fn put_closing(a: &mut [u8], at: usize, why: Stop, n: u64) -> usize
 // The requests on a fresh table, from a place on: `lanes N`, their lines, and the last lines.
 fn requested(s: &[u8], at: usize, limit: u64, t: &mut [u8], a: &mut [u8], lanes: u64) -> RunResult
     requires { ⌜ Made (now t) × (limit ≤ 1000) × (64 * (limit + 2) ≤ length (now a)) ⌝ }
-    ensures { λ r. ⌜ Is (now (t .entry)) (now (t .exit)) (now (a .entry)) (now (a .exit)) r (finished lanes (walk limit (now (s .entry)) at 0 [] (meant (now (t .entry))))) ⌝ }
+    ensures { λ r. ⌜ Follows (now (t .entry)) (now (t .exit)) (now (a .entry)) (now (a .exit)) r (finished lanes (walk limit (now (s .entry)) at 0 [] (meant (now (t .entry))))) ⌝ }
 {
     let start = lines::put_lanes(a, 0, lanes);
     let w = walk(s, at, limit, t, a, start);
@@ -142,7 +142,7 @@ fn requested(s: &[u8], at: usize, limit: u64, t: &mut [u8], a: &mut [u8], lanes:
 // A run whose limit, answer area and table are right: the setup, then the requests. Nothing is written to the table before the whole setup is read.
 fn begun(s: &[u8], limit: u64, t: &mut [u8], a: &mut [u8]) -> RunResult
     requires { ⌜ Room (now t) × (limit ≤ 1000) × (64 * (limit + 2) ≤ length (now a)) ⌝ }
-    ensures { λ r. ⌜ Is (now (t .entry)) (now (t .exit)) (now (a .entry)) (now (a .exit)) r (script (now (s .entry)) limit) ⌝ }
+    ensures { λ r. ⌜ Follows (now (t .entry)) (now (t .exit)) (now (a .entry)) (now (a .exit)) r (script (now (s .entry)) limit) ⌝ }
 {
     let reading = plan::read_plan(s, 0);
     let outcome = reading.outcome;

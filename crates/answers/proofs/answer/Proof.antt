@@ -9,10 +9,6 @@ use Rattle.answers.proofs.Replies.{words32}
 use borrow.Author.Needs.{needs}
 use Rattle.answers.proofs.answer.Statement.{statement}
 use Rattle.answers.proofs.answer.Tie as tie
-use Rattle.answers.proofs.answer.Reads as reads
-use Rattle.answers.proofs.answer.Lts as lts
-use Rattle.answers.proofs.call.Reads as call-reads
-use Rattle.lines.proofs.put_answer.Reads as put-answer-reads
 
 call-requires : tie.Need-call-requires
 call-requires c κs = reached-known _ (c .before .before .before .pre .0)

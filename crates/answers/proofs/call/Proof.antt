@@ -4,14 +4,6 @@ use Rattle.answers.proofs.Replies.{look-still, sets-still, lag-still, l
 use borrow.Author.Needs.{needs}
 use Rattle.answers.proofs.call.Statement.{statement}
 use Rattle.answers.proofs.call.Tie as tie
-use Rattle.answers.proofs.call.Reads as reads
-use Rattle.answers.proofs.call.Lts as lts
-use Rattle.engine.proofs.lag.Reads as lag-reads
-use Rattle.engine.proofs.look.Reads as look-reads
-use Rattle.engine.proofs.put.Reads as put-reads
-use Rattle.engine.proofs.restart.Reads as restart-reads
-use Rattle.engine.proofs.sets.Reads as sets-reads
-use Rattle.engine.proofs.take.Reads as take-reads
 
 enum-known-q : tie.Need-enum-known-q
 enum-known-q c = search needs

@@ -4,10 +4,6 @@ use Rattle.console.proofs.Printing.{prints-long, prints-run}
 use borrow.Author.Needs.{needs}
 use Rattle.console.proofs.answered.Statement.{statement}
 use Rattle.console.proofs.answered.Tie as tie
-use Rattle.console.proofs.answered.Reads as reads
-use Rattle.console.proofs.answered.Lts as lts
-use Rattle.lines.proofs.put_no.Reads as put-no-reads
-use Rattle.session.proofs.run.Reads as run-reads
 
 put-no-requires : tie.Need-put-no-requires
 put-no-requires c κs = search needs

@@ -4,8 +4,6 @@ use Rattle.rules.specs.Reads.{placeOf}
 use borrow.Author.Needs.{needs}
 use Rattle.lines.proofs.place_of.Statement.{statement}
 use Rattle.lines.proofs.place_of.Tie as tie
-use Rattle.lines.proofs.place_of.Reads as reads
-use Rattle.lines.proofs.place_of.Lts as lts
 
 enum-known-x : tie.Need-enum-known-x
 enum-known-x c = search needs

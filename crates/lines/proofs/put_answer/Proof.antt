@@ -7,13 +7,6 @@ use Rattle.lines.proofs.Most.{line-most}
 use borrow.Author.Needs.{needs}
 use Rattle.lines.proofs.put_answer.Statement.{statement}
 use Rattle.lines.proofs.put_answer.Tie as tie
-use Rattle.lines.proofs.put_answer.Reads as reads
-use Rattle.lines.proofs.put_answer.Lts as lts
-use Rattle.lines.proofs.put_lag.Reads as put-lag-reads
-use Rattle.lines.proofs.put_line.Reads as put-line-reads
-use Rattle.lines.proofs.put_no.Reads as put-no-reads
-use Rattle.lines.proofs.put_record.Reads as put-record-reads
-use Rattle.lines.proofs.put_sets.Reads as put-sets-reads
 
 enum-told : tie.Need-enum-told
 enum-told c = search needs

@@ -1,7 +1,7 @@
 -- `put_lag` meets its contract. Assumes nothing.
 use Prim.Native.Nat.{_<_}
-use mathlib.Core.Path.{_≡_, ap, _∙_}
-use mathlib.Core.List.{List, [], _∷_, _++_}
+use mathlib.Core.Path.{_∙_}
+use mathlib.Core.List.{[], _∷_, _++_}
 use native.Mathlib.Omega.{arith}
 use lib.ListN.{length, length-set}
 use mir.Syntax.{w64}
@@ -15,10 +15,6 @@ use Rattle.lines.specs.Line.{lagWord, Wrote}
 use Rattle.lines.proofs.Writing.{wrote-both, wrote-byte}
 use Rattle.lines.proofs.put_lag.Statement.{statement}
 use Rattle.lines.proofs.put_lag.Tie as tie
-use Rattle.lines.proofs.put_lag.Reads as reads
-use Rattle.lines.proofs.put_lag.Lts as lts
-use Rattle.text.proofs.put_signed.Reads as put-signed-reads
-use Rattle.text.proofs.put_word.Reads as put-word-reads
 
 slice-aggregate-put-word : tie.Need-slice-aggregate-put-word
 slice-aggregate-put-word c = search needs

@@ -1,19 +1,14 @@
 -- `put_line` meets its contract. The loop's invariant: what is left of the line is its numbers from the i-th on. Assumes nothing.
 use Prim.Native.Nat.{_+_, _≤_, _<_, _-_}
-use mathlib.Core.Path.{_≡_, refl, sym, ap, _∙_}
-use mathlib.Core.List.{List, [], _∷_, _++_}
+use mathlib.Core.Path.{_∙_}
+use mathlib.Core.List.{[], _∷_, _++_}
 use native.Mathlib.Omega.{arith}
 use lib.ListN.{length, getD, length-set}
 use borrow.Author.Needs.{needs}
 use Rattle.text.specs.Decimal.{decimal}
-use Rattle.lines.specs.Line.{spaced, line, Wrote}
 use Rattle.lines.proofs.Writing.{Left, left-whole, left-part, left-none, left-fits, wrote-both, wrote-byte, tail, line-long, tail-end, tail-more}
 use Rattle.lines.proofs.put_line.Statement.{statement}
 use Rattle.lines.proofs.put_line.Tie as tie
-use Rattle.lines.proofs.put_line.Reads as reads
-use Rattle.lines.proofs.put_line.Lts as lts
-use Rattle.lines.proofs.put_spaced.Reads as put-spaced-reads
-use Rattle.text.proofs.put_word.Reads as put-word-reads
 
 abbrev Inv-loop : tie.InvT-loop
 Inv-loop a₀ at word ns p₀ i₀ a p i = (i ≤ length ns) × Left a₀ a p₀ (tail ns 0) p (tail ns i)

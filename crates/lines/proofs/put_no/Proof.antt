@@ -1,7 +1,7 @@
 -- `put_no` meets its contract. Assumes nothing.
 use Prim.Native.Nat.{_≤_}
 use native.Mathlib.Omega.{arith}
-use mathlib.Core.Path.{_≡_, sym, ap, _∙_}
+use mathlib.Core.Path.{_≡_}
 use mathlib.Core.Option.{none, some}
 use lib.ListN.{length}
 use Rattle.rules.specs.Reads.{number, placeOf}
@@ -10,12 +10,6 @@ use Rattle.lines.proofs.Most.{no-most}
 use borrow.Author.Needs.{needs}
 use Rattle.lines.proofs.put_no.Statement.{statement}
 use Rattle.lines.proofs.put_no.Tie as tie
-use Rattle.lines.proofs.put_no.Reads as reads
-use Rattle.lines.proofs.put_no.Lts as lts
-use Rattle.lines.proofs.number.Reads as number-reads
-use Rattle.lines.proofs.place_of.Reads as place-of-reads
-use Rattle.lines.proofs.put_line.Reads as put-line-reads
-use Rattle.lines.proofs.put_one.Reads as put-one-reads
 
 number-requires : tie.Need-number-requires
 number-requires c κs = search needs

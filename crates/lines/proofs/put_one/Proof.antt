@@ -8,9 +8,6 @@ use Rattle.lines.proofs.Most.{one-most}
 use borrow.Author.Needs.{needs}
 use Rattle.lines.proofs.put_one.Statement.{statement}
 use Rattle.lines.proofs.put_one.Tie as tie
-use Rattle.lines.proofs.put_one.Reads as reads
-use Rattle.lines.proofs.put_one.Lts as lts
-use Rattle.lines.proofs.put_line.Reads as put-line-reads
 
 slice-aggregate-put-line : tie.Need-slice-aggregate-put-line
 slice-aggregate-put-line c = search needs

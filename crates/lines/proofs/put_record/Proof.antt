@@ -1,5 +1,5 @@
 -- `put_record` meets its contract. Assumes nothing.
-use Prim.Native.Nat.{_≤_, _<_, _^_}
+use Prim.Native.Nat.{_≤_}
 use mathlib.Core.List.{[], _∷_}
 use native.Mathlib.Omega.{arith}
 use lib.ListN.{length}
@@ -8,9 +8,6 @@ use Rattle.lines.proofs.Most.{record-most}
 use borrow.Author.Needs.{needs}
 use Rattle.lines.proofs.put_record.Statement.{statement}
 use Rattle.lines.proofs.put_record.Tie as tie
-use Rattle.lines.proofs.put_record.Reads as reads
-use Rattle.lines.proofs.put_record.Lts as lts
-use Rattle.lines.proofs.put_line.Reads as put-line-reads
 
 cast-t7 : tie.Need-cast-t7
 cast-t7 c = search needs

@@ -5,9 +5,6 @@ use Rattle.lines.proofs.Most.{line-most}
 use borrow.Author.Needs.{needs}
 use Rattle.lines.proofs.put_sets.Statement.{statement}
 use Rattle.lines.proofs.put_sets.Tie as tie
-use Rattle.lines.proofs.put_sets.Reads as reads
-use Rattle.lines.proofs.put_sets.Lts as lts
-use Rattle.lines.proofs.put_line.Reads as put-line-reads
 
 slice-aggregate-put-line : tie.Need-slice-aggregate-put-line
 slice-aggregate-put-line c = search needs

@@ -1,14 +1,11 @@
 -- `put_spaced` meets its contract. Assumes nothing.
-use mathlib.Core.Path.{_≡_, ap, _∙_}
+use mathlib.Core.Path.{_∙_}
 use native.Mathlib.Numerals.{add-one}
 use native.Mathlib.Omega.{arith}
-use lib.ListN.{length, length-set}
+use lib.ListN.{length-set}
 use borrow.Author.Needs.{needs}
 use Rattle.lines.proofs.put_spaced.Statement.{statement}
 use Rattle.lines.proofs.put_spaced.Tie as tie
-use Rattle.lines.proofs.put_spaced.Reads as reads
-use Rattle.lines.proofs.put_spaced.Lts as lts
-use Rattle.text.proofs.put_number.Reads as put-number-reads
 
 slice-write-a : tie.Need-slice-write-a
 slice-write-a c = search needs

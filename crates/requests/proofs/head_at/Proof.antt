@@ -1,17 +1,10 @@
 -- `head_at` meets its contract. Assumes nothing.
-use mathlib.Core.Path.{_≡_, sym, ap, _∙_}
-use mathlib.Core.Option.{none, some}
-use Rattle.fields.specs.Header.{headerAt}
-use Rattle.fields.specs.declared.Field.the-variants.{Header}
-use Rattle.requests.specs.Request.{sizeOf, sizeIs}
+use mathlib.Core.Path.{sym, ap, _∙_}
+use Rattle.requests.specs.Request.{sizeIs}
 use Rattle.requests.proofs.Heads.{head-none, head-cut, head-unknown, head-wrong, head-right}
 use borrow.Author.Needs.{needs}
 use Rattle.requests.proofs.head_at.Statement.{statement}
 use Rattle.requests.proofs.head_at.Tie as tie
-use Rattle.requests.proofs.head_at.Reads as reads
-use Rattle.requests.proofs.head_at.Lts as lts
-use Rattle.fields.proofs.field_at.Reads as field-at-reads
-use Rattle.requests.proofs.size_of.Reads as size-of-reads
 
 field-at-requires : tie.Need-field-at-requires
 field-at-requires c κs = search needs

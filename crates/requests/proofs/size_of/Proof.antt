@@ -5,8 +5,6 @@ use native.Mathlib.Omega.{arith}
 use Rattle.requests.proofs.Tags.{size-put, size-lag, size-empty, size-between, size-none}
 use Rattle.requests.proofs.size_of.Statement.{statement}
 use Rattle.requests.proofs.size_of.Tie as tie
-use Rattle.requests.proofs.size_of.Reads as reads
-use Rattle.requests.proofs.size_of.Lts as lts
 
 returns : tie.Need-returns
 returns c = sym (size-put (c .before .args .tag) (c .match .keys1))

@@ -8,12 +8,6 @@ use Rattle.session.proofs.Texts.{refused-is, begun-is}
 use borrow.Author.Needs.{needs}
 use Rattle.session.proofs.begun.Statement.{statement}
 use Rattle.session.proofs.begun.Tie as tie
-use Rattle.session.proofs.begun.Reads as reads
-use Rattle.session.proofs.begun.Lts as lts
-use Rattle.fresh.proofs.write.Reads as write-reads
-use Rattle.lines.proofs.put_no.Reads as put-no-reads
-use Rattle.plan.proofs.read_plan.Reads as read-plan-reads
-use Rattle.session.proofs.requested.Reads as requested-reads
 
 read-plan-requires : tie.Need-read-plan-requires
 read-plan-requires c κs = search needs

@@ -6,10 +6,6 @@ use Rattle.session.proofs.Texts.{closes-end, closes-limit, closes-no}
 use borrow.Author.Needs.{needs}
 use Rattle.session.proofs.put_closing.Statement.{statement}
 use Rattle.session.proofs.put_closing.Tie as tie
-use Rattle.session.proofs.put_closing.Reads as reads
-use Rattle.session.proofs.put_closing.Lts as lts
-use Rattle.lines.proofs.put_end.Reads as put-end-reads
-use Rattle.lines.proofs.put_no.Reads as put-no-reads
 
 enum-known-why : tie.Need-enum-known-why
 enum-known-why c = search needs

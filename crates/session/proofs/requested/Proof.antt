@@ -3,11 +3,6 @@ use Rattle.session.proofs.Texts.{requested-is}
 use borrow.Author.Needs.{needs}
 use Rattle.session.proofs.requested.Statement.{statement}
 use Rattle.session.proofs.requested.Tie as tie
-use Rattle.session.proofs.requested.Reads as reads
-use Rattle.session.proofs.requested.Lts as lts
-use Rattle.lines.proofs.put_lanes.Reads as put-lanes-reads
-use Rattle.session.proofs.put_closing.Reads as put-closing-reads
-use Rattle.session.proofs.walk.Reads as walk-reads
 
 put-lanes-requires : tie.Need-put-lanes-requires
 put-lanes-requires c κs = search needs

@@ -4,10 +4,6 @@ use Rattle.session.proofs.Texts.{nothing-is, run-limit, run-area, run-t
 use borrow.Author.Needs.{needs}
 use Rattle.session.proofs.run.Statement.{statement}
 use Rattle.session.proofs.run.Tie as tie
-use Rattle.session.proofs.run.Reads as reads
-use Rattle.session.proofs.run.Lts as lts
-use Rattle.session.proofs.begun.Reads as begun-reads
-use Rattle.session.proofs.nothing.Reads as nothing-reads
 
 nothing-requires : tie.Need-nothing-requires
 nothing-requires c κs = search needs

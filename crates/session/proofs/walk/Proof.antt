@@ -1,27 +1,19 @@
 -- `walk` meets its contract. The loop over fields knows `Stands`, the loop over a value's bytes `Reading`. Assumes nothing.
-use Prim.Native.Nat.{ℕ, _+_, _-_, _*_, _^_, _≤_, _<_}
+use Prim.Native.Nat.{ℕ, _+_, _-_, _≤_, _<_}
 use native.Mathlib.Omega.{arith}
-use mathlib.Core.Path.{_≡_, refl, sym, ap, subst, _∙_}
-use mathlib.Core.Option.{some}
-use lib.ListN.{length, getD}
+use mathlib.Core.Path.{_≡_, refl, sym, ap, _∙_}
+use lib.ListN.{length}
 use borrow.Author.Needs.{needs}
 use Rattle.fields.specs.Bytes.{byteAt, big}
 use Rattle.rules.specs.declared.Refusal.the-variants.{Cut}
-use Rattle.requests.specs.Request.{headIs, headAt, right, wrong, callOf, callIs, numbered, request}
+use Rattle.requests.specs.Request.{headIs, headAt, right, callOf, callIs, numbered, request}
 use Rattle.requests.proofs.Heads.{head-whole, head-size, head-short, item-wrong, item-cut, item-last, item-request}
 use Rattle.requests.proofs.Values.{value-is}
 use Rattle.session.proofs.Reading.{Reading, read-none, read-more, read-fits}
 use Rattle.session.proofs.Walking.{Stands, stands-first, stands-room, stands-next, same-area, text-most, two-lines, stops, walk-limit, walk-bad, walk-last}
-use Rattle.session.specs.declared.Stop.the-variants.{End, Limit, Refused}
+use Rattle.session.specs.declared.Stop.the-variants.{Limit, Refused}
 use Rattle.session.proofs.walk.Statement.{statement}
 use Rattle.session.proofs.walk.Tie as tie
-use Rattle.session.proofs.walk.Reads as reads
-use Rattle.session.proofs.walk.Lts as lts
-use Rattle.answers.proofs.answer.Reads as answer-reads
-use Rattle.requests.proofs.head_at.Reads as head-at-reads
-use Rattle.requests.proofs.request_of.Reads as request-of-reads
-use Rattle.session.proofs.closed.Reads as closed-reads
-use Rattle.session.proofs.wide.Reads as wide-reads
 
 abbrev Inv-loop : tie.InvT-loop
 Inv-loop s from limit t a start at next n why₀ tag size value₀ i₀ why value i = Reading s at size i value × (why ≡ why₀)

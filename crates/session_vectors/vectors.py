@@ -1,0 +1,310 @@
+#!/usr/bin/env python3
+"""Writes the frames of session_vectors (stdin) and what is expected of them (stdout), in the folder that this file stands in.
+
+What is expected is worked here from document 01 alone: "Numbers", "The plain rules", "Setup and session fields", "Numbers given back", "A session in
+full". Nothing here runs, reads or was copied from the program. Run it after a change of document 01, and compare what changed in stdout.
+
+14 is not among the answers: a clock of 2^62 is out of reach of 1,000 requests.
+"""
+import pathlib
+import random
+
+TABLE = 10880   # the fixed size of a table, docs/TABLE.md
+
+
+class No(Exception):
+    """A refusal: number, place or None."""
+
+
+def u16(octets):
+    high, low = octets
+    return 256 * high + low
+
+
+# ---- the setup
+
+def read_setup(data):
+    place, lanes, first = 0, [], True
+    while True:
+        left = data[place:]
+        if len(left) < 3:
+            raise No(1, place)
+        tag, length = left[0], u16(left[1:3])
+        if tag not in (0x01, 0x10, 0x7F):
+            raise No(2, place)
+        if length not in {0x01: (2,), 0x10: (3, 5), 0x7F: (0,)}[tag]:
+            raise No(3, place)
+        value = left[3:3 + length]
+        if len(value) < length:
+            raise No(1, place)
+        if first != (tag == 0x01) or (tag == 0x10 and lanes and value[0] <= lanes[-1][0]) or (tag == 0x7F and not lanes):
+            raise No(4, place)
+        if tag == 0x01 and u16(value) != 1:
+            raise No(5, place)
+        if tag == 0x10:
+            lane, weight = value[0], u16(value[1:3])
+            longest = u16(value[3:5]) if length == 5 else 1500
+            if lane > 63 or not 1 <= weight <= 1024 or not 64 <= longest <= 1500:
+                raise No(5, place)
+            if sum(w for _, w, _ in lanes) + weight > 1024:
+                raise No(6, place)
+            lanes.append((lane, weight, longest))
+        place, first = place + 3 + length, False
+        if tag == 0x7F:
+            return lanes, place
+
+
+# ---- the plain rules
+
+class Lane:
+    def __init__(self, weight, longest):
+        self.longest = longest
+        self.c = -(-1048576 // weight)
+        self.group = 0
+        while 2 ** self.group < longest * self.c:
+            self.group += 1
+        self.slot = 2 ** self.group
+        self.start = self.finish = self.since = 0
+        self.queue = []
+
+    def rounded(self):
+        return self.start - self.start % self.slot
+
+    def rounded_finish(self):
+        return self.rounded() + 2 * self.slot
+
+
+class Unit:
+    def __init__(self, lanes):
+        self.given = lanes
+        self.fresh()
+
+    def fresh(self):
+        self.lanes = {k: Lane(w, m) for k, w, m in self.given}
+        self.v = 0
+        self.turns = 0
+
+    def holding(self):
+        return {k: l for k, l in self.lanes.items() if l.queue}
+
+    def begin(self, lane, start, length):
+        lane.start, lane.finish = start, start + length * lane.c
+        self.turns += 1
+        lane.since = self.turns
+
+    def put(self, k, mark, length):
+        if k not in self.lanes:
+            return 'no 11'
+        lane = self.lanes[k]
+        if not 1 <= length <= lane.longest:
+            return 'no 12'
+        if len(lane.queue) == 16:
+            return 'no 13'
+        others = any(j != k for j in self.holding())
+        idle = not lane.queue
+        lane.queue.append((mark, length))
+        if idle:
+            self.begin(lane, max(lane.finish, self.v), length)
+            if not others:
+                self.v = max(self.v, lane.rounded())
+        return 'put ok'
+
+    def choice(self):
+        eligible = [(l.rounded_finish(), l.group, l.since, k) for k, l in self.holding().items() if l.rounded() <= self.v]
+        return min(eligible)[3] if eligible else None
+
+    def look(self, word='look'):
+        k = self.choice()
+        return 'no 16' if k is None else '%s %d %d %d' % (word, k, *self.lanes[k].queue[0])
+
+    def take(self):
+        k, answer = self.choice(), self.look('take')
+        if k is not None:
+            lane = self.lanes[k]
+            _, length = lane.queue.pop(0)
+            self.v += 1024 * length
+            if lane.queue:
+                self.begin(lane, lane.finish, lane.queue[0][1])
+            if self.holding():
+                self.v = max(self.v, min(l.rounded() for l in self.holding().values()))
+        return answer
+
+    def sets(self):
+        groups = {}
+        for lane in self.holding().values():
+            s, f = groups.get(lane.group, (lane.rounded(), lane.rounded_finish()))
+            groups[lane.group] = min(s, lane.rounded()), min(f, lane.rounded_finish())
+        words = [0, 0, 0, 0]
+        for i, (s, f) in groups.items():
+            blocked = any(j > i and s2 <= self.v and f2 < f for j, (s2, f2) in groups.items())
+            words[(0 if s <= self.v else 1) + (2 if blocked else 0)] |= 1 << i
+        return 'sets %d %d %d %d' % tuple(words)
+
+    def lag(self, k):
+        if k not in self.lanes:
+            return 'no 11'
+        lane = self.lanes[k]
+        return 'lag %d' % (self.v - (lane.start if lane.queue else max(lane.finish, self.v)))
+
+    def restart(self):
+        if self.holding():
+            return 'no 15'
+        self.fresh()
+        return 'restart ok'
+
+
+# ---- a run
+
+LENGTHS = {0x20: 7, 0x21: 0, 0x22: 0, 0x23: 0, 0x24: 1, 0x25: 0, 0x7F: 0}
+
+
+def request(unit, tag, value):
+    if tag == 0x20:
+        return unit.put(value[0], int.from_bytes(value[1:5], 'big'), u16(value[5:7]))
+    if tag == 0x24:
+        return unit.lag(value[0])
+    return {0x21: unit.take, 0x22: unit.look, 0x23: unit.sets, 0x25: unit.restart}[tag]()
+
+
+def walk(unit, data, place, limit, lines):
+    """The requests from a place on; how many were answered, and why the walk stopped."""
+    count = 0
+    while count < limit:
+        left = data[place:]
+        if len(left) < 3:
+            return count, No(1, place)
+        tag, length = left[0], u16(left[1:3])
+        if tag not in LENGTHS:
+            return count, No(2, place)
+        if length != LENGTHS[tag]:
+            return count, No(3, place)
+        if len(left) < 3 + length:
+            return count, No(1, place)
+        value = left[3:3 + length]
+        place += 3 + length
+        if tag == 0x7F:
+            return count, No(4, place) if place < len(data) else 'end'
+        lines.append(request(unit, tag, value))
+        count += 1
+    return count, 'limit'
+
+
+def no_line(no):
+    return 'no ' + ' '.join(str(x) for x in no.args if x is not None)
+
+
+def expected(data, limit, table, area):
+    lines, count = [], 0
+    try:
+        if limit > 1000 or area < 64 * (limit + 2):
+            raise No(17, None)
+        if table < TABLE:
+            raise No(7, 0)
+        try:
+            lanes, place = read_setup(data)
+        except No as no:
+            lines.append(no_line(no))
+            raise
+        lines.append('lanes %d' % len(lanes))
+        count, why = walk(Unit(lanes), data, place, limit, lines)
+        if isinstance(why, No):
+            lines.append(no_line(why))
+        lines.append('end %d' % count)
+    except No as no:
+        why = no
+    text = ''.join(line + '\n' for line in lines)
+    assert all(len(line) < 64 for line in lines)
+    return '= %d %d %s\n' % (count, len(text), why if isinstance(why, str) else no_line(why)) + text
+
+
+# ---- sessions
+
+def field(tag, value=b'', length=None):
+    length = len(value) if length is None else length
+    return bytes([tag]) + length.to_bytes(2, 'big') + value
+
+
+def put(k, mark, length):
+    return field(0x20, bytes([k]) + mark.to_bytes(4, 'big') + length.to_bytes(2, 'big'))
+
+
+def lag(k):
+    return field(0x24, bytes([k]))
+
+
+def setup(*lanes):
+    return field(0x01, b'\0\1') + b''.join(field(0x10, bytes([k]) + w.to_bytes(2, 'big') + m.to_bytes(2, 'big')) for k, w, m in lanes) + END
+
+
+TAKE, LOOK, SETS, RESTART, END = (field(t) for t in (0x21, 0x22, 0x23, 0x25, 0x7F))
+TWO = setup((0, 512, 1500), (1, 256, 1500))
+REQUESTS = put(0, 1, 1000) + put(1, 2, 1000) + put(0, 3, 500) + SETS + 4 * TAKE
+SESSION = TWO + REQUESTS + END
+
+frames = []
+
+
+def add(data, limit=1000, table=TABLE, area=None):
+    frames.append((bytes(data), limit, table, min(64 * (limit + 2), 64128) if area is None else area))
+
+
+def inputs():
+    add(SESSION)
+    # the limit: reached at the end field (8), with bytes after it, at 0
+    for limit in range(11):
+        add(SESSION, limit)
+    for limit in (0, 8, 9):
+        add(SESSION + b'\0', limit)
+        add(SESSION + END, limit)
+        add(TWO + REQUESTS, limit)
+    add(TWO + 1000 * TAKE + END)
+    add(TWO + 1001 * TAKE + END)
+    # 17, then 7
+    for limit in (0, 8, 1000):
+        for area in (64 * (limit + 2), 64 * (limit + 2) - 1):
+            for table in (TABLE, TABLE - 1, TABLE + 20, 0):
+                add(SESSION, limit, table, area)
+    add(SESSION, 1001, TABLE, 64128)
+    add(b'', 1001, 0, 0)
+    # every cut, and a byte after each
+    for n in range(len(SESSION)):
+        add(SESSION[:n])
+        add(SESSION[:n] + b'\x7f')
+    # refused setups
+    for data in (b'\2\0\0', field(0x10, b'\0\0\1\0\x40') + END, field(1, b'\0\1\0'), field(1, b'\0\2') + END, setup((0, 0, 64)), setup((0, 1, 63)),
+                 setup((0, 1025, 64)), setup((64, 1, 64)), setup((3, 5, 64), (3, 5, 64)), setup((0, 1000, 64), (1, 25, 64)), setup(), field(1, b'\0\1') * 2):
+        add(data + SESSION)
+    # tags and lengths among the requests
+    for tag in range(256):
+        if tag % 16 == 0 or tag < 0x30 or tag == 0x7E:
+            add(TWO + TAKE + field(tag) + END)
+    for tag in LENGTHS:
+        for length in (0, 1, 2, 6, 7, 8, 256, 263):
+            add(TWO + TAKE + field(tag, bytes(7), length))
+    # 11, 12, 13, 15, 16
+    add(TWO + b''.join(put(k, 9, 64) + lag(k) for k in (0, 1, 2, 63, 64, 255)) + END)
+    add(TWO + b''.join(put(0, 4294967295, n) for n in (0, 1, 1500, 1501, 65535)) + RESTART + END)
+    add(setup((5, 7, 64)) + 17 * put(5, 1, 64) + TAKE + put(5, 2, 65) + put(5, 2, 64) + put(5, 3, 64) + RESTART + 16 * TAKE + LOOK + TAKE + RESTART + SETS + END)
+    # M2: a lag below zero; M4: the clock's jump
+    add(TWO + REQUESTS[:-3] + put(0, 4, 100) + lag(0) + lag(1) + TAKE + lag(0) + RESTART + lag(0) + END)
+    add(setup((0, 1, 64)) + put(0, 1, 64) + TAKE + lag(0) + put(0, 2, 64) + lag(0) + SETS + LOOK + END)
+    # at random
+    chance = random.Random(20261115)
+    for _ in range(60):
+        count = chance.randint(1, 6)
+        lanes = [(k, chance.randint(1, 1024 // count), chance.randint(64, 1500)) for k in sorted(chance.sample(range(64), count))]
+        some = [k for k, _, _ in lanes]
+        requests = b''
+        for _ in range(chance.randint(1, 60)):
+            k = chance.choice(some)
+            requests += chance.choice((put(k, chance.getrandbits(32), chance.randint(1, 1500)), put(k, 1, 64), TAKE, LOOK, SETS, lag(k), TAKE, put(k, 2, 64)))
+        add(setup(*lanes) + requests + 5 * TAKE + RESTART + END, chance.choice((1000, 40)))
+
+
+inputs()
+here = pathlib.Path(__file__).parent
+stdin = b''.join(b''.join(n.to_bytes(2, 'big') for n in (limit, table, area, len(data))) + data for data, limit, table, area in frames)
+assert len(stdin) <= 65536, len(stdin)
+(here / 'stdin').write_bytes(stdin)
+(here / 'stdout').write_text(''.join(expected(*frame) for frame in frames))
+print(len(frames), 'frames,', len(stdin), 'bytes')
