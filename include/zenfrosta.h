@@ -1,0 +1,93 @@
+/* Zenfrosta for hosts in C: the public calls and the session run, in the static library libzenfrosta.a (rt staticlib zenfrosta).
+ *
+ * One rule for every answer:
+ *
+ *   - The result is 0, or document 01's number of the refusal (ZF_... below).
+ *   - Values stand in the lent answer buffer `out`, which has at least 32 bytes: four 64-bit words, each low byte first. What a call does not
+ *     use is 0. A refusal leaves its place in word 0, and 0 where it has none; zf_run has it in word 3.
+ *   - A shorter answer buffer gives ZF_BUFFER_SHORT: nothing is done and nothing is written.
+ *
+ * A byte area is a pointer and its length in bytes. Any bytes are allowed in it, at any address. What the host must see to: a pointer may be
+ * read (and written, where it is not const) over its whole length and is not null, also where the length is 0; areas of one call do not overlap;
+ * no other thread uses them during the call; a length is at most PTRDIFF_MAX. The library keeps no pointer, has no state of its own, takes no
+ * memory and calls nothing.
+ */
+#ifndef ZENFROSTA_H
+#define ZENFROSTA_H
+
+#include <stddef.h>
+#include <stdint.h>
+
+#ifdef __cplusplus
+extern "C" {
+#endif
+
+/* The fixed size of a table in bytes, as zf_table_size() gives it. A lent table may be longer: bytes past the size are never touched. */
+#define ZF_TABLE_SIZE 10880
+
+/* The least length of an answer buffer. */
+#define ZF_OUT_SIZE 32
+
+/* The bytes of an answer area for a run with a limit: 64 for each line. */
+#define ZF_ANSWER_AREA(limit) (64 * ((size_t)(limit) + 2))
+
+/* The greatest limit of a run. */
+#define ZF_MOST_REQUESTS 1000
+
+/* Results. 1 to 7 come from zf_make and zf_run, 10 to 16 from the other calls, 17 from zf_run. */
+#define ZF_DONE 0
+#define ZF_CUT 1             /* a field runs past the end, or the input ends before 0x7F; place: the field's tag, or the input's length */
+#define ZF_UNKNOWN_TAG 2     /* tag unknown in this part; place: the field's tag */
+#define ZF_WRONG_LENGTH 3    /* length wrong for the tag; place: the field's tag */
+#define ZF_OUT_OF_ORDER 4    /* a field out of its order, or a byte after the last 0x7F; place: the field's tag, or that byte */
+#define ZF_OUTSIDE_NUMBERS 5 /* format, lane, weight or longest outside its numbers; place: the field's tag */
+#define ZF_WEIGHTS_OVER 6    /* weights so far over 1,024; place: the field's tag */
+#define ZF_TABLE_SHORT 7     /* table shorter than ZF_TABLE_SIZE, on making one; place: 0 */
+#define ZF_NOT_GOOD 10       /* the table is not good: zf_make and the calls never leave such bytes */
+#define ZF_NO_LANE 11        /* lane not in the setup */
+#define ZF_BAD_LENGTH 12     /* length 0, or over the lane's longest */
+#define ZF_LANE_FULL 13      /* the lane holds 16 records */
+#define ZF_CLOCK_SPENT 14    /* the clock is spent: take what is held, then restart */
+#define ZF_STILL_HOLDS 15    /* restart while a record is held */
+#define ZF_NOTHING_HELD 16   /* take or look with nothing held */
+#define ZF_RUN_BOUNDS 17     /* a run's limit over 1,000, or its answer area too short */
+#define ZF_BUFFER_SHORT 255  /* the answer buffer is shorter than 32 bytes */
+
+/* Why a run stopped: word 2 of zf_run's answer. */
+#define ZF_STOP_END 0
+#define ZF_STOP_LIMIT 1
+#define ZF_STOP_REFUSAL 2
+
+uint64_t zf_table_size(void);
+
+/* Makes the fresh table of a setup. out: the number of lanes. */
+uint64_t zf_make(const uint8_t *setup, size_t setup_length, uint8_t *table, size_t table_length, uint8_t *out, size_t out_length);
+
+/* Puts a record into a lane; the record is its mark, which the unit only carries, and its length in bytes. */
+uint64_t zf_put(uint8_t *table, size_t table_length, uint8_t lane, uint32_t mark, uint64_t length, uint8_t *out, size_t out_length);
+
+/* Takes the next record off the table. out: its lane, mark and length. */
+uint64_t zf_take(uint8_t *table, size_t table_length, uint8_t *out, size_t out_length);
+
+/* Looks at the record that zf_take would take. out: its lane, mark and length. */
+uint64_t zf_look(const uint8_t *table, size_t table_length, uint8_t *out, size_t out_length);
+
+/* The group sets. out: the words ER, IR, EB and IB, bit i for group i. */
+uint64_t zf_sets(const uint8_t *table, size_t table_length, uint8_t *out, size_t out_length);
+
+/* How far the clock is ahead of a lane. out: the lag, a signed number in two's complement. */
+uint64_t zf_lag(const uint8_t *table, size_t table_length, uint8_t lane, uint8_t *out, size_t out_length);
+
+/* Gives the fresh table of the same setup, once no record is held. */
+uint64_t zf_restart(uint8_t *table, size_t table_length, uint8_t *out, size_t out_length);
+
+/* Runs a session: a setup, requests, an end field. The answer lines stand in `answers`. out: requests answered, answer bytes written, why it
+ * stopped (ZF_STOP_...), and a refusal's place. The result is 0 at the end field or the limit, else the number of the refusal. */
+uint64_t zf_run(const uint8_t *session, size_t session_length, uint64_t limit, uint8_t *table, size_t table_length, uint8_t *answers,
+                size_t answers_length, uint8_t *out, size_t out_length);
+
+#ifdef __cplusplus
+}
+#endif
+
+#endif
