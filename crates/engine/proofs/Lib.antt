@@ -4,3 +4,4 @@ pub mod Waking
 pub mod Signed
 pub mod Replies
 pub mod Serving
+pub mod LagRange

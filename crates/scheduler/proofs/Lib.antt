@@ -2,3 +2,4 @@ pub mod Steps
 pub mod Made
 pub mod Chains
 pub mod Demands
+pub mod LagEnds

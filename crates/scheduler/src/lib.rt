@@ -1,8 +1,8 @@
 // The public calls on a lent table: make, put, take, look, sets, lag and restart.
 //
 // None asks anything of its caller: each tests what it is given, the whole table too, each time, and refuses by number as document 01's list says. Nothing
-// is written before the last test. What each promises is `Step` (specs/Step.antt), and `MakeStep` (specs/Make.antt) for making, whole; proofs/ has
-// what follows for every list of these calls: demand 3 (Demand3.antt), never 10 and the records' order (Lists.antt).
+// is written before the last test. What each promises is `Step` (specs/Step.antt), and `MakeStep` (specs/Make.antt) for making, whole; specs/Demands.antt
+// has what follows for every list of these calls: demand 3, never 10, the records' order and the setup kept.
 //
 // The table is SIZE bytes of the lent slice; bytes past them are never touched. `look`, `sets` and `lag` take it by `&`.
 ghost use Rattle.rules.specs.Calls as Calls;
