@@ -1,0 +1,59 @@
+// The public calls, each with its answer printed.
+use crate::print;
+use units::Bytes;
+
+pub fn make(setup: &[u8], t: &mut [u8]) {
+    print::making(scheduler::make(setup, t));
+}
+
+pub fn put(t: &mut [u8], lane: u8, mark: u32, length: u64) {
+    print::answer(scheduler::put(t, lane, mark, Bytes(length)));
+}
+
+pub fn take(t: &mut [u8]) {
+    print::answer(scheduler::take(t));
+}
+
+pub fn look(t: &[u8]) {
+    print::answer(scheduler::look(t));
+}
+
+pub fn sets(t: &[u8]) {
+    print::answer(scheduler::sets(t));
+}
+
+pub fn lag(t: &[u8], lane: u8) {
+    print::answer(scheduler::lag(t, lane));
+}
+
+pub fn restart(t: &mut [u8]) {
+    print::answer(scheduler::restart(t));
+}
+
+// Every call once.
+pub fn every(t: &mut [u8]) {
+    put(t, 0, 9, 100);
+    take(t);
+    look(t);
+    sets(t);
+    lag(t, 0);
+    restart(t);
+}
+
+// `n` puts of 100 bytes to a lane, with the marks 0, 1, ..
+pub fn fill(t: &mut [u8], lane: u8, n: u32) {
+    let mut i: u32 = 0;
+    while i < n {
+        put(t, lane, i, 100);
+        i += 1;
+    }
+}
+
+// `n` takes.
+pub fn drain(t: &mut [u8], n: u32) {
+    let mut i: u32 = 0;
+    while i < n {
+        take(t);
+        i += 1;
+    }
+}
