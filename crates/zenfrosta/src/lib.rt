@@ -13,6 +13,7 @@ ghost use Rattle.scheduler.specs.Step.{Step};
 ghost use Rattle.scheduler.specs.Make as Make;
 ghost use Rattle.session.specs.Ran.{whyIs, Ran};
 ghost use Rattle.zenfrosta.specs.Crossing.{four, code, values, makeCode, makeValues, stopCode, runValues, placeOr0, spoken, Crosses, CrossesMaking, CrossesRun};
+use lines::Place;
 use rules::Answer;
 use rules::Refusal;
 use scheduler::Making;
@@ -29,49 +30,13 @@ pub struct Four {
     pub d: u64,
 }
 
-fn number(x: Refusal) -> u64
-    ensures { λ r. ⌜ r ≡ Reads.number x ⌝ }
-{
-    match x {
-        Refusal::Cut(_) => 1,
-        Refusal::UnknownTag(_) => 2,
-        Refusal::WrongLength(_) => 3,
-        Refusal::OutOfOrder(_) => 4,
-        Refusal::OutsideNumbers(_) => 5,
-        Refusal::WeightsOver(_) => 6,
-        Refusal::TableShort => 7,
-        Refusal::NotGood => 10,
-        Refusal::NoLane => 11,
-        Refusal::BadLength => 12,
-        Refusal::LaneFull => 13,
-        Refusal::ClockSpent => 14,
-        Refusal::StillHolds => 15,
-        Refusal::NothingHeld => 16,
-        Refusal::RunBounds => 17,
-        Refusal::InputLong => 18,
-    }
-}
-
+// A refusal's place, 0 where the list has none.
 fn place(x: Refusal) -> u64
     ensures { λ r. ⌜ r ≡ placeOr0 (Reads.placeOf x) ⌝ }
 {
-    match x {
-        Refusal::Cut(p) => p as u64,
-        Refusal::UnknownTag(p) => p as u64,
-        Refusal::WrongLength(p) => p as u64,
-        Refusal::OutOfOrder(p) => p as u64,
-        Refusal::OutsideNumbers(p) => p as u64,
-        Refusal::WeightsOver(p) => p as u64,
-        Refusal::TableShort => 0,
-        Refusal::NotGood => 0,
-        Refusal::NoLane => 0,
-        Refusal::BadLength => 0,
-        Refusal::LaneFull => 0,
-        Refusal::ClockSpent => 0,
-        Refusal::StillHolds => 0,
-        Refusal::NothingHeld => 0,
-        Refusal::RunBounds => 0,
-        Refusal::InputLong => 0,
+    match lines::place_of(x) {
+        Place::At(p) => p as u64,
+        Place::Nowhere => 0,
     }
 }
 
@@ -137,7 +102,7 @@ fn code_of(x: Answer) -> u64
         Answer::Sets(_) => 0,
         Answer::Lag(_) => 0,
         Answer::Restarted => 0,
-        Answer::Refused(x) => number(x),
+        Answer::Refused(x) => lines::number(x),
     }
 }
 
@@ -147,7 +112,7 @@ fn stop_code(why: Stop) -> u64
     match why {
         Stop::End => 0,
         Stop::Limit => 0,
-        Stop::Refused(x) => number(x),
+        Stop::Refused(x) => lines::number(x),
     }
 }
 
@@ -221,7 +186,7 @@ pub extern "C" fn zf_make(setup: &[u8], table: &mut [u8], out: &mut [u8]) -> u64
         }
         Making::Refused(x) => {
             speak(out, one(place(x)));
-            number(x)
+            lines::number(x)
         }
     }
 }

@@ -7,7 +7,7 @@ use Rattle.zenfrosta.proofs.zf_make.Tie as tie
 use Rattle.zenfrosta.proofs.zf_make.Reads as reads
 use Rattle.zenfrosta.proofs.zf_make.Lts as lts
 use Rattle.scheduler.proofs.make.Reads as make-reads
-use Rattle.zenfrosta.proofs.number.Reads as number-reads
+use Rattle.lines.proofs.number.Reads as number-reads
 use Rattle.zenfrosta.proofs.one.Reads as one-reads
 use Rattle.zenfrosta.proofs.place.Reads as place-reads
 use Rattle.zenfrosta.proofs.speak.Reads as speak-reads
@@ -69,7 +69,7 @@ returns-3 c =
     let e = c .before .before .before .before .before .before .before .before .x .given .1 in
     record {
       short = λ h. absurd (omega (arith, c .before .before .before .before .before .before .before .before .before .before .before .before .before .before .if1 .left));
-      told = λ _. (m .result, m .ensures, c .number .ensures ∙ rw e, c .before .before .before .speak2 .ensures ∙ rw (c .before .before .before .before .one2 .ensures, c .before .before .before .before .before .place .ensures, e));
+      told = λ _. (m .result, m .ensures, c .number .ensures .0 ∙ rw e, c .before .before .before .speak2 .ensures ∙ rw (c .before .before .before .before .one2 .ensures, c .before .before .before .before .before .place .ensures, e));
     }
 
 pub zf-make-spec : {M : Type 1} → statement M
