@@ -1,0 +1,152 @@
+//! Zenfrosta for hosts in Rust: the public calls on a lent table, and the session run. Every function takes any bytes; a refusal changes no table.
+//!
+//! A table is [`TABLE_SIZE`] bytes or more that [`make`] has written; it may be kept, moved or copied between calls.
+
+#![deny(missing_docs, unsafe_code)]
+
+mod boundary;
+
+/// The fixed size of a table in bytes; bytes past it are never touched.
+pub const TABLE_SIZE: usize = 10_880;
+
+/// The greatest limit of a run.
+pub const MOST_REQUESTS: u64 = 1_000;
+
+/// The bytes that the answer area of a run needs: 64 for each line.
+pub const fn answer_area(limit: u64) -> usize {
+    64 * (limit as usize + 2)
+}
+
+/// Why something is refused: document 01's number, and the place of the fault where the list has one (1 to 7).
+#[derive(Clone, Copy, Debug, PartialEq, Eq)]
+pub struct Refusal {
+    /// Document 01's number; `include/zenfrosta.h` has the list.
+    pub number: u64,
+    /// A place in the setup's or the session's bytes.
+    pub place: Option<u64>,
+}
+
+impl std::fmt::Display for Refusal {
+    fn fmt(&self, f: &mut std::fmt::Formatter<'_>) -> std::fmt::Result {
+        match self.place {
+            Some(place) => write!(f, "refused with {} at byte {place}", self.number),
+            None => write!(f, "refused with {}", self.number),
+        }
+    }
+}
+
+impl std::error::Error for Refusal {}
+
+/// A record that was taken or looked at.
+#[derive(Clone, Copy, Debug, PartialEq, Eq)]
+pub struct Record {
+    /// The lane that it waited in.
+    pub lane: u8,
+    /// The host's mark.
+    pub mark: u32,
+    /// Its length in bytes.
+    pub length: u64,
+}
+
+/// The four words of the group sets: eligible or ineligible, ready or blocked. Bit i stands for group i.
+#[derive(Clone, Copy, Debug, PartialEq, Eq)]
+pub struct Sets {
+    /// Eligible ready.
+    pub er: u64,
+    /// Ineligible ready.
+    pub ir: u64,
+    /// Eligible blocked.
+    pub eb: u64,
+    /// Ineligible blocked.
+    pub ib: u64,
+}
+
+/// Why a run stopped.
+#[derive(Clone, Copy, Debug, PartialEq, Eq)]
+pub enum Stop {
+    /// At the end field.
+    End,
+    /// At the limit.
+    Limit,
+    /// At a refusal.
+    Refused(Refusal),
+}
+
+/// How a run went.
+#[derive(Clone, Copy, Debug, PartialEq, Eq)]
+pub struct Run {
+    /// Requests answered.
+    pub answered: u64,
+    /// Answer bytes written.
+    pub written: usize,
+    /// Why it stopped.
+    pub stop: Stop,
+}
+
+fn refusal(number: u64, place: u64) -> Refusal {
+    Refusal { number, place: (1..=7).contains(&number).then_some(place) }
+}
+
+/// The words of an answer, or the refusal.
+fn answer((result, words): boundary::Told) -> Result<[u64; 4], Refusal> {
+    match result {
+        0 => Ok(words),
+        number => Err(refusal(number, words[0])),
+    }
+}
+
+fn record(told: boundary::Told) -> Result<Record, Refusal> {
+    // The library widened a u8 and a u32.
+    answer(told).map(|[lane, mark, length, _]| Record { lane: lane as u8, mark: mark as u32, length })
+}
+
+/// The table size as the library has it; [`TABLE_SIZE`].
+pub fn table_size() -> u64 {
+    boundary::table_size()
+}
+
+/// Makes the fresh table of a setup in the lent bytes; the number of lanes.
+pub fn make(setup: &[u8], table: &mut [u8]) -> Result<u64, Refusal> {
+    answer(boundary::make(setup, table)).map(|words| words[0])
+}
+
+/// Puts a record into a lane.
+pub fn put(table: &mut [u8], lane: u8, mark: u32, length: u64) -> Result<(), Refusal> {
+    answer(boundary::put(table, lane, mark, length)).map(|_| ())
+}
+
+/// Takes the next record.
+pub fn take(table: &mut [u8]) -> Result<Record, Refusal> {
+    record(boundary::take(table))
+}
+
+/// Looks at the record that [`take`] would take.
+pub fn look(table: &[u8]) -> Result<Record, Refusal> {
+    record(boundary::look(table))
+}
+
+/// The group sets.
+pub fn sets(table: &[u8]) -> Result<Sets, Refusal> {
+    answer(boundary::sets(table)).map(|[er, ir, eb, ib]| Sets { er, ir, eb, ib })
+}
+
+/// How far the clock is ahead of a lane.
+pub fn lag(table: &[u8], lane: u8) -> Result<i64, Refusal> {
+    answer(boundary::lag(table, lane)).map(|words| words[0] as i64)
+}
+
+/// Gives the fresh table of the same setup, once no record is held.
+pub fn restart(table: &mut [u8]) -> Result<(), Refusal> {
+    answer(boundary::restart(table)).map(|_| ())
+}
+
+/// Runs a session on the lent table; its lines stand in the answer area.
+pub fn run(session: &[u8], limit: u64, table: &mut [u8], answers: &mut [u8]) -> Run {
+    let (result, [answered, written, kind, place]) = boundary::run(session, limit, table, answers);
+    let stop = match (result, kind) {
+        (0, 0) => Stop::End,
+        (0, _) => Stop::Limit,
+        (number, _) => Stop::Refused(refusal(number, place)),
+    };
+    Run { answered, written: written as usize, stop }
+}
