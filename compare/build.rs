@@ -6,6 +6,8 @@ fn main() {
         return;
     }
     if let Ok(folder) = std::env::var("ZENFROSTA_LIB_DIR") {
+        // A library that was built anew is linked anew: else a run would compare the old one.
+        println!("cargo:rerun-if-changed={folder}/libzenfrosta.a");
         println!("cargo:rustc-link-search=native={folder}");
         println!("cargo:rustc-link-lib=zenfrosta");
     }
