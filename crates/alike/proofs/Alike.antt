@@ -7,9 +7,9 @@ use mathlib.Core.Option.{Option, none, some}
 use mathlib.Core.List.{List, [], _∷_, _++_, append-nil}
 use lib.Dec.{ltb}
 use lib.ListN.{length, getD, set}
-use Rattle.rules.specs.State.{if_then_else_, Rec, Lane, noLane, State, group, startR, some?, holds, setupOf, anyHolds, laneAt}
-use Rattle.rules.specs.Choice.{place}
-use Rattle.rules.specs.Calls.{Call, put, take, look, sets, lag, restart, Outcome, no, putRefusal, appended, woken, accept, putOf, doPut, served, without, serve, Pick, picked, takeOf, doTake, lookOf, doLook, doSets, lagOf, lagged, doLag, fresh, restarted, doRestart, step}
+use Rattle.units.specs.Plain.{if_then_else_, place, without}
+use Rattle.rules.specs.State.{Rec, Lane, noLane, State, group, startR, some?, holds, setupOf, anyHolds, laneAt}
+use Rattle.rules.specs.Calls.{Call, put, take, look, sets, lag, restart, Outcome, no, putRefusal, appended, woken, accept, putOf, doPut, served, serve, Pick, picked, takeOf, doTake, lookOf, doLook, doSets, lagOf, lagged, doLag, fresh, restarted, doRestart, step}
 use Rattle.rules.specs.Good.{Good}
 use Rattle.alike.specs.Alike.{Ties, Alike}
 use Rattle.rules.proofs.Lists.{set-cases}

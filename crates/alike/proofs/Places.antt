@@ -8,10 +8,7 @@ use mathlib.Core.List.{List, [], _∷_, _++_}
 use lib.Dec.{ltb, eqb, leb·suc-suc}
 use lib.ListN.{length}
 use borrow.Author.Tests.{eqb-true, eqb-false, eq-eqb, ne-eqb, lt-ltb, le-ltb}
-use Rattle.rules.specs.State.{if_then_else_}
-use Rattle.rules.specs.Choice.{place}
-use Rattle.rules.specs.Calls.{without}
-use Rattle.rules.specs.Good.{times}
+use Rattle.units.specs.Plain.{if_then_else_, place, times, without}
 
 -- a number that stands in a list has its place there, whatever follows
 pub place-append : (j : ℕ) (xs ys : List ℕ) → 0 < times j xs → place j (xs ++ ys) ≡ place j xs

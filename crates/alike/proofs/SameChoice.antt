@@ -10,11 +10,11 @@ use mathlib.Core.List.{List, [], _∷_, _++_}
 use lib.Dec.{ltb}
 use lib.ListN.{length, getD, set}
 use borrow.Author.Tests.{ltb-true, ltb-false}
-use Rattle.rules.specs.State.{if_then_else_, Lane, noLane, State, group, slot, finishR, holds}
-use Rattle.rules.specs.Choice.{place, Candidate, choose}
+use Rattle.units.specs.Plain.{if_then_else_, place, times}
+use Rattle.rules.specs.State.{Lane, noLane, State, group, slot, finishR, holds}
+use Rattle.rules.specs.Choice.{Candidate, choose}
 use Rattle.rules.proofs.BySets.{laneOf}
 use Rattle.rules.specs.Calls.{firstOf, pickOf, picked}
-use Rattle.rules.specs.Good.{times}
 use Rattle.alike.specs.Alike.{Ties}
 use Rattle.rules.proofs.Lists.{set-cases}
 use Rattle.rules.proofs.Chosen.{Chosen, Choice, chosen}

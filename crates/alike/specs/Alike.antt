@@ -5,8 +5,7 @@ use mathlib.Core.Path.{_≡_}
 use mathlib.Core.Bool.{true}
 use lib.Dec.{ltb}
 use Rattle.rules.specs.State.{State, Lane, group, startR, holds, laneAt}
-use Rattle.rules.specs.Choice.{place}
-use Rattle.rules.specs.Good.{times}
+use Rattle.units.specs.Plain.{place, times}
 
 -- two lanes that hold records and have the same group and the same R
 pub record Ties (a b : Lane) : Type 0 where

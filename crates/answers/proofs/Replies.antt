@@ -10,7 +10,8 @@ use mathlib.Core.Bool.{Bool, true, false}
 use mathlib.Core.List.{List}
 use mathlib.Core.Option.{Option, none, some}
 use lib.Dec.{ltb}
-use Rattle.rules.specs.State.{if_then_else_, State, Rec, laneAt, anyHolds, setupOf}
+use Rattle.units.specs.Plain.{if_then_else_}
+use Rattle.rules.specs.State.{State, Rec, laneAt, anyHolds, setupOf}
 use Rattle.rules.specs.Sets.{groups, ready, ineligibleReady, eligibleBlocked, ineligibleBlocked}
 use Rattle.rules.specs.Calls.{Call, put, take, look, sets, lag, restart, Reply, accepted, taken, seen, words, lagged, restarted, refused, Outcome, Pick, no, putRefusal, putOf, doPut, picked, takeOf, doTake, lookOf, doLook, doSets, lagOf, doLag, fresh, doRestart, step}
 use Rattle.rules.specs.Reads.{reads}

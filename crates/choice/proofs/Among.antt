@@ -10,7 +10,8 @@ use mathlib.Core.Option.{Option, none, some}
 use lib.Dec.{eqb}
 use lib.ListN.{length, getD, set, replicate, getD-replicate}
 use borrow.Author.Tests.{eqb-true, eq-eqb, ne-eqb}
-use Rattle.rules.specs.State.{if_then_else_, Lane, noLane, State, group, startR, holds, laneAt}
+use Rattle.units.specs.Plain.{if_then_else_}
+use Rattle.rules.specs.State.{Lane, noLane, State, group, startR, holds, laneAt}
 use Rattle.rules.specs.Choice.{leastOf}
 use Rattle.rules.specs.Sets.{groups, inGroup, groupStart}
 use Rattle.rules.specs.Good.{Good}

@@ -10,7 +10,8 @@ use lib.Dec.{eqb}
 use lib.ListN.{length, drop, getD}
 use lib.Seq.{drop-cons, drop-length}
 use borrow.Author.Tests.{eqb-true}
-use Rattle.rules.specs.State.{if_then_else_, Lane, State, group, startR, holds, laneAt}
+use Rattle.units.specs.Plain.{if_then_else_}
+use Rattle.rules.specs.State.{Lane, State, group, startR, holds, laneAt}
 use Rattle.rules.specs.Choice.{choose}
 use Rattle.rules.specs.Sets.{groups, inGroup, groupStart, ready, setWord, firstGroup}
 use Rattle.rules.specs.Good.{Good}

@@ -11,8 +11,9 @@ use lib.ListN.{length, getD}
 use borrow.Author.Tests.{eqb-true, eq-eqb}
 use Rattle.units.specs.Numbers.{roundDown}
 use Rattle.units.proofs.Round.{round-le}
-use Rattle.rules.specs.State.{if_then_else_, Rec, Setting, Lane, State, group, slot, startR, some?, holds, laneAt, setupOf}
-use Rattle.rules.specs.Good.{times, Times, Good}
+use Rattle.units.specs.Plain.{if_then_else_, times}
+use Rattle.rules.specs.State.{Rec, Setting, Lane, State, group, slot, startR, some?, holds, laneAt, setupOf}
+use Rattle.rules.specs.Good.{Times, Good}
 use Rattle.rules.specs.Sets.{inGroup, groupStart}
 use Rattle.rules.proofs.Lane.{group-most, group-least, slot-most}
 use Rattle.rules.proofs.Queues.{held-inside}

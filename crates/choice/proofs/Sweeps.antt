@@ -12,8 +12,9 @@ use mathlib.Core.Option.{none, some}
 use lib.Dec.{leb, ltb}
 use lib.ListN.{getD}
 use borrow.Author.Tests.{ltb-true, ltb-false, lt-ltb, eq-eqb, ne-eqb}
-use Rattle.rules.specs.State.{if_then_else_, Lane, State}
-use Rattle.rules.specs.Sets.{groups, groupStart, heldStart, reached, finishFrom, groupHolds, groupEligible, groupFinish, anyBelow, wordOf, blocks, blocked, ready, ineligibleReady, eligibleBlocked, ineligibleBlocked}
+use Rattle.units.specs.Plain.{if_then_else_, anyBelow, wordOf}
+use Rattle.rules.specs.State.{Lane, State}
+use Rattle.rules.specs.Sets.{groups, groupStart, heldStart, reached, finishFrom, groupHolds, groupEligible, groupFinish, blocks, blocked, ready, ineligibleReady, eligibleBlocked, ineligibleBlocked}
 use Rattle.units.specs.declared.Clock.{Clock}
 use Rattle.rules.specs.declared.SetWords.{SetWords}
 use Rattle.rules.proofs.Bools.{and-parts, not-passed}

@@ -12,8 +12,9 @@ use mathlib.Core.Path.{_≡_}
 use mathlib.Core.Bool.{true}
 use mathlib.Core.List.{List}
 use mathlib.Core.Option.{Option, none, some}
-use Rattle.rules.specs.State.{if_then_else_, Lane, group, startR, holds, laneAt}
-use Rattle.rules.specs.Good.{times, Good}
+use Rattle.units.specs.Plain.{if_then_else_, times}
+use Rattle.rules.specs.State.{Lane, group, startR, holds, laneAt}
+use Rattle.rules.specs.Good.{Good}
 use Rattle.table.specs.Means.{meant, Sound}
 use Rattle.choice.specs.declared.Placed.{Placed}
 use Rattle.choice.specs.declared.Least.{Least}

@@ -7,7 +7,8 @@ use mathlib.Core.List.{List}
 use mathlib.Core.Option.{Option, none, some}
 use lib.Dec.{eqb, leb, ltb}
 use lib.ListN.{getD}
-use Rattle.rules.specs.State.{if_then_else_, Lane, State}
+use Rattle.units.specs.Plain.{if_then_else_}
+use Rattle.rules.specs.State.{Lane, State}
 use Rattle.rules.specs.Sets.{groups, groupStart, setWord, ready, ineligibleReady, eligibleBlocked, ineligibleBlocked}
 use Rattle.units.specs.declared.Clock.{Clock}
 use Rattle.rules.specs.declared.SetWords.{SetWords}

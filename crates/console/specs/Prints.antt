@@ -10,7 +10,7 @@ use mathlib.Core.List.{List, _++_}
 use mathlib.Core.Option.{none}
 use lib.Dec.{ltb}
 use lib.ListN.{length, drop}
-use Rattle.rules.specs.State.{if_then_else_}
+use Rattle.units.specs.Plain.{if_then_else_}
 use Rattle.lines.specs.Line.{noLine}
 use Rattle.session.specs.Script.{script}
 

@@ -9,9 +9,10 @@ use lib.Dec.{ltb}
 use lib.ListN.{length, drop, length-append}
 use borrow.Author.Tests.{ltb-true, ltb-false, lt-ltb, le-ltb}
 use Rattle.units.specs.Numbers.{lineRate}
-use Rattle.rules.specs.State.{if_then_else_, Rec, Setting, Lane, noLane, State, charge, some?, holds, laneAt, setupOf}
+use Rattle.units.specs.Plain.{if_then_else_, without}
+use Rattle.rules.specs.State.{Rec, Setting, Lane, noLane, State, charge, some?, holds, laneAt, setupOf}
 use Rattle.rules.specs.Choice.{leastOf}
-use Rattle.rules.specs.Calls.{served, settledAt, settled, without, serve, Pick, takeOf}
+use Rattle.rules.specs.Calls.{served, settledAt, settled, serve, Pick, takeOf}
 use Rattle.rules.specs.Good.{Lengths, Times}
 use Rattle.rules.proofs.Bools.{if-ind}
 use Rattle.rules.proofs.Lists.{set-all}

@@ -8,7 +8,8 @@ use lib.Dec.{ltb}
 use lib.ListN.{length}
 use borrow.Author.Tests.{ltb-true, ltb-false}
 use Rattle.units.specs.Numbers.{roundDown}
-use Rattle.rules.specs.State.{if_then_else_, Rec, Setting, setupOf, Lane, State, group, slot, startR, holds, laneAt, anyHolds}
+use Rattle.units.specs.Plain.{if_then_else_}
+use Rattle.rules.specs.State.{Rec, Setting, setupOf, Lane, State, group, slot, startR, holds, laneAt, anyHolds}
 use Rattle.rules.specs.Calls.{appended, woken, accept}
 use Rattle.rules.proofs.Bools.{if-ind, not-passed}
 use Rattle.rules.proofs.Claim.{in-range}

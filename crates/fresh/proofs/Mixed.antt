@@ -10,7 +10,7 @@ use lib.ListN.{length, getD, set}
 use lib.Seq.{ext-getD}
 use Rattle.words.specs.Runs.{tab, tabFrom}
 use Rattle.words.proofs.Runs.{tab-ext, tab-set, getD-tab, length-tab, le-or-lt, eq-or-ne}
-use Rattle.rules.specs.State.{if_then_else_}
+use Rattle.units.specs.Plain.{if_then_else_}
 use Rattle.fresh.specs.Makes.{mixed}
 
 module _ {A : Type 0} (f g : ℕ → A) where

@@ -14,7 +14,8 @@ use mathlib.Core.List.{List, map}
 use lib.Dec.{ltb}
 use lib.ListN.{drop}
 use Rattle.words.specs.Runs.{tab}
-use Rattle.rules.specs.State.{if_then_else_, Setting, State, noSetting, settingAt, laneAt}
+use Rattle.units.specs.Plain.{if_then_else_}
+use Rattle.rules.specs.State.{Setting, State, noSetting, settingAt, laneAt}
 use Rattle.rules.specs.Calls.{idle, fresh}
 use Rattle.table.specs.Layout.{WORDS, cells, rowOf}
 use Rattle.table.specs.Means.{meant, Beside, RowAgrees, givenOf}

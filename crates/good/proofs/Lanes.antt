@@ -13,7 +13,7 @@ use lib.ListN.{length, getD}
 use Rattle.words.proofs.Runs.{eq-or-ne}
 use Rattle.units.specs.Numbers.{roundDown}
 use Rattle.rules.specs.State.{Rec, Setting, Lane, holds, some?, eligible, slot, noLane}
-use Rattle.rules.specs.Sets.{wordOf, anyBelow}
+use Rattle.units.specs.Plain.{anyBelow, wordOf}
 use Rattle.table.specs.Layout.{rowAt, presentWord}
 use Rattle.table.specs.Means.{presentAt, Next, ringOf, givenOf, timed, laneOf, RowAgrees}
 use Rattle.table.specs.declared.LaneRow.{LaneRow}

@@ -8,8 +8,7 @@ use native.Mathlib.Numerals.{add-one}
 use native.Mathlib.Omega.{arith}
 use Rattle.words.specs.Runs.{tab, tabFrom}
 use Rattle.words.proofs.Runs.{tab-snoc, eq-or-ne}
-use Rattle.rules.specs.State.{if_then_else_, sum}
-use Rattle.rules.specs.Sets.{wordOf, anyBelow}
+use Rattle.units.specs.Plain.{if_then_else_, sum, anyBelow, wordOf}
 use Rattle.good.specs.Pass.{sumTo}
 
 module _ {A B : Type 0} where

@@ -13,8 +13,7 @@ use lib.ListN.{getD}
 use lib.Pow.{pow-mono}
 use Rattle.words.specs.Runs.{reads}
 use Rattle.words.proofs.Runs.{reads-snoc, eq-or-ne}
-use Rattle.rules.specs.State.{if_then_else_}
-use Rattle.rules.specs.Good.{times}
+use Rattle.units.specs.Plain.{if_then_else_, times}
 use Rattle.table.specs.Layout.{orderWord}
 use Rattle.words.specs.Bits.{bit}
 use Rattle.good.specs.Pass.{Ordered}

@@ -10,10 +10,10 @@ use lib.Pow.{pow-pos, pow-mono}
 use lib.ListN.{length, length-map, List·getD-eq-default}
 use Rattle.words.specs.Runs.{tab}
 use Rattle.words.proofs.Runs.{length-tab}
-use Rattle.rules.specs.State.{if_then_else_, Setting, Lane, laneAt, holds, eligible, noLane, noSetting, setupOf, laneDepth}
+use Rattle.units.specs.Plain.{if_then_else_, times, anyBelow, wordOf, count}
+use Rattle.rules.specs.State.{Setting, Lane, laneAt, holds, eligible, noLane, noSetting, setupOf, laneDepth}
 use Rattle.rules.specs.Setup.{InNumbers, Setup, weights}
-use Rattle.rules.specs.Good.{Lengths, Times, times}
-use Rattle.rules.specs.Sets.{wordOf, anyBelow, count}
+use Rattle.rules.specs.Good.{Lengths, Times}
 use Rattle.rules.proofs.Lane.{slot-pos}
 use Rattle.rules.proofs.Word.{word-lt, word-bit}
 use Rattle.rules.proofs.SameSetup.{setting-lane}

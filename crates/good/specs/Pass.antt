@@ -13,9 +13,8 @@ use lib.Dec.{leb, ltb}
 use Rattle.words.specs.Bits.{bit}
 use Rattle.words.specs.Runs.{reads}
 use Rattle.units.specs.Numbers.{roundDown}
-use Rattle.rules.specs.State.{if_then_else_, holds, eligible}
-use Rattle.rules.specs.Sets.{wordOf, anyBelow}
-use Rattle.rules.specs.Good.{times}
+use Rattle.units.specs.Plain.{if_then_else_, times, anyBelow, wordOf}
+use Rattle.rules.specs.State.{holds, eligible}
 use Rattle.table.specs.Layout.{orderWord}
 use Rattle.table.specs.Means.{presentAt, laneOf}
 use Rattle.table.specs.declared.LaneRow.{LaneRow}

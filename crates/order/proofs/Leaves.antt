@@ -4,7 +4,7 @@ use Prim.Native.Nat.{ℕ, _+_, _*_, _≤_, _<_}
 use mathlib.Core.List.{List, [], _∷_, _++_}
 use native.Mathlib.Omega.{arith}
 use lib.ListN.{length, drop, set}
-use Rattle.rules.specs.Calls.{without}
+use Rattle.units.specs.Plain.{without}
 use Rattle.table.specs.Layout.{WORDS, Now, cells, holdingWord, orderWord}
 use Rattle.table.specs.Means.{meant, Leaves, withOrder}
 use Rattle.table.proofs.Stores.{length-cells, now-then}

@@ -10,8 +10,7 @@ use lib.ListN.{length, getD, set, length-set}
 use lib.Seq.{getD-set-same, getD-set-other}
 use Rattle.words.specs.Runs.{reads}
 use Rattle.words.proofs.Runs.{reads-ext, reads-snoc}
-use Rattle.rules.specs.State.{if_then_else_}
-use Rattle.rules.specs.Calls.{without}
+use Rattle.units.specs.Plain.{if_then_else_, without}
 use Rattle.table.specs.Layout.{holdingWord, orderWord}
 use Rattle.table.proofs.Footprint.{OutsideOrder}
 

@@ -5,7 +5,7 @@
 ghost use mathlib.Core.List.{[], _∷_, _++_};
 ghost use Prim.Native.Nat.{_+_, _<_};
 ghost use lib.ListN.{length};
-ghost use Rattle.rules.specs.Calls.{without};
+ghost use Rattle.units.specs.Plain.{without};
 ghost use Rattle.table.specs.Means.{meant, Sound, Leaves, withOrder};
 use table::HOLDING;
 use table::ORDER;

@@ -14,7 +14,8 @@ use native.Mathlib.Omega.{arith}
 use borrow.Author.Tests.{eqb-true, not-false, ltb-false}
 use lib.Dec.{eqb, ltb}
 use lib.ListN.{length}
-use Rattle.rules.specs.State.{if_then_else_, Setting}
+use Rattle.units.specs.Plain.{if_then_else_}
+use Rattle.rules.specs.State.{Setting}
 use Rattle.plan.specs.Fields.{Item, whole, bad}
 use Rattle.plan.specs.Judge.{judgedAt, after}
 use Rattle.plan.specs.Read.{Reply, read, refused, nothingSeen, noLanes, next, walk, readPlan, closed, readSetup, settings, came, reads}

@@ -10,5 +10,4 @@ pub mod Closed
 pub mod Rest
 pub mod Accepted
 pub mod Prefix
-pub mod Examples
 pub mod Refusals

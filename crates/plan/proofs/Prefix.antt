@@ -15,7 +15,8 @@ use lib.Seq.{getD-take}
 use Rattle.fields.specs.Bytes.{byteAt, big}
 use Rattle.fields.proofs.Numbers.{big-same}
 use Rattle.fields.proofs.Header.{header-whole}
-use Rattle.rules.specs.State.{if_then_else_, Setting}
+use Rattle.units.specs.Plain.{if_then_else_}
+use Rattle.rules.specs.State.{Setting}
 use Rattle.plan.specs.Fields.{Item, whole, bad, known, fitting, longestAt, laneAt, fieldOf, itemAt}
 use Rattle.plan.specs.Judge.{judgedAt, after}
 use Rattle.plan.specs.Read.{read, nothingSeen, noLanes, placed, next, walk, readPlan}

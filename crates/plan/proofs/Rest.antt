@@ -12,7 +12,8 @@ use mathlib.Core.Option.{Option}
 use native.Mathlib.Omega.{arith}
 use borrow.Author.Tests.{eqb-false}
 use lib.ListN.{length}
-use Rattle.rules.specs.State.{sum, Setting}
+use Rattle.units.specs.Plain.{sum}
+use Rattle.rules.specs.State.{Setting}
 use Rattle.plan.specs.Fields.{Item, whole, bad, itemAt}
 use Rattle.plan.specs.Judge.{judgedAt, after}
 use Rattle.plan.specs.Read.{read, refused, placed, next, walk}

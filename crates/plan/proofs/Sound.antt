@@ -8,7 +8,8 @@ use mathlib.Core.Logic.{_⊎_, inl, inr}
 use native.Mathlib.Omega.{arith}
 use borrow.Author.Tests.{lt-ltb}
 use lib.ListN.{length, set, length-set}
-use Rattle.rules.specs.State.{sum, Setting, noSetting, settingAt}
+use Rattle.units.specs.Plain.{sum}
+use Rattle.rules.specs.State.{Setting, noSetting, settingAt}
 use Rattle.rules.specs.Setup.{InNumbers, weights}
 use Rattle.plan.specs.Judge.{given, misplaced, outside, over, after}
 use Rattle.plan.specs.Read.{nothingSeen, noLanes, placed}

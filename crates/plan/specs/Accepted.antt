@@ -15,7 +15,8 @@ use mathlib.Core.List.{List, [], _∷_, _++_, map}
 use mathlib.Core.Option.{Option, some}
 use lib.Dec.{ltb}
 use lib.ListN.{length}
-use Rattle.rules.specs.State.{if_then_else_, sum, Setting}
+use Rattle.units.specs.Plain.{if_then_else_, sum}
+use Rattle.rules.specs.State.{Setting}
 use Rattle.rules.specs.Setup.{Setup, weights}
 use Rattle.plan.specs.Fields.{Item, whole, bad, ends, itemAt}
 use Rattle.plan.specs.Read.{noLanes, placed}

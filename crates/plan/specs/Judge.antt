@@ -14,7 +14,8 @@ use mathlib.Core.Bool.{Bool, true, false, not, _||_, _&&_}
 use mathlib.Core.List.{List}
 use mathlib.Core.Option.{some}
 use lib.Dec.{ltb, leb, eqb}
-use Rattle.rules.specs.State.{if_then_else_, Setting}
+use Rattle.units.specs.Plain.{if_then_else_}
+use Rattle.rules.specs.State.{Setting}
 use Rattle.plan.specs.Fields.{Item, whole, bad, itemAt}
 use Rattle.plan.specs.declared.judge.Seen.{Seen}
 use Rattle.plan.specs.declared.parse.Longest.{Longest}

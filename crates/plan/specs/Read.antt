@@ -12,7 +12,8 @@ use mathlib.Core.List.{List, map}
 use mathlib.Core.Option.{Option, some}
 use lib.Dec.{ltb}
 use lib.ListN.{length, set, replicate}
-use Rattle.rules.specs.State.{if_then_else_, Setting, noSetting}
+use Rattle.units.specs.Plain.{if_then_else_}
+use Rattle.rules.specs.State.{Setting, noSetting}
 use Rattle.rules.specs.Reads.{number, placeOf}
 use Rattle.plan.specs.Fields.{Item, whole, bad, ends}
 use Rattle.plan.specs.Judge.{given, judgedAt, after}

@@ -113,7 +113,7 @@ pub fn judged_field(s: &[u8], at: usize, seen: Seen) -> Parsed
     requires { ⌜ seen .total ≤ 1024 ⌝ }
     ensures { λ r. ⌜ itemOf r ≡ judgedAt seen (now (s .entry)) at ⌝ }
 {
-    let parsed = crate::parse::parsed_field(s, at);
+    let parsed = crate::reader::field_at(s, at);
     let Parsed::Whole(field, _) = parsed else {
         return parsed;
     };

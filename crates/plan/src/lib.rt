@@ -1,10 +1,11 @@
 // The setup reader: document 01, "Setup and session fields", with the refusals 1 to 6 of "Numbers given back".
 //
-//   parse   one field of a setup, taken apart: refusals 1 to 3, in the order 1 (header), 2, 3, 1 (value)
-//   judge   a field judged by the fields before it: refusals 4, 5 and 6, in this order
-//   lib     the walk: `read_plan` where a setup stands in a longer input, `read_setup` where it is the whole input
+//   parse    one field of a setup, taken apart: refusals 1 to 3, in the order 1 (header), 2, 3, 1 (value)
+//   reader   the reader, a struct of the lent bytes and a place: each field is read through it
+//   judge    a field judged by the fields before it: refusals 4, 5 and 6, in this order
+//   lib      the walk: `read_plan` where a setup stands in a longer input, `read_setup` where it is the whole input
 //
-// The reader stands on the lent bytes at a place and moves by fields; nothing is written but the plan, which is answered by value. `read_plan` and
+// The walk moves by fields, and nothing is written but the plan, which is answered by value. `read_plan` and
 // `read_setup` take any bytes and any place. What they answer is `readPlan` and `readSetup` of specs/Read.antt, and proofs/Accepted.antt says that
 // an accepted plan is within the numbers.
 //
@@ -17,6 +18,7 @@ ghost use Rattle.plan.specs.Read.{noLanes, placed, settingOf, came, read
 
 pub mod judge;
 pub mod parse;
+pub mod reader;
 
 use judge::Seen;
 use parse::LaneField;

@@ -19,7 +19,7 @@ use Rattle.fields.specs.Bytes.{byteAt, big}
 use Rattle.fields.specs.Header.{headerAt}
 use Rattle.fields.specs.declared.Field.the-variants.{Nothing, Cut, Header}
 use Rattle.fields.proofs.Header.{header-whole, header-cut, header-none}
-use Rattle.rules.specs.State.{if_then_else_}
+use Rattle.units.specs.Plain.{if_then_else_}
 use Rattle.requests.specs.Request.{sizeOf, Heading, right, wrong, sized, headed, headAt, request, last, bad, callOf, valued, itemAt}
 
 module _ (s : List ℕ) (at : ℕ) where

@@ -5,7 +5,8 @@ use native.Mathlib.Omega.{arith}
 use mathlib.Core.Path.{_≡_, refl, sym, ap, subst}
 use mathlib.Core.Bool.{Bool, true}
 use mathlib.Core.List.{List, [], _∷_}
-use Rattle.rules.specs.State.{if_then_else_, Rec, Setting, settingAt, Lane, State, slot, finishR, some?, holds, laneAt, setupOf}
+use Rattle.units.specs.Plain.{if_then_else_}
+use Rattle.rules.specs.State.{Rec, Setting, settingAt, Lane, State, slot, finishR, some?, holds, laneAt, setupOf}
 use Rattle.rules.specs.Setup.{Setup, margin}
 use Rattle.rules.specs.Calls.{Call, fresh, step}
 use Rattle.rules.specs.Runs.{after}

@@ -1,7 +1,7 @@
 -- Laws of tests. Assumes nothing.
 use mathlib.Core.Path.{_≡_, refl, sym}
 use mathlib.Core.Bool.{Bool, true, false, _&&_, _||_, false≢true}
-use Rattle.rules.specs.State.{if_then_else_}
+use Rattle.units.specs.Plain.{if_then_else_}
 
 -- what holds of both branches, each under its test, holds of the choice
 pub if-ind {ℓ κ} : {A : Type ℓ} (P : A → Type κ) (b : Bool) (x y : A) → (b ≡ true → P x) → (b ≡ false → P y) → P (if b then x else y)

@@ -7,7 +7,8 @@ use mathlib.Core.Bool.{Bool, true, false, false≢true}
 use mathlib.Core.List.{List, [], _∷_, map}
 use lib.ListN.{getD}
 use Rattle.units.proofs.Round.{lt-round-slot}
-use Rattle.rules.specs.State.{if_then_else_, sum, Rec, Setting, noSetting, Lane, charge, slot, finishR, some?, holds, noLane}
+use Rattle.units.specs.Plain.{if_then_else_, sum}
+use Rattle.rules.specs.State.{Rec, Setting, noSetting, Lane, charge, slot, finishR, some?, holds, noLane}
 use Rattle.rules.specs.Calls.{idle}
 use Rattle.rules.proofs.Lists.{le-sum, getD-map}
 use Rattle.rules.proofs.Lane.{slot-pos}

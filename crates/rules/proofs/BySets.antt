@@ -9,10 +9,11 @@ use mathlib.Core.Option.{Option, none, some}
 use mathlib.Core.List.{List, [], _∷_}
 use lib.Dec.{eqb}
 use borrow.Author.Tests.{eqb-true, eq-eqb, ne-eqb}
-use Rattle.rules.specs.State.{if_then_else_, Setting, Lane, State, group, slot, startR, finishR, holds, eligible, laneAt, setupOf}
-use Rattle.rules.specs.Choice.{place, Candidate, choose}
+use Rattle.units.specs.Plain.{if_then_else_, place, times}
+use Rattle.rules.specs.State.{Setting, Lane, State, group, slot, startR, finishR, holds, eligible, laneAt, setupOf}
+use Rattle.rules.specs.Choice.{Candidate, choose}
 use Rattle.rules.specs.Sets.{groups, inGroup, groupStart, finishFrom, groupFinish, firstGroup, SetsRule}
-use Rattle.rules.specs.Good.{times, Good}
+use Rattle.rules.specs.Good.{Good}
 use Rattle.rules.proofs.Bools.{and-parts, and-made}
 use Rattle.rules.proofs.Lane.{group-most}
 use Rattle.rules.proofs.Lowest.{LowOf}

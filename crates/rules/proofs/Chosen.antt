@@ -10,7 +10,8 @@ use lib.Dec.{ltb, eqb}
 use lib.ListN.{getD}
 use borrow.Author.Tests.{ltb-true, ltb-false, eqb-true, eqb-false}
 use Rattle.rules.specs.State.{Lane, group, finishR, eligible, noLane}
-use Rattle.rules.specs.Choice.{place, Candidate, before, best, chooseFrom, least}
+use Rattle.units.specs.Plain.{place}
+use Rattle.rules.specs.Choice.{Candidate, before, best, chooseFrom, least}
 use Rattle.rules.proofs.Bools.{if-ind}
 
 -- ---- the choice

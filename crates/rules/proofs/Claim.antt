@@ -10,7 +10,8 @@ use mathlib.Core.List.{List, [], _∷_}
 use lib.Dec.{leb}
 use lib.ListN.{length, getD, set}
 use borrow.Author.Tests.{leb-true, le-leb}
-use Rattle.rules.specs.State.{sum, Setting, Lane, Rec, rate, slot, charge, finishR, holds, noLane, if_then_else_}
+use Rattle.units.specs.Plain.{if_then_else_, sum}
+use Rattle.rules.specs.State.{Setting, Lane, Rec, rate, slot, charge, finishR, holds, noLane}
 use Rattle.rules.proofs.Lists.{sum-set, sum-mono, sum-scale}
 use Rattle.rules.proofs.Bools.{if-ind}
 

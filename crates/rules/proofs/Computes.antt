@@ -1,9 +1,10 @@
 -- One name under which every definition of the rules opens: a proof that says `unfolding rules` computes an example. Assumes nothing.
 use Rattle.units.specs.Numbers.{perByte, powerFrom, leastPower, roundDown}
 use Rattle.rules.specs.State.{charge, group, slot, eligible, anyHolds}
-use Rattle.rules.specs.Choice.{place, before, best, chooseFrom, choose, leastOf}
-use Rattle.rules.specs.Sets.{inGroup, groupStart, heldStart, reached, finishFrom, groupHolds, groupEligible, groupFinish, anyBelow, wordOf, blocks, blocked, ready, ineligibleReady, eligibleBlocked, ineligibleBlocked}
-use Rattle.rules.specs.Calls.{putRefusal, appended, woken, accept, putOf, doPut, served, settledAt, settled, without, serve, firstOf, pickOf, picked, takeOf, doTake, lookOf, doLook, doSets, lagOf, doLag, idle, fresh, doRestart, step}
+use Rattle.units.specs.Plain.{place, without, anyBelow, wordOf}
+use Rattle.rules.specs.Choice.{before, best, chooseFrom, choose, leastOf}
+use Rattle.rules.specs.Sets.{inGroup, groupStart, heldStart, reached, finishFrom, groupHolds, groupEligible, groupFinish, blocks, blocked, ready, ineligibleReady, eligibleBlocked, ineligibleBlocked}
+use Rattle.rules.specs.Calls.{putRefusal, appended, woken, accept, putOf, doPut, served, settledAt, settled, serve, firstOf, pickOf, picked, takeOf, doTake, lookOf, doLook, doSets, lagOf, doLag, idle, fresh, doRestart, step}
 use Rattle.rules.specs.Runs.{after, trace}
 
 unfoldable pub rules : Unit {0}

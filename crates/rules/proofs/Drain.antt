@@ -7,7 +7,8 @@ use mathlib.Core.Bool.{true, false, false≢true}
 use mathlib.Core.List.{List, [], _∷_}
 use mathlib.Core.Option.{Option, none, some}
 use lib.ListN.{length, getD, replicate}
-use Rattle.rules.specs.State.{sum, Rec, Lane, noLane, State, some?, holds, laneAt, setupOf, anyHolds}
+use Rattle.units.specs.Plain.{sum}
+use Rattle.rules.specs.State.{Rec, Lane, noLane, State, some?, holds, laneAt, setupOf, anyHolds}
 use Rattle.rules.specs.Calls.{take, restart, restarted, taken, served, serve, Pick, picked, takeOf, doTake, fresh, doRestart, step}
 use Rattle.rules.specs.Runs.{after}
 use Rattle.rules.proofs.Bools.{not-passed}

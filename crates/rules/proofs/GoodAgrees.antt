@@ -9,9 +9,10 @@ use mathlib.Core.List.{List, [], _∷_}
 use lib.Dec.{leb, ltb}
 use lib.ListN.{length, getD, length-map}
 use borrow.Author.Tests.{leb-true, le-leb, ltb-true, lt-ltb, eqb-true, eq-eqb, ne-eqb}
-use Rattle.rules.specs.State.{if_then_else_, noSetting, Lane, noLane, State, laneDepth, slot, holds, eligible, laneAt, setupOf, anyHolds}
+use Rattle.units.specs.Plain.{if_then_else_, times}
+use Rattle.rules.specs.State.{noSetting, Lane, noLane, State, laneDepth, slot, holds, eligible, laneAt, setupOf, anyHolds}
 use Rattle.rules.specs.Setup.{Setup}
-use Rattle.rules.specs.Good.{times, Good}
+use Rattle.rules.specs.Good.{Good}
 use Rattle.rules.proofs.Bools.{and-parts, or-right}
 use Rattle.rules.proofs.Lane.{slot-pos}
 use Rattle.rules.proofs.Live.{some-holds, holds-some}

@@ -8,9 +8,10 @@ use mathlib.Core.List.{List, [], _∷_}
 use lib.Dec.{leb, ltb, eqb}
 use lib.ListN.{length, getD}
 use borrow.Author.Tests.{leb-true, le-leb, ltb-true, lt-ltb, eqb-true, eq-eqb}
-use Rattle.rules.specs.State.{if_then_else_, Rec, Setting, noSetting, settingAt, Lane, State, charge, laneDepth, rate, slot, startR, holds, eligible, laneAt, setupOf, anyHolds}
+use Rattle.units.specs.Plain.{if_then_else_, times}
+use Rattle.rules.specs.State.{Rec, Setting, noSetting, settingAt, Lane, State, charge, laneDepth, rate, slot, startR, holds, eligible, laneAt, setupOf, anyHolds}
 use Rattle.rules.specs.Setup.{InNumbers, weights, Setup, margin}
-use Rattle.rules.specs.Good.{Lengths, Times, times}
+use Rattle.rules.specs.Good.{Lengths, Times}
 use Rattle.rules.proofs.Bools.{and-parts, and-made}
 
 -- ---- the test

@@ -10,7 +10,8 @@ use mathlib.Core.List.{List, [], _∷_, map}
 use lib.Dec.{leb, ltb}
 use lib.ListN.{length, set}
 use borrow.Author.Tests.{le-leb, leb-true, leb-false, ltb-true, ltb-false, not-true}
-use Rattle.rules.specs.State.{sum, Setting, noSetting, setupOf, Lane, Rec, State, charge, startR, finishR, holds, some?, eligible, noLane, laneAt, anyHolds}
+use Rattle.units.specs.Plain.{sum}
+use Rattle.rules.specs.State.{Setting, noSetting, setupOf, Lane, Rec, State, charge, startR, finishR, holds, some?, eligible, noLane, laneAt, anyHolds}
 use Rattle.rules.specs.Choice.{Candidate, choose, chooseFrom, leastOf}
 use Rattle.rules.specs.Calls.{Pick, Call, Outcome, put, take, look, sets, lag, restart, served, woken, settled, settledAt, serve, firstOf, pickOf, takeOf, lookOf, picked, doTake, putRefusal, accept, putOf, doPut, doLook, doLag, doSets, doRestart, fresh, step}
 use Rattle.rules.specs.Runs.{after}

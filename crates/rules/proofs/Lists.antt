@@ -8,7 +8,7 @@ use mathlib.Core.Logic.{_⊎_, inl, inr}
 use mathlib.Core.List.{List, [], _∷_, map}
 use lib.Dec.{T}
 use lib.ListN.{length, getD, set}
-use Rattle.rules.specs.State.{sum}
+use Rattle.units.specs.Plain.{sum}
 
 module _ {A : Type 0} where
   pub sum-set : (f : A → ℕ) (xs : List A) (j : ℕ) (y d : A) → j < length xs → sum f (set xs j y) + f (getD xs j d) ≡ sum f xs + f y

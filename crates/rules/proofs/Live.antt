@@ -10,7 +10,8 @@ use mathlib.Core.List.{List, [], _∷_}
 use lib.Dec.{ltb}
 use lib.ListN.{length, getD, set}
 use borrow.Author.Tests.{ltb-false}
-use Rattle.rules.specs.State.{Setting, setupOf, Lane, Rec, State, charge, startR, holds, noLane, laneAt, if_then_else_, eligible, anyHolds}
+use Rattle.units.specs.Plain.{if_then_else_}
+use Rattle.rules.specs.State.{Setting, setupOf, Lane, Rec, State, charge, startR, holds, noLane, laneAt, eligible, anyHolds}
 use Rattle.rules.specs.Choice.{leastOf}
 use Rattle.rules.specs.Calls.{Pick, Call, Outcome, put, take, look, sets, lag, restart, served, woken, appended, settled, settledAt, serve, takeOf, picked, doTake, putRefusal, accept, putOf, doPut, doLook, doSets, doRestart, idle, fresh, step}
 use Rattle.rules.proofs.Bools.{if-ind, or-right}

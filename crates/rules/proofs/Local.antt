@@ -7,7 +7,8 @@ use mathlib.Core.Logic.{_⊎_, inl, inr}
 use mathlib.Core.Option.{Option, none, some}
 use lib.Dec.{leb, ltb}
 use lib.ListN.{length}
-use Rattle.rules.specs.State.{if_then_else_, Lane, State, laneDepth, laneAt}
+use Rattle.units.specs.Plain.{if_then_else_}
+use Rattle.rules.specs.State.{Lane, State, laneDepth, laneAt}
 use Rattle.rules.specs.Calls.{putRefusal}
 
 -- the refusals 11 to 13 of a lane, and what follows if there is none

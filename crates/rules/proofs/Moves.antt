@@ -9,7 +9,8 @@ use mathlib.Core.List.{List, [], _∷_, _++_}
 use lib.Dec.{T, leb}
 use lib.ListN.{getD, set}
 use borrow.Author.Tests.{leb-true, le-leb}
-use Rattle.rules.specs.State.{sum, Setting, Lane, Rec, slot, startR, finishR, holds, some?, noLane, if_then_else_}
+use Rattle.units.specs.Plain.{if_then_else_, sum}
+use Rattle.rules.specs.State.{Setting, Lane, Rec, slot, startR, finishR, holds, some?, noLane}
 use Rattle.rules.specs.Calls.{woken, appended, idle}
 use Rattle.units.proofs.Round.{round-le, lt-round-slot}
 use Rattle.rules.proofs.Bools.{if-ind}

@@ -10,7 +10,8 @@ use mathlib.Core.List.{List, [], _∷_, _++_, append-nil}
 use lib.Dec.{ltb, eqb}
 use lib.ListN.{length, getD, set}
 use borrow.Author.Tests.{eq-eqb, ne-eqb}
-use Rattle.rules.specs.State.{if_then_else_, Rec, noSetting, Lane, noLane, State, some?, holds, laneAt, setupOf, anyHolds}
+use Rattle.units.specs.Plain.{if_then_else_}
+use Rattle.rules.specs.State.{Rec, noSetting, Lane, noLane, State, some?, holds, laneAt, setupOf, anyHolds}
 use Rattle.rules.specs.Calls.{Call, put, take, look, sets, lag, restart, Reply, accepted, seen, refused, lagged, Outcome, no, putRefusal, appended, woken, accept, putOf, doPut, served, serve, Pick, picked, takeOf, doTake, lookOf, doLook, doSets, lagOf, doLag, idle, fresh, doRestart, step}
 use Rattle.rules.specs.Runs.{sentIn, offeredIn, isAccepted, acceptedIn, ofLane}
 use Rattle.rules.proofs.Bools.{if-ind}

@@ -9,7 +9,8 @@ use mathlib.Core.Option.{Option, none, some}
 use mathlib.Core.List.{List, [], _∷_, _++_, map}
 use lib.Dec.{ltb}
 use lib.ListN.{length, getD, set, length-append, length-set, length-map}
-use Rattle.rules.specs.State.{sum, laneDepth, Setting, noSetting, setupOf, Lane, Rec, State, charge, slot, startR, holds, noLane, laneAt, if_then_else_, anyHolds}
+use Rattle.units.specs.Plain.{if_then_else_, sum}
+use Rattle.rules.specs.State.{laneDepth, Setting, noSetting, setupOf, Lane, Rec, State, charge, slot, startR, holds, noLane, laneAt, anyHolds}
 use Rattle.rules.specs.Choice.{leastOf}
 use Rattle.rules.specs.Calls.{Pick, Call, Outcome, put, take, look, sets, lag, restart, served, woken, appended, settled, settledAt, serve, takeOf, picked, doTake, putRefusal, accept, putOf, doPut, doLook, doSets, doRestart, idle, fresh, step}
 use Rattle.rules.specs.Runs.{after}

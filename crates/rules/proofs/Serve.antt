@@ -9,7 +9,8 @@ use mathlib.Core.Path.{_≡_, refl, subst, ap}
 use mathlib.Core.Bool.{true, false, false≢true}
 use mathlib.Core.List.{List, [], _∷_}
 use lib.ListN.{getD, set}
-use Rattle.rules.specs.State.{sum, Lane, Rec, rate, slot, charge, startR, finishR, holds, some?, noLane}
+use Rattle.units.specs.Plain.{sum}
+use Rattle.rules.specs.State.{Lane, Rec, rate, slot, charge, startR, finishR, holds, some?, noLane}
 use Rattle.rules.specs.Calls.{served}
 use Rattle.units.proofs.Round.{round-le, lt-round-slot, round-mono}
 use Rattle.rules.proofs.Lists.{sum-set, set-all}

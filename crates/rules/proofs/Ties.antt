@@ -8,9 +8,9 @@ use mathlib.Core.Option.{Option, none, some}
 use mathlib.Core.List.{List, [], _∷_, _++_}
 use lib.Dec.{eqb}
 use borrow.Author.Tests.{eqb-true, eq-eqb, ne-eqb}
-use Rattle.rules.specs.State.{Setting, setupOf, Lane, Rec, State, holds, some?, noLane, laneAt, if_then_else_, anyHolds}
-use Rattle.rules.specs.Calls.{Pick, Call, Outcome, put, take, look, sets, lag, restart, served, woken, appended, without, serve, takeOf, picked, doTake, putRefusal, accept, putOf, doPut, doLook, doSets, doRestart, idle, fresh, step}
-use Rattle.rules.specs.Good.{times}
+use Rattle.units.specs.Plain.{if_then_else_, times, without}
+use Rattle.rules.specs.State.{Setting, setupOf, Lane, Rec, State, holds, some?, noLane, laneAt, anyHolds}
+use Rattle.rules.specs.Calls.{Pick, Call, Outcome, put, take, look, sets, lag, restart, served, woken, appended, serve, takeOf, picked, doTake, putRefusal, accept, putOf, doPut, doLook, doSets, doRestart, idle, fresh, step}
 use Rattle.rules.proofs.Bools.{if-ind}
 use Rattle.rules.proofs.Lists.{set-cases}
 use Rattle.rules.proofs.Claim.{in-range}

@@ -9,7 +9,8 @@ use mathlib.Core.List.{List, [], _∷_}
 use lib.Dec.{ltb, eqb}
 use lib.ListN.{set}
 use borrow.Author.Tests.{ltb-true, eq-eqb, ne-eqb}
-use Rattle.rules.specs.State.{if_then_else_, Rec, Lane, noLane, State, charge, rate, startR, holds, laneAt, setupOf, anyHolds}
+use Rattle.units.specs.Plain.{if_then_else_}
+use Rattle.rules.specs.State.{Rec, Lane, noLane, State, charge, rate, startR, holds, laneAt, setupOf, anyHolds}
 use Rattle.rules.specs.Choice.{leastOf}
 use Rattle.rules.specs.Calls.{Call, put, take, look, sets, lag, restart, Reply, accepted, seen, lagged, refused, Outcome, no, putRefusal, appended, woken, accept, putOf, doPut, served, settledAt, settled, serve, Pick, picked, takeOf, doTake, lookOf, doLook, doSets, lagOf, doLag, doRestart, step}
 use Rattle.rules.specs.Runs.{sentIn}

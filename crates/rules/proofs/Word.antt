@@ -7,9 +7,7 @@ use mathlib.Core.Bool.{Bool, true, false}
 use lib.Count.{trailingZeros}
 use lib.Pow.{pow-add, pow-pos, high}
 use mathlib.Core.Logic.{_⊎_, inl, inr}
-use Rattle.rules.specs.State.{if_then_else_}
-use Rattle.rules.specs.Sets.{wordOf}
-use Rattle.rules.specs.Sets.{count}
+use Rattle.units.specs.Plain.{if_then_else_, wordOf, count}
 use Rattle.rules.proofs.Bools.{if-ind}
 
 none-set : (p : ℕ → Bool) (m : ℕ) → ((i : ℕ) → i < m → p i ≡ false) → wordOf p m ≡ 0

@@ -10,11 +10,12 @@ use Prim.Native.Nat.{ℕ, _+_, _*_, _^_, max}
 use mathlib.Core.Bool.{not, _&&_, _||_}
 use mathlib.Core.List.{List, [], _∷_, _++_, map}
 use mathlib.Core.Option.{Option, none, some}
-use lib.Dec.{leb, ltb, eqb}
+use lib.Dec.{leb, ltb}
 use lib.IntN.{ℤ, subℕ}
 use lib.ListN.{length, set}
 use Rattle.units.specs.Numbers.{lineRate}
-use Rattle.rules.specs.State.{if_then_else_, Rec, Setting, Lane, State, charge, laneDepth, rate, startR, some?, holds, laneAt, setupOf, anyHolds}
+use Rattle.units.specs.Plain.{if_then_else_, without}
+use Rattle.rules.specs.State.{Rec, Setting, Lane, State, charge, laneDepth, rate, startR, some?, holds, laneAt, setupOf, anyHolds}
 use Rattle.rules.specs.Choice.{Candidate, choose, leastOf}
 use Rattle.rules.specs.Sets.{ready, ineligibleReady, eligibleBlocked, ineligibleBlocked, setWord}
 
@@ -97,11 +98,6 @@ settledAt v (some r) = if ltb v r then r else v
 
 unfoldable pub settled : ℕ → List Lane → ℕ
 settled v ls = settledAt v (leastOf holds ls)
-
--- the lane numbers without j
-unfoldable pub without : ℕ → List ℕ → List ℕ
-without j [] = []
-without j (k ∷ ks) = if eqb j k then without j ks else k ∷ without j ks
 
 -- Lane j's first record r is handed out, and rs stay. "V grows by 1,024 times the length." A new S is got now, also where R is the same, so the lane
 -- goes to the end of the tie order.

@@ -9,12 +9,8 @@ use mathlib.Core.Bool.{Bool, _&&_, _||_}
 use mathlib.Core.List.{List, [], _∷_}
 use mathlib.Core.Option.{Option, none, some}
 use lib.Dec.{leb, ltb, eqb}
-use Rattle.rules.specs.State.{if_then_else_, Lane, State, group, startR, finishR, eligible}
-
--- the place of a number in a list; the list's length where it is not there
-unfoldable pub place : ℕ → List ℕ → ℕ
-place j [] = 0
-place j (k ∷ ks) = if eqb j k then 0 else suc (place j ks)
+use Rattle.units.specs.Plain.{if_then_else_, place}
+use Rattle.rules.specs.State.{Lane, State, group, startR, finishR, eligible}
 
 -- what the choice goes by: the rounded finish, the group, and the place in the tie order
 pub record Candidate : Type 0 where

@@ -13,7 +13,8 @@ use mathlib.Core.Option.{Option, none, some}
 use lib.ListN.{length}
 use lib.Dec.{eqb}
 use Rattle.units.specs.Numbers.{lineRate}
-use Rattle.rules.specs.State.{if_then_else_, sum, Setting, settingAt, charge, rate, slot}
+use Rattle.units.specs.Plain.{if_then_else_, sum}
+use Rattle.rules.specs.State.{Setting, settingAt, charge, rate, slot}
 use Rattle.rules.specs.Setup.{Setup, margin}
 use Rattle.rules.specs.Calls.{Call, fresh}
 use Rattle.rules.specs.Runs.{Event, trace, Moving, sentIn, acceptedOf, sentOf}

@@ -5,9 +5,9 @@ use Prim.Native.Nat.{ℕ, _+_, _*_, _^_, _≤_, _<_}
 use mathlib.Core.Path.{_≡_}
 use mathlib.Core.Bool.{true}
 use mathlib.Core.List.{List, [], _∷_}
-use lib.Dec.{eqb}
 use lib.ListN.{length}
-use Rattle.rules.specs.State.{if_then_else_, Rec, Setting, Lane, State, charge, laneDepth, rate, slot, startR, holds, eligible, laneAt, setupOf}
+use Rattle.units.specs.Plain.{if_then_else_, times}
+use Rattle.rules.specs.State.{Rec, Setting, Lane, State, charge, laneDepth, rate, slot, startR, holds, eligible, laneAt, setupOf}
 use Rattle.rules.specs.Setup.{Setup, margin}
 
 -- "each length 1 to the lane's longest"
@@ -23,11 +23,6 @@ Times v l (r ∷ rs) =
     (l .finish ≡ l .start + charge (l .given) (r .len) * rate (l .given))
     × (l .start < v + 2 * slot (l .given))
     × (v < startR l + 2 * slot (l .given) + margin)
-
--- how often a number stands in a list
-abbrev pub times : ℕ → List ℕ → ℕ
-times k [] = 0
-times k (j ∷ js) = (if eqb j k then 1 else 0) + times k js
 
 pub record Good (s : State) : Type 0 where
   -- "a setup within the numbers above"

@@ -1,7 +1,6 @@
 -- Document 01's numbers and values for each case of the answer enums. Every promise about an answer speaks of it through `reads`.
 --
---   number   a refusal's number
---   placeOf  its place, where the list has one
+--   listed   a refusal's number, and its place where the list has one; number, placeOf: the two alone
 --   reads    an answer as the rules give it
 --
 -- Assumes nothing.
@@ -13,41 +12,30 @@ use Rattle.rules.specs.declared.Refusal.the-variants.{Cut, UnknownTag, W
 use Rattle.rules.specs.declared.Answer.{Answer}
 use Rattle.rules.specs.declared.Answer.the-variants.{Accepted, Taken, Seen, Sets, Lag, Restarted, Refused}
 
+-- the list: No., and Place where it has one
+abbrev pub listed : Refusal → ℕ × Option ℕ
+listed (Cut p) = (1, some p)
+listed (UnknownTag p) = (2, some p)
+listed (WrongLength p) = (3, some p)
+listed (OutOfOrder p) = (4, some p)
+listed (OutsideNumbers p) = (5, some p)
+listed (WeightsOver p) = (6, some p)
+listed TableShort = (7, some 0)
+listed NotGood = (10, none)
+listed NoLane = (11, none)
+listed BadLength = (12, none)
+listed LaneFull = (13, none)
+listed ClockSpent = (14, none)
+listed StillHolds = (15, none)
+listed NothingHeld = (16, none)
+listed RunBounds = (17, none)
+listed InputLong = (18, none)
+
 abbrev pub number : Refusal → ℕ
-number (Cut p) = 1
-number (UnknownTag p) = 2
-number (WrongLength p) = 3
-number (OutOfOrder p) = 4
-number (OutsideNumbers p) = 5
-number (WeightsOver p) = 6
-number TableShort = 7
-number NotGood = 10
-number NoLane = 11
-number BadLength = 12
-number LaneFull = 13
-number ClockSpent = 14
-number StillHolds = 15
-number NothingHeld = 16
-number RunBounds = 17
-number InputLong = 18
+number x = (listed x) .0
 
 abbrev pub placeOf : Refusal → Option ℕ
-placeOf (Cut p) = some p
-placeOf (UnknownTag p) = some p
-placeOf (WrongLength p) = some p
-placeOf (OutOfOrder p) = some p
-placeOf (OutsideNumbers p) = some p
-placeOf (WeightsOver p) = some p
-placeOf TableShort = some 0
-placeOf NotGood = none
-placeOf NoLane = none
-placeOf BadLength = none
-placeOf LaneFull = none
-placeOf ClockSpent = none
-placeOf StillHolds = none
-placeOf NothingHeld = none
-placeOf RunBounds = none
-placeOf InputLong = none
+placeOf x = (listed x) .1
 
 abbrev pub reads : Answer → Reply
 reads Accepted = accepted

@@ -12,7 +12,8 @@ use mathlib.Core.Bool.{Bool, true, false}
 use mathlib.Core.List.{List, [], _∷_, _++_}
 use mathlib.Core.Option.{Option, none, some}
 use lib.Dec.{eqb}
-use Rattle.rules.specs.State.{if_then_else_, Rec, Setting, State, laneAt}
+use Rattle.units.specs.Plain.{if_then_else_}
+use Rattle.rules.specs.State.{Rec, Setting, State, laneAt}
 use Rattle.rules.specs.Calls.{Call, put, take, look, sets, lag, restart, Reply, accepted, taken, seen, words, lagged, restarted, refused, fresh, step}
 
 unfoldable pub after : State → List Call → State

@@ -3,18 +3,19 @@
 --   groupStart     a group's start, if it holds records
 --   blocked        some eligible group of higher index has a strictly smaller finish
 --   ready ..       the tests of the four words
---   wordOf         the word of the numbers at which a test passes
+--   setWord        the word of the groups at which a test passes
 --   SetsRule       what document 01 says of the four words
 --
 -- Assumes nothing.
-use Prim.Native.Nat.{ℕ, zero, suc, _+_, _*_, _^_, _≤_, _<_}
+use Prim.Native.Nat.{ℕ, _+_, _*_, _^_, _≤_, _<_}
 use mathlib.Core.Path.{_≡_}
-use mathlib.Core.Bool.{Bool, true, false, not, _&&_, _||_}
-use mathlib.Core.List.{List, [], _∷_}
+use mathlib.Core.Bool.{Bool, true, false, not, _&&_}
+use mathlib.Core.List.{List}
 use mathlib.Core.Option.{Option, none, some}
 use lib.Dec.{leb, ltb, eqb}
 use lib.Count.{trailingZeros}
-use Rattle.rules.specs.State.{if_then_else_, Lane, State, group, startR, holds, laneAt}
+use Rattle.units.specs.Plain.{count, anyBelow, wordOf}
+use Rattle.rules.specs.State.{Lane, State, group, startR, holds, laneAt}
 use Rattle.rules.specs.Choice.{Candidate, choose, leastOf}
 
 -- group indices are below 32, so that one word holds each set
@@ -50,15 +51,6 @@ groupEligible v ls i = reached v (groupStart ls i)
 unfoldable pub groupFinish : List Lane → ℕ → ℕ
 groupFinish ls i = finishFrom i (groupStart ls i)
 
--- a test passes at some number below n; the word of the numbers below n at which it passes
-unfoldable pub anyBelow : (ℕ → Bool) → ℕ → Bool
-anyBelow p zero = false
-anyBelow p (suc n) = p n || anyBelow p n
-
-unfoldable pub wordOf : (ℕ → Bool) → ℕ → ℕ
-wordOf p zero = 0
-wordOf p (suc n) = (if p n then 2 ^ n else 0) + wordOf p n
-
 -- "blocked when some eligible group of higher index has a strictly smaller finish"
 unfoldable pub blocks : ℕ → List Lane → ℕ → ℕ → Bool
 blocks v ls i k = ltb i k && (groupEligible v ls k && ltb (groupFinish ls k) (groupFinish ls i))
@@ -87,10 +79,6 @@ abbrev pub firstGroup : State → ℕ
 firstGroup s = trailingZeros 64 (setWord ready s)
 
 -- ---- what they mean, as a claim about one state (proofs/BySets.antt: it holds of every good one)
-
-abbrev pub count : Bool → ℕ
-count true = 1
-count false = 0
 
 pub record SetsRule (s : State) : Type 0 where
   -- "The four words .. part the groups that hold records": each group that holds records is in one of them, any other in none

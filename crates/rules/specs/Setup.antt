@@ -10,7 +10,8 @@ use mathlib.Core.Path.{_≡_}
 use mathlib.Core.Logic.{_⊎_}
 use mathlib.Core.List.{List, [], _∷_}
 use lib.ListN.{length}
-use Rattle.rules.specs.State.{sum, Setting, noSetting, settingAt, charge}
+use Rattle.units.specs.Plain.{sum}
+use Rattle.rules.specs.State.{Setting, noSetting, settingAt, charge}
 
 -- "Weight w: 1 to 1,024 .. Longest record of a lane: 64 to 1,500 bytes."
 pub record InNumbers (g : Setting) : Type 0 where

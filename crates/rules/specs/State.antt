@@ -18,15 +18,6 @@ use lib.Dec.{leb}
 use lib.ListN.{getD}
 use Rattle.units.specs.Numbers.{perByte, leastPower, roundDown}
 
-infix 20 if_then_else_
-abbrev pub if_then_else_ {ℓ} : {A : Type ℓ} → Bool → A → A → A
-if true then a else b = a
-if false then a else b = b
-
-abbrev pub sum : {A : Type 0} → (A → ℕ) → List A → ℕ
-sum f [] = 0
-sum f (x ∷ xs) = f x + sum f xs
-
 -- ---- what a state holds
 
 -- "records as (mark, length) pairs"

@@ -15,8 +15,21 @@ use Rattle.rules.proofs.NotTen.{NotTen, step-not-ten}
 use Rattle.rules.proofs.AlwaysGood.{fresh-reached, reached, reached-good}
 use Rattle.table.specs.Encodes.{Encodes}
 use Rattle.good.proofs.Encodes.{encodes-good}
-use Rattle.scheduler.specs.Demands.{FairCalls, NeverTen, OrderKept, SetupKept}
+use Rattle.scheduler.specs.Demands.{callsOf, AsRuled, FairCalls, NeverTen, OrderKept, SetupKept}
 use Rattle.scheduler.proofs.Chains.{begins-setup, begins-ran}
+
+-- the calls of a run are those that were given
+calls-of-trace : (s : State) (cs : List Call) → callsOf (trace s cs) ≡ cs
+unfolding trace
+calls-of-trace s [] = refl
+calls-of-trace s (c ∷ cs) = ap (λ (x : List Call). c ∷ x) (calls-of-trace ((step s c) .state) cs)
+
+pub as-ruled : AsRuled
+unfolding AsRuled
+as-ruled gs t u calls b ch =
+    let r = begins-ran gs t b u calls ch in
+    let same = sym (calls-of-trace (fresh gs) (r .calls)) ∙ ap callsOf (r .events) in
+    subst (λ (cs : List Call). (trace (fresh gs) cs ≡ calls) × Encodes u (after (fresh gs) cs)) same (r .events, r .encodes)
 
 -- demand 3
 pub fair-calls : FairCalls

@@ -6,7 +6,8 @@ use mathlib.Core.Bool.{Bool, true, false}
 use mathlib.Core.List.{List}
 use lib.Dec.{ltb}
 use lib.IntN.{ℤ}
-use Rattle.rules.specs.State.{if_then_else_, State, laneAt}
+use Rattle.units.specs.Plain.{if_then_else_}
+use Rattle.rules.specs.State.{State, laneAt}
 use Rattle.rules.specs.Setup.{margin}
 use Rattle.rules.specs.Calls.{Outcome, lag, lagged, no, lagOf, doLag, step}
 use Rattle.rules.specs.declared.Answer.the-variants.{Lag}

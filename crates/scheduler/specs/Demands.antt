@@ -1,5 +1,6 @@
 -- What holds of every list of public calls that begins with a table that `make` left: the demands, of the calls' own answers.
 --
+--   AsRuled      demand 2, of the whole list
 --   FairCalls    demand 3
 --   NeverTen     "No table made by these calls from a fresh one is ever found not good."
 --   OrderKept    "Each accepted record is handed out once, in its lane's order, or is still held."
@@ -8,17 +9,27 @@
 -- Assumes nothing.
 use Prim.Native.Nat.{ℕ, _+_, _*_, _<_}
 use mathlib.Core.Path.{_≡_}
-use mathlib.Core.List.{List, _∷_, _++_}
+use mathlib.Core.List.{List, _∷_, _++_, map}
 use mathlib.Core.Option.{none}
 use Rattle.units.specs.Numbers.{lineRate}
 use Rattle.rules.specs.State.{Setting, settingAt, State, rate, slot, laneAt, setupOf}
 use Rattle.rules.specs.Setup.{margin}
-use Rattle.rules.specs.Calls.{refused}
-use Rattle.rules.specs.Runs.{Event, acceptedOf, sentOf}
+use Rattle.rules.specs.Calls.{Call, refused, fresh}
+use Rattle.rules.specs.Runs.{Event, after, trace, acceptedOf, sentOf}
 use Rattle.rules.specs.Fair.{bytesSent, bytesSentOf, Holding}
 use Rattle.table.specs.Encodes.{Encodes}
 use Rattle.good.specs.Table.{GoodTable}
 use Rattle.scheduler.specs.Chain.{Chain, Begins}
+
+abbrev pub callsOf : List Event → List Call
+callsOf es = map (λ (e : Event). e .call) es
+
+-- "Every answer, and the table after it, is what the published rules give": a list's answers are those of the rules' own run from the fresh state, and
+-- the bytes after it encode the state that the run leaves.
+unfoldable pub AsRuled : Type 0
+AsRuled =
+    (gs : List Setting) (t u : List ℕ) (calls : List Event) → Begins gs t → Chain t calls u
+    → (trace (fresh gs) (callsOf calls) ≡ calls) × Encodes u (after (fresh gs) (callsOf calls))
 
 -- "For every list of the calls put, take, look, sets, lag and restart, refused ones included, from a fresh table of any setup, each call getting the table
 -- the last one left: for any lane and any stretch of the list in which it holds a record before the stretch and after each call in it, with T the bytes

@@ -14,7 +14,8 @@ use mathlib.Core.List.{List, [], _++_}
 use mathlib.Core.Option.{Option, none, some}
 use lib.Dec.{ltb}
 use lib.ListN.{length}
-use Rattle.rules.specs.State.{if_then_else_, State}
+use Rattle.units.specs.Plain.{if_then_else_}
+use Rattle.rules.specs.State.{State}
 use Rattle.rules.specs.Calls.{fresh, step}
 use Rattle.plan.specs.Read as plan
 use Rattle.table.specs.Layout.{WORDS}

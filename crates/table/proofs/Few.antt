@@ -10,9 +10,9 @@ use borrow.Author.Tests.{eq-eqb, ne-eqb}
 use lib.Dec.{eqb}
 use lib.ListN.{length, length-map, List·getD-eq-default}
 use Rattle.words.proofs.Runs.{eq-or-ne}
-use Rattle.rules.specs.State.{if_then_else_, Lane, State, laneAt, holds, noLane}
-use Rattle.rules.specs.Calls.{without}
-use Rattle.rules.specs.Good.{Good, times}
+use Rattle.units.specs.Plain.{if_then_else_, times, without}
+use Rattle.rules.specs.State.{Lane, State, laneAt, holds, noLane}
+use Rattle.rules.specs.Good.{Good}
 
 -- ---- a list's length, counted by what stands in it
 

@@ -18,7 +18,8 @@ use lib.Dec.{eqb}
 use lib.ListN.{length, drop, getD, set}
 use Rattle.words.specs.Bits.{bit}
 use Rattle.words.specs.Runs.{reads, tab}
-use Rattle.rules.specs.State.{if_then_else_, Rec, Setting, Lane, State, charge, rate, group, noLane}
+use Rattle.units.specs.Plain.{if_then_else_}
+use Rattle.rules.specs.State.{Rec, Setting, Lane, State, charge, rate, group, noLane}
 use Rattle.rules.specs.Setup.{InNumbers}
 use Rattle.table.specs.Layout.{WORDS, Room, cells, clockWord, presentWord, holdingWord, orderWord, placeWord, rowAt}
 use Rattle.table.specs.declared.LaneRow.{LaneRow}

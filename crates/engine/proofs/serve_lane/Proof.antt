@@ -7,8 +7,8 @@ use native.Mathlib.Omega.{arith}
 use lib.Dec.{ltb}
 use lib.ListN.{length}
 use Rattle.units.specs.Numbers.{lineRate}
-use Rattle.rules.specs.State.{if_then_else_, Rec, Setting, charge, laneDepth, holds, laneAt}
-use Rattle.rules.specs.Calls.{without}
+use Rattle.units.specs.Plain.{if_then_else_, without}
+use Rattle.rules.specs.State.{Rec, Setting, charge, laneDepth, holds, laneAt}
 use Rattle.table.specs.Layout.{cells, rowAt}
 use Rattle.table.specs.Means.{meant, Sound, Leaves, withOrder}
 use Rattle.table.proofs.Leave.{sound-after}

@@ -10,7 +10,7 @@ use Rattle.plan.specs.Judge.{misplaced, outside}
 
 -- what each place of the code knows
 item-is : (c : tie.After-parsed) → itemAt (c .before .before .before .before .args .s .now) (c .before .before .before .before .args .at) ≡ whole (c .parsed .given .0 .0) (c .parsed .given .0 .1 .0)
-item-is c = sym (c .before .before .parsed-field .ensures) ∙ ap itemOf (c .parsed .given .1)
+item-is c = sym (c .before .before .field-at .ensures) ∙ ap itemOf (c .parsed .given .1)
 
 in-place : (c : tie.Else1) → misplaced (c .before .before .before .before .before .before .before .args .seen) (c .before .before .before .parsed .given .0 .0) ≡ false
 in-place c = sym (c .before .misplaced .ensures) ∙ c .if1 .left
@@ -18,8 +18,8 @@ in-place c = sym (c .before .misplaced .ensures) ∙ c .if1 .left
 inside : (c : tie.Else2) → outside (c .before .before .before .before .before .parsed .given .0 .0) ≡ false
 inside c = sym (c .before .outside .ensures) ∙ c .if2 .left
 
-parsed-field-requires : tie.Need-parsed-field-requires
-parsed-field-requires c κs = search needs
+field-at-requires : tie.Need-field-at-requires
+field-at-requires c κs = search needs
 
 enum-known-parsed : tie.Need-enum-known-parsed
 enum-known-parsed c = search needs
@@ -28,7 +28,7 @@ enum-told : tie.Need-enum-told
 enum-told c = search needs
 
 returns : tie.Need-returns
-returns c = ap itemOf (c .enum-told .given .1) ∙ sym (judged-no _ _ _ _ _ (sym (c .before .before .parsed-field .ensures) ∙ ap itemOf (c .enum-told .given .1)))
+returns c = ap itemOf (c .enum-told .given .1) ∙ sym (judged-no _ _ _ _ _ (sym (c .before .before .field-at .ensures) ∙ ap itemOf (c .enum-told .given .1)))
 
 misplaced-requires : tie.Need-misplaced-requires
 misplaced-requires c κs = search needs
@@ -55,7 +55,7 @@ pub judged-field-spec : {M : Type 1} → statement M
 judged-field-spec =
     tie.close
     (tie.spec
-    parsed-field-requires
+    field-at-requires
     enum-known-parsed
     enum-told
     returns

@@ -1,0 +1,40 @@
+// The reader: document 01, "The reader stands on the lent setup bytes and moves by fields."
+//
+// A small struct of the bytes and a place, and thin functions over it. What stands at a place is worked out below, by `parsed_field` of `parse`, on
+// a slice and a number; above, `field_at` takes the same two and serves callers that hold no reader.
+ghost use mathlib.Core.Path.{_≡_};
+ghost use Rattle.plan.specs.Fields.{itemAt, itemOf};
+use crate::parse::Parsed;
+
+pub struct Reader<'a> {
+    pub src: &'a [u8],
+    pub at: usize,
+}
+
+// A reader on the first of the lent bytes.
+pub fn new<'a>(src: &'a [u8]) -> Reader<'a>
+    ensures { λ r. ⌜ (r .src ≡ src .entry) × (r .at ≡ 0) ⌝ }
+{
+    Reader { src, at: 0 }
+}
+
+// The reader moved to the place after a field, on the same bytes.
+pub fn moved<'a>(r: Reader<'a>, at: usize) -> Reader<'a>
+    ensures { λ q. ⌜ (q .src ≡ r .entry .src) × (q .at ≡ at) ⌝ }
+{
+    Reader { src: r.src, at }
+}
+
+// The field where the reader stands.
+pub fn field<'a>(r: Reader<'a>) -> Parsed
+    ensures { λ p. ⌜ itemOf p ≡ itemAt (now (r .entry .src)) (r .entry .at) ⌝ }
+{
+    crate::parse::parsed_field(r.src, r.at)
+}
+
+// The field of a setup at a place of its bytes, through a reader that stands there.
+pub fn field_at(s: &[u8], at: usize) -> Parsed
+    ensures { λ p. ⌜ itemOf p ≡ itemAt (now (s .entry)) at ⌝ }
+{
+    field(moved(new(s), at))
+}
