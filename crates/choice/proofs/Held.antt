@@ -153,6 +153,10 @@ module _ (t : List ℕ) (steady : Steady t) (k : ℕ) (e : holds (laneAt (meant 
 pub order-lane : (t : List ℕ) → Steady t → (i : ℕ) → i < length (meant t .order) → holds (laneAt (meant t) (getD (meant t .order) i 0)) ≡ true
 order-lane t steady i h = named-holds (meant t) (steady .named) i h
 
+-- what a lane that was read from the tie order is known by
+pub turn-lane : (t : List ℕ) → Known t → (i k : ℕ) → i < length (meant t .order) → k ≡ getD (meant t .order) i 0 → Steady t × (holds (laneAt (meant t) k) ≡ true)
+turn-lane t known i k h is = (known-steady t known, rw is (order-lane t (known-steady t known) i h))
+
 -- every holding lane's R is below 2 ^ 63
 pub held-early : (s : State) → Good s → (k : ℕ) → holds (laneAt s k) ≡ true → startR (laneAt s k) < 2 ^ 63
 held-early s g k e = omega (arith, round-le (slot ((laneAt s k) .given)) ((laneAt s k) .start), start-small s g k e)

@@ -1,8 +1,9 @@
 -- What a lane's row says of the lane that the table means. Assumes nothing.
 use Prim.Native.Nat.{ℕ, _≤_, _<_}
 use native.Mathlib.Omega.{arith}
+use borrow.Author.Tests.{not-false}
 use mathlib.Core.Path.{_≡_, refl, sym, ap, _∙_}
-use mathlib.Core.Bool.{true, false, false≢true}
+use mathlib.Core.Bool.{Bool, true, false, not, false≢true}
 use mathlib.Core.List.{List, [], _∷_}
 use lib.ListN.{length, List·getD-eq-default}
 use Rattle.rules.specs.State.{Rec, Setting, Lane, noLane, group, rate, some?, holds, laneAt}
@@ -97,3 +98,11 @@ module _ (t : List ℕ) (sound : Sound t) (k : ℕ) (small : k < 64) (here : pre
     busy = λ e. ap (λ (x : Lane). x .start) is-timed ∙ timed-start (givenOf r) (r .time .0) q (sym (ap some? same-queue) ∙ e);
     idle = λ e. ap (λ (x : Lane). x .finish) is-timed ∙ timed-finish (givenOf r) (r .time .0) q (sym (ap some? same-queue) ∙ e);
   }
+
+-- a lane with a row is in the setup
+pub row-weighs : (l : Lane) (r : LaneRow) → RowIs l r → 0 < l .given .weight
+row-weighs l r is = rw (is .given) (is .weight)
+
+-- the row that was read of a lane that was found present
+pub read-row : (t : List ℕ) → Sound t → (k : ℕ) → k < 64 → {b : Bool} → b ≡ presentAt (cells t) k → not b ≡ false → (r : LaneRow) → r ≡ rowAt (cells t) k → RowIs (laneAt (meant t) k) r
+read-row t sound k small {b} found here r is = rw is (row-is t sound k small (sym found ∙ not-false b here))

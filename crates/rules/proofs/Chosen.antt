@@ -101,17 +101,21 @@ module _ (v : ℕ) (order : List ℕ) where
     shift : (c : Candidate) (k : ℕ) → AheadOf c (suc i) ls k → AheadOf c i (l ∷ ls) (suc k)
     shift c k h = rw (add-suc, ← suc-add) h
 
-    skip : (o : Option Candidate) → eligible v l ≡ false → Choice (suc i) ls o → Choice i (l ∷ ls) o
-    skip none e h = elim [ zero ↦ e | suc k ↦ h k ]
-    skip (some c) e h = record {
+    -- the choice of the rest is that of the whole, where the first lane is not ahead of it
+    later : (c : Candidate) → Chosen (suc i) ls c → (eligible v l ≡ true → AheadOf c i (l ∷ ls) 0) → Chosen i (l ∷ ls) c
+    later c h z = record {
       at = suc (h .at);
       num = omega (arith, h .num);
       is = h .is;
       fin = h .fin;
       grp = h .grp;
       trn = rw (add-suc, ← suc-add) (h .trn);
-      least = elim [ zero ↦ λ t. absurd (false≢true (sym e ∙ t)) | suc k ↦ λ t. shift c k (h .least k t) ];
+      least = elim [ zero ↦ z | suc k ↦ λ t. shift c k (h .least k t) ];
     }
+
+    skip : (o : Option Candidate) → eligible v l ≡ false → Choice (suc i) ls o → Choice i (l ∷ ls) o
+    skip none e h = elim [ zero ↦ e | suc k ↦ h k ]
+    skip (some c) e h = later c h (λ t. absurd (false≢true (sym e ∙ t)))
 
     abbrev here : Candidate
     here = record { lane = i; finish = finishR l; group = group (l .given); turn = place i order }
@@ -132,15 +136,7 @@ module _ (v : ℕ) (order : List ℕ) where
     keep none e h = first e (λ k t. absurd (false≢true (sym (h k) ∙ t)))
     keep (some d) e h =
         if-ind (Chosen i (l ∷ ls)) (before d here) d here
-        (λ b. record {
-          at = suc (h .at);
-          num = omega (arith, h .num);
-          is = h .is;
-          fin = h .fin;
-          grp = h .grp;
-          trn = rw (add-suc, ← suc-add) (h .trn);
-          least = elim [ zero ↦ λ t. rw add-zero (before-true d here b) | suc k ↦ λ t. shift d k (h .least k t) ];
-        })
+        (λ b. later d h (λ t. rw add-zero (before-true d here b)))
         (λ b. first e (λ k t.
         ahead-trans (finishR l) (group (l .given)) (place i order) (d .finish) (d .group) (d .turn)
         (finishR (getD ls k noLane)) (group ((getD ls k noLane) .given)) (place (suc i + k) order) (before-false d here b) (h .least k t)))

@@ -9,7 +9,7 @@ use Rattle.choice.specs.Known.{Stands}
 use Rattle.rules.specs.Sets.{groups, inGroup}
 use Rattle.table.specs.Means.{meant}
 use Rattle.choice.specs.Starts.{startIn}
-use Rattle.choice.proofs.Held.{order-lane, known-steady}
+use Rattle.choice.proofs.Held.{order-lane, known-steady, turn-lane}
 use Rattle.choice.proofs.Among.{Among, none-yet, starts-more, starts-all}
 use Rattle.choice.proofs.group_starts.Statement.{statement}
 use Rattle.choice.proofs.group_starts.Tie as tie
@@ -33,16 +33,12 @@ loop-holds : tie.Need-loop-holds Inv-loop μ-loop
 loop-holds c = (omega arith, refl, none-yet (meant (c .before .before .args .t .now)))
 
 order-at-requires : tie.Need-order-at-requires Inv-loop μ-loop
-order-at-requires c κs =
-    let s = c .before .before .before .before in
-    (s .pre .sound, omega (arith, c .before .before .holding .ensures))
+order-at-requires c κs = (c .before .before .before .before .pre .sound, omega (arith, c .before .before .holding .ensures))
 
 place-of-requires : tie.Need-place-of-requires Inv-loop μ-loop
 place-of-requires c κs =
     let s = c .before .before .before .before .before in
-    let i = c .before .before .loop .i in
-    let h : i < length (meant (s .args .t .now) .order) = omega (arith, c .before .before .before .holding .ensures) in
-    (known-steady (s .args .t .now) (s .pre), rw (c .order-at .ensures) (order-lane (s .args .t .now) (known-steady (s .args .t .now) (s .pre)) i h))
+    turn-lane (s .args .t .now) (s .pre) (c .before .before .loop .i) _ (omega (arith, c .before .before .before .holding .ensures)) (c .order-at .ensures)
 
 cast-g : tie.Need-cast-g Inv-loop μ-loop
 cast-g c = omega (arith, c .before .place-of .ensures .high)

@@ -11,7 +11,7 @@ use Rattle.rules.specs.State.{laneAt}
 use Rattle.rules.proofs.BySets.{standsAt, firstIn, laneOfGroup}
 use Rattle.table.specs.Means.{meant}
 use Rattle.choice.specs.Known.{Stands}
-use Rattle.choice.proofs.Held.{order-lane, known-steady}
+use Rattle.choice.proofs.Held.{order-lane, known-steady, turn-lane}
 use Rattle.choice.proofs.First.{stand-test, first-found, first-passed, first-none}
 use Rattle.choice.proofs.lane_at.Statement.{statement}
 use Rattle.choice.proofs.lane_at.Tie as tie
@@ -37,33 +37,35 @@ loop-holds : tie.Need-loop-holds Inv-loop μ-loop
 loop-holds c = (omega arith, refl)
 
 order-at-requires : tie.Need-order-at-requires Inv-loop μ-loop
-order-at-requires c κs =
-    let s = c .before .before .before .before in
-    (s .pre .sound, omega (arith, c .before .before .holding .ensures))
+order-at-requires c κs = (c .before .before .before .before .pre .sound, omega (arith, c .before .before .holding .ensures))
 
 place-of-requires : tie.Need-place-of-requires Inv-loop μ-loop
 place-of-requires c κs =
     let s = c .before .before .before .before .before in
-    let i = c .before .before .loop .i in
-    let h : i < length (meant (s .args .t .now) .order) = omega (arith, c .before .before .before .holding .ensures) in
-    (known-steady (s .args .t .now) (s .pre), rw (c .order-at .ensures) (order-lane (s .args .t .now) (known-steady (s .args .t .now) (s .pre)) i h))
+    turn-lane (s .args .t .now) (s .pre) (c .before .before .loop .i) _ (omega (arith, c .before .before .before .holding .ensures)) (c .order-at .ensures)
 
 is-at-requires : tie.Need-is-at-requires Inv-loop μ-loop
 is-at-requires c κs = tt
 
+-- the place in the tie order that this turn looks at is one of it ..
+reached : (a : tie.After-is-at Inv-loop μ-loop) → a .before .before .before .before .loop .i < length (meant (a .before .before .before .before .before .before .before .args .t .now) .order)
+reached a = omega (arith, a .before .before .before .before .before .holding .ensures)
+
+-- .. and its lane stands there exactly if `is_at` says so
+tested : (a : tie.After-is-at Inv-loop μ-loop) → stands? (a .before .before .before .before .before .before .before .args .t .now) (a .before .before .before .before .before .before .before .args .g) (a .before .before .before .before .before .before .before .args .start) (getD (meant (a .before .before .before .before .before .before .before .args .t .now) .order) (a .before .before .before .before .loop .i) 0) ≡ a .is-at .result
+tested a =
+    let s = a .before .before .before .before .before .before .before in
+    let t = s .args .t .now in
+    let p = a .before .place-of in
+    let st : Stands (laneAt (meant t) (getD (meant t .order) (a .before .before .before .before .loop .i) 0)) (p .result) = subst (λ (x : ℕ). Stands (laneAt (meant t) x) (p .result)) (a .before .before .order-at .ensures) (p .ensures) in
+    stand-test _ (p .result) (s .args .g) (s .args .start .0) (order-lane t (known-steady t (s .pre)) (a .before .before .before .before .loop .i) (reached a)) st ∙ sym (a .is-at .ensures)
+
 returns : tie.Need-returns Inv-loop μ-loop
 unfolding laneOfGroup
 returns c =
-    let s = c .before .before .before .before .before .before .before .before in
-    let l = c .before .before .before .before .before .loop in
-    let t = s .args .t .now in
-    let o = c .before .before .before .order-at in
-    let p = c .before .before .place-of in
-    let h : l .i < length (meant t .order) = omega (arith, c .before .before .before .before .before .before .holding .ensures) in
-    let k : o .result ≡ getD (meant t .order) (l .i) 0 = o .ensures in
-    let st : Stands (laneAt (meant t) (getD (meant t .order) (l .i) 0)) (p .result) = subst (λ (x : ℕ). Stands (laneAt (meant t) x) (p .result)) k (p .ensures) in
-    let test = stand-test _ (p .result) (s .args .g) (s .args .start .0) (order-lane t (known-steady t (s .pre)) (l .i) h) st ∙ sym (c .before .is-at .ensures) in
-    rw k (first-found (stands? t (s .args .g) (s .args .start)) (meant t .order) (l .i) h (test ∙ c .if1 .taken) (l .inv .1))
+    let a = c .before in
+    let l = a .before .before .before .before .loop in
+    rw (a .before .before .order-at .ensures) (first-found (stands? _ _ _) _ (l .i) (reached a) (tested a ∙ c .if1 .taken) (l .inv .1))
 
 add-i : tie.Need-add-i Inv-loop μ-loop
 add-i c = omega arith
@@ -73,16 +75,9 @@ loop-less c = omega arith
 
 loop-again : tie.Need-loop-again Inv-loop μ-loop
 loop-again c =
-    let s = c .before .before .before .before .before .before .before .before in
-    let l = c .before .before .before .before .before .loop in
-    let t = s .args .t .now in
-    let o = c .before .before .before .order-at in
-    let p = c .before .before .place-of in
-    let h : l .i < length (meant t .order) = omega (arith, c .before .before .before .before .before .before .holding .ensures) in
-    let k : o .result ≡ getD (meant t .order) (l .i) 0 = o .ensures in
-    let st : Stands (laneAt (meant t) (getD (meant t .order) (l .i) 0)) (p .result) = subst (λ (x : ℕ). Stands (laneAt (meant t) x) (p .result)) k (p .ensures) in
-    let test = stand-test _ (p .result) (s .args .g) (s .args .start .0) (order-lane t (known-steady t (s .pre)) (l .i) h) st ∙ sym (c .before .is-at .ensures) in
-    (omega arith, rw (add-one (l .i)) (first-passed (stands? t (s .args .g) (s .args .start)) (meant t .order) (l .i) h (test ∙ c .if1 .left) (l .inv .1)))
+    let a = c .before in
+    let l = a .before .before .before .before .loop in
+    (omega arith, rw (add-one (l .i)) (first-passed (stands? _ _ _) _ (l .i) (reached a) (tested a ∙ c .if1 .left) (l .inv .1)))
 
 returns-2 : tie.Need-returns-2 Inv-loop μ-loop
 unfolding laneOfGroup

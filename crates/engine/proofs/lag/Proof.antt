@@ -5,13 +5,13 @@ use native.Mathlib.Nat.{pos-of-ne-zero}
 use native.Mathlib.Omega.{arith}
 use mir.Syntax.{w64}
 use mir.ValLaws.{toZ-ofZ}
-use borrow.Author.Tests.{not-true, not-false}
+use borrow.Author.Tests.{not-true}
 use Rattle.rules.specs.State.{Lane, laneAt}
 use Rattle.rules.specs.Calls.{lag}
 use Rattle.rules.specs.declared.Refusal.the-variants.{NoLane}
 use Rattle.table.specs.Means.{meant}
 use Rattle.choice.proofs.Held.{known-steady}
-use Rattle.engine.proofs.RowIs.{RowIs, row-is, absent-lane, far-lane, count-idle, count-holds}
+use Rattle.engine.proofs.RowIs.{RowIs, row-weighs, read-row, absent-lane, far-lane, count-idle, count-holds}
 use Rattle.engine.proofs.Replies.{refusal-says, lag-none, lag-busy, lag-idle, idle-small}
 use borrow.Author.Needs.{needs}
 use Rattle.engine.proofs.lag.Statement.{statement}
@@ -48,49 +48,40 @@ clock-requires c κs = search needs
 later-requires : tie.Need-later-requires
 later-requires c κs = search needs
 
+-- what the row that was read says of the lane
+row-known : (a : tie.After-row) → RowIs (laneAt (meant (a .before .before .before .before .before .args .t .now)) (a .before .before .before .before .before .args .lane)) (a .row .result)
+row-known a =
+    let s = a .before .before .before .before .before in
+    read-row (s .args .t .now) (s .pre .sound) (s .args .lane) (a .before .before .before .if1 .left) (a .before .before .present .ensures) (a .before .if2 .left) _ (a .row .ensures .0)
+
 difference-requires : tie.Need-difference-requires
 difference-requires c κs =
-    let s = c .before .before .before .before .before .before .before .before .before in
-    let t = s .args .t .now in
-    let k = s .args .lane in
-    let is : RowIs (laneAt (meant t) k) (c .before .before .before .before .row .result) = rw (c .before .before .before .before .row .ensures .0) (row-is t (s .pre .sound) k (c .before .before .before .before .before .before .before .if1 .left) (sym (c .before .before .before .before .before .before .present .ensures) ∙ not-false (c .before .before .before .before .before .before .present .result) (c .before .before .before .before .before .if2 .left))) in
-    let w : 0 < laneAt (meant t) k .given .weight = rw (is .given) (is .weight) in
+    let a = c .before .before .before .before in
+    let s = a .before .before .before .before .before in
     let v = c .before .before .before .clock .ensures in
-    let idle = count-idle (laneAt (meant t) k) (is .held ∙ c .before .if3 .taken) in
-    (omega (arith, v, s .pre .good .clock), omega (arith, c .later .ensures, v, s .pre .good .clock, is .idle idle, idle-small (meant t) k (s .pre .good) idle))
+    let idle = count-idle (laneAt (meant (s .args .t .now)) (s .args .lane)) (row-known a .held ∙ c .before .if3 .taken) in
+    (omega (arith, v, s .pre .good .clock), omega (arith, c .later .ensures, v, s .pre .good .clock, row-known a .idle idle, idle-small (meant (s .args .t .now)) (s .args .lane) (s .pre .good) idle))
 
 returns-3 : tie.Need-returns-3
 returns-3 c =
-    let s = c .before .before .before .before .before .before .before .before .before .before in
-    let t = s .args .t .now in
-    let k = s .args .lane in
-    let is : RowIs (laneAt (meant t) k) (c .before .before .before .before .before .row .result) = rw (c .before .before .before .before .before .row .ensures .0) (row-is t (s .pre .sound) k (c .before .before .before .before .before .before .before .before .if1 .left) (sym (c .before .before .before .before .before .before .before .present .ensures) ∙ not-false (c .before .before .before .before .before .before .before .present .result) (c .before .before .before .before .before .before .if2 .left))) in
-    let w : 0 < laneAt (meant t) k .given .weight = rw (is .given) (is .weight) in
-    let v = c .before .before .before .before .clock .ensures in
-    let idle = count-idle (laneAt (meant t) k) (is .held ∙ c .before .before .if3 .taken) in
-    lag-idle (meant t) k w idle _ (toZ-ofZ w64 (c .difference .result) (record { sfits = c .difference .ok }) ∙ c .difference .ensures ∙ rw (c .before .later .ensures, v, is .idle idle))
+    let a = c .before .before .before .before .before in
+    let s = a .before .before .before .before .before in
+    let idle = count-idle (laneAt (meant (s .args .t .now)) (s .args .lane)) (row-known a .held ∙ c .before .before .if3 .taken) in
+    lag-idle _ _ (row-weighs _ _ (row-known a)) idle _ (toZ-ofZ w64 (c .difference .result) (record { sfits = c .difference .ok }) ∙ c .difference .ensures ∙ rw (c .before .later .ensures, c .before .before .before .before .clock .ensures, row-known a .idle idle))
 
 difference-requires-2 : tie.Need-difference-requires-2
 difference-requires-2 c κs =
-    let s = c .before .before .before .before .before .before .before .before in
-    let t = s .args .t .now in
-    let k = s .args .lane in
-    let is : RowIs (laneAt (meant t) k) (c .before .before .before .row .result) = rw (c .before .before .before .row .ensures .0) (row-is t (s .pre .sound) k (c .before .before .before .before .before .before .if1 .left) (sym (c .before .before .before .before .before .present .ensures) ∙ not-false (c .before .before .before .before .before .present .result) (c .before .before .before .before .if2 .left))) in
-    let w : 0 < laneAt (meant t) k .given .weight = rw (is .given) (is .weight) in
-    let v = c .before .before .clock .ensures in
-    let busy = count-holds (laneAt (meant t) k) _ (is .held) (pos-of-ne-zero (c .if3 .left)) in
-    (omega (arith, v, s .pre .good .clock), omega (arith, is .busy busy, known-steady t (s .pre) .early k busy))
+    let a = c .before .before .before in
+    let s = a .before .before .before .before .before in
+    let busy = count-holds (laneAt (meant (s .args .t .now)) (s .args .lane)) _ (row-known a .held) (pos-of-ne-zero (c .if3 .left)) in
+    (omega (arith, c .before .before .clock .ensures, s .pre .good .clock), omega (arith, row-known a .busy busy, known-steady (s .args .t .now) (s .pre) .early (s .args .lane) busy))
 
 returns-4 : tie.Need-returns-4
 returns-4 c =
-    let s = c .before .before .before .before .before .before .before .before .before in
-    let t = s .args .t .now in
-    let k = s .args .lane in
-    let is : RowIs (laneAt (meant t) k) (c .before .before .before .before .row .result) = rw (c .before .before .before .before .row .ensures .0) (row-is t (s .pre .sound) k (c .before .before .before .before .before .before .before .if1 .left) (sym (c .before .before .before .before .before .before .present .ensures) ∙ not-false (c .before .before .before .before .before .before .present .result) (c .before .before .before .before .before .if2 .left))) in
-    let w : 0 < laneAt (meant t) k .given .weight = rw (is .given) (is .weight) in
-    let v = c .before .before .before .clock .ensures in
-    let busy = count-holds (laneAt (meant t) k) _ (is .held) (pos-of-ne-zero (c .before .if3 .left)) in
-    lag-busy (meant t) k w busy _ (toZ-ofZ w64 (c .difference2 .result) (record { sfits = c .difference2 .ok }) ∙ c .difference2 .ensures ∙ rw (v, is .busy busy))
+    let a = c .before .before .before .before in
+    let s = a .before .before .before .before .before in
+    let busy = count-holds (laneAt (meant (s .args .t .now)) (s .args .lane)) _ (row-known a .held) (pos-of-ne-zero (c .before .if3 .left)) in
+    lag-busy _ _ (row-weighs _ _ (row-known a)) busy _ (toZ-ofZ w64 (c .difference2 .result) (record { sfits = c .difference2 .ok }) ∙ c .difference2 .ensures ∙ rw (c .before .before .before .clock .ensures, row-known a .busy busy))
 
 pub lag-spec : {M : Type 1} → statement M
 lag-spec =

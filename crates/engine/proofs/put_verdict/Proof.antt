@@ -3,10 +3,10 @@ use mathlib.Core.Path.{refl, sym, ap, _∙_}
 use Prim.Native.Nat.{_<_}
 use native.Mathlib.Nat.{pos-of-ne-zero}
 use native.Mathlib.Omega.{arith}
-use borrow.Author.Tests.{not-true, not-false}
+use borrow.Author.Tests.{not-true}
 use Rattle.rules.specs.State.{Lane, laneAt}
 use Rattle.table.specs.Means.{meant}
-use Rattle.engine.proofs.RowIs.{RowIs, row-is, absent-lane, far-lane}
+use Rattle.engine.proofs.RowIs.{RowIs, row-weighs, read-row, absent-lane, far-lane}
 use Rattle.engine.proofs.Verdicts.{no-lane, empty-record, too-long, lane-full, clock-spent, allowed}
 use borrow.Author.Needs.{needs}
 use Rattle.engine.proofs.put_verdict.Statement.{statement}
@@ -36,63 +36,37 @@ returns-2 c =
 row-requires : tie.Need-row-requires
 row-requires c κs = search needs
 
+-- what the row that was read says of the lane
+row-known : (a : tie.After-row) → RowIs (laneAt (meant (a .before .before .before .before .before .args .t .now)) (a .before .before .before .before .before .args .lane)) (a .row .result)
+row-known a =
+    let s = a .before .before .before .before .before in
+    read-row (s .args .t .now) (s .pre .sound) (s .args .lane) (a .before .before .before .if1 .left) (a .before .before .present .ensures) (a .before .if2 .left) _ (a .row .ensures .0)
+
 returns-3 : tie.Need-returns-3
-returns-3 c =
-    let s = c .before .before .before .before .before .before .before in
-    let t = s .args .t .now in
-    let k = s .args .lane in
-    let n = s .args .length .0 in
-    let is : RowIs (laneAt (meant t) k) (c .before .before .row .result) = rw (c .before .before .row .ensures .0) (row-is t (s .pre .sound) k (c .before .before .before .before .before .if1 .left) (sym (c .before .before .before .before .present .ensures) ∙ not-false (c .before .before .before .before .present .result) (c .before .before .before .if2 .left))) in
-    let given = is .given in
-    let w : 0 < laneAt (meant t) k .given .weight = rw given (is .weight) in
-    (empty-record (meant t) k n w (c .if3 .taken), refl)
+returns-3 c = (empty-record _ _ _ (row-weighs _ _ (row-known (c .before .before))) (c .if3 .taken), refl)
 
 returns-4 : tie.Need-returns-4
 returns-4 c =
-    let s = c .before .before .before .before .before .before .before .before .before .before in
-    let t = s .args .t .now in
-    let k = s .args .lane in
-    let n = s .args .length .0 in
-    let is : RowIs (laneAt (meant t) k) (c .before .before .before .before .before .row .result) = rw (c .before .before .before .before .before .row .ensures .0) (row-is t (s .pre .sound) k (c .before .before .before .before .before .before .before .before .if1 .left) (sym (c .before .before .before .before .before .before .before .present .ensures) ∙ not-false (c .before .before .before .before .before .before .before .present .result) (c .before .before .before .before .before .before .if2 .left))) in
-    let given = is .given in
-    let w : 0 < laneAt (meant t) k .given .weight = rw given (is .weight) in
-    (too-long (meant t) k n w (rw given (c .if4 .taken)), refl)
+    let a = c .before .before .before .before .before in
+    (too-long _ _ _ (row-weighs _ _ (row-known a)) (rw (row-known a .given) (c .if4 .taken)), refl)
 
 returns-5 : tie.Need-returns-5
 returns-5 c =
-    let s = c .before .before .before .before .before .before .before .before .before .before .before .before in
-    let t = s .args .t .now in
-    let k = s .args .lane in
-    let n = s .args .length .0 in
-    let is : RowIs (laneAt (meant t) k) (c .before .before .before .before .before .before .before .row .result) = rw (c .before .before .before .before .before .before .before .row .ensures .0) (row-is t (s .pre .sound) k (c .before .before .before .before .before .before .before .before .before .before .if1 .left) (sym (c .before .before .before .before .before .before .before .before .before .present .ensures) ∙ not-false (c .before .before .before .before .before .before .before .before .before .present .result) (c .before .before .before .before .before .before .before .before .if2 .left))) in
-    let given = is .given in
-    let w : 0 < laneAt (meant t) k .given .weight = rw given (is .weight) in
-    (lane-full (meant t) k n w (pos-of-ne-zero (c .before .before .before .before .before .if3 .left)) (rw given (c .before .before .if4 .left)) (omega (arith, is .held, c .if5 .taken)), refl)
+    let a = c .before .before .before .before .before .before .before in
+    (lane-full _ _ _ (row-weighs _ _ (row-known a)) (pos-of-ne-zero (c .before .before .before .before .before .if3 .left)) (rw (row-known a .given) (c .before .before .if4 .left)) (omega (arith, row-known a .held, c .if5 .taken)), refl)
 
 clock-requires : tie.Need-clock-requires
 clock-requires c κs = search needs
 
 returns-6 : tie.Need-returns-6
 returns-6 c =
-    let s = c .before .before .before .before .before .before .before .before .before .before .before .before .before .before .before in
-    let t = s .args .t .now in
-    let k = s .args .lane in
-    let n = s .args .length .0 in
-    let is : RowIs (laneAt (meant t) k) (c .before .before .before .before .before .before .before .before .before .before .row .result) = rw (c .before .before .before .before .before .before .before .before .before .before .row .ensures .0) (row-is t (s .pre .sound) k (c .before .before .before .before .before .before .before .before .before .before .before .before .before .if1 .left) (sym (c .before .before .before .before .before .before .before .before .before .before .before .before .present .ensures) ∙ not-false (c .before .before .before .before .before .before .before .before .before .before .before .before .present .result) (c .before .before .before .before .before .before .before .before .before .before .before .if2 .left))) in
-    let given = is .given in
-    let w : 0 < laneAt (meant t) k .given .weight = rw given (is .weight) in
-    (clock-spent (meant t) k n w (pos-of-ne-zero (c .before .before .before .before .before .before .before .before .if3 .left)) (rw given (c .before .before .before .before .before .if4 .left)) (omega (arith, is .held, c .before .before .before .if5 .left)) (omega (arith, c .before .before .clock .ensures, c .if6 .taken)), refl)
+    let a = c .before .before .before .before .before .before .before .before .before .before in
+    (clock-spent _ _ _ (row-weighs _ _ (row-known a)) (pos-of-ne-zero (c .before .before .before .before .before .before .before .before .if3 .left)) (rw (row-known a .given) (c .before .before .before .before .before .if4 .left)) (omega (arith, row-known a .held, c .before .before .before .if5 .left)) (omega (arith, c .before .before .clock .ensures, c .if6 .taken)), refl)
 
 returns-7 : tie.Need-returns-7
 returns-7 c =
-    let s = c .before .before .before .before .before .before .before .before .before .before .before .before .before .before .before in
-    let t = s .args .t .now in
-    let k = s .args .lane in
-    let n = s .args .length .0 in
-    let is : RowIs (laneAt (meant t) k) (c .before .before .before .before .before .before .before .before .before .before .row .result) = rw (c .before .before .before .before .before .before .before .before .before .before .row .ensures .0) (row-is t (s .pre .sound) k (c .before .before .before .before .before .before .before .before .before .before .before .before .before .if1 .left) (sym (c .before .before .before .before .before .before .before .before .before .before .before .before .present .ensures) ∙ not-false (c .before .before .before .before .before .before .before .before .before .before .before .before .present .result) (c .before .before .before .before .before .before .before .before .before .before .before .if2 .left))) in
-    let given = is .given in
-    let w : 0 < laneAt (meant t) k .given .weight = rw given (is .weight) in
-    (allowed (meant t) k n w (pos-of-ne-zero (c .before .before .before .before .before .before .before .before .if3 .left)) (rw given (c .before .before .before .before .before .if4 .left)) (omega (arith, is .held, c .before .before .before .if5 .left)) (omega (arith, c .before .before .clock .ensures, c .if6 .left)), tt)
+    let a = c .before .before .before .before .before .before .before .before .before .before in
+    (allowed _ _ _ (row-weighs _ _ (row-known a)) (pos-of-ne-zero (c .before .before .before .before .before .before .before .before .if3 .left)) (rw (row-known a .given) (c .before .before .before .before .before .if4 .left)) (omega (arith, row-known a .held, c .before .before .before .if5 .left)) (omega (arith, c .before .before .clock .ensures, c .if6 .left)), tt)
 
 pub put-verdict-spec : {M : Type 1} → statement M
 put-verdict-spec =
