@@ -2,7 +2,6 @@
 //
 // The calls are `engine`'s. They rest on a table known to be good, and no test is made for each request: the run's table was made by these calls from a
 // fresh one, and such a table is never found not good (proofs/Made.antt).
-ghost use mathlib.Core.Path.{_≡_};
 ghost use Prim.Native.Nat.{_+_, _≤_};
 ghost use lib.ListN.{length};
 ghost use Rattle.choice.specs.Known.{Known};

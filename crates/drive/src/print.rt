@@ -1,5 +1,6 @@
 // Writes answers in the words of document 01's session, a line to each.
 use libc::STDOUT_FILENO;
+use lines::Place;
 use rules::Answer;
 use rules::Record;
 use rules::Refusal;
@@ -27,35 +28,17 @@ fn signed(z: i64) {
     io::write_all(STDOUT_FILENO, &a[..n]);
 }
 
-fn no(n: u64) {
-    number(b"no ", n);
-}
-
-fn no_at(n: u64, place: usize) {
-    no(n);
-    number(b" ", place as u64);
+fn place(p: Place) {
+    match p {
+        Place::At(at) => number(b" ", at as u64),
+        Place::Nowhere => {}
+    }
 }
 
 // A refusal of making, with its place; one of the calls, which has none.
 fn refusal(x: Refusal) {
-    match x {
-        Refusal::Cut(p) => no_at(1, p),
-        Refusal::UnknownTag(p) => no_at(2, p),
-        Refusal::WrongLength(p) => no_at(3, p),
-        Refusal::OutOfOrder(p) => no_at(4, p),
-        Refusal::OutsideNumbers(p) => no_at(5, p),
-        Refusal::WeightsOver(p) => no_at(6, p),
-        Refusal::TableShort => no_at(7, 0),
-        Refusal::NotGood => no(10),
-        Refusal::NoLane => no(11),
-        Refusal::BadLength => no(12),
-        Refusal::LaneFull => no(13),
-        Refusal::ClockSpent => no(14),
-        Refusal::StillHolds => no(15),
-        Refusal::NothingHeld => no(16),
-        Refusal::RunBounds => no(17),
-        Refusal::InputLong => no(18),
-    }
+    number(b"no ", lines::number(x));
+    place(lines::place_of(x));
 }
 
 fn record(before: &[u8], r: Record) {

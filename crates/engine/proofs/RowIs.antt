@@ -35,10 +35,6 @@ pub record RowIs (l : Lane) (r : LaneRow) : Type 0 where
   pub busy : holds l ≡ true → l .start ≡ r .time .0
   pub idle : holds l ≡ false → l .finish ≡ r .time .0
 
-queue-count : (q : List Rec) → some? q ≡ true → 0 < length q
-queue-count [] e = absurd (false≢true e)
-queue-count (x ∷ xs) e = omega arith
-
 pub count-holds : (l : Lane) (n : ℕ) → length (l .queue) ≡ n → 0 < n → holds l ≡ true
 count-holds l n e h = go (l .queue) e
   where

@@ -1,6 +1,4 @@
 -- A good table encodes a good state, and bytes that encode one are a good table. Assumes nothing.
-use mathlib.Core.Path.{_≡_, refl}
-use mathlib.Core.Bool.{Bool, true, false, false≢true}
 use Prim.Native.Nat.{ℕ}
 use mathlib.Core.List.{List}
 use Rattle.rules.specs.State.{State}
@@ -9,17 +7,7 @@ use Rattle.alike.proofs.Alike.{alike-refl, alike-sym, alike-good}
 use Rattle.table.specs.Means.{meant, Sound}
 use Rattle.table.specs.Encodes.{Encodes}
 use Rattle.table.proofs.Few.{few-good}
-use Rattle.lane_test.specs.Says.{Says}
 use Rattle.good.specs.Table.{GoodTable}
-
--- the test is true exactly of good tables
-pub true-good : {P : Type 0} (b : Bool) → Says b P → b ≡ true → P
-true-good true s e = s
-true-good false s e = absurd (false≢true e)
-
-pub good-true : {P : Type 0} (b : Bool) → Says b P → P → b ≡ true
-good-true true s p = refl
-good-true false s p = absurd (s p)
 
 pub good-encodes : (t : List ℕ) → GoodTable t → Encodes t (meant t)
 good-encodes t g = record { room = g .room; alike = alike-refl (meant t); beside = g .beside }

@@ -1,5 +1,5 @@
 -- Laws of what the pass adds up: the weights, whether a lane passes a test, whether a word names one. Assumes nothing.
-use mathlib.Core.Path.{_≡_, refl, sym, ap, _∙_}
+use mathlib.Core.Path.{_≡_, refl, ap, _∙_}
 use mathlib.Core.Logic.{⊎-elim}
 use mathlib.Core.Bool.{Bool, true, false, _||_, or-true, false≢true}
 use Prim.Native.Nat.{ℕ, zero, suc, _+_, _^_, _<_}
@@ -29,10 +29,6 @@ module _ {A : Type 0} where
       omega (arith, more, sum-tab f n g, ap (λ (m : ℕ). sum f (tab m g)) (add-one n))
 
 -- ---- tests
-
-either : (a b : Bool) → (a || b) ≡ true → (a ≡ false) → b ≡ true
-either true b h e = absurd (false≢true (sym e))
-either false b h e = h
 
 pub any-some : (p : ℕ → Bool) (n : ℕ) → anyBelow p n ≡ true → (k : ℕ) × (k < n) × (p k ≡ true)
 unfolding anyBelow

@@ -10,7 +10,7 @@ use Rattle.text.proofs.Widths.{length-decimal, width-le}
 use Rattle.text.proofs.Signed.{signed-most}
 use Rattle.rules.specs.Calls.{Reply, accepted, taken, seen, words, lagged, restarted, refused}
 use Rattle.lines.proofs.Writing.{line-long}
-use Rattle.lines.specs.Line.{spaced, line, takeWord, lookWord, setsWord, noWord, lanesWord, endWord, noLine, lineOf, lanesLine, endLine, Short}
+use Rattle.lines.specs.Line.{spaced, line, takeWord, lookWord, setsWord, noWord, noLine, lineOf, Short}
 
 -- a number below 10 ^ k has at most k digits
 written : (n k : ℕ) → 0 < k → n < 10 ^ k → length (decimal n) ≤ k
@@ -66,9 +66,3 @@ line-most (words er ir eb ib) h =
 line-most (lagged z) h = omega (arith, length-append (signed z) (10 ∷ []), signed-most z h)
 line-most restarted h = omega arith
 line-most (refused n p) h = no-most n p h
-
-pub lanes-most : (n : ℕ) → n < 2 ^ 64 → length (lanesLine n) ≤ 64
-lanes-most n h = one-most lanesWord n (omega arith) h
-
-pub end-most : (n : ℕ) → n < 2 ^ 64 → length (endLine n) ≤ 64
-end-most n h = one-most endWord n (omega arith) h

@@ -10,10 +10,10 @@ use Prim.Native.Nat.{ℕ}
 use mathlib.Core.Path.{_≡_}
 use mathlib.Core.List.{List, [], _∷_, _++_, map}
 use mathlib.Core.Option.{none, some}
-use lib.IntN.{ℤ, subℕ}
+use lib.IntN.{subℕ}
 use lib.ListN.{replicate, set}
 use Rattle.rules.specs.State.{Setting, State, rate, group, laneAt}
-use Rattle.rules.specs.Calls.{Call, put, take, sets, lag, Reply, accepted, taken, lagged, refused, fresh, step}
+use Rattle.rules.specs.Calls.{Call, put, take, sets, lag, accepted, taken, lagged, refused, fresh, step}
 use Rattle.rules.specs.Runs.{Event, after}
 use Rattle.plan.specs.Read.{noLanes, readSetup}
 use Rattle.plan.specs.Read as plan

@@ -52,9 +52,6 @@ module _ (l : LaneField) (h : laneOutside l ≡ false) where
       record { weight-low = w .0; weight-high = w .1; longest-low = g .0; longest-high = g .1 }
 
 module _ (seen : Seen) (l : LaneField) where
-  pub is-begun : misplaced seen (Lane l) ≡ false → seen .begun ≡ true
-  is-begun h = not-false (seen .begun) (or-false (not (seen .begun)) (ltb (l .lane) (seen .floor)) h .0)
-
   pub is-rising : misplaced seen (Lane l) ≡ false → seen .floor ≤ l .lane
   is-rising h = ltb-false (l .lane) (seen .floor) (or-false (not (seen .begun)) (ltb (l .lane) (seen .floor)) h .1)
 

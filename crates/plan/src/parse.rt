@@ -1,6 +1,6 @@
 // One field of a setup, taken apart: refusals 1 to 3.
 ghost use mathlib.Core.Path.{_≡_};
-ghost use mathlib.Core.Bool.{Bool, true, false};
+ghost use mathlib.Core.Bool.{true, false};
 ghost use Prim.Native.Nat.{_+_, _≤_};
 ghost use lib.ListN.{length};
 ghost use Rattle.plan.specs.Fields.{known, fitting, laneAt, longestAt, fieldOf, ends, itemAt, itemOf};

@@ -11,6 +11,7 @@
 ghost use Prim.Native.Nat.{_<_, _≤_};
 ghost use lib.ListN.{length};
 use libc::STDOUT_FILENO;
+use lines::Place;
 use plan::Lane;
 use plan::Outcome;
 use plan::Plan;
@@ -142,22 +143,16 @@ fn print_number(before: &[u8], n: u64) {
     io::print_decimal(STDOUT_FILENO, n);
 }
 
-fn print_refusal(number: u64, place: usize) {
-    print_number(b"no ", number);
-    print_number(b" ", place as u64);
+fn print_place(p: Place) {
+    match p {
+        Place::At(at) => print_number(b" ", at as u64),
+        Place::Nowhere => {}
+    }
 }
 
-// Refusals that a reader never gives have the number 0 here.
 fn print_refused(x: Refusal) {
-    match x {
-        Refusal::Cut(p) => print_refusal(1, p),
-        Refusal::UnknownTag(p) => print_refusal(2, p),
-        Refusal::WrongLength(p) => print_refusal(3, p),
-        Refusal::OutOfOrder(p) => print_refusal(4, p),
-        Refusal::OutsideNumbers(p) => print_refusal(5, p),
-        Refusal::WeightsOver(p) => print_refusal(6, p),
-        _ => print_refusal(0, 0),
-    }
+    print_number(b"no ", lines::number(x));
+    print_place(lines::place_of(x));
 }
 
 fn print_lane(k: usize, l: Lane) {

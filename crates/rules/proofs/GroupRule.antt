@@ -18,7 +18,6 @@ use Rattle.units.specs.Plain.{anyBelow, wordOf, count}
 use Rattle.rules.specs.Sets.{groups, inGroup, groupStart, reached, finishFrom, groupEligible, groupFinish, blocks, blocked, ready, ineligibleReady, eligibleBlocked, ineligibleBlocked, groupHolds, heldStart}
 use Rattle.rules.proofs.Lowest.{LowOf, lowest-of}
 use Rattle.rules.proofs.Bools.{and-parts, and-made, or-parts, not-passed}
-use Rattle.rules.proofs.Lowest.{}
 use Rattle.rules.proofs.Chosen.{Chosen}
 use Rattle.rules.proofs.Keep.{eligible-is, is-eligible}
 use Rattle.rules.proofs.Word.{first-bit}

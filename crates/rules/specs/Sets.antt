@@ -15,7 +15,7 @@ use mathlib.Core.Option.{Option, none, some}
 use lib.Dec.{leb, ltb, eqb}
 use lib.Count.{trailingZeros}
 use Rattle.units.specs.Plain.{count, anyBelow, wordOf}
-use Rattle.rules.specs.State.{Lane, State, group, startR, holds, laneAt}
+use Rattle.rules.specs.State.{Lane, State, group, holds, laneAt}
 use Rattle.rules.specs.Choice.{Candidate, choose, leastOf}
 
 -- group indices are below 32, so that one word holds each set

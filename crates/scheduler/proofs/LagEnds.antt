@@ -1,7 +1,7 @@
 -- The ends of lag's range, of the call's own answer. Assumes nothing.
 use Prim.Native.Nat.{ℕ, _+_, _^_}
 use native.Mathlib.Omega.{arith}
-use mathlib.Core.Path.{_≡_, refl, sym, subst}
+use mathlib.Core.Path.{_≡_, sym, subst}
 use mathlib.Core.Bool.{Bool, true, false}
 use mathlib.Core.List.{List}
 use lib.Dec.{ltb}
@@ -9,7 +9,7 @@ use lib.IntN.{ℤ}
 use Rattle.units.specs.Plain.{if_then_else_}
 use Rattle.rules.specs.State.{State, laneAt}
 use Rattle.rules.specs.Setup.{margin}
-use Rattle.rules.specs.Calls.{Outcome, lag, lagged, no, lagOf, doLag, step}
+use Rattle.rules.specs.Calls.{lag, lagged, no, lagOf, doLag, step}
 use Rattle.rules.specs.declared.Answer.the-variants.{Lag}
 use Rattle.table.specs.Means.{meant}
 use Rattle.good.specs.Table.{GoodTable}

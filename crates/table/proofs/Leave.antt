@@ -1,16 +1,13 @@
 -- From the words that a function leaves to the state that it leaves. Assumes nothing.
-use mathlib.Core.Path.{_≡_, subst, _∙_}
+use mathlib.Core.Path.{_≡_, _∙_}
 use Prim.Native.Nat.{ℕ, _≤_, _<_}
 use mathlib.Core.List.{List}
 use lib.ListN.{length, getD}
 use native.Mathlib.Omega.{arith}
 use Rattle.words.specs.Runs.{reads}
 use Rattle.rules.specs.State.{Lane, State}
-use Rattle.alike.specs.Alike.{Alike}
-use Rattle.alike.proofs.Alike.{alike-refl}
 use Rattle.table.specs.Layout.{Now, cells, laneWord}
 use Rattle.table.specs.Means.{laneOf, meant, Sound, Leaves, withLane, withOrder}
-use Rattle.table.specs.Encodes.{Encodes}
 use Rattle.table.proofs.Footprint.{Outside, OutsideOrder, lane-changed, order-changed, order-is, beside-kept, outside-settings}
 
 pub sound-few : (t : List ℕ) → Sound t → getD (cells t) 2 0 ≤ 64
@@ -41,8 +38,3 @@ leave-order t t′ u o n x e =
 -- what the next function rests on
 pub sound-after : {t t′ : List ℕ} {s : State} → Sound t → Leaves t t′ s → length t′ ≡ length t → length (s .order) ≤ 64 → Sound t′
 sound-after a l e few = record { room = omega (arith, a .room); few = rw (l .state) few; beside = l .beside (a .beside) }
-
--- the bytes encode the state that was left
-pub leaves-encodes : {t t′ : List ℕ} {s : State} → Sound t → Leaves t t′ s → length t′ ≡ length t → Encodes t′ s
-leaves-encodes {t} {t′} {s} a l e =
-    record { room = omega (arith, a .room); alike = subst (λ (u : State). Alike (meant t′) u) (l .state) (alike-refl (meant t′)); beside = l .beside (a .beside) }

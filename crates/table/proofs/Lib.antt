@@ -5,4 +5,3 @@ pub mod Rows
 pub mod Timed
 pub mod Few
 pub mod Next
-pub mod RowIs

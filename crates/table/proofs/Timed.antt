@@ -1,6 +1,6 @@
 -- Laws of a lane by its one clock word: each change that a call makes to a lane is a new clock word and a new queue. Assumes nothing.
 use mathlib.Core.Path.{_≡_, refl}
-use mathlib.Core.Bool.{true, false, false≢true}
+use mathlib.Core.Bool.{true, false≢true}
 use Prim.Native.Nat.{ℕ, _+_, _*_, max}
 use mathlib.Core.List.{List, [], _∷_, _++_}
 use Rattle.rules.specs.State.{Rec, Setting, charge, rate, some?}

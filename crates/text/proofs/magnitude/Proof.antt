@@ -1,6 +1,4 @@
 -- `magnitude` meets its contract. Assumes nothing.
-use mathlib.Core.Path.{_≡_, refl}
-use mathlib.Core.Bool.{true, false}
 use native.Mathlib.Omega.{arith}
 use Rattle.text.proofs.Signed.{below, not-below, read-pos, up-fits, flip-fits, flip-read}
 use Rattle.text.proofs.magnitude.Statement.{statement}
