@@ -2,20 +2,24 @@
 use Prim.Native.Nat.{ℕ}
 use native.Mathlib.Omega.{arith}
 use mathlib.Core.Path.{_≡_, refl, sym, ap, subst, _∙_}
+use mathlib.Core.Bool.{true}
 use mathlib.Core.List.{List, [], _∷_, _++_, map}
+use mathlib.Core.Option.{none}
 use lib.ListN.{getD}
-use Rattle.rules.specs.State.{Lane, noLane, State, laneAt}
-use Rattle.rules.specs.Calls.{Call, fresh, step}
+use Rattle.rules.specs.State.{Lane, noLane, State, laneAt, anyHolds}
+use Rattle.rules.specs.Calls.{Call, restart, refused, fresh, doRestart, step}
 use Rattle.rules.specs.Runs.{Event, after, trace, acceptedOf, sentOf, InOrder}
-use Rattle.rules.specs.Fair.{Fair, Demand3}
-use Rattle.rules.proofs.Fair.{demand3}
+use Rattle.rules.specs.Fair.{Holding, Fair, Demand3}
+use Rattle.rules.proofs.Runs.{split}
+use Rattle.rules.proofs.Live.{holds-some}
+use Rattle.rules.proofs.Fair.{holds-of, demand3}
 use Rattle.rules.proofs.Order.{in-order}
 use Rattle.rules.proofs.SameSetup.{setup-kept, fresh-setup}
 use Rattle.rules.proofs.NotTen.{NotTen, step-not-ten}
 use Rattle.rules.proofs.AlwaysGood.{fresh-reached, reached, reached-good}
 use Rattle.table.specs.Encodes.{Encodes}
 use Rattle.good.proofs.Encodes.{encodes-good}
-use Rattle.scheduler.specs.Demands.{FairCalls, NeverTen, OrderKept, SetupKept}
+use Rattle.scheduler.specs.Demands.{FairCalls, NeverTen, OrderKept, SetupKept, RestartHeld}
 use Rattle.scheduler.proofs.Chains.{begins-setup, begins-ran}
 
 -- demand 3
@@ -59,3 +63,26 @@ unfolding SetupKept
 setup-kept-calls gs t u calls b ch s e =
     let r = begins-ran gs t b u calls ch in
     ap (map (λ (l : Lane). l .given)) (same-lanes u s (after (fresh gs) (r .calls)) e (r .encodes)) ∙ setup-kept (fresh gs) (r .calls) ∙ fresh-setup gs
+
+-- a restart is refused by 15 while a record is held
+restart-no : (s : State) → anyHolds (s .lanes) ≡ true → (step s restart) .reply ≡ refused 15 none
+unfolding step doRestart
+restart-no s h = simp h
+
+-- the first event of a list of the rules' calls, if it is a restart
+restart-first : (s : State) (cs : List Call) (rest : List Event) (e : Event) → anyHolds (s .lanes) ≡ true → trace s cs ≡ e ∷ rest → e .call ≡ restart → e .reply ≡ refused 15 none
+unfolding trace
+restart-first s [] rest e h q c = let z : _≡_ {A = ℕ} 0 1 = cc in absurd (omega arith)
+restart-first s (x ∷ cs) rest e h q c =
+    let same : record { call = x; reply = (step s x) .reply } ≡ e = cc in
+    let is : x ≡ restart = ap (λ (y : Event). y .call) same ∙ c in
+    sym (ap (λ (y : Event). y .reply) same) ∙ subst (λ (y : Call). (step s y) .reply ≡ refused 15 none) (sym is) (restart-no s h)
+
+pub restart-held : RestartHeld
+unfolding RestartHeld
+restart-held gs t u calls b ch past rest e q k holding c =
+    let r = begins-ran gs t b u calls ch in
+    let two = split (fresh gs) (r .calls) past (e ∷ rest) (r .events ∙ q) in
+    let s = after (fresh gs) (two .calls) in
+    let held = subst (Holding k) (sym (two .past-is)) holding in
+    restart-first s (two .more) rest e (holds-some (s .lanes) k (holds-of gs k (two .calls) held)) (two .rest-is) c

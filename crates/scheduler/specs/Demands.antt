@@ -4,6 +4,7 @@
 --   NeverTen     "No table made by these calls from a fresh one is ever found not good."
 --   OrderKept    "Each accepted record is handed out once, in its lane's order, or is still held."
 --   SetupKept    no call changes the setup
+--   RestartHeld  "A restart in such a stretch is always refused, by 15."
 --
 -- Assumes nothing.
 use Prim.Native.Nat.{ℕ, _+_, _*_, _<_}
@@ -13,7 +14,7 @@ use mathlib.Core.Option.{none}
 use Rattle.units.specs.Numbers.{lineRate}
 use Rattle.rules.specs.State.{Setting, settingAt, State, rate, slot, laneAt, setupOf}
 use Rattle.rules.specs.Setup.{margin}
-use Rattle.rules.specs.Calls.{refused}
+use Rattle.rules.specs.Calls.{restart, refused}
 use Rattle.rules.specs.Runs.{Event, acceptedOf, sentOf}
 use Rattle.rules.specs.Fair.{bytesSent, bytesSentOf, Holding}
 use Rattle.table.specs.Encodes.{Encodes}
@@ -42,3 +43,10 @@ OrderKept =
 
 unfoldable pub SetupKept : Type 0
 SetupKept = (gs : List Setting) (t u : List ℕ) (calls : List Event) → Begins gs t → Chain t calls u → (s : State) → Encodes u s → setupOf s ≡ gs
+
+-- Wherever a lane holds a record by the list's own count, as before a stretch of demand 3 and after each call in it, the next call, if it is a restart, gives 15.
+unfoldable pub RestartHeld : Type 0
+RestartHeld =
+    (gs : List Setting) (t u : List ℕ) (calls : List Event) → Begins gs t → Chain t calls u
+    → (past rest : List Event) (e : Event) → calls ≡ past ++ e ∷ rest
+    → (k : ℕ) → Holding k past → e .call ≡ restart → e .reply ≡ refused 15 none
