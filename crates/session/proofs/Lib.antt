@@ -1,4 +1,5 @@
 pub mod Walking
 pub mod Reading
 pub mod Texts
+pub mod Requests
 pub mod Examples

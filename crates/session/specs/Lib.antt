@@ -1,4 +1,5 @@
 pub mod Script
 pub mod Ran
 pub mod Walks
+pub mod Requests
 pub mod Examples
