@@ -30,7 +30,7 @@ fair-calls gs t u calls b ch past stretch rest e k holding =
     demand3 gs (begins-setup gs t b) (r .calls) past stretch rest (r .events ∙ e) k holding
 
 -- no event of a list of the rules' calls is refused by 10
-trace-not-ten : (s : State) (cs : List Call) (past rest : List Event) (e : Event) → trace s cs ≡ past ++ e ∷ rest → NotTen (e .reply)
+pub trace-not-ten : (s : State) (cs : List Call) (past rest : List Event) (e : Event) → trace s cs ≡ past ++ e ∷ rest → NotTen (e .reply)
 unfolding trace
 trace-not-ten s [] [] rest e q = let z : _≡_ {A = ℕ} 0 1 = cc in absurd (omega arith)
 trace-not-ten s [] (x ∷ past) rest e q = let z : _≡_ {A = ℕ} 0 1 = cc in absurd (omega arith)
@@ -47,7 +47,7 @@ never-ten gs t u calls b ch =
     )
 
 -- two states that one table encodes have the same lanes
-same-lanes : (u : List ℕ) (s s′ : State) → Encodes u s → Encodes u s′ → s .lanes ≡ s′ .lanes
+pub same-lanes : (u : List ℕ) (s s′ : State) → Encodes u s → Encodes u s′ → s .lanes ≡ s′ .lanes
 same-lanes u s s′ e e′ = sym (e .alike .lanes) ∙ e′ .alike .lanes
 
 pub order-kept : OrderKept
