@@ -3,3 +3,4 @@ pub mod Reading
 pub mod Texts
 pub mod Requests
 pub mod Examples
+pub mod One

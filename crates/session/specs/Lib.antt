@@ -3,3 +3,4 @@ pub mod Ran
 pub mod Walks
 pub mod Requests
 pub mod Examples
+pub mod One
