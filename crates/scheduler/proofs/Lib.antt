@@ -4,3 +4,4 @@ pub mod Chains
 pub mod Demands
 pub mod LagEnds
 pub mod One
+pub mod SetsAnswer

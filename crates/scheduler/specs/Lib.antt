@@ -3,3 +3,4 @@ pub mod Make
 pub mod Chain
 pub mod Demands
 pub mod One
+pub mod SetsAnswer
