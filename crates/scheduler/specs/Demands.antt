@@ -5,16 +5,19 @@
 --   NeverTen     "No table made by these calls from a fresh one is ever found not good."
 --   OrderKept    "Each accepted record is handed out once, in its lane's order, or is still held."
 --   SetupKept    no call changes the setup
+--   RestartHeld  "A restart in such a stretch is always refused, by 15."
+--   Drains       "Take is never refused for 14, so a spent unit can be drained and restarted."
 --
 -- Assumes nothing.
 use Prim.Native.Nat.{ℕ, _+_, _*_, _<_}
 use mathlib.Core.Path.{_≡_}
+use mathlib.Core.Logic.{_⊎_}
 use mathlib.Core.List.{List, _∷_, _++_, map}
 use mathlib.Core.Option.{none}
 use Rattle.units.specs.Numbers.{lineRate}
 use Rattle.rules.specs.State.{Setting, settingAt, State, rate, slot, laneAt, setupOf}
 use Rattle.rules.specs.Setup.{margin}
-use Rattle.rules.specs.Calls.{Call, refused, fresh}
+use Rattle.rules.specs.Calls.{Call, take, restart, Reply, taken, restarted, refused, fresh}
 use Rattle.rules.specs.Runs.{Event, after, trace, acceptedOf, sentOf}
 use Rattle.rules.specs.Fair.{bytesSent, bytesSentOf, Holding}
 use Rattle.table.specs.Encodes.{Encodes}
@@ -53,3 +56,25 @@ OrderKept =
 
 unfoldable pub SetupKept : Type 0
 SetupKept = (gs : List Setting) (t u : List ℕ) (calls : List Event) → Begins gs t → Chain t calls u → (s : State) → Encodes u s → setupOf s ≡ gs
+
+-- Wherever a lane holds a record by the list's own count, as before a stretch of demand 3 and after each call in it, the next call, if it is a restart, gives 15.
+unfoldable pub RestartHeld : Type 0
+RestartHeld =
+    (gs : List Setting) (t u : List ℕ) (calls : List Event) → Begins gs t → Chain t calls u
+    → (past rest : List Event) (e : Event) → calls ≡ past ++ e ∷ rest
+    → (k : ℕ) → Holding k past → e .call ≡ restart → e .reply ≡ refused 15 none
+
+-- a reply hands a record out
+pub record HandsOut (r : Reply) : Type 0 where
+  pub lane : ℕ
+  pub mark : ℕ
+  pub len : ℕ
+  pub is : r ≡ taken lane mark len
+
+-- Whatever the clock: each take hands a record out or gives 16, and a restart right after a 16 is accepted. (Each record that is handed out leaves one less: `drained` of rules.)
+unfoldable pub Drains : Type 0
+Drains =
+    (gs : List Setting) (t u : List ℕ) (calls : List Event) → Begins gs t → Chain t calls u
+    → (past rest : List Event) (e : Event) → calls ≡ past ++ e ∷ rest → e .call ≡ take
+    → (HandsOut (e .reply) ⊎ (e .reply ≡ refused 16 none))
+    × ((f : Event) (more : List Event) → rest ≡ f ∷ more → e .reply ≡ refused 16 none → f .call ≡ restart → f .reply ≡ restarted)

@@ -2,3 +2,5 @@ pub mod Step
 pub mod Make
 pub mod Chain
 pub mod Demands
+pub mod One
+pub mod SetsAnswer

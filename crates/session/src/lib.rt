@@ -1,7 +1,8 @@
 // The session run: document 01, "Setup and session fields", "A session in full". Bytes in, answer lines out.
 //
 // `run` takes any bytes, any limit, any table and any answer area. What it answers and leaves is `runOf` of specs/Script.antt, by the promise `Ran` of
-// specs/Ran.antt. After its own making of the table it rests on the inner calls, with no test for each request.
+// specs/Ran.antt. After its own making of the table it rests on the inner calls, with no test for each request. specs/Requests.antt says that a run's requests are a
+// list of the rules' calls from the fresh table of its setup.
 //
 // Units: places and lengths are numbers of bytes; places are counted from the first byte of the session.
 ghost use mathlib.Core.Path.{_≡_};

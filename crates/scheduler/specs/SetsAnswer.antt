@@ -1,0 +1,36 @@
+-- The four words that `sets` answers (document 01, "Sets"), as the host gets them: what their bits say of the table.
+--
+--   bit           bit i of a word (crate words)
+--   SetsAnswer    document 01's sentences on the four words
+--   SetsCall      the claim, of the call's own answer on any good table
+--
+-- Assumes nothing.
+use Prim.Native.Nat.{ℕ, _+_, _^_, _≤_, _<_}
+use mathlib.Core.Path.{_≡_}
+use mathlib.Core.List.{List}
+use lib.Count.{trailingZeros}
+use Rattle.words.specs.Bits.{bit}
+use Rattle.rules.specs.State.{State, group, laneAt}
+use Rattle.units.specs.Plain.{count}
+use Rattle.rules.specs.Sets.{groups, groupHolds, groupFinish}
+use Rattle.rules.specs.Calls.{sets, look, words, seen, step}
+use Rattle.rules.specs.Reads.{reads}
+use Rattle.rules.specs.declared.Answer.{Answer}
+use Rattle.table.specs.Means.{meant}
+use Rattle.good.specs.Table.{GoodTable}
+use Rattle.scheduler.specs.Step.{Step}
+
+pub record SetsAnswer (s : State) (er ir eb ib : ℕ) : Type 0 where
+  -- "The four words .. part the groups that hold records": of a group's four bits one is set if the group holds records, and none else
+  pub parted : (i : ℕ) → i < groups → bit i er + bit i ir + bit i eb + bit i ib ≡ count (groupHolds (s .lanes) i)
+  -- group indices are below 32
+  pub small : (er < 2 ^ 32) × (ir < 2 ^ 32) × (eb < 2 ^ 32) × (ib < 2 ^ 32)
+  -- "The first set bit of the eligible-ready word is the chosen lane's group": that of the lane which look names, and take serves
+  pub first : (j m n : ℕ) → (step s look) .reply ≡ seen j m n → trailingZeros 64 er ≡ group (laneAt s j .given)
+  -- "and finishes never fall along that word"
+  pub rising : (i k : ℕ) → i < k → k < groups → bit i er ≡ 1 → bit k er ≡ 1 → groupFinish (s .lanes) i ≤ groupFinish (s .lanes) k
+
+unfoldable pub SetsCall : Type 0
+SetsCall =
+    (t u : List ℕ) (a : Answer) (er ir eb ib : ℕ) → GoodTable t → Step sets t a u → reads a ≡ words er ir eb ib
+    → SetsAnswer (meant t) er ir eb ib

@@ -1,0 +1,35 @@
+-- The promise of a run leaves nothing of its result open. Assumes nothing.
+use Prim.Native.Nat.{ℕ, _*_}
+use mathlib.Core.Path.{_≡_, sym, ap, subst, _∙_}
+use mathlib.Core.List.{List}
+use mathlib.Core.Option.{Option, none, some}
+use lib.ListN.{length, drop}
+use Rattle.rules.specs.State.{State}
+use Rattle.alike.specs.Alike.{Alike}
+use Rattle.alike.proofs.Alike.{alike-refl, alike-sym, alike-trans}
+use Rattle.table.specs.Layout.{WORDS}
+use Rattle.table.specs.Means.{meant}
+use Rattle.session.specs.Script.{runOf}
+use Rattle.session.specs.Ran.{Table, Ran}
+use Rattle.session.specs.One.{SameRun, OneRun}
+use Rattle.session.specs.declared.RunResult.{RunResult}
+
+one-table : (t t₁ t₂ : List ℕ) (o : Option State) → Table t t₁ o → Table t t₂ o → Alike (meant t₁) (meant t₂) × (drop (WORDS * 8) t₁ ≡ drop (WORDS * 8) t₂)
+one-table t t₁ t₂ none h h′ =
+    let q : t₁ ≡ t₂ = h ∙ sym h′ in
+    (subst (λ (x : List ℕ). Alike (meant t₁) (meant x)) q (alike-refl (meant t₁)), ap (drop (WORDS * 8)) q)
+one-table t t₁ t₂ (some σ) h h′ =
+    (alike-trans (meant t₁) σ (meant t₂) (h .encodes .alike) (alike-sym (meant t₂) σ (h′ .encodes .alike)), h .rest ∙ sym (h′ .rest))
+
+pub one-run : OneRun
+unfolding OneRun
+one-run s limit t a r r′ t₁ t₂ a₁ a₂ p p′ =
+    let table = one-table t t₁ t₂ (runOf s limit (length t) (length a) .state) (p .table) (p′ .table) in
+    record {
+      count = p .count ∙ sym (p′ .count);
+      written = p .written ∙ sym (p′ .written);
+      why = p .why ∙ sym (p′ .why);
+      answers = p .answers ∙ sym (p′ .answers);
+      table = table .0;
+      rest = table .1;
+    }

@@ -1,0 +1,84 @@
+-- A run's requests are a list of the rules' calls. Assumes nothing.
+use Prim.Native.Nat.{ℕ, zero, suc, _+_, _*_, _≤_}
+use native.Mathlib.Omega.{arith}
+use mathlib.Core.Path.{_≡_, refl, sym, ap, _∙_}
+use mathlib.Core.Bool.{Bool, true, false, _||_}
+use mathlib.Core.List.{List, [], _∷_, _++_, append-nil, append-assoc}
+use mathlib.Core.Option.{Option, none, some}
+use lib.Dec.{ltb}
+use lib.ListN.{length}
+use Rattle.units.specs.Plain.{if_then_else_}
+use Rattle.rules.specs.State.{Setting, State}
+use Rattle.rules.specs.Setup.{Setup}
+use Rattle.rules.specs.Calls.{Call, fresh, step}
+use Rattle.rules.specs.Runs.{Event, after, trace}
+use Rattle.rules.specs.Fair.{Demand3}
+use Rattle.rules.proofs.Fair.{demand3}
+use Rattle.plan.specs.Read as plan
+use Rattle.plan.proofs.Accepted.{accepted}
+use Rattle.table.specs.Layout.{WORDS}
+use Rattle.lines.specs.Line.{lineOf, lanesLine}
+use Rattle.requests.specs.Request.{Item, request, last, bad, itemAt}
+use Rattle.session.specs.Script.{Walked, closing, next, walk, finished, begun, script, nothing, runOf}
+use Rattle.session.specs.Requests.{asked, requestsOf, linesOf, Lists, RunLists}
+
+-- the walk from a state, with the lines before it
+record WalkLists (lines : List ℕ) (n : ℕ) (σ : State) (cs : List Call) (left : ℕ) (w : Walked) : Type 0 where
+  text : w .lines ≡ lines ++ linesOf (trace σ cs)
+  count : w .count ≡ n + length cs
+  state : w .state ≡ after σ cs
+  within : length cs ≤ left
+
+walk-stops : (lines : List ℕ) (n left : ℕ) (σ : State) (w : Walked) → w .lines ≡ lines → w .count ≡ n → w .state ≡ σ → WalkLists lines n σ [] left w
+unfolding trace after linesOf
+walk-stops lines n left σ w a b c = record { text = a ∙ sym (append-nil lines); count = omega (arith, b); state = c; within = omega arith }
+
+walk-lists : (left : ℕ) (s : List ℕ) (at n : ℕ) (lines : List ℕ) (σ : State) → WalkLists lines n σ (requestsOf left s at) left (walk left s at n lines σ)
+unfolding walk requestsOf trace after linesOf
+walk-lists zero s at n lines σ = walk-stops lines n 0 σ (walk zero s at n lines σ) refl refl refl
+walk-lists (suc left) s at n lines σ = go (itemAt s at) (λ q m ls τ. walk-lists left s q m ls τ)
+  where
+    go : (i : Item) → ((q m : ℕ) (ls : List ℕ) (τ : State) → WalkLists ls m τ (requestsOf left s q) left (walk left s q m ls τ))
+        → WalkLists lines n σ (asked i (requestsOf left s)) (suc left) (next s n lines σ i (walk left s))
+    go (bad r p) more = walk-stops lines n (suc left) σ (next s n lines σ (bad r p) (walk left s)) refl refl refl
+    go (last q) more = walk-stops lines n (suc left) σ (next s n lines σ (last q) (walk left s)) refl refl refl
+    go (request c q) more =
+        let line = lineOf ((step σ c) .reply) in
+        let rest = more q (n + 1) (lines ++ line) ((step σ c) .state) in
+        record {
+          text = rest .text ∙ append-assoc lines line (linesOf (trace ((step σ c) .state) (requestsOf left s q)));
+          count = omega (arith, rest .count);
+          state = rest .state;
+          within = omega (arith, rest .within);
+        }
+
+module _ (s : List ℕ) (limit : ℕ) (σ : State) where
+  begun-lists : (r : plan.Reply) → plan.readPlan s 0 ≡ r → begun s limit r .state ≡ some σ → Lists s limit (begun s limit r)
+  unfolding Demand3
+  begun-lists (plan.refused n p) e h = let z : _≡_ {A = ℕ} 0 1 = cc in absurd (omega arith)
+  begun-lists (plan.read gs lanes at) e h =
+      let w = walk limit s at 0 [] (fresh gs) in
+      let i = walk-lists limit s at 0 [] (fresh gs) in
+      let ok : Setup gs = accepted s 0 gs lanes at e .setup in
+      record {
+        settings = gs;
+        lanes = lanes;
+        at = at;
+        reads-it = e;
+        setup = ok;
+        count = omega (arith, i .count);
+        within = omega (arith, i .count, i .within);
+        text = ap (λ (x : List ℕ). lanesLine lanes ++ (x ++ closing (w .why) (w .count))) (i .text);
+        state = ap some (i .state);
+        fair = demand3 gs ok;
+      }
+
+pub run-lists : RunLists
+unfolding RunLists runOf script
+run-lists s limit table area σ = go (ltb 1000 limit || ltb area (64 * (limit + 2))) (ltb table (WORDS * 8))
+  where
+    go : (a b : Bool) → (if a then nothing 17 none else (if b then nothing 7 (some 0) else begun s limit (plan.readPlan s 0))) .state ≡ some σ
+        → Lists s limit (if a then nothing 17 none else (if b then nothing 7 (some 0) else begun s limit (plan.readPlan s 0)))
+    go true b h = let z : _≡_ {A = ℕ} 0 1 = cc in absurd (omega arith)
+    go false true h = let z : _≡_ {A = ℕ} 0 1 = cc in absurd (omega arith)
+    go false false h = begun-lists s limit σ (plan.readPlan s 0) refl h

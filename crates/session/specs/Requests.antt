@@ -1,0 +1,56 @@
+-- The requests of a run as a list of calls. A run that makes a table answers its requests as the rules do, from the fresh table of its setup; so what holds of every
+-- list of the rules' calls holds of a run's answers, demand 3 included.
+--
+--   requestsOf   the requests that stand from a place on, up to the limit
+--   linesOf      the lines of their answers
+--   Lists        what a script comes to, said by these
+--   RunLists     every run that makes a table comes to this
+--
+-- Assumes nothing.
+use Prim.Native.Nat.{ℕ, zero, suc, _≤_}
+use mathlib.Core.Path.{_≡_}
+use mathlib.Core.List.{List, [], _∷_, _++_}
+use mathlib.Core.Option.{some}
+use lib.ListN.{length}
+use Rattle.rules.specs.State.{Setting, State}
+use Rattle.rules.specs.Setup.{Setup, margin}
+use Rattle.rules.specs.Calls.{Call, fresh}
+use Rattle.rules.specs.Runs.{Event, after, trace}
+use Rattle.rules.specs.Fair.{Fair}
+use Rattle.plan.specs.Read as plan
+use Rattle.lines.specs.Line.{lineOf, lanesLine}
+use Rattle.requests.specs.Request.{Item, request, last, bad, itemAt}
+use Rattle.session.specs.Script.{Script, closing, runOf}
+
+-- a request, and those behind it; none at the end field or a refused field
+abbrev pub asked : Item → (ℕ → List Call) → List Call
+asked (bad n p) go = []
+asked (last at) go = []
+asked (request c at) go = c ∷ go at
+
+unfoldable pub requestsOf : ℕ → List ℕ → ℕ → List Call
+requestsOf zero s at = []
+requestsOf (suc left) s at = asked (itemAt s at) (requestsOf left s)
+
+unfoldable pub linesOf : List Event → List ℕ
+linesOf [] = []
+linesOf (e ∷ es) = lineOf (e .reply) ++ linesOf es
+
+pub record Lists (s : List ℕ) (limit : ℕ) (x : Script) : Type 0 where
+  pub settings : List Setting
+  pub lanes : ℕ
+  pub at : ℕ
+  -- the setup at the front of the session, and the place behind it
+  pub reads-it : plan.readPlan s 0 ≡ plan.read settings lanes at
+  pub setup : Setup settings
+  -- "the number of requests answered": all that stand there, up to the limit
+  pub count : x .count ≡ length (requestsOf limit s at)
+  pub within : x .count ≤ limit
+  -- a line for each, and each line that of the rules' answer
+  pub text : x .text ≡ lanesLine lanes ++ (linesOf (trace (fresh settings) (requestsOf limit s at)) ++ closing (x .why) (x .count))
+  pub state : x .state ≡ some (after (fresh settings) (requestsOf limit s at))
+  -- demand 3, of this list as of every one
+  pub fair : Fair margin settings
+
+unfoldable pub RunLists : Type 0
+RunLists = (s : List ℕ) (limit table area : ℕ) (σ : State) → runOf s limit table area .state ≡ some σ → Lists s limit (runOf s limit table area)
