@@ -1,7 +1,8 @@
 -- `lane_at` meets its contract. The loop's invariant: the lanes passed do not stand there. Assumes nothing.
-use mathlib.Core.Path.{_≡_, refl, sym, subst, _∙_}
+use mathlib.Core.Path.{_≡_, refl, sym, ap, subst, _∙_}
 use mathlib.Core.Bool.{Bool, true, false}
 use mathlib.Core.List.{List}
+use mathlib.Core.Option.{some}
 use Prim.Native.Nat.{ℕ, suc, _≤_, _<_, _-_}
 use native.Mathlib.Numerals.{add-one}
 use native.Mathlib.Omega.{arith}
@@ -63,7 +64,7 @@ returns c =
     let k : o .result ≡ getD (meant t .order) (l .i) 0 = o .ensures in
     let st : Stands (laneAt (meant t) (getD (meant t .order) (l .i) 0)) (p .result) = subst (λ (x : ℕ). Stands (laneAt (meant t) x) (p .result)) k (p .ensures) in
     let test = stand-test _ (p .result) (s .args .g) (s .args .start .0) (order-lane t (known-steady t (s .pre)) (l .i) h) st ∙ sym (c .before .is-at .ensures) in
-    rw k (first-found (stands? t (s .args .g) (s .args .start)) (meant t .order) (l .i) h (test ∙ c .if1 .taken) (l .inv .1))
+    ap some k ∙ first-found (stands? t (s .args .g) (s .args .start)) (meant t .order) (l .i) h (test ∙ c .if1 .taken) (l .inv .1)
 
 add-i : tie.Need-add-i Inv-loop μ-loop
 add-i c = omega arith
