@@ -79,7 +79,8 @@ difference-requires-2 c κs =
     let w : 0 < laneAt (meant t) k .given .weight = rw (is .given) (is .weight) in
     let v = c .before .before .clock .ensures in
     let busy = count-holds (laneAt (meant t) k) _ (is .held) (pos-of-ne-zero (c .if3 .left)) in
-    (omega (arith, v, s .pre .good .clock), omega (arith, is .busy busy, known-steady t (s .pre) .early k busy))
+    let start = known-steady t (s .pre) .early k busy in
+    (omega (arith, v, s .pre .good .clock, is .busy busy, start), omega (arith, v, s .pre .good .clock, is .busy busy, start))
 
 returns-4 : tie.Need-returns-4
 returns-4 c =
