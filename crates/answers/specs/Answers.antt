@@ -1,10 +1,10 @@
 -- A request answered: what is left of the table and of the answer area.
 --
 --   Made      a table that calls made from a fresh one: what the session run rests on, in place of a test for each request
---   Answers   the call is done, and its line is written
+--   Answers   the call is done, its line is written, and the request is counted
 --
 -- Assumes nothing.
-use Prim.Native.Nat.{ℕ, _*_}
+use Prim.Native.Nat.{ℕ, _+_, _*_}
 use mathlib.Core.Path.{_≡_}
 use mathlib.Core.List.{List}
 use lib.ListN.{drop}
@@ -13,6 +13,7 @@ use Rattle.rules.proofs.AlwaysGood.{Reached}
 use Rattle.table.specs.Layout.{WORDS, Room, cells}
 use Rattle.table.specs.Means.{meant, Beside}
 use Rattle.lines.specs.Line.{lineOf, Line}
+use Rattle.answers.specs.declared.Tally.{Tally}
 
 -- "No table made by these calls from a fresh one is ever found not good": `Reached` is what a fresh state has and every call keeps, and it gives `Good`.
 pub record Made (t : List ℕ) : Type 0 where
@@ -20,8 +21,10 @@ pub record Made (t : List ℕ) : Type 0 where
   pub beside : Beside (cells t)
   pub reached : Reached (meant t)
 
-pub record Answers (c : Call) (t t′ a a′ : List ℕ) (at next : ℕ) : Type 0 where
+pub record Answers (c : Call) (t t′ a a′ : List ℕ) (so-far r : Tally) : Type 0 where
   pub made : Made t′
   pub state : meant t′ ≡ (step (meant t) c) .state
   pub rest : drop (WORDS * 8) t′ ≡ drop (WORDS * 8) t
-  pub line : Line a a′ at (lineOf ((step (meant t) c) .reply)) next
+  pub line : Line a a′ (so-far .next) (lineOf ((step (meant t) c) .reply)) (r .next)
+  -- "Numbers 10 to 16 answer their request with a `no` line": whatever the reply is
+  pub count : r .answered ≡ so-far .answered + 1

@@ -2,7 +2,7 @@
 //
 // The calls are `engine`'s. They rest on a table known to be good, and no test is made for each request: the run's table was made by these calls from a
 // fresh one, and such a table is never found not good (proofs/Made.antt).
-ghost use Prim.Native.Nat.{_+_, _≤_};
+ghost use Prim.Native.Nat.{_+_, _≤_, _<_};
 ghost use lib.ListN.{length};
 ghost use Rattle.choice.specs.Known.{Known};
 ghost use Rattle.engine.specs.Does.{Does};
@@ -10,6 +10,12 @@ ghost use Rattle.requests.specs.Request.{callIs};
 ghost use Rattle.answers.specs.Answers.{Made, Answers};
 use requests::Request;
 use rules::Answer;
+
+// How far the answers have come: the requests answered, and the place behind their lines.
+pub struct Tally {
+    pub answered: u64,
+    pub next: usize,
+}
 
 // The call of a request.
 fn call(t: &mut [u8], q: Request) -> Answer
@@ -26,11 +32,13 @@ fn call(t: &mut [u8], q: Request) -> Answer
     }
 }
 
-// Answers a request: its call, and its line at a place of the answer area; the place behind the line.
-pub fn answer(t: &mut [u8], a: &mut [u8], at: usize, q: Request) -> usize
-    requires { ⌜ Made (now t) × (at + 64 ≤ length (now a)) ⌝ }
-    ensures { λ r. ⌜ Answers (callIs q) (now (t .entry)) (now (t .exit)) (now (a .entry)) (now (a .exit)) at r ⌝ }
+// Answers a request: its call, its line in the answer area, and one request more that is answered, a `no` line's too.
+pub fn answer(t: &mut [u8], a: &mut [u8], done: Tally, q: Request) -> Tally
+    requires { ⌜ Made (now t) × (done .next + 64 ≤ length (now a)) × (done .answered < 1000) ⌝ }
+    ensures { λ r. ⌜ Answers (callIs q) (now (t .entry)) (now (t .exit)) (now (a .entry)) (now (a .exit)) done r ⌝ }
 {
     let x = call(t, q);
-    lines::put_answer(a, at, x)
+    let next = lines::put_answer(a, done.next, x);
+    let answered = done.answered + 1;
+    Tally { answered, next }
 }

@@ -24,6 +24,7 @@ use Rattle.lines.specs.Line.{lineOf, Wrote}
 use Rattle.lines.proofs.Writing.{wrote-both}
 use Rattle.requests.specs.Request.{request, last, bad, itemAt}
 use Rattle.answers.specs.Answers.{Made, Answers}
+use Rattle.answers.specs.declared.Tally.{Tally}
 use Rattle.session.specs.Script.{atLimit, refusal, closed, walk}
 use Rattle.session.specs.Ran.{whyIs}
 use Rattle.session.specs.Walks.{lineCount, Walks}
@@ -87,9 +88,9 @@ module _ {s : List ℕ} {from limit : ℕ} {t₀ a₀ : List ℕ} {start : ℕ} 
   pub stands-room : start ≤ 64 → n < limit → 64 * (limit + 2) ≤ length a₀ → next + 64 ≤ length a
   stands-room h l m = omega (arith, text-most h, same-area)
 
-  pub stands-next : n < limit → (c : Call) (at′ : ℕ) → itemAt s at ≡ request c at′ → {t′ a′ : List ℕ} {next′ : ℕ} → Answers c t t′ a a′ next next′
-      → Stands s from limit t₀ a₀ start t′ a′ at′ next′ (n + 1)
-  stands-next l c at′ e x = record {
+  pub stands-next : n < limit → (c : Call) (at′ : ℕ) → itemAt s at ≡ request c at′ → {t′ a′ : List ℕ} {r : Tally} → Answers c t t′ a a′ (record { answered = n; next = next }) r
+      → Stands s from limit t₀ a₀ start t′ a′ at′ (r .next) (r .answered)
+  stands-next l c at′ e x = rw (x .count) (record {
     lines = i .lines ++ lineOf ((step (meant t) c) .reply);
     same = rw (x .state) (sym (walk-request s limit at n (i .lines) (meant t) l c at′ e) ∙ i .same);
     wrote = wrote-both (i .lines) (lineOf ((step (meant t) c) .reply)) (i .wrote) (x .line .wrote);
@@ -97,7 +98,7 @@ module _ {s : List ℕ} {from limit : ℕ} {t₀ a₀ : List ℕ} {start : ℕ} 
     made = x .made;
     rest = x .rest ∙ i .rest;
     few = omega arith;
-  }
+  })
 
   pub stops : (w : Stop.Stop) → walk (limit - n) s at n (i .lines) (meant t) ≡ record { lines = i .lines; count = n; why = whyIs w; state = meant t }
       → next + 64 * lineCount w ≤ 64 * (limit + 2)

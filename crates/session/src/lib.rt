@@ -15,6 +15,7 @@ ghost use Rattle.answers.specs.Answers.{Made};
 ghost use Rattle.session.specs.Script.{closed, walk, finished, script};
 ghost use Rattle.session.specs.Ran.{whyIs, Follows, Ran};
 ghost use Rattle.session.specs.Walks.{lineCount, Walks, Closes};
+use answers::Tally;
 use plan::Outcome;
 use requests::END;
 use requests::Head;
@@ -71,10 +72,12 @@ fn walk(s: &[u8], from: usize, limit: u64, t: &mut [u8], a: &mut [u8], start: us
     ensures { λ r. ⌜ Walks limit (now (t .entry)) (now (t .exit)) (now (a .entry)) (now (a .exit)) start r (walk limit (now (s .entry)) from 0 [] (meant (now (t .entry)))) ⌝ }
 {
     let mut at = from;
-    let mut next = start;
-    let mut n = 0;
+    let mut done = Tally {
+        answered: 0,
+        next: start,
+    };
     let mut why = Stop::Limit;
-    'fields: while n < limit {
+    'fields: while done.answered < limit {
         match requests::head_at(s, at) {
             Head::Refused(x) => {
                 why = Stop::Refused(x);
@@ -97,14 +100,13 @@ fn walk(s: &[u8], from: usize, limit: u64, t: &mut [u8], a: &mut [u8], start: us
                     why = closed(s, at);
                     break 'fields;
                 }
-                next = answers::answer(t, a, next, requests::request_of(tag, value));
-                n += 1;
+                done = answers::answer(t, a, done, requests::request_of(tag, value));
             }
         }
     }
     Walked {
-        answered: n,
-        next: next,
+        answered: done.answered,
+        next: done.next,
         why: why,
     }
 }

@@ -1,5 +1,5 @@
 -- `answer` meets its contract: the call, its line, and the table as `Made` as before. Assumes nothing.
-use mathlib.Core.Path.{sym, subst}
+use mathlib.Core.Path.{refl, sym, subst}
 use native.Mathlib.Omega.{arith}
 use Rattle.table.specs.Means.{meant}
 use Rattle.lines.specs.Line.{Words32}
@@ -16,6 +16,9 @@ call-requires c κs = reached-known _ (c .before .before .before .pre .0)
 put-answer-requires : tie.Need-put-answer-requires
 put-answer-requires c κs = (subst Words32 (sym (c .before .before .before .call .ensures .says)) (words32 (meant (c .before .before .before .before .before .before .before .args .t .now)) (callIs (c .before .before .before .before .before .before .before .args .q))), c .before .before .before .before .before .before .before .pre .1)
 
+add-answered : tie.Need-add-answered
+add-answered c = search needs
+
 same-length : tie.Need-same-length
 same-length c = search needs
 
@@ -24,16 +27,17 @@ same-length-2 c = search needs
 
 returns : tie.Need-returns
 returns c =
-    let s = c .before .before .before .before .before .before .before .before .before .before in
-    let k = c .before .before .before .before .before .before .call in
+    let s = c .before .before .before .before .before .before .before .before .before .before .before in
+    let k = c .before .before .before .before .before .before .before .call in
     let m = made-step (s .args .t .now) (k .last .0) (callIs (s .args .q)) (s .pre .0) (omega (arith, k .kept .0, s .pre .0 .room)) (k .ensures .leaves) in
     record {
       made = m;
       state = k .ensures .leaves .state;
       rest = k .ensures .leaves .rest;
-      line = rw (k .ensures .says) at (c .before .before .put-answer .ensures);
+      line = rw (k .ensures .says) at (c .before .before .before .put-answer .ensures);
+      count = refl;
     }
 
 pub answer-spec : {M : Type 1} → statement M
 answer-spec =
-    tie.close (tie.spec call-requires put-answer-requires same-length same-length-2 returns)
+    tie.close (tie.spec call-requires put-answer-requires add-answered same-length same-length-2 returns)

@@ -1,7 +1,8 @@
 -- `lane_at` meets its contract. The loop's invariant: the lanes passed do not stand there. Assumes nothing.
-use mathlib.Core.Path.{_≡_, refl, sym, subst, _∙_}
+use mathlib.Core.Path.{_≡_, refl, sym, ap, subst, _∙_}
 use mathlib.Core.Bool.{Bool}
 use mathlib.Core.List.{List}
+use mathlib.Core.Option.{some}
 use Prim.Native.Nat.{ℕ, _≤_, _<_, _-_}
 use native.Mathlib.Numerals.{add-one}
 use native.Mathlib.Omega.{arith}
@@ -65,7 +66,7 @@ unfolding laneOfGroup
 returns c =
     let a = c .before in
     let l = a .before .before .before .before .loop in
-    rw (a .before .before .order-at .ensures) (first-found (stands? _ _ _) _ (l .i) (reached a) (tested a ∙ c .if1 .taken) (l .inv .1))
+    ap some (a .before .before .order-at .ensures) ∙ first-found (stands? _ _ _) _ (l .i) (reached a) (tested a ∙ c .if1 .taken) (l .inv .1)
 
 add-i : tie.Need-add-i Inv-loop μ-loop
 add-i c = omega arith

@@ -72,8 +72,10 @@ difference-requires-2 : tie.Need-difference-requires-2
 difference-requires-2 c κs =
     let a = c .before .before .before in
     let s = a .before .before .before .before .before in
+    let v = c .before .before .clock .ensures in
     let busy = count-holds (laneAt (meant (s .args .t .now)) (s .args .lane)) _ (row-known a .held) (pos-of-ne-zero (c .if3 .left)) in
-    (omega (arith, c .before .before .clock .ensures, s .pre .good .clock), omega (arith, row-known a .busy busy, known-steady (s .args .t .now) (s .pre) .early (s .args .lane) busy))
+    let start = known-steady (s .args .t .now) (s .pre) .early (s .args .lane) busy in
+    (omega (arith, v, s .pre .good .clock, row-known a .busy busy, start), omega (arith, v, s .pre .good .clock, row-known a .busy busy, start))
 
 returns-4 : tie.Need-returns-4
 returns-4 c =

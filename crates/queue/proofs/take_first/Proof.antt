@@ -39,7 +39,7 @@ sub-next : tie.Need-sub-next
 sub-next c =
     let s = c .before .before .before .before .before .before .before .before .before in
     let r = c .before .before .before .before .before .before .row in
-    some-row (s .args .t .now) (s .args .k) (r .result) (r .ensures .0) (s .pre .1) (s .pre .2)
+    omega (arith, some-row (s .args .t .now) (s .args .k) (r .result) (r .ensures .0) (s .pre .1) (s .pre .2))
 
 set-row-requires : tie.Need-set-row-requires
 set-row-requires c κs =

@@ -16,16 +16,16 @@ use Rattle.session.proofs.walk.Statement.{statement}
 use Rattle.session.proofs.walk.Tie as tie
 
 abbrev Inv-loop : tie.InvT-loop
-Inv-loop s from limit t a start at next n why₀ tag size value₀ i₀ why value i = Reading s at size i value × (why ≡ why₀)
+Inv-loop s from limit t a start at done why₀ tag size value₀ i₀ why value i = Reading s at size i value × (why ≡ why₀)
 
 abbrev μ-loop : tie.MeasureT-loop
-μ-loop s from limit t a start at next n why₀ tag size value₀ i₀ why value i = size - i
+μ-loop s from limit t a start at done why₀ tag size value₀ i₀ why value i = size - i
 
 abbrev Inv-fields : tie.InvT-fields
-Inv-fields s from limit t₀ a₀ start at₀ next₀ n₀ why₀ t a at next n why = Stands s from limit t₀ a₀ start t a at next n × (why ≡ Limit) × (length t ≡ length t₀)
+Inv-fields s from limit t₀ a₀ start at₀ done₀ why₀ t a at done why = Stands s from limit t₀ a₀ start t a at (done .next) (done .answered) × (why ≡ Limit) × (length t ≡ length t₀)
 
 abbrev μ-fields : tie.MeasureT-fields
-μ-fields s from limit t₀ a₀ start at₀ next₀ n₀ why₀ t a at next n why = limit - n
+μ-fields s from limit t₀ a₀ start at₀ done₀ why₀ t a at done why = limit - done .answered
 
 -- ---- what is known at a place of the code
 
@@ -34,22 +34,22 @@ small : (c : tie.At-fields Inv-loop μ-loop Inv-fields μ-fields) (k : ℕ) → 
 small c k = omega (arith, c .before .before .before .shared-slice-known .given k)
 
 -- the header, taken apart
-head-is : (c : tie.After-known-told2 Inv-loop μ-loop Inv-fields μ-fields) → headAt (c .before .before .before .before .before .before .before .before .before .args .s .now) (c .before .before .before .before .before .fields .at) ≡ right (c .before .tag .given .0 .0) (c .before .tag .given .0 .1 .0)
+head-is : (c : tie.After-known-told2 Inv-loop μ-loop Inv-fields μ-fields) → headAt (c .before .before .before .before .before .before .before .before .before .before .args .s .now) (c .before .before .before .before .before .before .fields .at) ≡ right (c .before .tag .given .0 .0) (c .before .tag .given .0 .1 .0)
 head-is c = sym (c .before .before .before .head-at .ensures) ∙ ap headIs (c .before .tag .given .1)
 
 -- behind the inner loop all bytes of the value are read
 all-read : (c : tie.After-loop Inv-loop μ-loop Inv-fields μ-fields) → c .before .loop .i ≡ c .before .before .before .tag .given .0 .1 .0
 all-read c = omega (arith, c .loop-test .left, c .before .loop .inv .0 .few)
 
-whole : (c : tie.After-loop Inv-loop μ-loop Inv-fields μ-fields) → c .before .before .before .before .before .before .before .fields .at + 3 + c .before .before .before .tag .given .0 .1 .0 ≤ length (c .before .before .before .before .before .before .before .before .before .before .before .args .s .now)
+whole : (c : tie.After-loop Inv-loop μ-loop Inv-fields μ-fields) → c .before .before .before .before .before .before .before .before .fields .at + 3 + c .before .before .before .tag .given .0 .1 .0 ≤ length (c .before .before .before .before .before .before .before .before .before .before .before .before .args .s .now)
 whole c = omega (arith, all-read c, c .before .loop .inv .0 .within)
 
 -- the request by the number is the request by the bytes
-call-is : (c : tie.After-request-of Inv-loop μ-loop Inv-fields μ-fields) → callOf (c .before .before .before .before .before .before .before .before .before .before .before .before .before .before .before .args .s .now) (c .before .before .before .before .before .before .before .tag .given .0 .0) (c .before .before .before .before .before .before .before .before .before .before .before .fields .at + 3) ≡ callIs (c .request-of .result)
+call-is : (c : tie.After-request-of Inv-loop μ-loop Inv-fields μ-fields) → callOf (c .before .before .before .before .before .before .before .before .before .before .before .before .before .before .before .before .args .s .now) (c .before .before .before .before .before .before .before .tag .given .0 .0) (c .before .before .before .before .before .before .before .before .before .before .before .before .fields .at + 3) ≡ callIs (c .request-of .result)
 call-is c =
     let l = c .before .before .before .before in
-    sym (c .request-of .ensures ∙ ap (numbered (c .before .before .before .before .before .before .before .tag .given .0 .0)) (c .before .before .before .before .before .loop .inv .0 .is ∙ ap (big (c .before .before .before .before .before .before .before .before .before .before .before .before .before .before .before .args .s .now) (c .before .before .before .before .before .before .before .before .before .before .before .fields .at + 3)) (all-read l))
-    ∙ value-is (c .before .before .before .before .before .before .before .before .before .before .before .before .before .before .before .args .s .now) (small (c .before .before .before .before .before .before .before .before .before .before .before)) (c .before .before .before .before .before .before .before .tag .given .0 .0) (c .before .before .before .before .before .before .before .before .before .before .before .fields .at + 3) (c .before .before .before .before .before .before .before .tag .given .0 .1 .0) (head-size _ _ _ _ (head-is (c .before .before .before .before .before .before))))
+    sym (c .request-of .ensures ∙ ap (numbered (c .before .before .before .before .before .before .before .tag .given .0 .0)) (c .before .before .before .before .before .loop .inv .0 .is ∙ ap (big (c .before .before .before .before .before .before .before .before .before .before .before .before .before .before .before .before .args .s .now) (c .before .before .before .before .before .before .before .before .before .before .before .before .fields .at + 3)) (all-read l))
+    ∙ value-is (c .before .before .before .before .before .before .before .before .before .before .before .before .before .before .before .before .args .s .now) (small (c .before .before .before .before .before .before .before .before .before .before .before .before)) (c .before .before .before .before .before .before .before .tag .given .0 .0) (c .before .before .before .before .before .before .before .before .before .before .before .before .fields .at + 3) (c .before .before .before .before .before .before .before .tag .given .0 .1 .0) (head-size _ _ _ _ (head-is (c .before .before .before .before .before .before))))
 
 -- ---- the needs
 
@@ -75,16 +75,16 @@ add-p-2 : tie.Need-add-p-2 Inv-loop μ-loop Inv-fields μ-fields
 add-p-2 c = omega (arith, c .before .loop .inv .0 .within)
 
 mul-value : tie.Need-mul-value Inv-loop μ-loop Inv-fields μ-fields
-mul-value c = omega (arith, read-fits (c .before .before .loop .inv .0) (small (c .before .before .before .before .before .before .before .before)) (c .before .loop-test .taken))
+mul-value c = omega (arith, read-fits (c .before .before .loop .inv .0) (small (c .before .before .before .before .before .before .before .before .before)) (c .before .loop-test .taken))
 
 shared-slice-read-wide : tie.Need-shared-slice-read-wide Inv-loop μ-loop Inv-fields μ-fields
-shared-slice-read-wide c = omega (arith, c .before .if1 .left)
+shared-slice-read-wide c = omega (arith, c .before .if2 .left)
 
 wide-requires : tie.Need-wide-requires Inv-loop μ-loop Inv-fields μ-fields
 wide-requires c κs = search needs
 
 add-value : tie.Need-add-value Inv-loop μ-loop Inv-fields μ-fields
-add-value c = omega (arith, read-fits (c .before .before .before .before .loop .inv .0) (small (c .before .before .before .before .before .before .before .before .before .before)) (c .before .before .before .loop-test .taken), c .wide .ensures .1)
+add-value c = omega (arith, read-fits (c .before .before .before .before .loop .inv .0) (small (c .before .before .before .before .before .before .before .before .before .before .before)) (c .before .before .before .loop-test .taken), c .wide .ensures .1)
 
 add-i : tie.Need-add-i Inv-loop μ-loop Inv-fields μ-fields
 add-i c = omega (arith, c .before .before .before .before .loop .inv .0 .within)
@@ -93,7 +93,7 @@ loop-less : tie.Need-loop-less Inv-loop μ-loop Inv-fields μ-fields
 loop-less c = omega (arith, c .before .before .before .loop-test .taken)
 
 loop-again : tie.Need-loop-again Inv-loop μ-loop Inv-fields μ-fields
-loop-again c = (read-more (c .before .before .before .before .loop .inv .0) (c .before .before .before .loop-test .taken) (c .before .before .if1 .left) (c .wide .result) (c .wide .ensures .0), c .before .before .before .before .loop .inv .1)
+loop-again c = (read-more (c .before .before .before .before .loop .inv .0) (c .before .before .before .loop-test .taken) (c .before .before .if2 .left) (c .wide .result) (c .wide .ensures .0), c .before .before .before .before .loop .inv .1)
 
 add-at : tie.Need-add-at Inv-loop μ-loop Inv-fields μ-fields
 add-at c = omega (arith, whole c)
@@ -109,78 +109,76 @@ request-of-requires c κs = search needs
 
 answer-requires : tie.Need-answer-requires Inv-loop μ-loop Inv-fields μ-fields
 answer-requires c κs =
-    let f = c .before .before .before .before .before .before .before .before .before .before .before .fields in
-    let s = c .before .before .before .before .before .before .before .before .before .before .before .before .before .before .before in
-    (f .inv .0 .made, stands-room (f .inv .0) (s .pre .2) (c .before .before .before .before .before .before .before .before .before .before .fields-test .taken) (s .pre .3))
-
-add-n : tie.Need-add-n Inv-loop μ-loop Inv-fields μ-fields
-add-n c = omega (arith, c .before .before .before .before .before .before .before .before .before .before .before .before .before .before .before .fields-test .taken)
+    let f = c .before .before .before .before .before .before .before .before .before .before .before .before .fields in
+    let s = c .before .before .before .before .before .before .before .before .before .before .before .before .before .before .before .before in
+    let e = c .before .before .before .before .before .before .before .before .before .before .if1 .taken in
+    (f .inv .0 .made, stands-room (f .inv .0) (s .pre .2) e (s .pre .3), omega (arith, e, s .pre .1))
 
 fields-less : tie.Need-fields-less Inv-loop μ-loop Inv-fields μ-fields
-fields-less c = omega (arith, c .before .before .before .before .before .before .before .before .before .before .before .before .before .before .before .fields-test .taken)
+fields-less c = omega (arith, c .before .before .before .before .before .before .before .before .before .before .before .before .before .before .before .if1 .taken)
 
 fields-again : tie.Need-fields-again Inv-loop μ-loop Inv-fields μ-fields
 fields-again c =
-    let f = c .before .before .before .before .before .before .before .before .before .before .before .before .before .before .before .before .fields in
-    let e = c .before .before .before .before .before .before .before .before .before .before .before .before .before .before .before .fields-test .taken in
-    let r = item-request _ _ _ _ (head-is (c .before .before .before .before .before .before .before .before .before .before .before)) (whole (c .before .before .before .before .before .before .before .before .before)) (c .before .before .before .before .before .before .before .before .if2 .left) ∙ ap (λ x. request x (f .at + 3 + c .before .before .before .before .before .before .before .before .before .before .before .before .tag .given .0 .1 .0)) (call-is (c .before .before .before .before .before)) in
+    let f = c .before .before .before .before .before .before .before .before .before .before .before .before .before .before .before .before .before .fields in
+    let e = c .before .before .before .before .before .before .before .before .before .before .before .before .before .before .before .if1 .taken in
+    let r = item-request _ _ _ _ (head-is (c .before .before .before .before .before .before .before .before .before .before .before)) (whole (c .before .before .before .before .before .before .before .before .before)) (c .before .before .before .before .before .before .before .before .if3 .left) ∙ ap (λ x. request x (f .at + 3 + c .before .before .before .before .before .before .before .before .before .before .before .before .tag .given .0 .1 .0)) (call-is (c .before .before .before .before .before)) in
     (stands-next (f .inv .0) e _ _ r (c .before .before .before .before .answer .ensures), c .before .before .before .before .before .before .before .before .before .before .loop .inv .1 ∙ f .inv .1, c .before .before .before .before .answer .kept .0 ∙ f .inv .2)
 
 same-length : tie.Need-same-length Inv-loop μ-loop Inv-fields μ-fields
-same-length c = c .before .fields .inv .2
+same-length c = c .before .before .fields .inv .2
 
 same-length-2 : tie.Need-same-length-2 Inv-loop μ-loop Inv-fields μ-fields
-same-length-2 c = same-area (c .before .fields .inv .0)
+same-length-2 c = same-area (c .before .before .fields .inv .0)
 
 returns : tie.Need-returns Inv-loop μ-loop Inv-fields μ-fields
 returns c =
-    let f = c .before .fields in
-    let s = c .before .before .before .before .before in
-    rw (f .inv .1) (stops (f .inv .0) Limit (walk-limit _ _ _ _ _ _ (c .fields-test .left)) (omega (arith, text-most (f .inv .0) (s .pre .2), f .inv .0 .few)))
+    let f = c .before .before .fields in
+    let s = c .before .before .before .before .before .before in
+    rw (f .inv .1) (stops (f .inv .0) Limit (walk-limit _ _ _ _ _ _ (c .if1 .left)) (omega (arith, text-most (f .inv .0) (s .pre .2), f .inv .0 .few)))
 
 same-length-3 : tie.Need-same-length-3 Inv-loop μ-loop Inv-fields μ-fields
-same-length-3 c = c .before .before .before .before .before .fields .inv .2
+same-length-3 c = c .before .before .before .before .before .before .fields .inv .2
 
 same-length-4 : tie.Need-same-length-4 Inv-loop μ-loop Inv-fields μ-fields
-same-length-4 c = same-area (c .before .before .before .before .before .fields .inv .0)
+same-length-4 c = same-area (c .before .before .before .before .before .before .fields .inv .0)
 
 returns-2 : tie.Need-returns-2 Inv-loop μ-loop Inv-fields μ-fields
 returns-2 c =
-    let f = c .before .before .before .before .before .fields in
-    let s = c .before .before .before .before .before .before .before .before .before in
-    let e = c .before .before .before .before .fields-test .taken in
+    let f = c .before .before .before .before .before .before .fields in
+    let s = c .before .before .before .before .before .before .before .before .before .before in
+    let e = c .before .before .before .before .if1 .taken in
     stops (f .inv .0) (Refused (c .before .x .given .0 .0))
     (walk-bad _ _ _ _ _ _ e _ _ (item-wrong _ _ _ _ (sym (c .before .before .before .head-at .ensures) ∙ ap headIs (c .before .x .given .1))))
     (omega (arith, text-most (f .inv .0) (s .pre .2), e))
 
 same-length-5 : tie.Need-same-length-5 Inv-loop μ-loop Inv-fields μ-fields
-same-length-5 c = c .before .before .before .before .before .before .before .before .fields .inv .2
+same-length-5 c = c .before .before .before .before .before .before .before .before .before .fields .inv .2
 
 same-length-6 : tie.Need-same-length-6 Inv-loop μ-loop Inv-fields μ-fields
-same-length-6 c = same-area (c .before .before .before .before .before .before .before .before .fields .inv .0)
+same-length-6 c = same-area (c .before .before .before .before .before .before .before .before .before .fields .inv .0)
 
 returns-3 : tie.Need-returns-3 Inv-loop μ-loop Inv-fields μ-fields
 returns-3 c =
-    let f = c .before .before .before .before .before .before .before .before .fields in
-    let s = c .before .before .before .before .before .before .before .before .before .before .before .before in
-    let e = c .before .before .before .before .before .before .before .fields-test .taken in
+    let f = c .before .before .before .before .before .before .before .before .before .fields in
+    let s = c .before .before .before .before .before .before .before .before .before .before .before .before .before in
+    let e = c .before .before .before .before .before .before .before .if1 .taken in
     stops (f .inv .0) (Refused (Cut (f .at)))
-    (walk-bad _ _ _ _ _ _ e _ _ (item-cut _ _ _ _ (head-is (c .before .before .before)) (omega (arith, c .if1 .taken, c .before .loop-test .taken))))
+    (walk-bad _ _ _ _ _ _ e _ _ (item-cut _ _ _ _ (head-is (c .before .before .before)) (omega (arith, c .if2 .taken, c .before .loop-test .taken))))
     (omega (arith, text-most (f .inv .0) (s .pre .2), e))
 
 same-length-7 : tie.Need-same-length-7 Inv-loop μ-loop Inv-fields μ-fields
-same-length-7 c = c .before .before .before .before .before .before .before .before .before .fields .inv .2
+same-length-7 c = c .before .before .before .before .before .before .before .before .before .before .fields .inv .2
 
 same-length-8 : tie.Need-same-length-8 Inv-loop μ-loop Inv-fields μ-fields
-same-length-8 c = same-area (c .before .before .before .before .before .before .before .before .before .fields .inv .0)
+same-length-8 c = same-area (c .before .before .before .before .before .before .before .before .before .before .fields .inv .0)
 
 returns-4 : tie.Need-returns-4 Inv-loop μ-loop Inv-fields μ-fields
 returns-4 c =
-    let f = c .before .before .before .before .before .before .before .before .before .fields in
-    let s = c .before .before .before .before .before .before .before .before .before .before .before .before .before in
-    let e = c .before .before .before .before .before .before .before .before .fields-test .taken in
+    let f = c .before .before .before .before .before .before .before .before .before .before .fields in
+    let s = c .before .before .before .before .before .before .before .before .before .before .before .before .before .before in
+    let e = c .before .before .before .before .before .before .before .before .if1 .taken in
     stops (f .inv .0) (c .closed .result)
-    (rw (c .closed .ensures) (walk-last _ _ _ _ _ _ e _ (item-last _ _ _ _ (head-is (c .before .before .before .before)) (whole (c .before .before)) (c .before .if2 .taken))))
+    (rw (c .closed .ensures) (walk-last _ _ _ _ _ _ e _ (item-last _ _ _ _ (head-is (c .before .before .before .before)) (whole (c .before .before)) (c .before .if3 .taken))))
     (omega (arith, text-most (f .inv .0) (s .pre .2), e, two-lines (c .closed .result)))
 
 pub walk-spec : {M : Type 1} → statement M
@@ -210,7 +208,6 @@ walk-spec =
     closed-requires
     request-of-requires
     answer-requires
-    add-n
     fields-less
     fields-again
     same-length

@@ -100,7 +100,7 @@ returns : tie.Need-returns
 unfolding wordAt
 returns c =
     let a = c .before .before .before .before .before .before .before .before .before .args in
-    omega (arith, word-sum (a .t .now) (a .i * 8))
+    rw (c .before .before .before .before .before .before .before .byte .ensures .0, c .before .before .before .before .before .before .byte2 .ensures .0, c .before .before .before .before .before .byte3 .ensures .0, c .before .before .before .before .byte4 .ensures .0, c .before .before .before .byte5 .ensures .0, c .before .before .byte6 .ensures .0, c .before .byte7 .ensures .0, c .byte8 .ensures .0) (word-sum (a .t .now) (a .i * 8))
 
 pub word-spec : {M : Type 1} → statement M
 word-spec =
