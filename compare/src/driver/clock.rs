@@ -46,7 +46,7 @@ pub fn drive_from<U: Unit>(
     let put = Call::Put { lane: 0, mark: 7, length: 1_500 };
     call(put)?;
     for pair in 0..pairs {
-        if pair.is_multiple_of(1_000) {
+        if pair % 1_000 == 0 {
             call(Call::Lag { lane: 0 })?;
         }
         if call(put)? != Answer::No(refusal::CLOCK_SPENT) {
