@@ -91,6 +91,10 @@ impl Unit for Linked {
         usize::try_from(unsafe { zf_table_size() }).expect("a size of at most 131,072")
     }
 
+    fn documented_layout(&self) -> bool {
+        true
+    }
+
     fn make(&mut self, setup: &[u8], table: &mut [u8]) -> Result<u64, Fault> {
         call(|out, len| unsafe {
             zf_make(setup.as_ptr(), setup.len(), table.as_mut_ptr(), table.len(), out, len)
