@@ -118,6 +118,7 @@ pub fn damage(rng: &mut Rng, bytes: &mut [u8]) -> String {
             (at, another(rng, bytes, at))
         }
         4 => (CLOCK, clock_near(rng, bytes)),
+        5 if rng.once_in(2) => full_ring(rng, bytes, holder),
         5 => (ring(holder), rng.below(16) + 16 * rng.pick(&[0, 1, 2, 14, 15, 16, 17, 18, 1 << 32, 1 << 59])),
         6 => turn(rng, bytes, &lanes, &holding),
         7 => (HOLDING, holding.len() as u64 + rng.below(3) - u64::from(!holding.is_empty())),
@@ -164,6 +165,17 @@ fn meaning(rng: &mut Rng, bytes: &[u8], lane: u8, holder: u8) -> usize {
 fn some_record(rng: &mut Rng, bytes: &[u8], lane: u8) -> usize {
     let (first, count) = (word(bytes, ring(lane)) % 16, word(bytes, ring(lane)) / 16);
     record(lane, first + rng.below(count.clamp(1, 16)))
+}
+
+/// Valid records at all places of a lane's ring, and a count of 15 to 17 of them.
+fn full_ring(rng: &mut Rng, bytes: &mut [u8], lane: u8) -> (usize, u64) {
+    let longest = (word(bytes, setting(lane)) & 0xFFFF).clamp(1, 1_500);
+    for place in 0..16 {
+        let held = held(rng, longest);
+        set_word(bytes, record(lane, place), u64::from(held.mark) | held.length << 32);
+    }
+    let first = rng.pick(&[0, 0, 1, 8, 15]);
+    (ring(lane), first + 16 * rng.pick(&[15, 16, 17, 17]))
 }
 
 fn flipped(rng: &mut Rng, bytes: &[u8], at: usize) -> (usize, u64) {
