@@ -25,6 +25,8 @@ pub enum Lapse {
     BehindStrict,
     /// F of an idle lane must be below V + 2s - 1.
     FinishStrict,
+    /// An eligible lane must have R below V.
+    EligibleStrict,
     /// Sixteen records are too many.
     RecordsStrict,
     /// A word that means nothing must be 0.
@@ -46,6 +48,7 @@ pub fn lapses() -> Vec<Lapse> {
         StartStrict,
         BehindStrict,
         FinishStrict,
+        EligibleStrict,
         RecordsStrict,
         FreeWordRead,
         OrderLost,
@@ -75,6 +78,10 @@ impl OnWords {
             Lapse::FinishStrict => {
                 let mut idle = state.lanes.iter().filter(|lane| !lane.holds());
                 idle.any(|lane| lane.finish >= state.clock + 2 * lane.slot() - 1)
+            }
+            Lapse::EligibleStrict => {
+                let mut holding = state.holding().peekable();
+                holding.peek().is_some() && !holding.any(|lane| lane.rounded_start < state.clock)
             }
             Lapse::RecordsStrict => state.lanes.iter().any(|lane| lane.queue.len() == 16),
             Lapse::FreeWordRead => layout::word(table, 3) != 0,

@@ -30,8 +30,13 @@ pub fn laid(rng: &mut Rng) -> Vec<u8> {
         let holds = rng.below(8) < held;
         lanes.push(lane(rng, plan, clock, holds, faults));
     }
-    // Mostly some lane is eligible.
-    if !rng.once_in(16) && !lanes.iter().any(|lane| lane.eligible(clock)) {
+    if rng.once_in(10) {
+        // No lane is eligible: each begins in the slot after the clock's.
+        for lane in lanes.iter_mut().filter(|lane| lane.holds()) {
+            let next = clock - clock % lane.slot() + lane.slot() + i128::from(rng.below(1 << 16));
+            *lane = Lane::of(lane.plan, lane.queue.clone(), next, lane.since);
+        }
+    } else if !lanes.iter().any(|lane| lane.eligible(clock)) {
         if let Some(lane) = lanes.iter_mut().find(|lane| lane.holds()) {
             *lane = Lane::of(lane.plan, lane.queue.clone(), clock - clock % lane.slot(), lane.since);
         }
@@ -49,11 +54,12 @@ fn clock(rng: &mut Rng, lanes: &[LanePlan]) -> i128 {
         3 => CLOCK_END - 1 - i128::from(rng.below(3)),
         4 => CLOCK_END + i128::from(rng.below(2)),
         5..=7 => {
-            // A multiple of some lane's slot past 1,536,000, or beside it: R's lower edge is met.
+            // 1,536,000 past a multiple of some lane's slot, or at the multiple, or beside those: R's lower edge is met, or the edge of being eligible.
             let slot = Lane::of(rng.pick(lanes), VecDeque::new(), 0, 0).slot();
             let bits = rng.between(33, 61);
             let near = i128::from(rng.below(1 << bits));
-            near - near % slot + LONGEST_IN_UNITS - 1 + i128::from(rng.below(3))
+            let past = rng.pick(&[LONGEST_IN_UNITS, LONGEST_IN_UNITS, 0]);
+            (near - near % slot + past - 1 + i128::from(rng.below(3))).max(0)
         }
         _ => i128::from(rng.below(1 << 62)),
     }
