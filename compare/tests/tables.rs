@@ -176,6 +176,12 @@ fn every_lapse_is_found() {
 }
 
 #[test]
+fn the_clock_s_edge_from_a_table_laid_near_it() {
+    let spent = driver::clock::drive_near(&mut OnWords { lapse: Lapse::None }, &mut Tally::default());
+    assert!(matches!(spent, Ok(true)), "14 within ten pairs; the rest of the drive follows");
+}
+
+#[test]
 fn a_good_table_of_other_origin_may_lead_to_one_that_is_not() {
     // The clock's last value: a take moves it past the end, and the next call gives 10.
     let last = (1_u64 << 62) + (1 << 42) - 1;

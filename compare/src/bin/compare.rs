@@ -113,7 +113,17 @@ fn help() -> ExitCode {
 fn calls(options: &Options, first: u64, budget: Budget, kinds: impl Fn(Kind) -> bool) -> ExitCode {
     let begin = Instant::now();
     let mut tally = Tally::default();
-    let result = driver::compare_kinds(&mut under_test(), options.seed, first, budget, kinds, &mut tally);
+    let mut unit = under_test();
+    if unit.documented_layout() {
+        match driver::clock::drive_near(&mut unit, &mut Tally::default()) {
+            Ok(true) => {
+                println!("The clock's edge, from a table laid near it: 14 reached, drained, restarted.")
+            }
+            Ok(false) => return differs("14 did not come at the clock's edge"),
+            Err(found) => return differs(&found.what),
+        }
+    }
+    let result = driver::compare_kinds(&mut unit, options.seed, first, budget, kinds, &mut tally);
     println!("Seed {}, {:.1} s, {tally}", options.seed, begin.elapsed().as_secs_f64());
     match result {
         Ok(()) => {
@@ -127,6 +137,11 @@ fn calls(options: &Options, first: u64, budget: Budget, kinds: impl Fn(Kind) -> 
     }
 }
 
+fn differs(what: &str) -> ExitCode {
+    println!("DIFFERENCE: {what}");
+    ExitCode::FAILURE
+}
+
 fn clock(pairs: u64) -> ExitCode {
     let mut tally = Tally::default();
     match driver::clock::drive(&mut under_test(), pairs, &mut tally) {
@@ -138,10 +153,7 @@ fn clock(pairs: u64) -> ExitCode {
             );
             ExitCode::SUCCESS
         }
-        Err(found) => {
-            println!("DIFFERENCE: {:?}: {}", found.shown_by, found.what);
-            ExitCode::FAILURE
-        }
+        Err(found) => differs(&format!("{:?}: {}", found.shown_by, found.what)),
     }
 }
 
