@@ -107,8 +107,7 @@ fn held(rng: &mut Rng, longest: u64) -> Record {
 pub fn damage(rng: &mut Rng, bytes: &mut [u8]) -> String {
     let lanes: Vec<u8> = present(bytes).collect();
     let lane = if lanes.is_empty() || rng.once_in(12) { rng.below(64) as u8 } else { rng.pick(&lanes) };
-    let at = |lane: u8| (word(bytes, ring(lane)) / 16).min(16);
-    let holding: Vec<u8> = lanes.iter().copied().filter(|lane| at(*lane) > 0).collect();
+    let holding: Vec<u8> = lanes.iter().copied().filter(|lane| word(bytes, ring(*lane)) >= 16).collect();
     let holder = if holding.is_empty() { lane } else { rng.pick(&holding) };
     let (at, value) = match rng.below(14) {
         0 => {
