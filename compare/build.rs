@@ -1,14 +1,18 @@
-//! Finds the unit's static library when the feature `unit` is on: the folder is named by ZENFROSTA_LIB_DIR.
+//! Links the unit's static library when the feature `unit` is on: from the folder ZENFROSTA_LIB_DIR, or from this repository's target/staticlib.
+
+use std::path::PathBuf;
 
 fn main() {
     println!("cargo:rerun-if-env-changed=ZENFROSTA_LIB_DIR");
     if std::env::var_os("CARGO_FEATURE_UNIT").is_none() {
         return;
     }
-    if let Ok(folder) = std::env::var("ZENFROSTA_LIB_DIR") {
-        // A library that was built anew is linked anew: else a run would compare the old one.
-        println!("cargo:rerun-if-changed={folder}/libzenfrosta.a");
-        println!("cargo:rustc-link-search=native={folder}");
-        println!("cargo:rustc-link-lib=zenfrosta");
-    }
+    let folder = std::env::var_os("ZENFROSTA_LIB_DIR")
+        .map_or_else(|| PathBuf::from(env!("CARGO_MANIFEST_DIR")).join("../target/staticlib"), PathBuf::from);
+    let library = folder.join("libzenfrosta.a");
+    // A library that was built anew is linked anew: else a run would compare the old one.
+    println!("cargo:rerun-if-changed={}", library.display());
+    assert!(library.exists(), "{} is not there: run 'rt staticlib zenfrosta' first", library.display());
+    println!("cargo:rustc-link-search=native={}", folder.display());
+    println!("cargo:rustc-link-lib=static=zenfrosta");
 }

@@ -1,8 +1,8 @@
 //! An independent implementation of document 01 ("The line scheduler defined, with its exact rules") and the
 //! machinery that compares the unit with it over long random lists of calls and random inputs.
 //!
-//! The implementation: [`numbers`], [`calls`], [`rules`], [`fields`], [`setup`], [`session`].
-//! The machinery: [`rng`], [`gen`], [`laws`], [`unit`], [`stand_in`], [`driver`], [`pipes`].
+//! The implementation: [`numbers`], [`calls`], [`rules`], [`fields`], [`setup`], [`session`]; [`layout`] reads docs/TABLE.md's tables.
+//! The machinery: [`rng`], [`gen`], [`laws`], [`unit`], [`stand_in`], [`on_words`], [`driver`], [`pipes`]; [`loads`] is the benchmark's.
 //!
 //! Units: a *byte* is a byte of a record; a *clock unit* is the clock's smallest step, 1,024 of them for each
 //! byte sent (QFQ calls the clock virtual time). Clock units are `i128` here, so that no sum can leave its range.
@@ -14,9 +14,12 @@ pub mod driver;
 pub mod fields;
 pub mod gen;
 pub mod laws;
+pub mod layout;
 #[cfg(feature = "unit")]
 pub mod linked;
+pub mod loads;
 pub mod numbers;
+pub mod on_words;
 pub mod pipes;
 pub mod rng;
 pub mod rules;

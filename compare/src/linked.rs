@@ -77,6 +77,15 @@ fn call(call: impl FnOnce(*mut u8, usize) -> u64) -> Result<[u64; 4], (u8, [u64;
     }
 }
 
+/// A call that uses the first `used` words and has no place in a refusal: "What a call does not use is 0."
+fn plain(used: usize, ask: impl FnOnce(*mut u8, usize) -> u64) -> Result<[u64; 4], u8> {
+    match call(ask) {
+        Ok(words) if words[used..].iter().all(|word| *word == 0) => Ok(words),
+        Err((number, [0, 0, 0, 0])) => Err(number),
+        _ => Err(OUT_OF_RANGE),
+    }
+}
+
 fn taken(words: [u64; 4]) -> Result<Taken, u8> {
     let [lane, mark, length, _] = words;
     let lane = u8::try_from(lane).map_err(|_| OUT_OF_RANGE)?;
@@ -91,43 +100,45 @@ impl Unit for Linked {
         usize::try_from(unsafe { zf_table_size() }).expect("a size of at most 131,072")
     }
 
+    fn documented_layout(&self) -> bool {
+        true
+    }
+
     fn make(&mut self, setup: &[u8], table: &mut [u8]) -> Result<u64, Fault> {
-        call(|out, len| unsafe {
+        let made = call(|out, len| unsafe {
             zf_make(setup.as_ptr(), setup.len(), table.as_mut_ptr(), table.len(), out, len)
-        })
-        .map(|words| words[0])
-        .map_err(|(number, words)| Fault { number, place: words[0] })
+        });
+        match made {
+            Ok([lanes, 0, 0, 0]) => Ok(lanes),
+            Err((number, [place, 0, 0, 0])) => Err(Fault { number, place }),
+            Ok(words) | Err((_, words)) => Err(Fault { number: OUT_OF_RANGE, place: words[1] }),
+        }
     }
 
     fn put(&mut self, table: &mut [u8], lane: u8, mark: u32, length: u64) -> Result<(), u8> {
-        let answer =
-            call(|out, len| unsafe { zf_put(table.as_mut_ptr(), table.len(), lane, mark, length, out, len) });
-        answer.map(|_| ()).map_err(|(number, _)| number)
+        let (at, size) = (table.as_mut_ptr(), table.len());
+        plain(0, |out, len| unsafe { zf_put(at, size, lane, mark, length, out, len) }).map(|_| ())
     }
 
     fn take(&mut self, table: &mut [u8]) -> Result<Taken, u8> {
-        let answer = call(|out, len| unsafe { zf_take(table.as_mut_ptr(), table.len(), out, len) });
-        taken(answer.map_err(|(number, _)| number)?)
+        taken(plain(3, |out, len| unsafe { zf_take(table.as_mut_ptr(), table.len(), out, len) })?)
     }
 
     fn look(&mut self, table: &mut [u8]) -> Result<Taken, u8> {
-        let answer = call(|out, len| unsafe { zf_look(table.as_mut_ptr(), table.len(), out, len) });
-        taken(answer.map_err(|(number, _)| number)?)
+        taken(plain(3, |out, len| unsafe { zf_look(table.as_mut_ptr(), table.len(), out, len) })?)
     }
 
     fn sets(&mut self, table: &mut [u8]) -> Result<[u64; 4], u8> {
-        let answer = call(|out, len| unsafe { zf_sets(table.as_mut_ptr(), table.len(), out, len) });
-        answer.map_err(|(number, _)| number)
+        plain(4, |out, len| unsafe { zf_sets(table.as_mut_ptr(), table.len(), out, len) })
     }
 
     fn lag(&mut self, table: &mut [u8], lane: u8) -> Result<i64, u8> {
-        let answer = call(|out, len| unsafe { zf_lag(table.as_mut_ptr(), table.len(), lane, out, len) });
-        answer.map(|words| words[0] as i64).map_err(|(number, _)| number)
+        plain(1, |out, len| unsafe { zf_lag(table.as_mut_ptr(), table.len(), lane, out, len) })
+            .map(|words| words[0] as i64)
     }
 
     fn restart(&mut self, table: &mut [u8]) -> Result<(), u8> {
-        let answer = call(|out, len| unsafe { zf_restart(table.as_mut_ptr(), table.len(), out, len) });
-        answer.map(|_| ()).map_err(|(number, _)| number)
+        plain(0, |out, len| unsafe { zf_restart(table.as_mut_ptr(), table.len(), out, len) }).map(|_| ())
     }
 
     fn run(&mut self, session: &[u8], limit: u64, table: &mut [u8], answers: &mut [u8]) -> Run {
@@ -145,7 +156,10 @@ impl Unit for Linked {
             )
         });
         match answer {
-            Ok([answered, written, kind, _]) => Run { answered, written, stop: stop(kind) },
+            Ok([answered, written, kind, 0]) => Run { answered, written, stop: stop(kind) },
+            Ok([answered, written, _, place]) => {
+                Run { answered, written, stop: Stop::Refused(Fault { number: OUT_OF_RANGE, place }) }
+            }
             Err((number, [answered, written, kind, place])) => {
                 let number = if kind == 2 { number } else { OUT_OF_RANGE };
                 Run { answered, written, stop: Stop::Refused(Fault { number, place }) }

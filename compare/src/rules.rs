@@ -41,6 +41,17 @@ impl Lane {
         Lane { plan, units_per_byte, group, queue, start: 0, rounded_start: 0, finish: 0, since: 0 }
     }
 
+    /// A lane of any origin; `word` is its S while it holds records, and its F while it is idle.
+    pub fn of(plan: LanePlan, queue: VecDeque<Record>, word: i128, since: u64) -> Lane {
+        let mut lane = Lane { queue, ..Lane::fresh(plan) };
+        if lane.holds() {
+            lane.begin(word, since);
+        } else {
+            lane.finish = word;
+        }
+        lane
+    }
+
     pub fn slot(&self) -> i128 {
         1 << self.group
     }
@@ -80,6 +91,31 @@ impl State {
     /// "Fresh: V = 0, each lane idle with F = 0."
     pub fn fresh(setup: &Setup) -> State {
         State { clock: 0, lanes: setup.lanes.iter().copied().map(Lane::fresh).collect(), events: 0 }
+    }
+
+    /// Contents of any origin.
+    pub fn of(clock: i128, lanes: Vec<Lane>) -> State {
+        let events = lanes.iter().map(|lane| lane.since).max().unwrap_or(0);
+        State { clock, lanes, events }
+    }
+
+    /// The same contents, but for the turns of lanes that no call compares: a tie is between lanes of one group with the same R.
+    pub fn alike(&self, other: &State) -> bool {
+        let lane = |lane: &Lane| {
+            let start = lane.holds().then_some((lane.start, lane.rounded_start));
+            (lane.plan, lane.units_per_byte, lane.group, lane.queue.clone(), lane.finish, start)
+        };
+        let turns = |state: &State| {
+            let mut turns: Vec<_> = state
+                .holding()
+                .map(|lane| (lane.group, lane.rounded_start, lane.since, lane.plan.number))
+                .collect();
+            turns.sort_unstable();
+            turns.into_iter().map(|(.., number)| number).collect::<Vec<u8>>()
+        };
+        self.clock == other.clock
+            && self.lanes.iter().map(lane).eq(other.lanes.iter().map(lane))
+            && turns(self) == turns(other)
     }
 
     pub fn lane(&self, number: u8) -> Option<&Lane> {

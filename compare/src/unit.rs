@@ -13,6 +13,10 @@ use crate::shelf::{Shelf, TABLE_SIZE};
 pub trait Unit {
     /// The table's fixed size in bytes.
     fn table_size(&self) -> usize;
+    /// Whether its tables are laid out as docs/TABLE.md says, so that tables that no call made can be compared.
+    fn documented_layout(&self) -> bool {
+        false
+    }
     /// The number of lanes, or a refusal 1 to 7 with its place.
     fn make(&mut self, setup: &[u8], table: &mut [u8]) -> Result<u64, Fault>;
     fn put(&mut self, table: &mut [u8], lane: u8, mark: u32, length: u64) -> Result<(), u8>;

@@ -1,26 +1,23 @@
-//! The benchmark: a put and a take through the unit's public calls, and the same through this folder's plain rules, in one process run; and sessions
-//! of 1,000 requests, which the unit answers by its inner calls. Prints a table; times are the best of many batches.
+//! The benchmark: what a put and a take cost through the unit's public calls, through its inner calls as a session uses them, and through this folder's
+//! plain rules, in one process run.
 //!
-//! The test for a good table stands alone in a lag of lane 255: no setup has it, so the call is the test and then refusal 11.
+//!     bench                  times: the best of many batches, in nanoseconds
+//!     bench instructions     instructions, counted by valgrind's callgrind, of the same loads
+//!
+//! The test for a good table stands alone in a lag of lane 255: no setup has it, so the call is the test and then refusal 11. A session's pair is the
+//! difference of two sessions, divided by the pairs that one has more: no setup, no filling of lanes.
 
+use compare::calls::Taken;
 use compare::linked::Linked;
-use compare::rules::State;
-use compare::session::Stop;
-use compare::setup;
+use compare::loads::{most_pairs, plain, session_of, setup_of, Line, Load, Loading, DEPTH, LOADS, REQUESTS};
+use compare::session;
 use compare::unit::Unit;
+use std::process::Command;
 use std::time::Instant;
 
 const BATCHES: usize = 60;
 const PAIRS: usize = 2_000;
-const DEPTH: u64 = 16;
-const LONGEST: u64 = 1_500;
-const REQUESTS: usize = 1_000;
-
-/// Either side: what a load does to it.
-trait Line {
-    fn put(&mut self, lane: u8, length: u64);
-    fn take(&mut self) -> u8;
-}
+const LANES: [u8; 3] = [1, 8, 64];
 
 struct Public {
     table: Vec<u8>,
@@ -31,126 +28,157 @@ impl Line for Public {
         Linked.put(&mut self.table, lane, 7, length).expect("a put that is accepted");
     }
 
-    fn take(&mut self) -> u8 {
-        Linked.take(&mut self.table).expect("a record is held").lane
+    fn take(&mut self) -> Taken {
+        Linked.take(&mut self.table).expect("a record is held")
     }
 }
 
-impl Line for State {
-    fn put(&mut self, lane: u8, length: u64) {
-        State::put(self, lane, 7, length).expect("a put that is accepted");
-    }
-
-    fn take(&mut self) -> u8 {
-        State::take(self).expect("a record is held").lane
-    }
-}
-
-/// Lengths from 64 to 1,500, the same on both sides.
-struct Lengths(u64);
-
-impl Lengths {
-    fn next(&mut self) -> u64 {
-        self.0 = self.0.wrapping_mul(6_364_136_223_846_793_005).wrapping_add(1_442_695_040_888_963_407);
-        64 + (self.0 >> 33) % (LONGEST - 63)
-    }
-}
-
-/// Every lane holds 16 records; the served lane gets the next one.
-fn steady(line: &mut impl Line, lanes: u8) -> f64 {
-    let mut lengths = Lengths(1);
-    for _ in 0..DEPTH {
-        (0..lanes).for_each(|lane| line.put(lane, lengths.next()));
-    }
-    best(|_| {
-        let lane = line.take();
-        line.put(lane, lengths.next());
-    })
-}
-
-/// One record is held at most, in each lane by turns.
-fn sparse(line: &mut impl Line, lanes: u8) -> f64 {
-    let mut lengths = Lengths(2);
-    best(|i| {
-        line.put((i % lanes as usize) as u8, lengths.next());
-        line.take();
-    })
-}
-
-/// ns for a pair, in the best batch.
-fn best(mut pair: impl FnMut(usize)) -> f64 {
-    let batch = |_| {
-        let begun = Instant::now();
-        (0..PAIRS).for_each(&mut pair);
-        begun.elapsed().as_nanos() as f64 / PAIRS as f64
-    };
-    (0..BATCHES).map(batch).fold(f64::INFINITY, f64::min)
-}
-
-/// The setup of so many lanes, of weights 1 to 16 by turns.
-fn setup_of(lanes: u8) -> Vec<u8> {
-    let mut bytes = vec![0x01, 0, 2, 0, 1];
-    for lane in 0..lanes {
-        bytes.extend([0x10, 0, 3, lane, 0, 1 + lane % 16]);
-    }
-    bytes.extend([0x7F, 0, 0]);
-    bytes
-}
-
-fn public(bytes: &[u8]) -> Public {
+fn public(lanes: u8) -> Public {
     let mut table = vec![0; Linked.table_size()];
-    Linked.make(bytes, &mut table).expect("a valid setup");
+    Linked.make(&setup_of(lanes), &mut table).expect("a valid setup");
     Public { table }
 }
 
-/// ns for a request in a session of 1,000: puts of each lane in turn as far as 16, then takes and puts by turns.
-fn session(lanes: u8) -> f64 {
-    let mut bytes = setup_of(lanes);
-    let mut lengths = Lengths(3);
-    let filled = (REQUESTS / 2).min(usize::from(lanes) * DEPTH as usize);
-    for i in 0..REQUESTS {
-        if i < filled || (i - filled) % 2 == 1 {
-            let [high, low] = (lengths.next() as u16).to_be_bytes();
-            bytes.extend([0x20, 0, 7, (i % usize::from(lanes)) as u8, 0, 0, 0, 7, high, low]);
-        } else {
-            bytes.extend([0x21, 0, 0]);
-        }
-    }
-    bytes.extend([0x7F, 0, 0]);
-    let mut table = vec![0; Linked.table_size()];
-    let mut answers = vec![0; 64 * (REQUESTS + 2)];
-    let run = |_| {
-        let begun = Instant::now();
-        let run = Linked.run(&bytes, REQUESTS as u64, &mut table, &mut answers);
-        let time = begun.elapsed().as_nanos() as f64 / REQUESTS as f64;
-        assert!(run.answered == REQUESTS as u64 && run.stop == Stop::Limit);
-        time
-    };
-    (0..BATCHES).map(run).fold(f64::INFINITY, f64::min)
+fn run_unit(session: &[u8], table: &mut [u8], answers: &mut [u8]) {
+    let run = Linked.run(session, REQUESTS as u64, table, answers);
+    assert!(run.answered > 0 || session.len() < 500);
 }
 
-/// ns for the test for a good table, on the table that a load has left.
-fn test(side: &mut Public) -> f64 {
-    best(|_| assert!(Linked.lag(&mut side.table, 255) == Err(11)))
+#[inline(never)]
+fn run_plain(session: &[u8], size: usize, area: usize) -> usize {
+    session::run(session, REQUESTS as u64, size, size, area).text.len()
+}
+
+/// ns for one of so many, in the best batch.
+fn best(count: usize, mut batch: impl FnMut()) -> f64 {
+    let time = |_| {
+        let begun = Instant::now();
+        batch();
+        begun.elapsed().as_nanos() as f64 / count as f64
+    };
+    (0..BATCHES).map(time).fold(f64::INFINITY, f64::min)
+}
+
+fn times() {
+    println!("ns, the best of {BATCHES} batches of {PAIRS} pairs or of 20 sessions");
+    println!("             put + take                                  once       {REQUESTS} requests");
+    println!("load    lanes    public  session     plain      test      session     plain");
+    let mut answers = vec![0; 64 * (REQUESTS + 2)];
+    for lanes in LANES {
+        for (load, name) in LOADS {
+            let (mut unit, mut rules) = (public(lanes), plain(lanes));
+            let mut loading = Loading::new(load, lanes, DEPTH, &mut unit);
+            let public = best(PAIRS, || (0..PAIRS).for_each(|_| loading.pair(&mut unit)));
+            let test =
+                best(PAIRS, || (0..PAIRS).for_each(|_| assert!(Linked.lag(&mut unit.table, 255) == Err(11))));
+            let mut loading = Loading::new(load, lanes, DEPTH, &mut rules);
+            let plain = best(PAIRS, || (0..PAIRS).for_each(|_| loading.pair(&mut rules)));
+            let most = most_pairs(load, lanes);
+            let [none, all] = [session_of(load, lanes, 0), session_of(load, lanes, most)];
+            let table = &mut unit.table;
+            let mut session =
+                |bytes: &[u8]| best(20, || (0..20).for_each(|_| run_unit(bytes, table, &mut answers)));
+            let [without, with] = [session(&none), session(&all)];
+            let pair = (with - without) / most as f64;
+            let (size, area) = (Linked.table_size(), 64 * (REQUESTS + 2));
+            let plain_run = best(20, || {
+                (0..20).for_each(|_| assert!(run_plain(&all, size, area) > 0));
+            });
+            println!("{name}  {lanes:>5}{public:>10.0}{pair:>9.0}{plain:>10.0}{test:>10.0}{with:>13.0}{plain_run:>10.0}");
+        }
+    }
+}
+
+/// What callgrind counts: the library's functions, or the plain rules' own.
+const COUNTED: [(&str, &[&str]); 6] = [
+    ("public", &["zf_put", "zf_take"]),
+    ("session", &["zf_run"]),
+    ("plain", &["*plain_put*", "*plain_take*"]),
+    ("test", &["zf_lag"]),
+    ("run", &["zf_run"]),
+    ("plain-run", &["*run_plain*"]),
+];
+
+/// Runs so many of one kind, for callgrind.
+fn count(what: &str, load: Load, lanes: u8, many: usize) {
+    let mut answers = vec![0; 64 * (REQUESTS + 2)];
+    match what {
+        "plain" => {
+            let mut rules = plain(lanes);
+            let mut loading = Loading::new(load, lanes, DEPTH, &mut rules);
+            (0..many).for_each(|_| loading.pair(&mut rules));
+        }
+        "session" => run_unit(&session_of(load, lanes, many), &mut public(lanes).table, &mut answers),
+        "run" | "plain-run" => {
+            let session = session_of(load, lanes, most_pairs(load, lanes));
+            let mut table = public(lanes).table;
+            for _ in 0..many {
+                if what == "run" {
+                    run_unit(&session, &mut table, &mut answers);
+                } else {
+                    assert!(run_plain(&session, table.len(), answers.len()) > 0);
+                }
+            }
+        }
+        _ => {
+            let mut unit = public(lanes);
+            let mut loading = Loading::new(load, lanes, DEPTH, &mut unit);
+            for _ in 0..many {
+                if what == "public" {
+                    loading.pair(&mut unit);
+                } else {
+                    assert!(Linked.lag(&mut unit.table, 255) == Err(11));
+                }
+            }
+        }
+    }
+}
+
+/// Instructions of one, by the difference of two runs under callgrind.
+fn counted(what: &str, functions: &[&str], load: &str, lanes: u8) -> f64 {
+    let [few, many] = match what {
+        "session" => [20, 120],
+        "run" | "plain-run" => [1, 2],
+        _ => [64, 192],
+    };
+    let total = |number: usize| {
+        let mut valgrind = Command::new("valgrind");
+        valgrind.args(["--tool=callgrind", "--callgrind-out-file=/dev/null", "--collect-atstart=no"]);
+        valgrind.args(functions.iter().map(|function| format!("--toggle-collect={function}")));
+        let program = std::env::current_exe().expect("this program's path");
+        valgrind.arg(program).args(["count", what, load, &lanes.to_string(), &number.to_string()]);
+        let output = valgrind.output().expect("valgrind, which must be on PATH");
+        let said = String::from_utf8_lossy(&output.stderr).into_owned();
+        assert!(output.status.success(), "{said}");
+        let counts = said.lines().find_map(|line| line.split("Collected :").nth(1)).expect("callgrind's sum");
+        counts.trim().parse::<u64>().expect("a number")
+    };
+    (total(many) - total(few)) as f64 / (many - few) as f64
+}
+
+fn instructions() {
+    println!("instructions, counted by callgrind inside the library's functions or the plain rules'");
+    println!("             put + take                                  once       {REQUESTS} requests");
+    println!("load    lanes    public  session     plain      test      session     plain");
+    for lanes in LANES {
+        for (_, name) in LOADS {
+            let row = COUNTED.map(|(what, functions)| counted(what, functions, name, lanes));
+            let [public, session, plain, test, run, plain_run] = row;
+            println!("{name}  {lanes:>5}{public:>10.0}{session:>9.0}{plain:>10.0}{test:>10.0}{run:>13.0}{plain_run:>10.0}");
+        }
+    }
 }
 
 fn main() {
-    println!(
-        "ns, best of {BATCHES} batches of {PAIRS}; a session's figure is for one of its {REQUESTS} requests"
-    );
-    println!("load    lanes  public put+take  test alone  plain put+take  session request");
-    for lanes in [1, 8, 64] {
-        let bytes = setup_of(lanes);
-        let mut unit = public(&bytes);
-        let mut plain = State::fresh(&setup::whole(&bytes).expect("a valid setup"));
-        let [sparse_unit, sparse_plain] = [sparse(&mut unit, lanes), sparse(&mut plain, lanes)];
-        let sparse_test = test(&mut unit);
-        let [steady_unit, steady_plain] = [steady(&mut unit, lanes), steady(&mut plain, lanes)];
-        let steady_test = test(&mut unit);
-        println!("sparse  {lanes:>5}{sparse_unit:>17.0}{sparse_test:>12.0}{sparse_plain:>16.0}");
-        println!(
-            "steady  {lanes:>5}{steady_unit:>17.0}{steady_test:>12.0}{steady_plain:>16.0}{:>17.0}",
-            session(lanes)
-        );
+    let arguments: Vec<String> = std::env::args().skip(1).collect();
+    let words: Vec<&str> = arguments.iter().map(String::as_str).collect();
+    match words[..] {
+        [] => times(),
+        ["instructions"] => instructions(),
+        ["count", what, load, lanes, many] => {
+            let load = LOADS.iter().find(|(_, name)| *name == load).expect("a load").0;
+            count(what, load, lanes.parse().expect("lanes"), many.parse().expect("how many"));
+        }
+        _ => println!("bench | bench instructions"),
     }
 }

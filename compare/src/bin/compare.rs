@@ -1,7 +1,8 @@
 //! The comparison's command. `compare help` lists what it does.
 
 use compare::driver::report::Tally;
-use compare::driver::{self, Budget};
+use compare::driver::{self, Budget, Kind};
+use compare::on_words::{lapses, OnWords};
 use compare::pipes;
 use compare::stand_in::{StandIn, ALL};
 use compare::unit::Unit;
@@ -12,11 +13,13 @@ use std::time::{Duration, Instant};
 const HELP: &str = "\
 compare short [--seed N]                       about a minute, the same cases every time
 compare long --seconds N | --cases N [--seed N]
+compare tables --seconds N | --cases N [--seed N]
+                                               the cases of a long run that are tables which no call made
 compare one --seed N --case N                  one case again, alone
 compare sessions PROGRAM... [--cases N] [--seed N] [--case N]
                                                sessions by pipe; --case N begins at that case
 compare clock --pairs N                        one lane up to the clock's edge, or N pairs of put and take
-compare slips [--seed N]                       each slip of the stand-in, and the case that finds it
+compare slips [--seed N]                       each slip and each lapse, and the case that finds it
 ";
 
 const SEED: u64 = 1;
@@ -79,14 +82,17 @@ fn main() -> ExitCode {
     let Some((mode, rest)) = arguments.split_first() else { return help() };
     let Some(options) = options(rest) else { return help() };
     match (mode.as_str(), options.programs.is_empty()) {
-        ("short", true) => calls(&options, 0, Budget::Cases(SHORT)),
-        ("long", true) => match (options.cases, options.seconds) {
-            (Some(cases), None) => calls(&options, 0, Budget::Cases(cases)),
-            (None, Some(seconds)) => calls(&options, 0, Budget::Time(Duration::from_secs(seconds))),
-            _ => help(),
-        },
+        ("short", true) => calls(&options, 0, Budget::Cases(SHORT), |_| true),
+        ("long" | "tables", true) => {
+            let kinds = |kind| mode == "long" || kind == Kind::Tables;
+            match (options.cases, options.seconds) {
+                (Some(cases), None) => calls(&options, 0, Budget::Cases(cases), kinds),
+                (None, Some(time)) => calls(&options, 0, Budget::Time(Duration::from_secs(time)), kinds),
+                _ => help(),
+            }
+        }
         ("one", true) => match options.case {
-            Some(case) => calls(&options, case, Budget::Cases(1)),
+            Some(case) => calls(&options, case, Budget::Cases(1), |_| true),
             None => help(),
         },
         ("clock", true) => match options.pairs {
@@ -104,10 +110,20 @@ fn help() -> ExitCode {
     ExitCode::from(2)
 }
 
-fn calls(options: &Options, first: u64, budget: Budget) -> ExitCode {
+fn calls(options: &Options, first: u64, budget: Budget, kinds: impl Fn(Kind) -> bool) -> ExitCode {
     let begin = Instant::now();
     let mut tally = Tally::default();
-    let result = driver::compare(&mut under_test(), options.seed, first, budget, &mut tally);
+    let mut unit = under_test();
+    if unit.documented_layout() {
+        match driver::clock::drive_near(&mut unit, &mut Tally::default()) {
+            Ok(true) => {
+                println!("The clock's edge, from a table laid near it: 14 reached, drained, restarted.")
+            }
+            Ok(false) => return differs("14 did not come at the clock's edge"),
+            Err(found) => return differs(&found.what),
+        }
+    }
+    let result = driver::compare_kinds(&mut unit, options.seed, first, budget, kinds, &mut tally);
     println!("Seed {}, {:.1} s, {tally}", options.seed, begin.elapsed().as_secs_f64());
     match result {
         Ok(()) => {
@@ -121,6 +137,11 @@ fn calls(options: &Options, first: u64, budget: Budget) -> ExitCode {
     }
 }
 
+fn differs(what: &str) -> ExitCode {
+    println!("DIFFERENCE: {what}");
+    ExitCode::FAILURE
+}
+
 fn clock(pairs: u64) -> ExitCode {
     let mut tally = Tally::default();
     match driver::clock::drive(&mut under_test(), pairs, &mut tally) {
@@ -132,10 +153,7 @@ fn clock(pairs: u64) -> ExitCode {
             );
             ExitCode::SUCCESS
         }
-        Err(found) => {
-            println!("DIFFERENCE: {:?}: {}", found.shown_by, found.what);
-            ExitCode::FAILURE
-        }
+        Err(found) => differs(&format!("{:?}: {}", found.shown_by, found.what)),
     }
 }
 
@@ -157,21 +175,31 @@ fn sessions(options: &Options) -> ExitCode {
 }
 
 fn slips(options: &Options) -> ExitCode {
+    let slips = ALL.iter().map(|&slip| (format!("{slip:?}"), found(options, StandIn::new(slip))));
+    let lapses = lapses().into_iter().map(|lapse| (format!("{lapse:?}"), found(options, OnWords { lapse })));
     let mut missed = 0;
-    for &slip in ALL {
-        let mut tally = Tally::default();
-        match driver::compare(&mut StandIn::new(slip), options.seed, 0, Budget::Cases(SLIP), &mut tally) {
-            Err(difference) => println!("{slip:?}: found in case {}", difference.case),
-            Ok(()) => {
-                println!("{slip:?}: MISSED");
+    let mut tried = 0;
+    for (name, case) in slips.chain(lapses) {
+        tried += 1;
+        match case {
+            Some(case) => println!("{name}: found in case {case}"),
+            None => {
+                println!("{name}: MISSED");
                 missed += 1;
             }
         }
     }
-    println!("{} slips found, {missed} missed", ALL.len() - missed);
+    println!("{} slips found, {missed} missed", tried - missed);
     if missed == 0 {
         ExitCode::SUCCESS
     } else {
         ExitCode::FAILURE
     }
+}
+
+/// The case that finds a difference in this unit.
+fn found<U: Unit>(options: &Options, mut unit: U) -> Option<u64> {
+    let mut tally = Tally::default();
+    let result = driver::compare(&mut unit, options.seed, 0, Budget::Cases(SLIP), &mut tally);
+    result.err().map(|difference| difference.case)
 }

@@ -3,6 +3,7 @@
 //!
 //! - [`lists`] — a table is made and a list of calls answered on both sides; the laws are checked on the answers
 //! - [`inputs`] — setups for `make` and sessions for `run`, valid, damaged and random, with lent areas at their edges
+//! - [`tables`] — tables that no call made: whether they are good, and what each call makes of them
 //! - [`lent`] — lent bytes at any address, with guard bytes around them
 //! - [`shrink`] — a list that shows a difference made shorter
 //! - [`clock`] — one lane driven up to the clock's edge, through the calls alone
@@ -14,10 +15,11 @@ pub mod lent;
 pub mod lists;
 pub mod report;
 pub mod shrink;
+pub mod tables;
 
 use crate::rng::Rng;
 use crate::unit::Unit;
-use report::{Difference, Tally};
+use report::{Difference, Found, Tally};
 use std::time::{Duration, Instant};
 
 /// How much is to be compared.
@@ -27,12 +29,33 @@ pub enum Budget {
     Time(Duration),
 }
 
+/// Which cases a run has.
+#[derive(Clone, Copy, Debug, PartialEq, Eq)]
+pub enum Kind {
+    Lists,
+    Makes,
+    Runs,
+    Tables,
+}
+
 /// Compares the unit with the reference, case after case from `first` on, until the budget is spent or they differ.
 pub fn compare<U: Unit>(
     unit: &mut U,
     seed: u64,
     first: u64,
     budget: Budget,
+    tally: &mut Tally,
+) -> Result<(), Difference> {
+    compare_kinds(unit, seed, first, budget, |_| true, tally)
+}
+
+/// The same with the cases of some kinds alone; the others are left out.
+pub fn compare_kinds<U: Unit>(
+    unit: &mut U,
+    seed: u64,
+    first: u64,
+    budget: Budget,
+    kinds: impl Fn(Kind) -> bool,
     tally: &mut Tally,
 ) -> Result<(), Difference> {
     let begin = Instant::now();
@@ -44,19 +67,37 @@ pub fn compare<U: Unit>(
         if spent {
             break;
         }
-        one(unit, seed, case, tally)?;
+        let (kind, mut rng) = drawn(unit, seed, case);
+        if kinds(kind) {
+            run(unit, kind, &mut rng, tally).map_err(|found| Difference { seed, case, found })?;
+        }
     }
     Ok(())
 }
 
 /// One case.
 pub fn one<U: Unit>(unit: &mut U, seed: u64, case: u64, tally: &mut Tally) -> Result<(), Difference> {
+    compare(unit, seed, case, Budget::Cases(1), tally)
+}
+
+/// What a case is, and the numbers that it goes on with. A unit whose layout is not docs/TABLE.md's gets a list in place of tables.
+fn drawn<U: Unit>(unit: &U, seed: u64, case: u64) -> (Kind, Rng) {
     let mut rng = Rng::of_case(seed, case);
-    tally.cases += 1;
-    let found = match rng.below(4) {
-        0 | 1 => lists::case(unit, &mut rng, tally),
-        2 => inputs::makes(unit, &mut rng, tally),
-        _ => inputs::runs(unit, &mut rng, tally),
+    let kind = match rng.below(5) {
+        2 => Kind::Makes,
+        3 => Kind::Runs,
+        4 if unit.documented_layout() => Kind::Tables,
+        _ => Kind::Lists,
     };
-    found.map_err(|found| Difference { seed, case, found })
+    (kind, rng)
+}
+
+fn run<U: Unit>(unit: &mut U, kind: Kind, rng: &mut Rng, tally: &mut Tally) -> Result<(), Found> {
+    tally.cases += 1;
+    match kind {
+        Kind::Lists => lists::case(unit, rng, tally),
+        Kind::Makes => inputs::makes(unit, rng, tally),
+        Kind::Runs => inputs::runs(unit, rng, tally),
+        Kind::Tables => tables::case(unit, rng, tally),
+    }
 }

@@ -1,6 +1,8 @@
 //! What was compared, and what differed.
 
 use crate::calls::Answer;
+use crate::layout::{Reading, CLAUSES};
+use crate::numbers::refusal;
 use std::fmt;
 
 /// Counts of a comparison.
@@ -24,6 +26,14 @@ pub struct Tally {
     pub sessions: u64,
     pub requests: u64,
     pub sessions_ended: u64,
+    /// Tables that no call made, how many of them were good, and how many broke each clause of "A good table" and no other.
+    pub tables: u64,
+    pub tables_good: u64,
+    pub broken_alone: [u64; CLAUSES.len()],
+    /// Calls on them, how many of those gave 14, and how many good tables a call made into one that is not.
+    pub table_calls: u64,
+    pub tables_spent: u64,
+    pub tables_lost: u64,
     /// Lanes and points of the lists at which demand 3 was checked for all stretches that end there.
     pub stretch_ends: u64,
     /// The greatest part of demand 3's tighter bound that a stretch used, in thousandths.
@@ -46,6 +56,21 @@ impl Tally {
         }
     }
 
+    /// One more table that no call made.
+    pub fn table(&mut self, reading: &Reading) {
+        self.tables += 1;
+        self.tables_good += u64::from(reading.broken.is_empty());
+        for (count, clause) in self.broken_alone.iter_mut().zip(CLAUSES) {
+            *count += u64::from(reading.broken == [*clause]);
+        }
+    }
+
+    /// One more call on such a table.
+    pub fn table_call(&mut self, answer: Answer) {
+        self.table_calls += 1;
+        self.tables_spent += u64::from(answer == Answer::No(refusal::CLOCK_SPENT));
+    }
+
     /// Setups and sessions together.
     pub fn inputs(&self) -> u64 {
         self.setups + self.sessions
@@ -54,26 +79,67 @@ impl Tally {
 
 impl fmt::Display for Tally {
     fn fmt(&self, f: &mut fmt::Formatter) -> fmt::Result {
-        writeln!(f, "{} cases: {} calls and {} inputs compared", self.cases, self.calls, self.inputs())?;
-        writeln!(f, "  {} lists, {} records taken", self.lists, self.taken)?;
-        let refused: Vec<String> =
-            (10..).zip(self.refused).map(|(number, n)| format!("{number}: {n}")).collect();
-        writeln!(f, "  calls refused by {}", refused.join(", "))?;
-        writeln!(f, "  answers to sets in which each of the four words names a group: {:?}", self.words)?;
-        writeln!(f, "  {} setups, {} of them accepted", self.setups, self.setups_accepted)?;
-        writeln!(
-            f,
-            "  {} sessions with {} requests answered, {} reached the end field",
-            self.sessions, self.requests, self.sessions_ended
-        )?;
-        writeln!(f, "  {} calls beside those show the tables that the inputs made", self.shown)?;
         write!(
             f,
-            "  demand 3 on all stretches that end at {} points; the closest used {}.{} % of its bound",
+            "{} cases: {} calls, {} inputs and {} tables that no call made compared",
+            self.cases,
+            self.calls,
+            self.inputs(),
+            self.tables
+        )?;
+        if self.lists > 0 {
+            self.of_lists(f)?;
+        }
+        if self.inputs() > 0 {
+            self.of_inputs(f)?;
+        }
+        if self.tables > 0 {
+            self.of_tables(f)?;
+        }
+        Ok(())
+    }
+}
+
+/// The counts of each kind, a line feed before each line.
+impl Tally {
+    fn of_lists(&self, f: &mut fmt::Formatter) -> fmt::Result {
+        write!(f, "\n  {} lists, {} records taken", self.lists, self.taken)?;
+        let refused: Vec<String> =
+            (10..).zip(self.refused).map(|(number, n)| format!("{number}: {n}")).collect();
+        write!(f, "\n  calls refused by {}", refused.join(", "))?;
+        write!(f, "\n  answers to sets in which each of the four words names a group: {:?}", self.words)?;
+        write!(
+            f,
+            "\n  demand 3 on all stretches that end at {} points; the closest used {}.{} % of its bound",
             self.stretch_ends,
             self.closest / 10,
             self.closest % 10
         )
+    }
+
+    fn of_inputs(&self, f: &mut fmt::Formatter) -> fmt::Result {
+        write!(f, "\n  {} setups, {} of them accepted", self.setups, self.setups_accepted)?;
+        write!(
+            f,
+            "\n  {} sessions with {} requests answered, {} reached the end field",
+            self.sessions, self.requests, self.sessions_ended
+        )?;
+        write!(f, "\n  {} calls beside those show the tables that the inputs made", self.shown)
+    }
+
+    fn of_tables(&self, f: &mut fmt::Formatter) -> fmt::Result {
+        write!(
+            f,
+            "\n  tables that no call made: {} good, {} not good; {} calls on them, {} refused by 14; {} good ones led to one that is not",
+            self.tables_good,
+            self.tables - self.tables_good,
+            self.table_calls,
+            self.tables_spent,
+            self.tables_lost
+        )?;
+        let alone: Vec<String> =
+            CLAUSES.iter().zip(self.broken_alone).map(|(clause, n)| format!("{clause:?} {n}")).collect();
+        write!(f, "\n  those that break one clause alone: {}", alone.join(", "))
     }
 }
 

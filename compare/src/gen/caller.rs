@@ -126,7 +126,7 @@ impl Caller {
         if let Some(Answer::Taken(taken)) = self.last {
             return self.put(rng, state, taken.lane);
         }
-        let depth = if self.left.is_multiple_of(2) { DEPTH } else { 2 };
+        let depth = if self.left % 2 == 0 { DEPTH } else { 2 };
         match state.lanes.iter().find(|lane| lane.queue.len() < depth) {
             Some(lane) if !rng.once_in(8) => self.put(rng, state, lane.plan.number),
             _ => Call::Take,

@@ -4,8 +4,10 @@
 //! - [`caller`] — lists of calls, each chosen with the table's present contents in view
 //! - [`sessions`] — sessions for the run and for the program
 //! - [`damage`] — faults in setups and sessions, field by field and byte by byte
+//! - [`tables`] — tables that no call made
 
 pub mod caller;
 pub mod damage;
 pub mod sessions;
 pub mod setups;
+pub mod tables;

@@ -1,0 +1,300 @@
+/* A fuzz target over the public calls and the run, through the static library as hosts link it.
+ *
+ * The library's own code is not instrumented, so the lent areas lie in pages of their own: an area ends where a page begins that cannot be touched, or
+ * begins where one ends. A read or a write one byte outside stops the run. Areas that a call only reads are write-protected while it runs.
+ *
+ * An input is a mode, four bytes that choose lengths and sides, and the rest:
+ *   0  a setup for zf_make, then the calls on what it made
+ *   1  a table made by calls, then changed word by word (three bytes: the word, and how), then the calls
+ *   2  a table that is the rest, over and over, then the calls
+ *   3  a session for zf_run, then the calls on what it left
+ */
+#define _GNU_SOURCE
+#include <stdio.h>
+#include <stdlib.h>
+#include <string.h>
+#include <sys/mman.h>
+#include <unistd.h>
+
+#include "zenfrosta.h"
+
+/* The longest input: more than the program's own 32,768 bytes. */
+#define MOST_INPUT 40000
+
+/* What was seen of the library counts as coverage: each call with each result, how far a reader came, how much was answered. */
+__attribute__((section("__libfuzzer_extra_counters"))) static uint8_t seen[1 << 14];
+
+static void saw(unsigned kind, uint64_t value) {
+  uint64_t low = value < 192 ? value : 192 + (uint64_t)__builtin_clzll(value);
+  seen[(kind << 8 | low) & (sizeof seen - 1)] = 1;
+}
+
+static void check(int holds, const char *what) {
+  if (holds) return;
+  fprintf(stderr, "fuzz: %s\n", what);
+  abort();
+}
+
+/* An area in pages of its own. */
+struct area {
+  uint8_t *pages; /* a page that cannot be touched, the room, another such page */
+  size_t room;
+  uint8_t *at;
+  size_t length;
+};
+
+static size_t page(void) { return (size_t)sysconf(_SC_PAGESIZE); }
+
+static void reserve(struct area *area, size_t most) {
+  area->room = (most + page() - 1) / page() * page();
+  area->pages = mmap(NULL, area->room + 2 * page(), PROT_NONE, MAP_PRIVATE | MAP_ANONYMOUS, -1, 0);
+  check(area->pages != MAP_FAILED, "no pages");
+  check(mprotect(area->pages + page(), area->room, PROT_READ | PROT_WRITE) == 0, "no room");
+}
+
+/* Bytes that nobody may write are all FILL. */
+#define FILL 0xC3
+static uint8_t fill[1 << 17];
+
+/* The bytes on the open side of an area that are watched. */
+#define WATCHED 256
+
+static uint8_t *open_side(const struct area *area) {
+  return area->at > area->pages + page() ? area->at - WATCHED : area->at + area->length;
+}
+
+/* Lends `length` bytes at the room's end, or at its beginning. They are FILL, and so is what is watched beside them. */
+static uint8_t *lend(struct area *area, size_t length, int at_end) {
+  check(length + WATCHED <= area->room, "an area is too long");
+  area->length = length;
+  area->at = at_end ? area->pages + page() + area->room - length : area->pages + page();
+  memset(area->at, FILL, length);
+  memset(open_side(area), FILL, WATCHED);
+  return area->at;
+}
+
+static void only_reading(struct area *area, int on) {
+  check(mprotect(area->pages + page(), area->room, on ? PROT_READ : PROT_READ | PROT_WRITE) == 0, "mprotect");
+}
+
+/* Nothing beside the lent bytes was written. */
+static void beside(const struct area *area) {
+  check(memcmp(open_side(area), fill, WATCHED) == 0, "a byte beside an area was written");
+}
+
+static struct area input, table, answers, out;
+static uint8_t before[1 << 15], sample[ZF_TABLE_SIZE];
+
+static uint64_t word(int index) {
+  uint64_t value;
+  memcpy(&value, out.at + 8 * index, 8);
+  return value;
+}
+
+enum call { PUT, TAKE, LOOK, SETS, LAG, RESTART, CALLS };
+
+/* One call: its result is one of those that it can give, and a refused or reading call writes nothing. */
+static uint64_t ask(enum call call, uint8_t lane, uint64_t length, size_t out_length, int at_end) {
+  lend(&out, out_length, at_end);
+  memcpy(before, table.at, table.length);
+  int reads = call == LOOK || call == SETS || call == LAG;
+  if (reads) only_reading(&table, 1);
+  uint64_t result = 0;
+  switch (call) {
+    case PUT: result = zf_put(table.at, table.length, lane, 7, length, out.at, out.length); break;
+    case TAKE: result = zf_take(table.at, table.length, out.at, out.length); break;
+    case LOOK: result = zf_look(table.at, table.length, out.at, out.length); break;
+    case SETS: result = zf_sets(table.at, table.length, out.at, out.length); break;
+    case LAG: result = zf_lag(table.at, table.length, lane, out.at, out.length); break;
+    default: result = zf_restart(table.at, table.length, out.at, out.length); break;
+  }
+  if (reads) only_reading(&table, 0);
+  saw(call, result);
+  beside(&out);
+  beside(&table);
+  int wrote = memcmp(before, table.at, table.length) != 0;
+  if (out_length < ZF_OUT_SIZE) {
+    check(result == ZF_BUFFER_SHORT && !wrote, "a short answer buffer");
+    check(memcmp(out.at, fill, out_length) == 0, "a short answer buffer was written");
+    return result;
+  }
+  check(result == ZF_DONE || (result >= ZF_NOT_GOOD && result <= ZF_NOTHING_HELD), "a result that no call gives");
+  check(!wrote || (result == ZF_DONE && !reads), "a refused or reading call wrote the table");
+  check(table.length >= ZF_TABLE_SIZE || result == ZF_NOT_GOOD, "a short table is not good");
+  if (table.length > ZF_TABLE_SIZE) {
+    size_t past = table.length - ZF_TABLE_SIZE;
+    check(memcmp(before + ZF_TABLE_SIZE, table.at + ZF_TABLE_SIZE, past) == 0, "bytes past the table were written");
+  }
+  if (result != ZF_DONE) check(word(0) == 0 && word(1) == 0 && word(2) == 0 && word(3) == 0, "a refusal with values");
+  if (result == ZF_DONE && (call == TAKE || call == LOOK)) {
+    check(word(0) < 64 && word(1) <= UINT32_MAX && word(2) >= 1 && word(2) <= 1500 && word(3) == 0, "a record outside its numbers");
+  }
+  if (result == ZF_DONE && call == SETS) saw(16, word(0) >> 16 ^ word(1) ^ word(2) ^ word(3));
+  return result;
+}
+
+/* The calls on the table that is lent: each once, and a few by the input's own choice. */
+static void calls(const uint8_t *data, size_t size, int at_end) {
+  uint64_t good = ask(SETS, 0, 0, ZF_OUT_SIZE, at_end);
+  for (int call = PUT; call < CALLS; call++) {
+    uint64_t looked[3] = {0, 0, 0}, result = ZF_DONE;
+    if (call == TAKE && (result = ask(LOOK, 0, 0, ZF_OUT_SIZE, at_end)) == ZF_DONE) {
+      for (int i = 0; i < 3; i++) looked[i] = word(i);
+    }
+    uint64_t given = ask((enum call)call, 0, 64, ZF_OUT_SIZE, at_end);
+    check((good == ZF_NOT_GOOD) == (given == ZF_NOT_GOOD) || call > PUT, "two calls judge one table otherwise");
+    if (call == TAKE) {
+      check(given == result, "take and look differ");
+      if (given == ZF_DONE) check(looked[0] == word(0) && looked[1] == word(1) && looked[2] == word(2), "take and look differ");
+    }
+    if (good == ZF_NOT_GOOD) check(given == ZF_NOT_GOOD, "a table that is not good was taken by another call");
+  }
+  for (size_t i = 0; i + 3 <= size && i < 3 * 48; i += 3) {
+    uint64_t length = (uint64_t)data[i + 2] * (data[i] & 16 ? 6 : 1);
+    size_t out_length = data[i] & 32 ? ZF_OUT_SIZE : data[i] & 64 ? ZF_OUT_SIZE + 9 : data[i] & 128 ? data[i + 2] % 40 : ZF_OUT_SIZE;
+    ask((enum call)((data[i] & 15) % CALLS), data[i + 1] & 128 ? data[i + 1] : data[i + 1] & 63, length, out_length, at_end);
+  }
+}
+
+/* A table's length: whole, longer, a byte short, or short. */
+static size_t table_length(uint8_t choice) {
+  switch (choice & 7) {
+    case 0: return ZF_TABLE_SIZE - 1;
+    case 1: return ZF_TABLE_SIZE + 1 + choice / 8;
+    case 2: return choice & 64 ? (size_t)(choice >> 3) * 340 : ZF_TABLE_SIZE;
+    default: return ZF_TABLE_SIZE;
+  }
+}
+
+static void make(const uint8_t *data, size_t size, uint8_t choice, int at_end) {
+  memcpy(lend(&input, size, at_end), data, size);
+  memset(lend(&table, table_length(choice), at_end), choice, table.length);
+  lend(&out, ZF_OUT_SIZE, at_end);
+  memcpy(before, table.at, table.length);
+  only_reading(&input, 1);
+  uint64_t result = zf_make(input.at, input.length, table.at, table.length, out.at, out.length);
+  only_reading(&input, 0);
+  saw(20, result);
+  saw(21, word(0));
+  beside(&input);
+  beside(&table);
+  beside(&out);
+  check(result <= ZF_TABLE_SHORT, "a result that making does not give");
+  check(result == ZF_DONE || memcmp(before, table.at, table.length) == 0, "a refused making wrote the table");
+  check(result != ZF_DONE || (word(0) >= 1 && word(0) <= 64), "a number of lanes");
+  check((table.length < ZF_TABLE_SIZE) == (result == ZF_TABLE_SHORT), "7 is for short tables");
+  calls(data, size, at_end);
+  if (result == ZF_DONE) check(ask(LAG, 255, 0, ZF_OUT_SIZE, at_end) == ZF_NO_LANE, "a table made by calls is good");
+}
+
+static void run(const uint8_t *data, size_t size, const uint8_t *choice, int at_end) {
+  static const uint64_t limits[] = {0, 1, 7, 8, 9, 100, 999, 1000, 1001, 1002, 1ull << 32, 1ull << 58, UINT64_MAX - 1, UINT64_MAX};
+  uint64_t limit = choice[0] & 128 ? ZF_MOST_REQUESTS : limits[choice[0] % (sizeof limits / sizeof *limits)];
+  size_t asked = ZF_ANSWER_AREA(limit > ZF_MOST_REQUESTS ? ZF_MOST_REQUESTS : limit);
+  size_t length = choice[1] & 128 ? asked : choice[1] & 64 ? asked - 1 - choice[1] % 64 : choice[1] & 32 ? asked + choice[1] % 32 : asked;
+  memcpy(lend(&input, size, at_end), data, size);
+  memset(lend(&table, table_length(choice[2]), at_end), choice[2], table.length);
+  lend(&answers, length, at_end);
+  lend(&out, ZF_OUT_SIZE, at_end);
+  memcpy(before, table.at, table.length);
+  only_reading(&input, 1);
+  uint64_t result = zf_run(input.at, input.length, limit, table.at, table.length, answers.at, answers.length, out.at, out.length);
+  only_reading(&input, 0);
+  uint64_t answered = word(0), written = word(1), why = word(2);
+  saw(30, result);
+  saw(31, answered);
+  saw(32, word(3));
+  saw(33, written);
+  saw(34, why);
+  beside(&input);
+  beside(&table);
+  beside(&answers);
+  beside(&out);
+  check(result <= ZF_TABLE_SHORT || result == ZF_RUN_BOUNDS, "a result that a run does not give");
+  check(answered <= limit && answered <= ZF_MOST_REQUESTS, "more requests than the limit");
+  check((why == ZF_STOP_REFUSAL) == (result != ZF_DONE), "why it stopped");
+  check((limit > ZF_MOST_REQUESTS || length < asked) == (result == ZF_RUN_BOUNDS), "17 is for bounds");
+  check(written <= answers.length, "more bytes than the area has");
+  check(memcmp(answers.at + written, fill, answers.length - written) == 0, "answer bytes past the last line were written");
+  if (result == ZF_RUN_BOUNDS || result == ZF_TABLE_SHORT) {
+    check(answered == 0 && written == 0 && memcmp(before, table.at, table.length) == 0, "17 and 7 write nothing");
+    return;
+  }
+  check(written > 0 && answers.at[written - 1] == '\n', "the last line has its end");
+  uint64_t lines = 0;
+  for (size_t i = 0; i < written; i++) lines += answers.at[i] == '\n';
+  check(lines == 1 || lines == answered + 2 + (result != ZF_DONE), "a line for each request");
+  calls(data, size, at_end);
+}
+
+/* A table with records in eight lanes of sixteen, to be changed. */
+static void make_sample(void) {
+  uint8_t setup[5 + 16 * 8 + 3] = {1, 0, 2, 0, 1};
+  for (uint8_t i = 0; i < 16; i++) {
+    uint8_t field[8] = {16, 0, 5, (uint8_t)(4 * i), 0, (uint8_t)(1 + 3 * i), (uint8_t)(i % 5), 220};
+    memcpy(setup + 5 + 8 * i, field, 8);
+  }
+  setup[sizeof setup - 3] = 0x7F;
+  uint8_t answer[ZF_OUT_SIZE];
+  check(zf_make(setup, sizeof setup, sample, sizeof sample, answer, sizeof answer) == ZF_DONE, "the sample's setup");
+  for (uint8_t i = 0; i < 60; i++) {
+    zf_put(sample, sizeof sample, (uint8_t)(8 * (i % 8)), i, 1 + i % 60u, answer, sizeof answer);
+    if (i % 3 == 2) zf_take(sample, sizeof sample, answer, sizeof answer);
+  }
+}
+
+static void change(const uint8_t *data, size_t size) {
+  for (size_t i = 0; i + 3 <= size && i < 3 * 8; i += 3) {
+    /* Words that mean something come first: the numbers of the whole table, the tie order, the lanes; then the records. */
+    size_t at = data[i] < 3 ? data[i] : data[i] < 24 ? 16 + data[i] - 3u : data[i] < 216 ? 80 + data[i] - 24u : 336 + (data[i] - 216u) * 26u;
+    uint64_t value, power = 1ull << (data[i + 1] & 63);
+    memcpy(&value, table.at + 8 * at, 8);
+    switch (data[i + 1] >> 6) {
+      case 0: value ^= power; break;
+      case 1: value += (uint64_t)(int64_t)(int8_t)data[i + 2] * power; break;
+      case 2: value = data[i + 2] * power; break;
+      default: memcpy(&value, table.at + 8 * (data[i + 2] * 5u), 8); break;
+    }
+    if (8 * at + 8 <= table.length) memcpy(table.at + 8 * at, &value, 8);
+  }
+}
+
+int LLVMFuzzerInitialize(int *argc, char ***argv);
+int LLVMFuzzerTestOneInput(const uint8_t *data, size_t size);
+
+int LLVMFuzzerInitialize(int *argc, char ***argv) {
+  (void)argc;
+  (void)argv;
+  check(zf_table_size() == ZF_TABLE_SIZE, "the table's size");
+  memset(fill, FILL, sizeof fill);
+  reserve(&input, MOST_INPUT + WATCHED);
+  reserve(&table, 1 << 14);
+  reserve(&answers, ZF_ANSWER_AREA(ZF_MOST_REQUESTS) + 32 + WATCHED);
+  reserve(&out, 64 + WATCHED);
+  make_sample();
+  return 0;
+}
+
+int LLVMFuzzerTestOneInput(const uint8_t *data, size_t size) {
+  if (size < 5 || size > MOST_INPUT) return 0;
+  const uint8_t *choice = data + 1;
+  int at_end = (choice[3] & 1) == 0;
+  const uint8_t *rest = data + 5;
+  size_t left = size - 5;
+  switch (data[0] & 3) {
+    case 0: make(rest, left, choice[0], at_end); break;
+    case 1:
+      memset(lend(&table, ZF_TABLE_SIZE + choice[0] % 16u, at_end), choice[1], table.length);
+      memcpy(table.at, sample, ZF_TABLE_SIZE);
+      change(rest, left);
+      calls(rest, left, at_end);
+      break;
+    case 2:
+      lend(&table, table_length(choice[0]), at_end);
+      for (size_t i = 0; i < table.length; i++) table.at[i] = left == 0 ? choice[1] : rest[i % left];
+      calls(choice, 4, at_end);
+      break;
+    default: run(rest, left, choice, at_end); break;
+  }
+  return 0;
+}

@@ -1,0 +1,186 @@
+//! Tables that no call made. Each is read by [`layout`] alone: whether it is good, and what it holds. Then the unit is asked every call on it:
+//!
+//! - a table that is not good gives 10 in every call, and is not written;
+//! - a good one gives the answer of the plain rules on its contents, and the table after it encodes what the rules make of them.
+
+use super::lent::Lent;
+use super::report::{Found, Tally};
+use crate::calls::{Answer, Call};
+use crate::gen::{caller::Caller, setups, tables};
+use crate::layout::{self, Reading};
+use crate::numbers::refusal;
+use crate::rng::Rng;
+use crate::rules::State;
+use crate::unit::Unit;
+
+const TABLES: u64 = 24;
+/// Calls that follow one another on a good table.
+const WALK: u64 = 12;
+
+pub fn case<U: Unit>(unit: &mut U, rng: &mut Rng, tally: &mut Tally) -> Result<(), Found> {
+    if unit.table_size() != layout::TABLE_SIZE {
+        let what = format!("the table's fixed size is {}, and not docs/TABLE.md's", unit.table_size());
+        return Err(Found::new(what, vec![]));
+    }
+    let made = made(unit, rng)?;
+    let mut lent = Lent::new(rng, layout::TABLE_SIZE);
+    for _ in 0..TABLES {
+        let (bytes, how) = table(rng, &made);
+        let reading = layout::read(&bytes);
+        tally.table(&reading);
+        Table { unit, lent: &mut lent, bytes: &bytes, reading: &reading, tally }.compare(rng).map_err(
+            |what| {
+                let broken = format!("clauses of a good table that it breaks: {:?}", reading.broken);
+                Found::new(what, [how, vec![broken]].concat())
+            },
+        )?;
+    }
+    Ok(())
+}
+
+/// A table that calls made; what it holds must be what the rules hold.
+fn made<U: Unit>(unit: &mut U, rng: &mut Rng) -> Result<Vec<u8>, Found> {
+    let setup = setups::setup(rng);
+    let mut bytes = tables::blank(rng);
+    let mut state = State::fresh(&setup);
+    unit.make(&setups::bytes(rng, &setup), &mut bytes)
+        .map_err(|fault| Found::new(format!("a valid setup gave {fault}"), vec![]))?;
+    let mut caller = Caller::new(rng);
+    for _ in 0..rng.below(120) {
+        let call = caller.next(rng, &state);
+        caller.heard(state.answer(call));
+        unit.answer(&mut bytes, call);
+    }
+    match layout::read(&bytes).good() {
+        Some(read) if read.alike(&state) => Ok(bytes),
+        Some(_) => Err(Found::new("a table made by calls does not hold what the rules hold", vec![])),
+        None => Err(Found::new("a table made by calls is not good", vec![])),
+    }
+}
+
+/// A table and how it came to be.
+fn table(rng: &mut Rng, made: &[u8]) -> (Vec<u8>, Vec<String>) {
+    let (mut bytes, changes, mut how) = match rng.below(32) {
+        0 => (tables::blank(rng), rng.below(4), vec!["noise".to_string()]),
+        1..=9 => (tables::laid(rng), rng.below(2), vec!["a table laid at the edges".to_string()]),
+        _ => (made.to_vec(), rng.between(1, 2), vec!["a table made by calls".to_string()]),
+    };
+    for _ in 0..changes {
+        how.push(tables::damage(rng, &mut bytes));
+    }
+    (bytes, how)
+}
+
+struct Table<'a, U: Unit> {
+    unit: &'a mut U,
+    lent: &'a mut Lent,
+    bytes: &'a [u8],
+    reading: &'a Reading,
+    tally: &'a mut Tally,
+}
+
+impl<U: Unit> Table<'_, U> {
+    fn compare(&mut self, rng: &mut Rng) -> Result<(), String> {
+        for call in self.each_call(rng) {
+            self.lay();
+            self.call(call, self.reading)?;
+        }
+        if rng.once_in(4) {
+            self.cut_short(rng)?;
+        }
+        self.lay();
+        if self.reading.broken.is_empty() {
+            self.walk(rng)?;
+        }
+        Ok(())
+    }
+
+    fn lay(&mut self) {
+        self.lent.bytes()[..layout::TABLE_SIZE].copy_from_slice(self.bytes);
+    }
+
+    /// Every public call at least once.
+    fn each_call(&self, rng: &mut Rng) -> Vec<Call> {
+        let lanes: Vec<u8> = layout::present(self.bytes).collect();
+        let own = if lanes.is_empty() { 0 } else { rng.pick(&lanes) };
+        let longest = layout::word(self.bytes, layout::setting(own)) & 0xFFFF;
+        let any = rng.byte();
+        let lane = rng.pick(&[own, own, own, any]);
+        let length = rng.pick(&[1, 64, longest, longest, longest + 1, 0]);
+        vec![
+            Call::Put { lane, mark: rng.word() as u32, length },
+            Call::Put { lane: own, mark: rng.word() as u32, length: longest.max(1) },
+            Call::Take,
+            Call::Look,
+            Call::Sets,
+            Call::Lag { lane },
+            Call::Lag { lane: own },
+            Call::Restart,
+        ]
+    }
+
+    /// One call on the table that is lent, which reads as `reading`: the answer, and the bytes after it.
+    fn call(&mut self, call: Call, reading: &Reading) -> Result<Reading, String> {
+        let mut state = reading.clone().good();
+        let expected = state.as_mut().map_or(Answer::No(refusal::NOT_GOOD), |state| state.answer(call));
+        let before = self.lent.copy();
+        let answer = self.unit.answer(self.lent.bytes(), call);
+        self.tally.table_call(answer);
+        if answer != expected {
+            return Err(format!("{call}: the unit gave {answer}, the rules {expected}"));
+        }
+        self.lent.guarded()?;
+        if call.only_reads() || expected.refused() {
+            let same = self.lent.same(&before);
+            return if same {
+                Ok(reading.clone())
+            } else {
+                Err(format!("{call} changed the table: {answer}"))
+            };
+        }
+        let after = layout::read(&self.lent.copy());
+        if let Some(clause) = after.broken.iter().find(|clause| !clause.may_be_lost()) {
+            return Err(format!("{call} left a table that breaks {clause:?}"));
+        }
+        match (&after.state, &state) {
+            (Some(after), Some(state)) if after.alike(state) => {}
+            (after, state) => return Err(format!("{call} left {after:?}, the rules {state:?}")),
+        }
+        Ok(after)
+    }
+
+    /// Calls one after another, as long as the table is good and at most once more.
+    fn walk(&mut self, rng: &mut Rng) -> Result<(), String> {
+        let mut caller = Caller::new(rng);
+        let mut reading = self.reading.clone();
+        for _ in 0..rng.below(WALK + 1) {
+            let Some(state) = &reading.state else { return Ok(()) };
+            let call = caller.next(rng, state);
+            let good = reading.broken.is_empty();
+            reading = self.call(call, &reading)?;
+            if !good {
+                return Ok(());
+            }
+            self.tally.tables_lost += u64::from(!reading.broken.is_empty());
+        }
+        Ok(())
+    }
+
+    /// The first bytes alone are not good, whatever they hold.
+    fn cut_short(&mut self, rng: &mut Rng) -> Result<(), String> {
+        let length = if rng.once_in(2) { layout::TABLE_SIZE - 1 } else { rng.index(layout::TABLE_SIZE) };
+        self.lay();
+        for call in self.each_call(rng) {
+            let answer = self.unit.answer(self.lent.short(length), call);
+            self.tally.table_call(answer);
+            if answer != Answer::No(refusal::NOT_GOOD) {
+                return Err(format!("{call} on the table's first {length} bytes gave {answer}"));
+            }
+            if !self.lent.same(self.bytes) {
+                return Err(format!("{call} on the table's first {length} bytes changed it"));
+            }
+        }
+        self.tally.table(&layout::read(&self.bytes[..length]));
+        Ok(())
+    }
+}

@@ -1,0 +1,174 @@
+//! A unit to try the comparison of tables on: the plain rules over the words of docs/TABLE.md, read and written by [`layout`] alone, that can be told
+//! to make one [`Lapse`].
+
+use crate::calls::Taken;
+use crate::fields::Fault;
+use crate::layout::{self, Clause, CLAUSES, TABLE_SIZE};
+use crate::numbers::{refusal, CLOCK_END, LONGEST_IN_UNITS};
+use crate::rules::State;
+use crate::session::{self, Run};
+use crate::setup;
+use crate::unit::Unit;
+
+#[derive(Clone, Copy, Debug, PartialEq, Eq)]
+pub enum Lapse {
+    None,
+    /// A clause of "A good table" is not tested: a table that breaks it alone does not give 10.
+    Untested(Clause),
+    /// A table that gives 10 is written.
+    RefusalWrites,
+    /// V must be below 2^62 + 2^42 - 1.
+    ClockStrict,
+    /// S must be below V + 2s - 1.
+    StartStrict,
+    /// R must be above V - 2s - 1,536,000 + 1.
+    BehindStrict,
+    /// F of an idle lane must be below V + 2s - 1.
+    FinishStrict,
+    /// An eligible lane must have R below V.
+    EligibleStrict,
+    /// Sixteen records are too many.
+    RecordsStrict,
+    /// A word that means nothing must be 0.
+    FreeWordRead,
+    /// A put forgets the tie order: lanes by their number.
+    OrderLost,
+    /// A record is written one place too far in its ring.
+    RingTurned,
+    /// A take leaves the clock where it was, if it is the last one.
+    ClockKept,
+}
+
+/// Every lapse.
+pub fn lapses() -> Vec<Lapse> {
+    use Lapse::*;
+    let others = [
+        RefusalWrites,
+        ClockStrict,
+        StartStrict,
+        BehindStrict,
+        FinishStrict,
+        EligibleStrict,
+        RecordsStrict,
+        FreeWordRead,
+        OrderLost,
+        RingTurned,
+        ClockKept,
+    ];
+    CLAUSES.iter().map(|clause| Untested(*clause)).chain(others).collect()
+}
+
+pub struct OnWords {
+    pub lapse: Lapse,
+}
+
+impl OnWords {
+    fn read(&self, table: &[u8]) -> Result<State, u8> {
+        let reading = layout::read(table);
+        if reading.broken.len() == 1 && self.lapse == Lapse::Untested(reading.broken[0]) {
+            return Err(refusal::NOTHING_HELD);
+        }
+        let state = reading.good().ok_or(refusal::NOT_GOOD)?;
+        let refused = match self.lapse {
+            Lapse::ClockStrict => state.clock >= CLOCK_END - 1,
+            Lapse::StartStrict => state.holding().any(|lane| lane.start >= state.clock + 2 * lane.slot() - 1),
+            Lapse::BehindStrict => state
+                .holding()
+                .any(|lane| lane.rounded_start <= state.clock - 2 * lane.slot() - LONGEST_IN_UNITS + 1),
+            Lapse::FinishStrict => {
+                let mut idle = state.lanes.iter().filter(|lane| !lane.holds());
+                idle.any(|lane| lane.finish >= state.clock + 2 * lane.slot() - 1)
+            }
+            Lapse::EligibleStrict => {
+                let mut holding = state.holding().peekable();
+                holding.peek().is_some() && !holding.any(|lane| lane.rounded_start < state.clock)
+            }
+            Lapse::RecordsStrict => state.lanes.iter().any(|lane| lane.queue.len() == 16),
+            Lapse::FreeWordRead => layout::word(table, 3) != 0,
+            _ => false,
+        };
+        if refused {
+            Err(refusal::NOT_GOOD)
+        } else {
+            Ok(state)
+        }
+    }
+
+    fn change<T>(&self, table: &mut [u8], call: impl Fn(&mut State) -> Result<T, u8>) -> Result<T, u8> {
+        let mut state = self.read(table).map_err(|number| {
+            if self.lapse == Lapse::RefusalWrites && !table.is_empty() {
+                table[0] ^= 1;
+            }
+            number
+        })?;
+        let before = state.clock;
+        let answer = call(&mut state)?;
+        if self.lapse == Lapse::ClockKept && state.holding().next().is_none() && state.clock > 0 {
+            state.clock = before;
+        }
+        layout::write(&state, table);
+        if self.lapse == Lapse::OrderLost {
+            let holding: Vec<u8> = state.holding().map(|lane| lane.plan.number).collect();
+            (layout::ORDER..).zip(holding).for_each(|(at, lane)| layout::set_word(table, at, lane.into()));
+        }
+        if self.lapse == Lapse::RingTurned {
+            if let Some(lane) = state.holding().next() {
+                let at = layout::ring(lane.plan.number);
+                layout::set_word(table, at, layout::word(table, at) ^ 1);
+            }
+        }
+        Ok(answer)
+    }
+}
+
+impl Unit for OnWords {
+    fn table_size(&self) -> usize {
+        TABLE_SIZE
+    }
+
+    fn documented_layout(&self) -> bool {
+        true
+    }
+
+    fn make(&mut self, setup: &[u8], table: &mut [u8]) -> Result<u64, Fault> {
+        if table.len() < TABLE_SIZE {
+            return Err(Fault::at(refusal::TABLE_SHORT, 0));
+        }
+        let setup = setup::whole(setup)?;
+        layout::write(&State::fresh(&setup), table);
+        Ok(setup.lanes.len() as u64)
+    }
+
+    fn put(&mut self, table: &mut [u8], lane: u8, mark: u32, length: u64) -> Result<(), u8> {
+        self.change(table, |state| state.put(lane, mark, length))
+    }
+
+    fn take(&mut self, table: &mut [u8]) -> Result<Taken, u8> {
+        self.change(table, State::take)
+    }
+
+    fn look(&mut self, table: &mut [u8]) -> Result<Taken, u8> {
+        self.read(table)?.look()
+    }
+
+    fn sets(&mut self, table: &mut [u8]) -> Result<[u64; 4], u8> {
+        Ok(self.read(table)?.sets())
+    }
+
+    fn lag(&mut self, table: &mut [u8], lane: u8) -> Result<i64, u8> {
+        self.read(table)?.lag(lane)
+    }
+
+    fn restart(&mut self, table: &mut [u8]) -> Result<(), u8> {
+        self.change(table, State::restart)
+    }
+
+    fn run(&mut self, session: &[u8], limit: u64, table: &mut [u8], answers: &mut [u8]) -> Run {
+        let outcome = session::run(session, limit, table.len(), TABLE_SIZE, answers.len());
+        answers[..outcome.text.len()].copy_from_slice(outcome.text.as_bytes());
+        if let Some(state) = outcome.state {
+            layout::write(&state, table);
+        }
+        outcome.result
+    }
+}

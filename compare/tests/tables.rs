@@ -1,0 +1,194 @@
+//! docs/TABLE.md's tables: what they mean and whether they are good, worked by hand; and the comparison of tables finds every lapse.
+
+mod common;
+
+use common::two_lanes;
+use compare::calls::Call;
+use compare::driver::report::Tally;
+use compare::driver::{self, Budget, Kind};
+use compare::gen::tables;
+use compare::laws;
+use compare::layout::{self, Clause, CLAUSES, TABLE_SIZE};
+use compare::on_words::{lapses, Lapse, OnWords};
+use compare::rng::Rng;
+use compare::rules::State;
+use compare::setup;
+
+/// Document 01's session up to its sets, word by word: lane 0 holds 1/1000 and 3/500 from place 15 of its ring on, lane 1 holds 2/1000 at place 4.
+/// Words that mean nothing are all ones.
+const SESSION: &[(usize, u64)] = &[
+    (0, 0),
+    (1, 0b11),
+    (2, 2),
+    (16, 0),
+    (17, 1),
+    (80, 1_500 | 512 << 16 | 22 << 32 | 2_048 << 40),
+    (81, 0),
+    (82, 15 + 16 * 2),
+    (84, 1_500 | 256 << 16 | 23 << 32 | 4_096 << 40),
+    (85, 0),
+    (86, 4 + 16),
+    (336 + 15, 1 | 1_000 << 32),
+    (336, 3 | 500 << 32),
+    (352 + 4, 2 | 1_000 << 32),
+];
+
+fn session() -> Vec<u8> {
+    let mut bytes = vec![0xFF; TABLE_SIZE];
+    SESSION.iter().for_each(|(at, value)| layout::set_word(&mut bytes, *at, *value));
+    bytes
+}
+
+fn broken(changes: &[(usize, u64)]) -> Vec<Clause> {
+    let mut bytes = session();
+    changes.iter().for_each(|(at, value)| layout::set_word(&mut bytes, *at, *value));
+    layout::read(&bytes).broken
+}
+
+#[test]
+fn the_session_s_table() {
+    let mut state = State::fresh(&setup::whole(&two_lanes()).unwrap());
+    for (lane, mark, length) in [(0, 1, 1_000), (1, 2, 1_000), (0, 3, 500)] {
+        state.put(lane, mark, length).unwrap();
+    }
+    let read = layout::read(&session()).good().expect("a good table");
+    assert!(read.alike(&state));
+    let mut written = session();
+    layout::write(&read, &mut written);
+    assert_eq!(written, session(), "writing what was read changes nothing");
+}
+
+#[test]
+fn each_clause_from_both_sides() {
+    use Clause::*;
+    let slot = 1_u64 << 22;
+    let end = (1_u64 << 62) + (1 << 42);
+    // Both lanes far on, from the clock's last value; one below its end.
+    let far = |clock: u64, s0: u64, s1: u64| broken(&[(0, clock), (81, s0), (85, s1)]);
+    let last = end - 1;
+    assert_eq!(far(last, last, last), []);
+    assert_eq!(far(end, end, end), [Clock]);
+    // S of lane 0: V + 2s - 1 and V + 2s.
+    assert_eq!(broken(&[(81, 2 * slot - 1)]), []);
+    assert_eq!(broken(&[(81, 2 * slot)]), [StartAhead]);
+    // R of lane 0: V - 2s - 1,536,000 is too low, a slot more is not, and a clock one lower neither.
+    let clock = 100 * slot + 1_536_000;
+    assert_eq!(far(clock, 98 * slot + 7, clock), [StartBehind]);
+    assert_eq!(far(clock, 99 * slot, clock), []);
+    assert_eq!(far(clock - 1, 98 * slot, clock - 1), []);
+    // Lane 1 idle, F = V + 2s - 1 and V + 2s.
+    let idle = |finish: u64| broken(&[(2, 1), (86, 4), (85, finish)]);
+    assert_eq!(idle(4 * slot - 1), []);
+    assert_eq!(idle(4 * slot), [FinishAhead]);
+    // Both lanes begin in the next slot.
+    assert_eq!(broken(&[(81, slot), (85, 2 * slot - 1)]), []);
+    assert_eq!(broken(&[(81, slot), (85, 2 * slot)]), [Eligible]);
+    // Settings: weights sum to 1,024 and 1,025, longest 64 and 63, 1,500 and 1,501, no weight, a wrong c, a wrong group.
+    let setting = |longest: u64, weight: u64, group: u64, c: u64| {
+        broken(&[(84, layout::setting_of(longest, weight, group, c)), (356, 64 << 32)])
+    };
+    assert_eq!(setting(1_500, 512, 22, 2_048), []);
+    assert_eq!(setting(1_500, 513, 22, 2_045), [WeightSum]);
+    assert_eq!(setting(64, 256, 18, 4_096), []);
+    assert_eq!(setting(63, 256, 18, 4_096), [Longest, Length]);
+    assert_eq!(setting(1_501, 256, 23, 4_096), [Longest]);
+    assert_eq!(setting(1_500, 0, 23, 4_096), [Weight]);
+    assert_eq!(setting(1_500, 3, 29, 349_526), []);
+    assert_eq!(setting(1_500, 3, 29, 349_525), [UnitsPerByte]);
+    assert_eq!(setting(1_500, 256, 24, 4_096), [Group]);
+    assert_eq!(setting(1_500, 256, 22, 4_096), [Group]);
+    // Sixteen and seventeen records; lengths 0, 1, longest and longest + 1.
+    let sixteen: Vec<(usize, u64)> = (0..16).map(|place| (352 + place, 64 << 32)).collect();
+    assert_eq!(broken(&[&sixteen[..], &[(86, 3 + 16 * 16)]].concat()), []);
+    assert_eq!(broken(&[&sixteen[..], &[(86, 3 + 16 * 17)]].concat()), [Records]);
+    assert_eq!(broken(&[(336, 0)]), [Length]);
+    assert_eq!(broken(&[(336, 1 << 32)]), []);
+    assert_eq!(broken(&[(336, 1_500 << 32)]), []);
+    assert_eq!(broken(&[(336, 1_501 << 32)]), [Length]);
+    // The order: the other way round, one twice, one that is not there, one too few, one too many, more than fit.
+    assert_eq!(broken(&[(16, 1), (17, 0)]), []);
+    assert_eq!(broken(&[(16, 1)]), [TieOrder]);
+    assert_eq!(broken(&[(16, 2)]), [TieOrder]);
+    assert_eq!(broken(&[(17, 1 + 256)]), [TieOrder]);
+    assert_eq!(broken(&[(2, 1)]), [TieOrder]);
+    assert_eq!(broken(&[(2, 3), (18, 0)]), [TieOrder]);
+    assert_eq!(broken(&[(2, 65)]), [TieOrder]);
+    assert_eq!(broken(&[(2, 2 + (1 << 32))]), [TieOrder]);
+    // No lane; a lane more whose words mean nothing.
+    assert_eq!(broken(&[(1, 0), (2, 0)]), [Lanes]);
+    assert!(!broken(&[(1, 0b111)]).is_empty());
+    // A byte short.
+    assert_eq!(layout::read(&session()[..TABLE_SIZE - 1]).broken, [Long]);
+}
+
+#[test]
+fn words_that_mean_nothing() {
+    for at in (3..16).chain(18..80).chain([83, 87, 88, 335, 337, 350, 352, 355, 357, 368, 1_359]) {
+        assert_eq!(broken(&[(at, 0)]), [], "word {at}");
+    }
+}
+
+/// The laws' own account of "A good table" and this one agree on contents of every kind.
+#[test]
+fn two_accounts_of_a_good_table() {
+    let mut rng = Rng::new(11);
+    let mut agreed = [0, 0];
+    for _ in 0..4_000 {
+        let mut bytes = tables::laid(&mut rng);
+        tables::damage(&mut rng, &mut bytes);
+        let reading = layout::read(&bytes);
+        let Some(state) = &reading.state else { continue };
+        if reading.broken.iter().all(|clause| clause.may_be_lost() || *clause == Clause::Length) {
+            assert_eq!(laws::good::check(state).is_ok(), reading.broken.is_empty(), "{:?}", reading.broken);
+            agreed[usize::from(reading.broken.is_empty())] += 1;
+        }
+    }
+    assert!(agreed.iter().all(|count| *count > 500), "{agreed:?}");
+}
+
+fn run(lapse: Lapse, cases: u64) -> (Tally, Result<(), driver::report::Difference>) {
+    let mut tally = Tally::default();
+    let tables = |kind| kind == Kind::Tables;
+    let mut unit = OnWords { lapse };
+    let result = driver::compare_kinds(&mut unit, 3, 0, Budget::Cases(cases), tables, &mut tally);
+    (tally, result)
+}
+
+#[test]
+fn nothing_differs_without_a_lapse() {
+    let (tally, result) = run(Lapse::None, 1_500);
+    result.unwrap_or_else(|difference| panic!("{difference}"));
+    assert!(tally.tables_good > 2_000 && tally.tables - tally.tables_good > 2_000, "{tally}");
+    assert!(tally.broken_alone.iter().all(|count| *count > 10), "{tally}");
+    assert!(tally.tables_spent > 20 && tally.tables_lost > 5, "{tally}");
+}
+
+#[test]
+fn every_lapse_is_found() {
+    assert!(lapses().len() > CLAUSES.len());
+    for lapse in lapses() {
+        let (_, result) = run(lapse, 3_000);
+        let difference = result.expect_err(&format!("{lapse:?} is not found"));
+        let mut unit = OnWords { lapse };
+        let again = driver::one(&mut unit, 3, difference.case, &mut Tally::default());
+        assert!(again.is_err(), "{lapse:?} is not found again by its case alone");
+    }
+}
+
+#[test]
+fn the_clock_s_edge_from_a_table_laid_near_it() {
+    let spent = driver::clock::drive_near(&mut OnWords { lapse: Lapse::None }, &mut Tally::default());
+    assert!(matches!(spent, Ok(true)), "14 within ten pairs; the rest of the drive follows");
+}
+
+#[test]
+fn a_good_table_of_other_origin_may_lead_to_one_that_is_not() {
+    // The clock's last value: a take moves it past the end, and the next call gives 10.
+    let last = (1_u64 << 62) + (1 << 42) - 1;
+    let mut bytes = session();
+    [0, 81, 85].iter().for_each(|at| layout::set_word(&mut bytes, *at, last));
+    let mut state = layout::read(&bytes).good().expect("a good table");
+    assert_eq!(state.answer(Call::Take).to_string(), "take 0 1 1000");
+    layout::write(&state, &mut bytes);
+    assert_eq!(layout::read(&bytes).broken, [Clause::Clock]);
+}
