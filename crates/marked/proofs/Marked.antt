@@ -44,6 +44,8 @@ unfolding rules readSetup readPlan walk judgedAt itemAt fieldOf laneOutside big
 marked =
     record {
       session = refl;
+      lane0 = (refl, refl);
+      lane1 = (refl, refl);
       m1 = (before, refl, refl);
       m2 = (refl, refl, behind ∙ sym before, refl);
       m3 = (refl, refl, refl);

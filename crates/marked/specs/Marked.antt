@@ -43,8 +43,10 @@ abbrev pub full : List Call
 full = replicate 17 (put 0 7 1000) ++ (take ∷ put 0 8 1000 ∷ [])
 
 pub record Marked : Type 0 where
-  -- the setup of the session above, read from its bytes
+  -- The setup of the session above, read from its bytes. "Lane 0 has c = 2,048, group 22; lane 1 has c = 4,096, group 23."
   pub session : readSetup sessionSetup ≡ plan.read (twoLanes 512 256 1500) 2 24
+  pub lane0 : (rate (setting 512 1500) ≡ 2048) × (group (setting 512 1500) ≡ 22)
+  pub lane1 : (rate (setting 256 1500) ≡ 4096) × (group (setting 256 1500) ≡ 23)
   -- "M1 after the third take above V = 2,560,000, lane 0 F = 3,072,000, lane 1 F = 4,096,000."
   pub m1 : (third .clock ≡ 2560000) × ((laneAt third 0) .finish ≡ 3072000) × ((laneAt third 1) .finish ≡ 4096000)
   -- "M2 then put 0/4/100: S = 3,072,000, F = 3,276,800, V unchanged, lag -512,000."

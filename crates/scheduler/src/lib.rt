@@ -17,7 +17,7 @@ use rules::Refusal;
 use units::Bytes;
 
 // The fixed size of a table, in bytes.
-pub const SIZE: usize = 10880;
+pub const SIZE: usize = table::SIZE;
 
 pub enum Making {
     // A fresh table stands in the lent bytes; the number of its lanes.

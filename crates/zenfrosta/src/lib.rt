@@ -3,12 +3,13 @@
 // One rule for every answer (specs/Crossing.antt): the result is 0, or document 01's number of the refusal; values stand in a lent buffer of at least 32 bytes as
 // four 64-bit words, low byte first. A shorter buffer gives 255, and nothing is done. The table and the buffer must not overlap.
 ghost use mathlib.Core.Path.{_≡_};
-ghost use Prim.Native.Nat.{_≤_};
+ghost use Prim.Native.Nat.{_*_, _≤_};
 ghost use mir.Syntax.{w64};
 ghost use mir.Val.{ofZ};
 ghost use lib.ListN.{length};
 ghost use Rattle.rules.specs.Calls as Calls;
 ghost use Rattle.rules.specs.Reads as Reads;
+ghost use Rattle.table.specs.Layout.{WORDS};
 ghost use Rattle.scheduler.specs.Step.{Step};
 ghost use Rattle.scheduler.specs.Make as Make;
 ghost use Rattle.session.specs.Ran.{whyIs, Ran};
@@ -166,9 +167,9 @@ fn tell(out: &mut [u8], x: Answer) -> u64
 // The fixed size of a table, in bytes.
 #[no_mangle]
 pub extern "C" fn zf_table_size() -> u64
-    ensures { λ r. ⌜ r ≡ 10880 ⌝ }
+    ensures { λ r. ⌜ r ≡ WORDS * 8 ⌝ }
 {
-    10880
+    scheduler::SIZE as u64
 }
 
 // Makes the fresh table of a setup in the lent bytes: the number of lanes, or a refusal with its place.
