@@ -137,6 +137,11 @@ module _ (v : ℕ) (ls : List Lane) where
     met = λ p. let m = h .met p in (m .0, omega (arith, m .1), m .2, m .3, m .4);
   }
 
+  -- the rest, where no group is left that holds records
+  pub swept-rest : (i : ℕ) (a : Sweep) → ((k : ℕ) → k < i → groupStart ls k ≡ none) → Swept i a → Swept 0 a
+  swept-rest zero a e h = h
+  swept-rest (suc i) a e h = swept-rest i a (λ k q. e k (omega arith)) (swept-skip i a (e i (omega arith)) h)
+
   -- ---- a group that holds records, with the start r
 
   module _ (i : ℕ) (a : Sweep) (r : ℕ) (small : i < groups) (start : groupStart ls i ≡ some r) (early : r < 2 ^ 63) (h : Swept (suc i) a) where

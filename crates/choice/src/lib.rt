@@ -55,6 +55,9 @@ pub enum Choice {
     Idle,
 }
 
+// The lowest group: "It lies in 16 to 31".
+const LOWEST: u32 = 16;
+
 // Later than any start.
 const NEVER: u64 = 18446744073709551615;
 
@@ -169,7 +172,7 @@ fn sweep_down(t: &[u8], s: Starts) -> SetWords
         least: Clock(NEVER),
     };
     let mut i: u32 = 32;
-    while 0 < i {
+    while LOWEST < i {
         i -= 1;
         let g = i as usize;
         let start = s.at[g];
