@@ -5,3 +5,4 @@ pub mod Signed
 pub mod Replies
 pub mod Serving
 pub mod LagRange
+pub mod Still

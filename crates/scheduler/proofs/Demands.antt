@@ -7,8 +7,8 @@ use mathlib.Core.Logic.{_⊎_, inl, inr}
 use mathlib.Core.List.{List, [], _∷_, _++_, map}
 use mathlib.Core.Option.{Option, none, some}
 use lib.ListN.{getD}
-use Rattle.rules.specs.State.{Lane, noLane, State, holds, laneAt, anyHolds}
-use Rattle.rules.specs.Calls.{Call, take, restart, Reply, taken, restarted, refused, Pick, picked, takeOf, doTake, fresh, doRestart, step}
+use Rattle.rules.specs.State.{Lane, noLane, State, laneAt, anyHolds}
+use Rattle.rules.specs.Calls.{Call, take, restart, Reply, restarted, refused, Pick, picked, takeOf, doTake, fresh, doRestart, step}
 use Rattle.rules.specs.Runs.{Event, after, trace, acceptedOf, sentOf, InOrder}
 use Rattle.rules.specs.Fair.{Holding, Fair, Demand3}
 use Rattle.rules.proofs.Runs.{split}

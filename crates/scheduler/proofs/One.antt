@@ -1,13 +1,12 @@
 -- The promises leave nothing of an answer open. Assumes nothing.
-use Prim.Native.Nat.{ℕ, _*_, _≤_, _<_}
+use Prim.Native.Nat.{ℕ, _*_, _<_}
 use native.Mathlib.Decide.{decLe}
 use native.Mathlib.Omega.{arith}
-use mathlib.Core.Path.{_≡_, refl, sym, ap, subst, _∙_}
-use mathlib.Core.Logic.{_⊎_, inl, inr}
+use mathlib.Core.Path.{_≡_, sym, ap, subst, _∙_}
+use mathlib.Core.Logic.{inl, inr}
 use mathlib.Core.List.{List}
-use mathlib.Core.Option.{none}
 use lib.ListN.{length, drop}
-use Rattle.rules.specs.Calls.{Call, Reply, refused, step, fresh}
+use Rattle.rules.specs.Calls.{Reply, refused, step, fresh}
 use Rattle.rules.specs.Reads.{reads}
 use Rattle.rules.specs.declared.Answer.{Answer}
 use Rattle.alike.specs.Alike.{Alike}
@@ -16,14 +15,12 @@ use Rattle.plan.specs.Read as plan
 use Rattle.plan.specs.Read.{readSetup}
 use Rattle.table.specs.Layout.{WORDS}
 use Rattle.table.specs.Means.{meant}
-use Rattle.good.specs.Table.{GoodTable}
 use Rattle.good.proofs.Encodes.{good-encodes}
 use Rattle.engine.specs.Does.{Unchanged}
 use Rattle.scheduler.specs.Step.{Step}
 use Rattle.scheduler.specs.Make as Make
-use Rattle.scheduler.specs.Make.{Follows, MakeStep}
+use Rattle.scheduler.specs.Make.{Follows}
 use Rattle.scheduler.specs.One.{SameTable, OneAnswer, OneMaking}
-use Rattle.scheduler.specs.declared.Making.{Making}
 
 same-bytes : (t u u′ : List ℕ) → u ≡ t → u′ ≡ t → SameTable u u′
 same-bytes t u u′ e e′ =

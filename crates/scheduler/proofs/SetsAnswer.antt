@@ -1,26 +1,21 @@
 -- What the bits of the answer of `sets` say. Assumes nothing.
-use Prim.Native.Nat.{ℕ, _+_, _^_, _≤_, _<_}
+use Prim.Native.Nat.{ℕ, _<_}
 use native.Mathlib.Omega.{arith}
 use mathlib.Core.Path.{_≡_, refl, sym, ap, subst, _∙_}
 use mathlib.Core.Bool.{Bool, true, false}
 use mathlib.Core.List.{List, [], _∷_}
 use mathlib.Core.Option.{Option, none, some}
-use lib.Count.{trailingZeros}
 use Rattle.words.specs.Bits.{bit}
 use Rattle.rules.specs.State.{Rec, State, Lane, group, laneAt}
 use Rattle.rules.specs.Choice.{Candidate, choose}
 use Rattle.rules.specs.Good.{Good}
-use Rattle.units.specs.Plain.{count, wordOf}
-use Rattle.rules.specs.Sets.{groups, groupHolds, groupFinish, ready, ineligibleReady, eligibleBlocked, ineligibleBlocked, setWord}
-use Rattle.rules.specs.Calls.{Call, sets, look, Reply, words, seen, firstOf, pickOf, picked, lookOf, doLook, doSets, step}
-use Rattle.rules.specs.Reads.{reads}
-use Rattle.rules.specs.declared.Answer.{Answer}
+use Rattle.units.specs.Plain.{count}
+use Rattle.rules.specs.Sets.{groups, ready, ineligibleReady, eligibleBlocked, ineligibleBlocked, setWord}
+use Rattle.rules.specs.Calls.{sets, look, words, seen, firstOf, pickOf, picked, lookOf, doLook, doSets, step}
 use Rattle.rules.proofs.Word.{word-lt, word-bit}
 use Rattle.rules.proofs.BySets.{sets-rule}
 use Rattle.table.specs.Means.{meant}
-use Rattle.good.specs.Table.{GoodTable}
 use Rattle.good.proofs.Encodes.{good-encodes}
-use Rattle.scheduler.specs.Step.{Step}
 use Rattle.scheduler.specs.SetsAnswer.{SetsAnswer, SetsCall}
 
 -- a look names the chosen lane

@@ -6,12 +6,10 @@ use mathlib.Core.Bool.{Bool, true, false, not, false≢true}
 use mathlib.Core.List.{List}
 use lib.ListN.{length}
 use Rattle.rules.specs.State.{State}
-use Rattle.rules.specs.Calls.{Call, look, sets, lag, Reply, accepted, taken, seen, words, lagged, restarted, refused, step, doLook, doSets, picked}
-use Rattle.rules.specs.Reads.{reads}
+use Rattle.rules.specs.Calls.{Call, step}
 use Rattle.rules.specs.declared.Answer.{Answer}
 use Rattle.rules.specs.declared.Answer.the-variants.{Refused}
 use Rattle.rules.specs.declared.Refusal.the-variants.{NotGood}
-use Rattle.rules.proofs.Keep as keep
 use Rattle.alike.specs.Alike.{Alike}
 use Rattle.alike.proofs.Alike.{step-alike}
 use Rattle.table.specs.Means.{meant}
@@ -19,8 +17,8 @@ use Rattle.choice.specs.Known.{Known}
 use Rattle.lane_test.specs.Says as test
 use Rattle.good.specs.Table.{GoodTable}
 use Rattle.good.proofs.Encodes.{good-sound}
-use Rattle.engine.specs.Does.{Says, Unchanged, Does}
-use Rattle.engine.proofs.Replies.{leaves-same}
+use Rattle.engine.specs.Does.{Says, Does}
+use Rattle.engine.proofs.Still.{looks-does}
 use Rattle.scheduler.specs.Step.{Step}
 
 -- what the test found
@@ -61,27 +59,6 @@ does-step c t a u g len d = record {
   size = len;
 }
 
-unchanged-same : (r : Reply) (t : List ℕ) → Unchanged r t t
-unchanged-same accepted t = tt
-unchanged-same (taken j m n) t = tt
-unchanged-same (seen j m n) t = tt
-unchanged-same (words a b c d) t = tt
-unchanged-same (lagged z) t = tt
-unchanged-same restarted t = tt
-unchanged-same (refused n p) t = refl
-
 -- the calls that change nothing
 pub says-step : (c : Call) (t : List ℕ) (a : Answer) → GoodTable t → (step (meant t) c) .state ≡ meant t → Says c t a → Step c t a t
-says-step c t a g e h = does-step c t a t g refl (record { says = h; leaves = leaves-same t _ (sym e); unchanged = unchanged-same (reads a) t })
-
-pub look-keeps : (s : State) → (step s look) .state ≡ s
-unfolding step doLook
-look-keeps s = keep.look-same s (picked s)
-
-pub sets-keeps : (s : State) → (step s sets) .state ≡ s
-unfolding step doSets
-sets-keeps s = refl
-
-pub lag-keeps : (s : State) (j : ℕ) → (step s (lag j)) .state ≡ s
-unfolding step
-lag-keeps s j = keep.lag-same s j
+says-step c t a g e h = does-step c t a t g refl (looks-does c t a e h)

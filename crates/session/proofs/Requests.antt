@@ -3,15 +3,15 @@ use Prim.Native.Nat.{ℕ, zero, suc, _+_, _*_, _≤_}
 use native.Mathlib.Omega.{arith}
 use mathlib.Core.Path.{_≡_, refl, sym, ap, _∙_}
 use mathlib.Core.Bool.{Bool, true, false, _||_}
-use mathlib.Core.List.{List, [], _∷_, _++_, append-nil, append-assoc}
-use mathlib.Core.Option.{Option, none, some}
+use mathlib.Core.List.{List, [], _++_, append-nil, append-assoc}
+use mathlib.Core.Option.{none, some}
 use lib.Dec.{ltb}
 use lib.ListN.{length}
 use Rattle.units.specs.Plain.{if_then_else_}
-use Rattle.rules.specs.State.{Setting, State}
+use Rattle.rules.specs.State.{State}
 use Rattle.rules.specs.Setup.{Setup}
 use Rattle.rules.specs.Calls.{Call, fresh, step}
-use Rattle.rules.specs.Runs.{Event, after, trace}
+use Rattle.rules.specs.Runs.{after, trace}
 use Rattle.rules.specs.Fair.{Demand3}
 use Rattle.rules.proofs.Fair.{demand3}
 use Rattle.plan.specs.Read as plan
@@ -19,7 +19,7 @@ use Rattle.plan.proofs.Accepted.{accepted}
 use Rattle.table.specs.Layout.{WORDS}
 use Rattle.lines.specs.Line.{lineOf, lanesLine}
 use Rattle.requests.specs.Request.{Item, request, last, bad, itemAt}
-use Rattle.session.specs.Script.{Walked, closing, next, walk, finished, begun, script, nothing, runOf}
+use Rattle.session.specs.Script.{Walked, closing, next, walk, begun, script, nothing, runOf}
 use Rattle.session.specs.Requests.{asked, requestsOf, linesOf, Lists, RunLists}
 
 -- the walk from a state, with the lines before it

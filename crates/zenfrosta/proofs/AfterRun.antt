@@ -1,11 +1,9 @@
 -- Public calls on the table that a run left go on from the run's requests. Assumes nothing.
-use Prim.Native.Nat.{ℕ}
 use mathlib.Core.Path.{_≡_, refl, sym, ap, subst, _∙_}
-use mathlib.Core.List.{List, _∷_, _++_}
-use mathlib.Core.Option.{Option, some}
-use lib.ListN.{length, getD}
-use Rattle.rules.specs.State.{Setting, Lane, noLane, State, laneAt}
-use Rattle.rules.specs.Calls.{Call, fresh}
+use mathlib.Core.List.{List, _++_}
+use lib.ListN.{getD}
+use Rattle.rules.specs.State.{Lane, noLane, laneAt}
+use Rattle.rules.specs.Calls.{fresh}
 use Rattle.rules.specs.Runs.{Event, after, trace, acceptedOf, sentOf, InOrder}
 use Rattle.rules.specs.Fair.{Fair}
 use Rattle.rules.proofs.Runs.{after-append, trace-append}
@@ -14,14 +12,11 @@ use Rattle.rules.proofs.NotTen.{NotTen}
 use Rattle.rules.proofs.AlwaysGood.{Reached, fresh-reached, reached, reached-good}
 use Rattle.table.specs.Encodes.{Encodes}
 use Rattle.good.proofs.Encodes.{encodes-good}
-use Rattle.scheduler.specs.Chain.{Chain}
 use Rattle.scheduler.proofs.Chains.{ran}
 use Rattle.scheduler.proofs.Demands.{trace-not-ten, same-lanes}
-use Rattle.session.specs.Script.{runOf}
-use Rattle.session.specs.Ran.{Table, Ran}
-use Rattle.session.specs.Requests.{requestsOf, Lists}
-use Rattle.session.specs.declared.RunResult.{RunResult}
-use Rattle.zenfrosta.specs.AfterRun.{listOf, GoesOn, AfterRun}
+use Rattle.session.specs.Ran.{Table}
+use Rattle.session.specs.Requests.{requestsOf}
+use Rattle.zenfrosta.specs.AfterRun.{listOf, AfterRun}
 
 pub after-run : AfterRun
 unfolding AfterRun InOrder Fair

@@ -20,7 +20,7 @@ use Rattle.rules.specs.Fair.{bytesSent, bytesSentOf, Holding}
 use Rattle.table.specs.Encodes.{Encodes}
 use Rattle.good.specs.Table.{GoodTable}
 use Rattle.scheduler.specs.Chain.{Chain}
-use Rattle.session.specs.Script.{Script, runOf}
+use Rattle.session.specs.Script.{runOf}
 use Rattle.session.specs.Ran.{Ran}
 use Rattle.session.specs.Requests.{requestsOf, Lists}
 use Rattle.session.specs.declared.RunResult.{RunResult}

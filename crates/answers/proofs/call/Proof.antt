@@ -1,6 +1,6 @@
 -- `call` meets its contract: each request is the rules' call. Assumes nothing.
 use Rattle.rules.specs.Calls.{look, sets, lag}
-use Rattle.answers.proofs.Replies.{look-still, sets-still, lag-still, looks-does}
+use Rattle.engine.proofs.Still.{look-still, sets-still, lag-still, looks-does}
 use borrow.Author.Needs.{needs}
 use Rattle.answers.proofs.call.Statement.{statement}
 use Rattle.answers.proofs.call.Tie as tie

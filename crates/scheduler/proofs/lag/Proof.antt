@@ -1,6 +1,7 @@
 -- `lag` meets its contract. Assumes nothing.
 use Rattle.rules.specs.Calls.{lag}
-use Rattle.scheduler.proofs.Steps.{found-good, found-bad, good-known, bad-step, says-step, lag-keeps}
+use Rattle.scheduler.proofs.Steps.{found-good, found-bad, good-known, bad-step, says-step}
+use Rattle.engine.proofs.Still.{lag-still}
 use borrow.Author.Needs.{needs}
 use Rattle.scheduler.proofs.lag.Statement.{statement}
 use Rattle.scheduler.proofs.lag.Tie as tie
@@ -20,7 +21,7 @@ lag-requires c κs = good-known (c .before .before .before .args .t .now) (found
 
 returns-2 : tie.Need-returns-2
 returns-2 c =
-    says-step (lag _) (c .before .before .before .before .args .t .now) _ (found-good (c .before .before .good2 .result) (c .before .before .good2 .ensures) (c .before .if1 .left)) (lag-keeps _ _) (c .lag .ensures)
+    says-step (lag _) (c .before .before .before .before .args .t .now) _ (found-good (c .before .before .good2 .result) (c .before .before .good2 .ensures) (c .before .if1 .left)) (lag-still _ _) (c .lag .ensures)
 
 pub lag-spec : {M : Type 1} → statement M
 lag-spec = tie.close (tie.spec good-requires returns lag-requires returns-2)
