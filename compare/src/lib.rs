@@ -2,7 +2,8 @@
 //! machinery that compares the unit with it over long random lists of calls and random inputs.
 //!
 //! The implementation: [`numbers`], [`calls`], [`rules`], [`fields`], [`setup`], [`session`]; [`layout`] reads docs/TABLE.md's tables.
-//! The machinery: [`rng`], [`gen`], [`laws`], [`unit`], [`stand_in`], [`on_words`], [`driver`], [`pipes`]; [`loads`] is the benchmark's.
+//! The machinery: [`rng`], [`gen`], [`laws`], [`unit`], [`stand_in`], [`on_words`], [`driver`], [`pipes`]; [`loads`] and, with the feature `inner`, `inner` are the
+//! benchmark's.
 //!
 //! Units: a *byte* is a byte of a record; a *clock unit* is the clock's smallest step, 1,024 of them for each
 //! byte sent (QFQ calls the clock virtual time). Clock units are `i128` here, so that no sum can leave its range.
@@ -13,6 +14,8 @@ pub mod calls;
 pub mod driver;
 pub mod fields;
 pub mod gen;
+#[cfg(feature = "inner")]
+pub mod inner;
 pub mod laws;
 pub mod layout;
 #[cfg(feature = "unit")]

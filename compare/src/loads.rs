@@ -8,7 +8,6 @@ use crate::setup;
 pub const DEPTH: usize = 16;
 /// The requests of a full session.
 pub const REQUESTS: usize = 1_000;
-const LONGEST: u64 = 1_500;
 
 #[derive(Clone, Copy, PartialEq)]
 pub enum Load {
@@ -47,42 +46,43 @@ fn plain_take(state: &mut State) -> Taken {
     state.take().expect("a record is held")
 }
 
-/// Lengths from 64 to 1,500, the same on every side.
-struct Lengths(u64);
-
-impl Lengths {
-    fn next(&mut self) -> u64 {
-        self.0 = self.0.wrapping_mul(6_364_136_223_846_793_005).wrapping_add(1_442_695_040_888_963_407);
-        64 + (self.0 >> 33) % (LONGEST - 63)
-    }
-}
-
-/// A load in the making: first the lanes are filled, then pairs follow.
+/// A load in the making: first the lanes are filled, then pairs follow. On every side it is the same list of calls.
 pub struct Loading {
     load: Load,
     lanes: u8,
-    lengths: Lengths,
+    /// The calls made so far.
+    calls: u64,
     turn: usize,
 }
 
 impl Loading {
     pub fn new(load: Load, lanes: u8, depth: usize, line: &mut impl Line) -> Loading {
-        let mut lengths = Lengths(1);
+        let mut loading = Loading { load, lanes, calls: 0, turn: 0 };
         if load == Load::Steady {
-            (0..depth).for_each(|_| (0..lanes).for_each(|lane| line.put(lane, lengths.next())));
+            (0..depth).for_each(|_| (0..lanes).for_each(|lane| loading.put(lane, line)));
         }
-        Loading { load, lanes, lengths, turn: 0 }
+        loading
+    }
+
+    /// Lengths from 64 to 1,087, by the call's place in the list, as the library of the inner calls has them.
+    fn put(&mut self, lane: u8, line: &mut impl Line) {
+        line.put(lane, 64 + self.calls % 1_024);
+        self.calls += 1;
+    }
+
+    fn take(&mut self, line: &mut impl Line) -> Taken {
+        self.calls += 1;
+        line.take()
     }
 
     pub fn pair(&mut self, line: &mut impl Line) {
-        let length = self.lengths.next();
         if self.load == Load::Steady {
-            let lane = line.take().lane;
-            line.put(lane, length);
+            let lane = self.take(line).lane;
+            self.put(lane, line);
         } else {
-            line.put((self.turn % usize::from(self.lanes)) as u8, length);
+            self.put((self.turn % usize::from(self.lanes)) as u8, line);
             self.turn += 1;
-            line.take();
+            self.take(line);
         }
     }
 }
@@ -101,26 +101,41 @@ pub fn plain(lanes: u8) -> State {
     State::fresh(&setup::whole(&setup_of(lanes)).expect("a valid setup"))
 }
 
-/// A session as it is written: the requests that a load makes, with the rules' choice of the served lane.
+/// A load as it is written: as a session's fields and as bytes for the inner calls, with the rules' choice of the served lane.
 struct Written {
     state: State,
-    bytes: Vec<u8>,
-    requests: usize,
+    fields: Vec<u8>,
+    calls: Vec<u8>,
 }
+
+/// The byte that takes a record; one below it puts a record into that lane.
+const TAKE: u8 = 64;
 
 impl Line for Written {
     fn put(&mut self, lane: u8, length: u64) {
         Line::put(&mut self.state, lane, length);
         let [high, low] = (length as u16).to_be_bytes();
-        self.bytes.extend([0x20, 0, 7, lane, 0, 0, 0, 7, high, low]);
-        self.requests += 1;
+        self.fields.extend([0x20, 0, 7, lane, 0, 0, 0, 7, high, low]);
+        self.calls.push(lane);
     }
 
     fn take(&mut self) -> Taken {
-        self.bytes.extend([0x21, 0, 0]);
-        self.requests += 1;
+        self.fields.extend([0x21, 0, 0]);
+        self.calls.push(TAKE);
         Line::take(&mut self.state)
     }
+}
+
+fn written(load: Load, lanes: u8, depth: usize, pairs: usize) -> Written {
+    let mut written = Written { state: plain(lanes), fields: setup_of(lanes), calls: Vec::new() };
+    let mut loading = Loading::new(load, lanes, depth, &mut written);
+    (0..pairs).for_each(|_| loading.pair(&mut written));
+    written
+}
+
+/// The bytes of a load for the inner calls.
+pub fn calls_of(load: Load, lanes: u8, pairs: usize) -> Vec<u8> {
+    written(load, lanes, DEPTH, pairs).calls
 }
 
 /// Records in each lane of a steady session: with 64 lanes fewer than 16, as a session has at most 1,000 requests.
@@ -135,10 +150,8 @@ pub fn most_pairs(load: Load, lanes: u8) -> usize {
 }
 
 pub fn session_of(load: Load, lanes: u8, pairs: usize) -> Vec<u8> {
-    let mut written = Written { state: plain(lanes), bytes: setup_of(lanes), requests: 0 };
-    let mut loading = Loading::new(load, lanes, session_depth(lanes), &mut written);
-    (0..pairs).for_each(|_| loading.pair(&mut written));
-    assert!(written.requests <= REQUESTS);
-    written.bytes.extend([0x7F, 0, 0]);
-    written.bytes
+    let mut written = written(load, lanes, session_depth(lanes), pairs);
+    assert!(written.calls.len() <= REQUESTS);
+    written.fields.extend([0x7F, 0, 0]);
+    written.fields
 }

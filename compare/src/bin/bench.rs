@@ -1,15 +1,18 @@
-//! The benchmark: what a put and a take cost through the unit's public calls, through its inner calls as a session uses them, and through this folder's
-//! plain rules, in one process run.
+//! The benchmark: what a put and a take cost through the unit's public calls, through its inner calls alone, in a session, and through this folder's
+//! plain rules, in one process run. All have the same list of calls.
 //!
 //!     bench                  times: the best of many batches, in nanoseconds
 //!     bench instructions     instructions, counted by valgrind's callgrind, of the same loads
+//!     bench same             nothing is measured: public and inner calls do the same work, or it stops
 //!
-//! The test for a good table stands alone in a lag of lane 255: no setup has it, so the call is the test and then refusal 11. A session's pair is the
-//! difference of two sessions, divided by the pairs that one has more: no setup, no filling of lanes.
+//! The test for a good table stands alone in a lag of lane 255: no setup has it, so the call is the test and then refusal 11. A pair of the inner calls,
+//! and a session's, is the difference of two lists, divided by the pairs that one has more: no setup, no test, no filling of lanes.
 
 use compare::calls::Taken;
+use compare::inner;
 use compare::linked::Linked;
-use compare::loads::{most_pairs, plain, session_of, setup_of, Line, Load, Loading, DEPTH, LOADS, REQUESTS};
+use compare::loads::{calls_of, most_pairs, plain, session_of, setup_of};
+use compare::loads::{Line, Load, Loading, DEPTH, LOADS, REQUESTS};
 use compare::session;
 use compare::unit::Unit;
 use std::process::Command;
@@ -39,6 +42,21 @@ fn public(lanes: u8) -> Public {
     Public { table }
 }
 
+/// The inner calls of a load, on a table made for them.
+fn run_inner(lanes: u8, calls: &[u8], table: &mut [u8]) {
+    Linked.make(&setup_of(lanes), table).expect("a valid setup");
+    inner::calls(table, calls);
+}
+
+/// The inner calls leave the table that the public calls leave, byte for byte: both columns measure the same work.
+fn assert_same_work(load: Load, lanes: u8) {
+    let (mut unit, mut other) = (public(lanes), public(lanes));
+    let mut loading = Loading::new(load, lanes, DEPTH, &mut unit);
+    (0..PAIRS).for_each(|_| loading.pair(&mut unit));
+    run_inner(lanes, &calls_of(load, lanes, PAIRS), &mut other.table);
+    assert!(unit.table == other.table, "the inner calls leave another table");
+}
+
 fn run_unit(session: &[u8], table: &mut [u8], answers: &mut [u8]) {
     let run = Linked.run(session, REQUESTS as u64, table, answers);
     assert!(run.answered > 0 || session.len() < 500);
@@ -59,13 +77,18 @@ fn best(count: usize, mut batch: impl FnMut()) -> f64 {
     (0..BATCHES).map(time).fold(f64::INFINITY, f64::min)
 }
 
+const HEAD: &str = "load    lanes    public    inner  session     plain      test      session     plain";
+
 fn times() {
     println!("ns, the best of {BATCHES} batches of {PAIRS} pairs or of 20 sessions");
-    println!("             put + take                                  once       {REQUESTS} requests");
-    println!("load    lanes    public  session     plain      test      session     plain");
+    println!(
+        "             put + take                                           once       {REQUESTS} requests"
+    );
+    println!("{HEAD}");
     let mut answers = vec![0; 64 * (REQUESTS + 2)];
     for lanes in LANES {
         for (load, name) in LOADS {
+            assert_same_work(load, lanes);
             let (mut unit, mut rules) = (public(lanes), plain(lanes));
             let mut loading = Loading::new(load, lanes, DEPTH, &mut unit);
             let public = best(PAIRS, || (0..PAIRS).for_each(|_| loading.pair(&mut unit)));
@@ -73,9 +96,14 @@ fn times() {
                 best(PAIRS, || (0..PAIRS).for_each(|_| assert!(Linked.lag(&mut unit.table, 255) == Err(11))));
             let mut loading = Loading::new(load, lanes, DEPTH, &mut rules);
             let plain = best(PAIRS, || (0..PAIRS).for_each(|_| loading.pair(&mut rules)));
+            let table = &mut unit.table;
+            let [filled, worked] = [0, PAIRS].map(|pairs| {
+                let calls = calls_of(load, lanes, pairs);
+                best(1, || run_inner(lanes, &calls, table))
+            });
+            let inner = (worked - filled) / PAIRS as f64;
             let most = most_pairs(load, lanes);
             let [none, all] = [session_of(load, lanes, 0), session_of(load, lanes, most)];
-            let table = &mut unit.table;
             let mut session =
                 |bytes: &[u8]| best(20, || (0..20).for_each(|_| run_unit(bytes, table, &mut answers)));
             let [without, with] = [session(&none), session(&all)];
@@ -84,14 +112,16 @@ fn times() {
             let plain_run = best(20, || {
                 (0..20).for_each(|_| assert!(run_plain(&all, size, area) > 0));
             });
-            println!("{name}  {lanes:>5}{public:>10.0}{pair:>9.0}{plain:>10.0}{test:>10.0}{with:>13.0}{plain_run:>10.0}");
+            print!("{name}  {lanes:>5}{public:>10.0}{inner:>9.0}{pair:>9.0}{plain:>10.0}{test:>10.0}");
+            println!("{with:>13.0}{plain_run:>10.0}");
         }
     }
 }
 
 /// What callgrind counts: the library's functions, or the plain rules' own.
-const COUNTED: [(&str, &[&str]); 6] = [
+const COUNTED: [(&str, &[&str]); 7] = [
     ("public", &["zf_put", "zf_take"]),
+    ("inner", &["zf_inner_calls"]),
     ("session", &["zf_run"]),
     ("plain", &["*plain_put*", "*plain_take*"]),
     ("test", &["zf_lag"]),
@@ -108,6 +138,7 @@ fn count(what: &str, load: Load, lanes: u8, many: usize) {
             let mut loading = Loading::new(load, lanes, DEPTH, &mut rules);
             (0..many).for_each(|_| loading.pair(&mut rules));
         }
+        "inner" => run_inner(lanes, &calls_of(load, lanes, many), &mut public(lanes).table),
         "session" => run_unit(&session_of(load, lanes, many), &mut public(lanes).table, &mut answers),
         "run" | "plain-run" => {
             let session = session_of(load, lanes, most_pairs(load, lanes));
@@ -158,15 +189,23 @@ fn counted(what: &str, functions: &[&str], load: &str, lanes: u8) -> f64 {
 
 fn instructions() {
     println!("instructions, counted by callgrind inside the library's functions or the plain rules'");
-    println!("             put + take                                  once       {REQUESTS} requests");
-    println!("load    lanes    public  session     plain      test      session     plain");
+    println!(
+        "             put + take                                           once       {REQUESTS} requests"
+    );
+    println!("{HEAD}");
     for lanes in LANES {
         for (_, name) in LOADS {
             let row = COUNTED.map(|(what, functions)| counted(what, functions, name, lanes));
-            let [public, session, plain, test, run, plain_run] = row;
-            println!("{name}  {lanes:>5}{public:>10.0}{session:>9.0}{plain:>10.0}{test:>10.0}{run:>13.0}{plain_run:>10.0}");
+            let [public, inner, session, plain, test, run, plain_run] = row;
+            print!("{name}  {lanes:>5}{public:>10.0}{inner:>9.0}{session:>9.0}{plain:>10.0}{test:>10.0}");
+            println!("{run:>13.0}{plain_run:>10.0}");
         }
     }
+}
+
+fn same() {
+    LANES.iter().for_each(|lanes| LOADS.iter().for_each(|(load, _)| assert_same_work(*load, *lanes)));
+    println!("The inner calls leave the tables that the public calls leave.");
 }
 
 fn main() {
@@ -175,10 +214,11 @@ fn main() {
     match words[..] {
         [] => times(),
         ["instructions"] => instructions(),
+        ["same"] => same(),
         ["count", what, load, lanes, many] => {
             let load = LOADS.iter().find(|(_, name)| *name == load).expect("a load").0;
             count(what, load, lanes.parse().expect("lanes"), many.parse().expect("how many"));
         }
-        _ => println!("bench | bench instructions"),
+        _ => println!("bench | bench instructions | bench same"),
     }
 }

@@ -1,0 +1,138 @@
+-- The call of a byte, the calls one after another, and the restart that they begin with. Assumes nothing.
+use Prim.Native.Nat.{ℕ, suc, _+_, _*_, _%_, _<_, _≤_}
+use native.Mathlib.Omega.{arith}
+use mathlib.Core.Path.{_≡_, refl, sym, ap, subst, _∙_}
+use mathlib.Core.Bool.{Bool, true, false, false≢true}
+use mathlib.Core.List.{List, [], _∷_}
+use lib.ListN.{length, drop, getD}
+use borrow.Author.Tests.{lt-ltb, le-ltb}
+use types.Run.{OneOf, miss}
+use denote.Enum.Declared.{tagOf}
+use Rattle.rules.proofs.Answer.{the-type}
+use Rattle.units.specs.Plain.{if_then_else_}
+use Rattle.rules.specs.State.{State, anyHolds, setupOf}
+use Rattle.rules.specs.Calls.{put, take, restart, Reply, accepted, taken, seen, words, lagged, restarted, refused, Outcome, no, fresh, doRestart, step}
+use Rattle.rules.specs.Reads.{reads}
+use Rattle.rules.specs.declared.Answer.{Answer}
+use Rattle.rules.specs.declared.Answer.the-variants.{Accepted, Taken, Seen, Sets, Lag, Restarted, Refused}
+use Rattle.rules.proofs.AlwaysGood.{Reached, fresh-reached}
+use Rattle.table.specs.Layout.{WORDS}
+use Rattle.choice.specs.Known.{Known}
+use Rattle.table.specs.Means.{meant, Leaves}
+use Rattle.engine.specs.Does.{Does, Unchanged}
+use Rattle.answers.specs.Answers.{Made}
+use Rattle.answers.proofs.Made.{made-step}
+use Rattle.good.specs.Table.{GoodTable}
+use Rattle.inner.specs.Works.{callAt, worked, Leads, Works}
+
+pub put-at : {t u : List ℕ} {a : Answer} (i b : ℕ) → b < 64 → Does (put b 7 (64 + i % 1024)) t a u → Does (callAt i b) t a u
+unfolding callAt
+put-at {t} {u} {a} i b h d = subst (λ (x : Bool). Does (if x then put b 7 (64 + i % 1024) else take) t a u) (sym (lt-ltb b 64 h)) d
+
+pub take-at : {t u : List ℕ} {a : Answer} (i b : ℕ) → 64 ≤ b → Does take t a u → Does (callAt i b) t a u
+unfolding callAt
+take-at {t} {u} {a} i b h d = subst (λ (x : Bool). Does (if x then put b 7 (64 + i % 1024) else take) t a u) (sym (le-ltb b 64 h)) d
+
+-- ---- one call more
+
+pub record So (calls t₀ t : List ℕ) (i : ℕ) : Type 0 where
+  pub made : Made t
+  pub leads : Leads t₀ t (worked calls (meant t₀) i)
+
+pub so-none : (calls t : List ℕ) → Made t → So calls t t 0
+unfolding worked
+so-none calls t m = record { made = m; leads = record { state = refl; rest = refl } }
+
+one-more : (i : ℕ) → suc i ≡ i + 1
+one-more i = omega arith
+
+pub so-more : (calls t₀ t u : List ℕ) (i b : ℕ) → So calls t₀ t i → b ≡ getD calls i 0 → length u ≡ length t → Leaves t u ((step (meant t) (callAt i b)) .state) → So calls t₀ u (i + 1)
+unfolding worked
+so-more calls t₀ t u i b s e len l = record {
+  made = made-step t u (callAt i b) (s .made) (omega (arith, len, s .made .room)) l;
+  leads = record { state = l .state ∙ subst (λ (k : ℕ). (step (meant t) (callAt i b)) .state ≡ worked calls (meant t₀) k) (one-more i) (ap (λ (x : State). (step x (callAt i b)) .state) (s .leads .state) ∙ ap (λ (x : ℕ). (step (worked calls (meant t₀) i) (callAt i x)) .state) e); rest = l .rest ∙ s .leads .rest };
+}
+
+pub so-all : (calls t₀ t : List ℕ) (i : ℕ) → i ≡ length calls → So calls t₀ t i → Leads t₀ t (worked calls (meant t₀) (length calls))
+so-all calls t₀ t i e s = subst (λ (k : ℕ). Leads t₀ t (worked calls (meant t₀) k)) e (s .leads)
+
+-- ---- the restart before them
+
+isRestarted : Reply → Bool
+isRestarted accepted = false
+isRestarted (taken j m n) = false
+isRestarted (seen j m n) = false
+isRestarted (words a b c d) = false
+isRestarted (lagged z) = false
+isRestarted restarted = true
+isRestarted (refused n p) = false
+
+restart-by : (s : State) (b : Bool) → anyHolds (s .lanes) ≡ b → step s restart ≡ (if b then no 15 s else record { reply = restarted; state = fresh (setupOf s) })
+unfolding step doRestart
+restart-by s b e = ap (λ (x : Bool). if x then no 15 s else record { reply = restarted; state = fresh (setupOf s) }) e
+
+pub record Begun (t u : List ℕ) : Type 0 where
+  pub made : Made u
+  pub none-held : anyHolds (meant t .lanes) ≡ false
+  pub state : meant u ≡ fresh (setupOf (meant t))
+  pub rest : drop (WORDS * 8) u ≡ drop (WORDS * 8) t
+
+pub begun : (t u : List ℕ) → Known t → length u ≡ length t → Does restart t Restarted u → Begun t u
+unfolding isRestarted
+begun t u k len d = go (anyHolds (meant t .lanes)) refl
+  where
+    go : (b : Bool) → anyHolds (meant t .lanes) ≡ b → Begun t u
+    go true e = absurd (false≢true (sym (ap isRestarted (d .says ∙ ap (λ (o : Outcome). o .reply) (restart-by (meant t) true e)))))
+    go false e =
+        let is : meant u ≡ fresh (setupOf (meant t)) = d .leaves .state ∙ ap (λ (o : Outcome). o .state) (restart-by (meant t) false e) in
+        record {
+          made = record { room = omega (arith, len, k .sound .room); beside = d .leaves .beside (k .sound .beside); reached = subst Reached (sym is) (fresh-reached _ (k .good .setup)) };
+          none-held = e;
+          state = is;
+          rest = d .leaves .rest;
+        }
+
+-- The other arm of the match on what restart answers: any variant of `Answer` but the fifth, `Restarted`.
+abbrev pub Other : Answer → Type 0
+Other a = OneOf (0 ∷ 1 ∷ 2 ∷ 3 ∷ 4 ∷ 6 ∷ []) (tagOf the-type a)
+
+-- an answer that is another: 15, and nothing is done
+not-restarted : (a : Answer) → Other a → reads a ≡ restarted → ⊥
+unfolding isRestarted
+not-restarted Accepted o e = false≢true (ap isRestarted e)
+not-restarted (Taken r) o e = false≢true (ap isRestarted e)
+not-restarted (Seen r) o e = false≢true (ap isRestarted e)
+not-restarted (Sets w) o e = false≢true (ap isRestarted e)
+not-restarted (Lag z) o e = false≢true (ap isRestarted e)
+not-restarted Restarted o e = miss (0 ∷ 1 ∷ 2 ∷ 3 ∷ 4 ∷ 6 ∷ []) 5 tt o
+not-restarted (Refused x) o e = false≢true (ap isRestarted e)
+
+pub still : (t u : List ℕ) (a : Answer) → Other a → Does restart t a u → (anyHolds (meant t .lanes) ≡ true) × (u ≡ t)
+still t u a o d = go (anyHolds (meant t .lanes)) refl
+  where
+    go : (b : Bool) → anyHolds (meant t .lanes) ≡ b → (anyHolds (meant t .lanes) ≡ true) × (u ≡ t)
+    go true e = (e, subst (λ (x : Reply). Unchanged x t u) (d .says ∙ ap (λ (o : Outcome). o .reply) (restart-by (meant t) true e)) (d .unchanged))
+    go false e = absurd (not-restarted a o (d .says ∙ ap (λ (o : Outcome). o .reply) (restart-by (meant t) false e)))
+
+-- ---- the promise, by what the tests found
+
+pub bad-works : (calls t : List ℕ) → (GoodTable t → ⊥) → Works calls t 10 t
+bad-works calls t b = record { not-good = λ _. (refl, refl); held = λ g. absurd (b g); done = λ g. absurd (b g); size = refl }
+
+pub held-works : (calls t u : List ℕ) (a : Answer) → GoodTable t → Other a → Does restart t a u → Works calls t 15 u
+held-works calls t u a g o d =
+    let s = still t u a o d in
+    record {
+      not-good = λ b. absurd (b g);
+      held = λ _ _. (refl, s .1);
+      done = λ _ e. absurd (false≢true (sym e ∙ s .0));
+      size = ap length (s .1);
+    }
+
+pub done-works : (calls t u v : List ℕ) → GoodTable t → Begun t u → length v ≡ length t → Leads u v (worked calls (meant u) (length calls)) → Works calls t 0 v
+done-works calls t u v g b len l = record {
+  not-good = λ h. absurd (h g);
+  held = λ _ e. absurd (false≢true (sym (b .none-held) ∙ e));
+  done = λ _ _. (refl, record { state = l .state ∙ ap (λ (s : State). worked calls s (length calls)) (b .state); rest = l .rest ∙ b .rest });
+  size = len;
+}

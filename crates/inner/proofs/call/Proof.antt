@@ -1,0 +1,35 @@
+-- `call` meets its contract. Assumes nothing.
+use Rattle.inner.proofs.Calls.{put-at, take-at}
+use borrow.Author.Needs.{needs}
+use Rattle.inner.proofs.call.Statement.{statement}
+use Rattle.inner.proofs.call.Tie as tie
+use Rattle.inner.proofs.call.Reads as reads
+use Rattle.inner.proofs.call.Lts as lts
+use Rattle.engine.proofs.put.Reads as put-reads
+use Rattle.engine.proofs.take.Reads as take-reads
+
+add-t10 : tie.Need-add-t10
+add-t10 c = search needs
+
+put-requires : tie.Need-put-requires
+put-requires c κs = search needs
+
+take-requires : tie.Need-take-requires
+take-requires c κs = search needs
+
+same-length : tie.Need-same-length
+same-length c = search needs
+
+returns : tie.Need-returns
+returns c = put-at _ _ (c .before .before .before .before .if1 .taken) (c .before .before .put .ensures)
+
+same-length-2 : tie.Need-same-length-2
+same-length-2 c = search needs
+
+returns-2 : tie.Need-returns-2
+returns-2 c = take-at _ _ (c .before .before .before .before .if1 .left) (c .before .before .take .ensures)
+
+pub call-spec : {M : Type 1} → statement M
+call-spec =
+    tie.close
+    (tie.spec add-t10 put-requires take-requires same-length returns same-length-2 returns-2)
