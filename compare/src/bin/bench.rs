@@ -3,6 +3,7 @@
 //!
 //!     bench                  times: the best of many batches, in nanoseconds
 //!     bench instructions     instructions, counted by valgrind's callgrind, of the same loads
+//!     bench parts            instructions of a put and a take through the public calls, by function of the library
 //!     bench same             nothing is measured: public and inner calls do the same work, or it stops
 //!
 //! The test for a good table stands alone in a lag of lane 255: no setup has it, so the call is the test and then refusal 11. A pair of the inner calls,
@@ -165,6 +166,20 @@ fn count(what: &str, load: Load, lanes: u8, many: usize) {
     }
 }
 
+/// Runs so many of one kind under callgrind: what it says, with its profile in the file named.
+fn callgrind(what: &str, functions: &[&str], load: &str, lanes: u8, number: usize, profile: &str) -> String {
+    let mut valgrind = Command::new("valgrind");
+    valgrind.args(["--tool=callgrind", "--collect-atstart=no", "--compress-strings=no"]);
+    valgrind.arg(format!("--callgrind-out-file={profile}"));
+    valgrind.args(functions.iter().map(|function| format!("--toggle-collect={function}")));
+    let program = std::env::current_exe().expect("this program's path");
+    valgrind.arg(program).args(["count", what, load, &lanes.to_string(), &number.to_string()]);
+    let output = valgrind.output().expect("valgrind, which must be on PATH");
+    let said = String::from_utf8_lossy(&output.stderr).into_owned();
+    assert!(output.status.success(), "{said}");
+    said
+}
+
 /// Instructions of one, by the difference of two runs under callgrind.
 fn counted(what: &str, functions: &[&str], load: &str, lanes: u8) -> f64 {
     let [few, many] = match what {
@@ -173,18 +188,58 @@ fn counted(what: &str, functions: &[&str], load: &str, lanes: u8) -> f64 {
         _ => [64, 192],
     };
     let total = |number: usize| {
-        let mut valgrind = Command::new("valgrind");
-        valgrind.args(["--tool=callgrind", "--callgrind-out-file=/dev/null", "--collect-atstart=no"]);
-        valgrind.args(functions.iter().map(|function| format!("--toggle-collect={function}")));
-        let program = std::env::current_exe().expect("this program's path");
-        valgrind.arg(program).args(["count", what, load, &lanes.to_string(), &number.to_string()]);
-        let output = valgrind.output().expect("valgrind, which must be on PATH");
-        let said = String::from_utf8_lossy(&output.stderr).into_owned();
-        assert!(output.status.success(), "{said}");
+        let said = callgrind(what, functions, load, lanes, number, "/dev/null");
         let counts = said.lines().find_map(|line| line.split("Collected :").nth(1)).expect("callgrind's sum");
         counts.trim().parse::<u64>().expect("a number")
     };
     (total(many) - total(few)) as f64 / (many - few) as f64
+}
+
+/// The functions that the compiler left by themselves in the library; the rest of each call stands in the exported function.
+const PARTS: [(&str, &[&str]); 5] = [
+    ("the good-table test, twice", &["good::good"]),
+    ("the choice", &["choice::chosen"]),
+    ("the rest of take", &["engine::take"]),
+    ("the rest of put", &["engine::put"]),
+    ("the C boundary", &["zf_put", "zf_take"]),
+];
+
+/// The instructions of each part by itself, from a profile of callgrind: a cost is the last number of its line, and the line behind a `calls=` is the callee's.
+fn parts_of(profile: &str) -> [u64; PARTS.len()] {
+    let (mut parts, mut part, mut callee) = ([0; PARTS.len()], None, false);
+    for line in profile.lines() {
+        if let Some(name) = line.strip_prefix("fn=") {
+            part = PARTS.iter().position(|(_, functions)| functions.contains(&name));
+        } else if line.starts_with("calls=") {
+            callee = true;
+        } else if line.starts_with(|first: char| first.is_ascii_digit() || "+-*".contains(first)) {
+            if let (Some(at), false) = (part, callee) {
+                parts[at] += line.rsplit(' ').next().and_then(|cost| cost.parse::<u64>().ok()).unwrap_or(0);
+            }
+            callee = false;
+        }
+    }
+    parts
+}
+
+fn parts() {
+    println!("instructions of a put and a take through the public calls, by function");
+    let file = std::env::temp_dir().join(format!("bench-parts-{}", std::process::id()));
+    let name = file.to_str().expect("a plain path");
+    let (what, functions) = COUNTED[0];
+    for lanes in LANES {
+        for (_, load) in LOADS {
+            let [few, many] = [64, 192].map(|number| {
+                callgrind(what, functions, load, lanes, number, name);
+                parts_of(&std::fs::read_to_string(&file).expect("callgrind's profile"))
+            });
+            println!("{load}, {lanes}");
+            for (at, (part, _)) in PARTS.iter().enumerate() {
+                println!("  {part:<28}{:>8.0}", (many[at] - few[at]) as f64 / 128.0);
+            }
+        }
+    }
+    std::fs::remove_file(&file).expect("callgrind's profile");
 }
 
 fn instructions() {
@@ -214,11 +269,12 @@ fn main() {
     match words[..] {
         [] => times(),
         ["instructions"] => instructions(),
+        ["parts"] => parts(),
         ["same"] => same(),
         ["count", what, load, lanes, many] => {
             let load = LOADS.iter().find(|(_, name)| *name == load).expect("a load").0;
             count(what, load, lanes.parse().expect("lanes"), many.parse().expect("how many"));
         }
-        _ => println!("bench | bench instructions | bench same"),
+        _ => println!("bench | bench instructions | bench parts | bench same"),
     }
 }
