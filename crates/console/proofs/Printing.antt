@@ -9,10 +9,11 @@ use borrow.Author.Tests.{lt-ltb, le-ltb}
 use lib.ListN.{length, drop, length-append}
 use Rattle.table.specs.Layout.{Room}
 use Rattle.lines.specs.Line.{noLine, Line}
-use Rattle.session.specs.Script.{script}
+use Rattle.walk.specs.Script.{script}
 use Rattle.session.specs.Ran.{Ran}
-use Rattle.session.specs.declared.RunResult.{RunResult}
-use Rattle.session.proofs.Texts.{written, run-right}
+use Rattle.walk.specs.declared.RunResult.{RunResult}
+use Rattle.walk.proofs.Texts.{written}
+use Rattle.session.proofs.Bounds.{run-right}
 use Rattle.console.specs.Prints.{printed, Prints}
 
 -- a text at the front of an area is within it

@@ -12,7 +12,7 @@ use lib.Dec.{ltb}
 use lib.ListN.{length, drop}
 use Rattle.units.specs.Plain.{if_then_else_}
 use Rattle.lines.specs.Line.{noLine}
-use Rattle.session.specs.Script.{script}
+use Rattle.walk.specs.Script.{script}
 
 -- "18: program's input over 32,768 bytes"; "18 prints `no 18` alone". "The program reads standard input; its limit is 1,000."
 abbrev pub printed : List ℕ → List ℕ

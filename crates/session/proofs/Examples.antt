@@ -20,7 +20,7 @@ use Rattle.plan.specs.Read as plan
 use Rattle.plan.specs.Examples.{sessionSetup}
 use Rattle.lines.specs.Line.{spaced, noLine}
 use Rattle.requests.specs.Request as requests
-use Rattle.session.specs.Script.{Why, atEnd, atLimit, refusal, Script, walk, script}
+use Rattle.walk.specs.Script.{Why, atEnd, atLimit, refusal, Script, walk, script}
 use Rattle.session.specs.Examples.{session, output, lanesTwo, putOk, setsLine, takeFirst, takeThird, takeSecond, noSixteen, endEight, endNone}
 
 -- one name under which the script's definitions open

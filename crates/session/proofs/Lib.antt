@@ -1,6 +1,4 @@
-pub mod Walking
-pub mod Reading
-pub mod Texts
+pub mod Bounds
 pub mod Requests
 pub mod Examples
 pub mod One

@@ -9,8 +9,8 @@ use Rattle.alike.specs.Alike.{Alike}
 use Rattle.alike.proofs.Alike.{alike-refl, alike-sym, alike-trans}
 use Rattle.table.specs.Layout.{WORDS}
 use Rattle.table.specs.Means.{meant}
-use Rattle.session.specs.Script.{runOf}
-use Rattle.session.specs.Ran.{Table}
+use Rattle.walk.specs.Script.{runOf}
+use Rattle.walk.specs.Follows.{Table}
 use Rattle.session.specs.One.{OneRun}
 
 one-table : (t t₁ t₂ : List ℕ) (o : Option State) → Table t t₁ o → Table t t₂ o → Alike (meant t₁) (meant t₂) × (drop (WORDS * 8) t₁ ≡ drop (WORDS * 8) t₂)

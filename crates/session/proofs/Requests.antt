@@ -19,7 +19,7 @@ use Rattle.plan.proofs.Accepted.{accepted}
 use Rattle.table.specs.Layout.{WORDS}
 use Rattle.lines.specs.Line.{lineOf, lanesLine}
 use Rattle.requests.specs.Request.{Item, request, last, bad, itemAt}
-use Rattle.session.specs.Script.{Walked, closing, next, walk, begun, script, nothing, runOf}
+use Rattle.walk.specs.Script.{Walked, closing, next, walk, begun, script, nothing, runOf}
 use Rattle.session.specs.Requests.{asked, requestsOf, linesOf, Lists, RunLists}
 
 -- the walk from a state, with the lines before it

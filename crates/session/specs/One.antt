@@ -11,8 +11,9 @@ use lib.ListN.{drop}
 use Rattle.alike.specs.Alike.{Alike}
 use Rattle.table.specs.Layout.{WORDS}
 use Rattle.table.specs.Means.{meant}
-use Rattle.session.specs.Ran.{whyIs, Ran}
-use Rattle.session.specs.declared.RunResult.{RunResult}
+use Rattle.walk.specs.Follows.{whyIs}
+use Rattle.session.specs.Ran.{Ran}
+use Rattle.walk.specs.declared.RunResult.{RunResult}
 
 -- the results r and r′, the answer areas a and a′, the tables t and t′
 pub record SameRun (r r′ : RunResult) (a a′ t t′ : List ℕ) : Type 0 where

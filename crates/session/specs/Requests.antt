@@ -20,7 +20,7 @@ use Rattle.rules.specs.Fair.{Fair}
 use Rattle.plan.specs.Read as plan
 use Rattle.lines.specs.Line.{lineOf, lanesLine}
 use Rattle.requests.specs.Request.{Item, request, last, bad, itemAt}
-use Rattle.session.specs.Script.{Script, closing, runOf}
+use Rattle.walk.specs.Script.{Script, closing, runOf}
 
 -- a request, and those behind it; none at the end field or a refused field
 abbrev pub asked : Item → (ℕ → List Call) → List Call

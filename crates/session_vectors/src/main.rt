@@ -11,7 +11,7 @@ ghost use Prim.Native.Nat.{_+_, _≤_, _<_};
 ghost use lib.ListN.{length};
 use libc::STDOUT_FILENO;
 use lines::Place;
-use session::Stop;
+use walk::Stop;
 
 const FRAME: usize = 8;
 

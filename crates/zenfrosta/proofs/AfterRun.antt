@@ -14,7 +14,7 @@ use Rattle.table.specs.Encodes.{Encodes}
 use Rattle.good.proofs.Encodes.{encodes-good}
 use Rattle.scheduler.proofs.Chains.{ran}
 use Rattle.scheduler.proofs.Demands.{trace-not-ten, same-lanes}
-use Rattle.session.specs.Ran.{Table}
+use Rattle.walk.specs.Follows.{Table}
 use Rattle.session.specs.Requests.{requestsOf}
 use Rattle.zenfrosta.specs.AfterRun.{listOf, AfterRun}
 

@@ -20,10 +20,10 @@ use Rattle.rules.specs.Fair.{bytesSent, bytesSentOf, Holding}
 use Rattle.table.specs.Encodes.{Encodes}
 use Rattle.good.specs.Table.{GoodTable}
 use Rattle.scheduler.specs.Chain.{Chain}
-use Rattle.session.specs.Script.{runOf}
+use Rattle.walk.specs.Script.{runOf}
 use Rattle.session.specs.Ran.{Ran}
 use Rattle.session.specs.Requests.{requestsOf, Lists}
-use Rattle.session.specs.declared.RunResult.{RunResult}
+use Rattle.walk.specs.declared.RunResult.{RunResult}
 
 abbrev pub listOf : List ℕ → ℕ → List Setting → ℕ → List Event → List Event
 listOf s limit gs at calls = trace (fresh gs) (requestsOf limit s at) ++ calls

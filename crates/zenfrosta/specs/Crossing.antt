@@ -19,9 +19,9 @@ use Rattle.rules.specs.declared.Answer.{Answer}
 use Rattle.scheduler.specs.Make as making
 use Rattle.scheduler.specs.Make.{made, notMade}
 use Rattle.scheduler.specs.declared.Making.{Making}
-use Rattle.session.specs.Script.{Why, atEnd, atLimit, refusal}
-use Rattle.session.specs.Ran.{whyIs}
-use Rattle.session.specs.declared.RunResult.{RunResult}
+use Rattle.walk.specs.Script.{Why, atEnd, atLimit, refusal}
+use Rattle.walk.specs.Follows.{whyIs}
+use Rattle.walk.specs.declared.RunResult.{RunResult}
 use Rattle.zenfrosta.specs.declared.Four.{Four}
 
 abbrev pub four : ℕ → ℕ → ℕ → ℕ → Four

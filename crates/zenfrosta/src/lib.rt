@@ -12,15 +12,16 @@ ghost use Rattle.rules.specs.Reads as Reads;
 ghost use Rattle.table.specs.Layout.{WORDS};
 ghost use Rattle.scheduler.specs.Step.{Step};
 ghost use Rattle.scheduler.specs.Make as Make;
-ghost use Rattle.session.specs.Ran.{whyIs, Ran};
+ghost use Rattle.walk.specs.Follows.{whyIs};
+ghost use Rattle.session.specs.Ran.{Ran};
 ghost use Rattle.zenfrosta.specs.Crossing.{four, code, values, stopCode, runValues, placeOr0, spoken, Crosses, CrossesMaking, CrossesRun};
 use lines::Place;
 use rules::Answer;
 use rules::Refusal;
 use scheduler::Making;
-use session::RunResult;
-use session::Stop;
 use units::Bytes;
+use walk::RunResult;
+use walk::Stop;
 use words::set_word;
 
 // The four words of an answer.

@@ -1,6 +1,6 @@
 -- `run` meets its contract. Assumes nothing.
 use Rattle.rules.specs.declared.Refusal.the-variants.{RunBounds, TableShort}
-use Rattle.session.proofs.Texts.{nothing-is, run-limit, run-area, run-table, run-right}
+use Rattle.session.proofs.Bounds.{nothing-is, run-limit, run-area, run-table, run-right}
 use borrow.Author.Needs.{needs}
 use Rattle.session.proofs.run.Statement.{statement}
 use Rattle.session.proofs.run.Tie as tie

@@ -13,10 +13,10 @@ use Rattle.table.specs.Layout.{WORDS}
 use Rattle.table.specs.Means.{meant}
 use Rattle.lines.specs.Line.{Wrote}
 use Rattle.answers.specs.Answers.{Made}
-use Rattle.session.specs.Script as Script
-use Rattle.session.specs.Ran.{whyIs}
-use Rattle.session.specs.declared.Stop as Stop
-use Rattle.session.specs.declared.Walked as Walked
+use Rattle.walk.specs.Script as Script
+use Rattle.walk.specs.Follows.{whyIs}
+use Rattle.walk.specs.declared.Stop as Stop
+use Rattle.walk.specs.declared.Walked as Walked
 
 -- a refusal adds its own line
 abbrev pub lineCount : Stop.Stop → ℕ

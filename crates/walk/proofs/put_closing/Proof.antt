@@ -1,11 +1,11 @@
 -- `put_closing` meets its contract. Assumes nothing.
 use mathlib.Core.Path.{ap}
 use native.Mathlib.Omega.{arith}
-use Rattle.session.specs.Walks.{lineCount}
-use Rattle.session.proofs.Texts.{closes-end, closes-limit, closes-no}
+use Rattle.walk.specs.Walks.{lineCount}
+use Rattle.walk.proofs.Texts.{closes-end, closes-limit, closes-no}
 use borrow.Author.Needs.{needs}
-use Rattle.session.proofs.put_closing.Statement.{statement}
-use Rattle.session.proofs.put_closing.Tie as tie
+use Rattle.walk.proofs.put_closing.Statement.{statement}
+use Rattle.walk.proofs.put_closing.Tie as tie
 
 enum-known-why : tie.Need-enum-known-why
 enum-known-why c = search needs

@@ -25,10 +25,10 @@ use Rattle.lines.proofs.Writing.{wrote-both}
 use Rattle.requests.specs.Request.{request, last, bad, itemAt}
 use Rattle.answers.specs.Answers.{Made, Answers}
 use Rattle.answers.specs.declared.Tally.{Tally}
-use Rattle.session.specs.Script.{atLimit, refusal, closed, walk}
-use Rattle.session.specs.Ran.{whyIs}
-use Rattle.session.specs.Walks.{lineCount, Walks}
-use Rattle.session.specs.declared.Stop as Stop
+use Rattle.walk.specs.Script.{atLimit, refusal, closed, walk}
+use Rattle.walk.specs.Follows.{whyIs}
+use Rattle.walk.specs.Walks.{lineCount, Walks}
+use Rattle.walk.specs.declared.Stop as Stop
 
 -- ---- the script's walk, one turn
 

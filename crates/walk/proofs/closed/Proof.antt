@@ -1,7 +1,7 @@
 -- `closed` meets its contract. Assumes nothing.
 use borrow.Author.Tests.{lt-ltb, le-ltb}
-use Rattle.session.proofs.closed.Statement.{statement}
-use Rattle.session.proofs.closed.Tie as tie
+use Rattle.walk.proofs.closed.Statement.{statement}
+use Rattle.walk.proofs.closed.Tie as tie
 
 returns : tie.Need-returns
 returns c = simp (lt-ltb _ _ (c .if1 .taken))

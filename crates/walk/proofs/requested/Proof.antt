@@ -1,8 +1,8 @@
 -- `requested` meets its contract. Assumes nothing.
-use Rattle.session.proofs.Texts.{requested-is}
+use Rattle.walk.proofs.Texts.{requested-is}
 use borrow.Author.Needs.{needs}
-use Rattle.session.proofs.requested.Statement.{statement}
-use Rattle.session.proofs.requested.Tie as tie
+use Rattle.walk.proofs.requested.Statement.{statement}
+use Rattle.walk.proofs.requested.Tie as tie
 
 put-lanes-requires : tie.Need-put-lanes-requires
 put-lanes-requires c κs = search needs

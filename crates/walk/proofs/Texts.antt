@@ -1,21 +1,17 @@
--- A run's text in the answer area, and the run as a whole.
+-- A run's text in the answer area.
 --
 --   written        a text that is written from the area's first byte on
 --   closes-end, closes-limit, closes-no   the closing lines
 --   requested-is   lanes, requests and closing lines are the script's
 --   refused-is     a refused setup
 --   begun-is       a setup that is read
---   nothing-is     nothing is written
---   run-limit .. run-right   what a run is, by its limit, answer area and table
 --
 -- Assumes nothing.
-use Prim.Native.Nat.{ℕ, _+_, _*_, _≤_, _<_}
+use Prim.Native.Nat.{ℕ, _+_, _*_, _≤_}
 use native.Mathlib.Nat.{zero-add}
 use native.Mathlib.Omega.{arith}
 use mathlib.Core.Path.{_≡_, refl, subst, _∙_}
 use mathlib.Core.List.{List, [], _++_}
-use mathlib.Core.Option.{none, some}
-use borrow.Author.Tests.{lt-ltb, le-ltb}
 use lib.ListN.{length, drop, length-append}
 use lib.Seq.{sets-eq}
 use Rattle.rules.specs.State.{State, Setting}
@@ -31,13 +27,13 @@ use Rattle.fresh.specs.Makes.{Makes}
 use Rattle.lines.specs.Line.{noLine, lanesLine, endLine, Wrote, Line}
 use Rattle.lines.proofs.Writing.{wrote-both}
 use Rattle.answers.specs.Answers.{Made}
-use Rattle.session.specs.Script as Script
-use Rattle.session.specs.Script.{walk, closing, finished, script, nothing, runOf}
-use Rattle.session.specs.Ran.{whyIs, Follows}
-use Rattle.session.specs.Walks.{Walks, Closes}
-use Rattle.session.specs.declared.Stop.the-variants.{End, Limit, Refused}
-use Rattle.session.specs.declared.Walked as Walked
-use Rattle.session.specs.declared.RunResult.{RunResult}
+use Rattle.walk.specs.Script as Script
+use Rattle.walk.specs.Script.{walk, closing, finished, script}
+use Rattle.walk.specs.Follows.{whyIs, Follows}
+use Rattle.walk.specs.Walks.{Walks, Closes}
+use Rattle.walk.specs.declared.Stop.the-variants.{End, Limit, Refused}
+use Rattle.walk.specs.declared.Walked as Walked
+use Rattle.walk.specs.declared.RunResult.{RunResult}
 
 pub written : (a a′ text : List ℕ) {n : ℕ} → Wrote a a′ 0 text n → length text ≤ length a → a′ ≡ text ++ drop (length text) a
 written a a′ text w h = w .is ∙ sets-eq text a 0 (omega arith) ∙ rw (zero-add (length text))
@@ -100,25 +96,3 @@ module _ (s : List ℕ) (limit : ℕ) where
         answers = y .answers;
         table = record { encodes = y .table .encodes; rest = y .table .rest ∙ m .rest };
       })
-
-pub nothing-is : (x : Refusal) (t a : List ℕ) → Follows t t a a (record { answered = 0; written = 0; why = Refused x }) (nothing (number x) (placeOf x))
-nothing-is x t a = record { count = refl; written = refl; why = refl; answers = refl; table = refl }
-
--- ---- 17, then 7
-
-module _ (s : List ℕ) (limit table area : ℕ) where
-  pub run-limit : 1000 < limit → runOf s limit table area ≡ nothing 17 none
-  unfolding runOf
-  run-limit h = rw (lt-ltb 1000 limit h)
-
-  pub run-area : limit ≤ 1000 → area < 64 * (limit + 2) → runOf s limit table area ≡ nothing 17 none
-  unfolding runOf
-  run-area l h = rw (le-ltb 1000 limit l, lt-ltb area (64 * (limit + 2)) h)
-
-  pub run-table : limit ≤ 1000 → 64 * (limit + 2) ≤ area → table < WORDS * 8 → runOf s limit table area ≡ nothing 7 (some 0)
-  unfolding runOf
-  run-table l h t = rw (le-ltb 1000 limit l, le-ltb area (64 * (limit + 2)) h, lt-ltb table (WORDS * 8) t)
-
-  pub run-right : limit ≤ 1000 → 64 * (limit + 2) ≤ area → WORDS * 8 ≤ table → runOf s limit table area ≡ script s limit
-  unfolding runOf
-  run-right l h t = rw (le-ltb 1000 limit l, le-ltb area (64 * (limit + 2)) h, le-ltb table (WORDS * 8) t)

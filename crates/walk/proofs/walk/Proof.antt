@@ -9,11 +9,11 @@ use Rattle.rules.specs.declared.Refusal.the-variants.{Cut}
 use Rattle.requests.specs.Request.{headIs, headAt, right, callOf, callIs, numbered, request}
 use Rattle.requests.proofs.Heads.{head-whole, head-size, head-short, item-wrong, item-cut, item-last, item-request}
 use Rattle.requests.proofs.Values.{value-is}
-use Rattle.session.proofs.Reading.{Reading, read-none, read-more, read-fits}
-use Rattle.session.proofs.Walking.{Stands, stands-first, stands-room, stands-next, same-area, text-most, two-lines, stops, walk-limit, walk-bad, walk-last}
-use Rattle.session.specs.declared.Stop.the-variants.{Limit, Refused}
-use Rattle.session.proofs.walk.Statement.{statement}
-use Rattle.session.proofs.walk.Tie as tie
+use Rattle.walk.proofs.Reading.{Reading, read-none, read-more, read-fits}
+use Rattle.walk.proofs.Walking.{Stands, stands-first, stands-room, stands-next, same-area, text-most, two-lines, stops, walk-limit, walk-bad, walk-last}
+use Rattle.walk.specs.declared.Stop.the-variants.{Limit, Refused}
+use Rattle.walk.proofs.walk.Statement.{statement}
+use Rattle.walk.proofs.walk.Tie as tie
 
 abbrev Inv-loop : tie.InvT-loop
 Inv-loop s from limit t a start at done why₀ tag size value₀ i₀ why value i = Reading s at size i value × (why ≡ why₀)

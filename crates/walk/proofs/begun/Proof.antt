@@ -4,10 +4,10 @@ use native.Mathlib.Omega.{arith}
 use Rattle.plan.specs.Read.{came}
 use Rattle.plan.proofs.Accepted.{accepted-plan}
 use Rattle.answers.proofs.Made.{made-fresh}
-use Rattle.session.proofs.Texts.{refused-is, begun-is}
+use Rattle.walk.proofs.Texts.{refused-is, begun-is}
 use borrow.Author.Needs.{needs}
-use Rattle.session.proofs.begun.Statement.{statement}
-use Rattle.session.proofs.begun.Tie as tie
+use Rattle.walk.proofs.begun.Statement.{statement}
+use Rattle.walk.proofs.begun.Tie as tie
 
 read-plan-requires : tie.Need-read-plan-requires
 read-plan-requires c κs = search needs
