@@ -20,7 +20,6 @@ use Rattle.rules.specs.declared.Refusal.{Refusal}
 use Rattle.alike.proofs.Alike.{alike-refl}
 use Rattle.alike.specs.Alike.{Alike}
 use Rattle.plan.specs.Read as plan
-use Rattle.table.specs.Layout.{WORDS}
 use Rattle.table.specs.Means.{meant}
 use Rattle.table.specs.Encodes.{Encodes}
 use Rattle.fresh.specs.Makes.{Makes}

@@ -1,5 +1,4 @@
 use Prim.Native.Nat.{_*_}
-use native.Mathlib.Omega.{arith}
 use Rattle.words.specs.Words.{wordAt}
 use Rattle.words.proofs.Laws.{word-sum}
 use borrow.Author.Needs.{needs}
