@@ -1,8 +1,9 @@
 // The unit's program: document 01, "A session in full". It reads standard input, runs it as a session with a limit of 1,000, and writes the lines.
 //
 // `answered` is the work, on slices, with its promise (specs/Prints.antt); `serve` adds standard input and output, of which no contract can speak.
-ghost use Prim.Native.Nat.{_*_, _≤_};
+ghost use Prim.Native.Nat.{_*_, _≤_, _<_};
 ghost use lib.ListN.{length};
+ghost use Rattle.io.specs.Counts.{Counts};
 ghost use Rattle.table.specs.Layout.{Room};
 ghost use Rattle.console.specs.Prints.{Prints};
 use rules::Refusal;
@@ -28,10 +29,18 @@ pub fn answered(input: &[u8], table: &mut [u8], area: &mut [u8]) -> usize
     result.written
 }
 
-// Reads standard input until it ends or is too long, and writes its text to standard output. Short reads and writes are gone on with.
+// Reads standard input until it ends or the buffer is full, which must have room for a byte more than the most: else a longer input would be cut and read.
+fn read_input(buffer: &mut [u8]) -> usize
+    requires { ⌜ 32768 < length (now buffer) ⌝ }
+    ensures { λ r. ⌜ Counts r (now (buffer .exit)) ⌝ }
+{
+    io::read_full(libc::STDIN_FILENO, buffer)
+}
+
+// Writes the text of standard input to standard output. Short reads and writes are gone on with.
 pub fn serve() {
     let mut input = [0u8; INPUT];
-    let n = io::read_full(libc::STDIN_FILENO, &mut input);
+    let n = read_input(&mut input);
     let mut table = [0u8; table::SIZE];
     let mut area = [0u8; AREA];
     let m = answered(&input[..n], &mut table, &mut area);
