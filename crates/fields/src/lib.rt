@@ -71,13 +71,3 @@ pub fn u16_at(s: &[u8], at: usize) -> u16
     let low = digit(s[at + 1]);
     high * 256 + low
 }
-
-// The four-byte number at a place.
-pub fn u32_at(s: &[u8], at: usize) -> u32
-    requires { ⌜ at + 4 ≤ length (now s) ⌝ }
-    ensures { λ r. ⌜ (r ≡ big (now (s .entry)) at 4) × (r < 2 ^ 32) ⌝ }
-{
-    let high = u16_at(s, at) as u32;
-    let low = u16_at(s, at + 2) as u32;
-    high * 65536 + low
-}
