@@ -1,7 +1,6 @@
 -- Laws of numbers in bytes.
 --
 --   big-two    a two-byte number by its bytes
---   big-four   a four-byte number by its halves
 --   big-same   a number depends on its own bytes alone
 --
 -- Assumes nothing.
@@ -14,13 +13,6 @@ use Rattle.fields.specs.Bytes.{byteAt, big}
 pub big-two : (s : List ℕ) (at : ℕ) → big s at 2 ≡ byteAt s at * 256 + byteAt s (at + 1)
 unfolding big
 big-two s at = omega arith
-
-pub big-four : (s : List ℕ) (at : ℕ) → big s at 4 ≡ big s at 2 * 65536 + big s (at + 2) 2
-unfolding big
-big-four s at =
-    let e : at + 1 + 1 ≡ at + 2 = omega arith in
-    let f : at + 1 + 1 + 1 ≡ at + 2 + 1 = omega arith in
-    omega (arith, ap (byteAt s) e, ap (byteAt s) f)
 
 -- two inputs that have the same bytes from `at` on have the same number there
 pub big-same : (s t : List ℕ) (n at : ℕ) → ((i : ℕ) → at ≤ i → i < at + n → byteAt s i ≡ byteAt t i) → big s at n ≡ big t at n
