@@ -191,6 +191,22 @@ fn named() {
     two(b"order names it too", 2, 3, 18, 5);
 }
 
+// Lane 2 alone holds a record, and the tie order names lane 1 twice: two bits whose sum is lane 2's bit.
+fn carried() {
+    let mut t = [0u8; 10880];
+    put(&mut t, 1, 4);
+    put(&mut t, 88, setting(512, 1500, 22, 2048));
+    put(&mut t, 90, 16);
+    put(&mut t, 368, record(1, 1000));
+    put(&mut t, 2, 2);
+    put(&mut t, 16, 1);
+    put(&mut t, 17, 1);
+    say(b"order names another lane twice", &t);
+    put(&mut t, 2, 1);
+    put(&mut t, 16, 2);
+    say(b"order names the lane once", &t);
+}
+
 fn unread() {
     one(b"free word", 3, 77);
     one(b"a lane's free word", 83, 77);
@@ -211,5 +227,6 @@ fn main() {
     starts();
     entries();
     named();
+    carried();
     unread();
 }
