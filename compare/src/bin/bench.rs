@@ -1,5 +1,5 @@
 //! The benchmark: what a put and a take cost through the unit's public calls, through its inner calls alone, in a session, and through this folder's
-//! plain rules, in one process run. All have the same list of calls.
+//! plain rules, in one process run. All make their calls by the same rule (`loads`).
 //!
 //!     bench                  times: the best of many batches, in nanoseconds
 //!     bench instructions     instructions, counted by valgrind's callgrind, of the same loads
