@@ -41,7 +41,7 @@ pub record So (calls t₀ t : List ℕ) (i : ℕ) : Type 0 where
 
 pub so-none : (calls t : List ℕ) → Made t → So calls t t 0
 unfolding worked
-so-none calls t m = record { made = m; leads = record { state = refl; rest = refl } }
+so-none calls t m = record { made = m; leads = record { state = refl; beside = m .beside; rest = refl } }
 
 one-more : (i : ℕ) → suc i ≡ i + 1
 one-more i = omega arith
@@ -50,7 +50,7 @@ pub so-more : (calls t₀ t u : List ℕ) (i b : ℕ) → So calls t₀ t i → 
 unfolding worked
 so-more calls t₀ t u i b s e len l = record {
   made = made-step t u (callAt i b) (s .made) (omega (arith, len, s .made .room)) l;
-  leads = record { state = l .state ∙ subst (λ (k : ℕ). (step (meant t) (callAt i b)) .state ≡ worked calls (meant t₀) k) (one-more i) (ap (λ (x : State). (step x (callAt i b)) .state) (s .leads .state) ∙ ap (λ (x : ℕ). (step (worked calls (meant t₀) i) (callAt i x)) .state) e); rest = l .rest ∙ s .leads .rest };
+  leads = record { beside = l .beside (s .made .beside); state = l .state ∙ subst (λ (k : ℕ). (step (meant t) (callAt i b)) .state ≡ worked calls (meant t₀) k) (one-more i) (ap (λ (x : State). (step x (callAt i b)) .state) (s .leads .state) ∙ ap (λ (x : ℕ). (step (worked calls (meant t₀) i) (callAt i x)) .state) e); rest = l .rest ∙ s .leads .rest };
 }
 
 pub so-all : (calls t₀ t : List ℕ) (i : ℕ) → i ≡ length calls → So calls t₀ t i → Leads t₀ t (worked calls (meant t₀) (length calls))
@@ -133,6 +133,6 @@ pub done-works : (calls t u v : List ℕ) → GoodTable t → Begun t u → leng
 done-works calls t u v g b len l = record {
   not-good = λ h. absurd (h g);
   held = λ _ e. absurd (false≢true (sym (b .none-held) ∙ e));
-  done = λ _ _. (refl, record { state = l .state ∙ ap (λ (s : State). worked calls s (length calls)) (b .state); rest = l .rest ∙ b .rest });
+  done = λ _ _. (refl, record { state = l .state ∙ ap (λ (s : State). worked calls s (length calls)) (b .state); beside = l .beside; rest = l .rest ∙ b .rest });
   size = len;
 }

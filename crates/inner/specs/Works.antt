@@ -15,8 +15,8 @@ use lib.ListN.{length, drop, getD}
 use Rattle.units.specs.Plain.{if_then_else_}
 use Rattle.rules.specs.State.{State, setupOf, anyHolds}
 use Rattle.rules.specs.Calls.{Call, put, take, fresh, step}
-use Rattle.table.specs.Layout.{WORDS}
-use Rattle.table.specs.Means.{meant}
+use Rattle.table.specs.Layout.{WORDS, cells}
+use Rattle.table.specs.Means.{meant, Beside}
 use Rattle.good.specs.Table.{GoodTable}
 
 -- The byte at the place i: a lane to put a record into, of 64 to 1,087 bytes by turns, or from 64 on a take.
@@ -31,6 +31,7 @@ worked calls s (suc n) = (step (worked calls s n) (callAt n (getD calls n 0))) .
 -- The table means the state, and the bytes past it are as they were.
 pub record Leads (before after : List ℕ) (s : State) : Type 0 where
   pub state : meant after ≡ s
+  pub beside : Beside (cells after)
   pub rest : drop (WORDS * 8) after ≡ drop (WORDS * 8) before
 
 pub record Works (calls before : List ℕ) (r : ℕ) (after : List ℕ) : Type 0 where

@@ -52,6 +52,7 @@ marked =
       m4 = (refl, refl);
       m5 = (refl, refl);
       m6 = refl;
+      lone = refl;
       m7 = called;
       m8 = (refl, refl);
     }

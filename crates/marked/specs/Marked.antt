@@ -17,7 +17,7 @@ use Rattle.rules.specs.Calls.{Call, put, take, sets, lag, accepted, taken, lagg
 use Rattle.rules.specs.Runs.{Event, after}
 use Rattle.plan.specs.Read.{noLanes, readSetup}
 use Rattle.plan.specs.Read as plan
-use Rattle.plan.specs.Examples.{sessionSetup, twoWeights, twoLanes}
+use Rattle.plan.specs.Examples.{formatField, endField, sessionSetup, twoWeights, twoLanes}
 use Rattle.scheduler.specs.Chain.{Chain, Begins}
 use Rattle.scheduler.specs.Demands.{callsOf}
 
@@ -62,6 +62,8 @@ pub record Marked : Type 0 where
   pub m5 : (group (setting 1024 64) ≡ 16) × (group (setting 1 1500) ≡ 31)
   -- "M6 weight 3: c = 349,526."
   pub m6 : rate (setting 3 1500) ≡ 349526
+  -- the setup of M7: 01 0002 0001, 10 0005 00 0200 05DC, 7F 0000
+  pub lone : readSetup (formatField ++ (16 ∷ 0 ∷ 5 ∷ 0 ∷ 2 ∷ 0 ∷ 5 ∷ 220 ∷ []) ++ endField) ≡ plan.read (alone (setting 512 1500)) 1 16
   -- "M7 16 puts to one lane accepted, the 17th gives 13; after one take a put is accepted." Of the public calls' own answers, on any table that
   -- `make` left for a lane alone.
   pub m7 : (t u : List ℕ) (es : List Event) → Begins (alone (setting 512 1500)) t → Chain t es u → callsOf es ≡ full

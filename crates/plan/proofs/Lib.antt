@@ -11,3 +11,4 @@ pub mod Rest
 pub mod Accepted
 pub mod Prefix
 pub mod Refusals
+pub mod Complete

@@ -5,3 +5,7 @@ pub mod Demands
 pub mod LagEnds
 pub mod One
 pub mod SetsAnswer
+pub mod TakeAnswer
+pub mod PutLocal
+pub mod OrderFrom
+pub mod Drained

@@ -4,3 +4,7 @@ pub mod Chain
 pub mod Demands
 pub mod One
 pub mod SetsAnswer
+pub mod TakeAnswer
+pub mod PutLocal
+pub mod OrderFrom
+pub mod Drained

@@ -1,0 +1,80 @@
+-- Records are kept in order by every list of calls from any good table. Assumes nothing.
+use Prim.Native.Nat.{ℕ}
+use mathlib.Core.Path.{_≡_, refl, sym, ap, subst, _∙_}
+use mathlib.Core.Bool.{Bool, true, false, false≢true}
+use mathlib.Core.List.{List, [], _∷_, _++_, append-nil, append-assoc}
+use mathlib.Core.Option.{none}
+use lib.ListN.{getD}
+use Rattle.rules.specs.State.{Rec, Lane, noLane, State, laneAt}
+use Rattle.rules.specs.Calls.{Call, Reply, refused, step}
+use Rattle.rules.specs.Reads.{reads}
+use Rattle.rules.specs.Runs.{Event, sentIn, isAccepted, acceptedIn, ofLane, acceptedOf, sentOf}
+use Rattle.rules.specs.Good.{Good}
+use Rattle.rules.specs.declared.Answer.{Answer}
+use Rattle.rules.proofs.GoodTest.{goodTest}
+use Rattle.rules.proofs.GoodAgrees.{test-good, good-test}
+use Rattle.rules.proofs.Queues.{step-passed}
+use Rattle.alike.proofs.Alike.{alike-refl}
+use Rattle.table.specs.Means.{meant}
+use Rattle.table.specs.Encodes.{Encodes}
+use Rattle.good.specs.Table.{GoodTable}
+use Rattle.good.proofs.Encodes.{good-encodes}
+use Rattle.engine.specs.Does.{Unchanged}
+use Rattle.scheduler.specs.Step.{Step}
+use Rattle.scheduler.specs.Chain.{Chain, done, then}
+use Rattle.scheduler.specs.OrderFrom.{OrderFrom}
+
+abbrev heldOf : List ℕ → ℕ → List Rec
+heldOf t k = laneAt (meant t) k .queue
+
+-- one call, on bytes that are long enough and store beside their state what agrees
+record Kept (c : Call) (t : List ℕ) (a : Answer) (u : List ℕ) : Type 0 where
+  fifo : (k : ℕ) → heldOf t k ++ ofLane k (acceptedIn (record { call = c; reply = reads a })) ≡ ofLane k (sentIn (reads a)) ++ heldOf u k
+  encodes : Encodes u (meant u)
+
+module _ (c : Call) (t : List ℕ) (a : Answer) (u : List ℕ) (p : Step c t a u) (e : Encodes t (meant t)) where
+  good-kept : Good (meant t) → Kept c t a u
+  good-kept h =
+      let g : GoodTable t = record { room = e .room; good = h; beside = e .beside } in
+      let s = meant t in
+      let reply : reads a ≡ (step s c) .reply = p .reply g s e in
+      let left = p .state g s e in
+      record {
+        fifo = λ k.
+            subst (λ (r : Reply). heldOf t k ++ ofLane k (acceptedIn (record { call = c; reply = r })) ≡ ofLane k (sentIn r) ++ heldOf u k) (sym reply)
+            (step-passed k s c .fifo ∙ ap (λ (ls : List Lane). ofLane k (sentIn ((step s c) .reply)) ++ (getD ls k noLane) .queue) (sym (left .alike .lanes)));
+        encodes = record { room = left .room; alike = alike-refl (meant u); beside = left .beside };
+      }
+
+  bad-kept : (GoodTable t → ⊥) → Kept c t a u
+  unfolding isAccepted sentIn ofLane
+  bad-kept n =
+      let ten = p .not-good n in
+      let same : u ≡ t = subst (λ (r : Reply). Unchanged r t u) ten (p .unchanged) in
+      record {
+        fifo = λ k.
+            subst (λ (r : Reply). heldOf t k ++ ofLane k (acceptedIn (record { call = c; reply = r })) ≡ ofLane k (sentIn r) ++ heldOf u k) (sym ten)
+            (append-nil (heldOf t k) ∙ ap (λ (x : List ℕ). heldOf x k) (sym same));
+        encodes = subst (λ (x : List ℕ). Encodes x (meant x)) (sym same) e;
+      }
+
+  kept-by : (b : Bool) → goodTest (meant t) ≡ b → Kept c t a u
+  kept-by true q = good-kept (test-good (meant t) q)
+  kept-by false q = bad-kept (λ g. false≢true (sym q ∙ good-test (meant t) (g .good)))
+
+from : {t u : List ℕ} {es : List Event} → Encodes t (meant t) → Chain t es u → (k : ℕ) → heldOf t k ++ acceptedOf k es ≡ sentOf k es ++ heldOf u k
+unfolding acceptedOf sentOf
+from {t} e done k = append-nil (heldOf t k)
+from e (then {t} {u} {v} {c} {a} {es} p ch) k =
+    let o = kept-by c t a u p e (goodTest (meant t)) refl in
+    let x = ofLane k (acceptedIn (record { call = c; reply = reads a })) in
+    let y = ofLane k (sentIn (reads a)) in
+    sym (append-assoc (heldOf t k) x (acceptedOf k es))
+    ∙ ap (λ (q : List Rec). q ++ acceptedOf k es) (o .fifo k)
+    ∙ append-assoc y (heldOf u k) (acceptedOf k es)
+    ∙ ap (λ (q : List Rec). y ++ q) (from (o .encodes) ch k)
+    ∙ sym (append-assoc y (sentOf k es) (heldOf v k))
+
+pub order-from : OrderFrom
+unfolding OrderFrom
+order-from t u es g ch k = from (good-encodes t g) ch k

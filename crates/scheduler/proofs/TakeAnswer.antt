@@ -1,0 +1,75 @@
+-- What the record that take hands out is, proved. Assumes nothing.
+use Prim.Native.Nat.{ℕ, _+_}
+use native.Mathlib.Omega.{arith}
+use mathlib.Core.Path.{_≡_, refl, sym, ap, subst, _∙_}
+use mathlib.Core.Bool.{true}
+use mathlib.Core.List.{List, [], _∷_}
+use mathlib.Core.Option.{Option, none, some}
+use Rattle.units.specs.Plain.{place}
+use Rattle.rules.specs.State.{Rec, State, group, finishR, eligible, laneAt}
+use Rattle.rules.specs.Choice.{Candidate, choose, chooseFrom}
+use Rattle.rules.specs.Calls.{Pick, take, look, taken, seen, refused, step, doTake, doLook, picked, pickOf, firstOf, takeOf, lookOf}
+use Rattle.rules.specs.Reads.{reads}
+use Rattle.rules.proofs.Chosen.{Ahead, Chosen, Choice, chosen}
+use Rattle.table.specs.Means.{meant}
+use Rattle.good.proofs.Encodes.{good-encodes}
+use Rattle.scheduler.specs.TakeAnswer.{Served, TakeCall, LookTakes}
+
+module _ (s : State) (j m n : ℕ) where
+  served-by : (c : Candidate) → Chosen (s .clock) (s .order) 0 (s .lanes) c → (q : List Rec) → laneAt s (c .lane) .queue ≡ q
+      → (takeOf s (firstOf (c .lane) q)) .reply ≡ taken j m n → Served s j m n
+  unfolding takeOf firstOf
+  served-by c h [] p e = let z : _≡_ {A = ℕ} 0 1 = cc in absurd (omega arith)
+  served-by c h (r ∷ rs) p e =
+      let l : c .lane ≡ j = cc in
+      let mk : r .mark ≡ m = cc in
+      let ln : r .len ≡ n = cc in
+      let at : h .at ≡ j = omega (arith, h .num) in
+      let turn : c .turn ≡ place j (s .order) = h .trn ∙ ap (λ (x : ℕ). place x (s .order)) (let e₀ : 0 + h .at ≡ j = omega arith in e₀) in
+      let fin : c .finish ≡ finishR (laneAt s j) = h .fin ∙ ap (λ (x : ℕ). finishR (laneAt s x)) at in
+      let grp : c .group ≡ group (laneAt s j .given) = h .grp ∙ ap (λ (x : ℕ). group (laneAt s x .given)) at in
+      record {
+        may = subst (λ (x : ℕ). eligible (s .clock) (laneAt s x) ≡ true) at (h .is);
+        behind = rs;
+        first = subst (λ (x : ℕ). laneAt s x .queue ≡ r ∷ rs) l p ∙ ap (λ (x : ℕ). record { mark = x; len = r .len } ∷ rs) mk ∙ ap (λ (x : ℕ). record { mark = m; len = x } ∷ rs) ln;
+        least = λ k t. omega (arith, h .least k t .fin, fin);
+        lowest = λ k t f. omega (arith, h .least k t .grp (omega (arith, fin)), grp);
+        earliest = λ k t f g.
+            let here : place (0 + k) (s .order) ≡ place k (s .order) = ap (λ (x : ℕ). place x (s .order)) (let e₀ : 0 + k ≡ k = omega arith in e₀) in
+            omega (arith, h .least k t .trn (omega (arith, fin)) (omega (arith, grp)), turn, here);
+      }
+
+  take-served : (step s take) .reply ≡ taken j m n → Served s j m n
+  unfolding step doTake picked pickOf choose takeOf
+  take-served e = go (chooseFrom (s .clock) (s .order) 0 (s .lanes)) (chosen (s .clock) (s .order) 0 (s .lanes)) e
+    where
+      go : (o : Option Candidate) → Choice (s .clock) (s .order) 0 (s .lanes) o → (takeOf s (pickOf s o)) .reply ≡ taken j m n → Served s j m n
+      go none h e = let z : _≡_ {A = ℕ} 0 1 = cc in absurd (omega arith)
+      go (some c) h e = served-by c h (laneAt s (c .lane) .queue) refl e
+
+pub take-call : TakeCall
+unfolding TakeCall
+take-call t u a j m n g p e = take-served (meant t) j m n (sym (p .reply g (meant t) (good-encodes t g)) ∙ e)
+
+look-of : (s : State) (o : Option Pick) (j m n : ℕ) → (takeOf s o) .reply ≡ taken j m n → (lookOf s o) .reply ≡ seen j m n
+unfolding takeOf lookOf
+look-of s none j m n e = let z : _≡_ {A = ℕ} 0 1 = cc in absurd (omega arith)
+look-of s (some p) j m n e =
+    let l : p .lane ≡ j = cc in
+    let mk : p .first .mark ≡ m = cc in
+    let ln : p .first .len ≡ n = cc in
+    cc
+
+look-none : (s : State) (o : Option Pick) → (takeOf s o) .reply ≡ refused 16 none → (lookOf s o) .reply ≡ refused 16 none
+unfolding takeOf lookOf
+look-none s none e = refl
+look-none s (some p) e = let z : _≡_ {A = ℕ} 0 1 = cc in absurd (omega arith)
+
+pub look-takes : LookTakes
+unfolding LookTakes step doTake doLook
+look-takes t u a b g p q =
+    let s = meant t in
+    let e = good-encodes t g in (
+      λ j m n h. q .reply g s e ∙ look-of s (picked s) j m n (sym (p .reply g s e) ∙ h),
+      λ h. q .reply g s e ∙ look-none s (picked s) (sym (p .reply g s e) ∙ h),
+    )
