@@ -8,15 +8,15 @@ use mathlib.Core.List.{List, [], _∷_, _++_, append-nil}
 use lib.Dec.{ltb}
 use lib.ListN.{length, getD, set}
 use Rattle.units.specs.Plain.{if_then_else_, place, without}
-use Rattle.rules.specs.State.{Rec, Lane, noLane, State, group, startR, some?, holds, setupOf, anyHolds, laneAt}
+use Rattle.rules.specs.State.{Rec, Lane, noLane, State, group, startR, holds, setupOf, anyHolds, laneAt}
 use Rattle.rules.specs.Calls.{Call, put, take, look, sets, lag, restart, Outcome, no, putRefusal, appended, woken, accept, putOf, doPut, served, serve, Pick, picked, takeOf, doTake, lookOf, doLook, doSets, lagOf, lagged, doLag, fresh, restarted, doRestart, step}
 use Rattle.rules.specs.Good.{Good}
 use Rattle.alike.specs.Alike.{Ties, Alike}
 use Rattle.rules.proofs.Lists.{set-cases}
 use Rattle.rules.proofs.Claim.{weightOf, in-range}
-use Rattle.rules.proofs.Moves.{appended-holds}
-use Rattle.rules.proofs.Keep.{PickIs, pick-is, Allowed, PutOk, put-ok}
-use Rattle.rules.proofs.Queues.{held-inside, served-queue}
+use Rattle.rules.proofs.Moves.{Sound, appended-holds}
+use Rattle.rules.proofs.Keep.{PickIs, pick-is, Allowed, allowed-enters, PutOk, put-ok}
+use Rattle.rules.proofs.Queues.{held-inside}
 use Rattle.rules.proofs.Ties.{Tied, step-tied, times-same, times-other}
 use Rattle.alike.proofs.Places.{place-without}
 use Rattle.alike.proofs.SameChoice.{Names, Agree, same-picked, tied-before, agree-last}
@@ -50,8 +50,7 @@ alike-good s t a g =
     let e : record { clock = s .clock; lanes = s .lanes; order = t .order } ≡ t = same-parts s t (a .clock) (a .lanes) in
     subst Good e (record {
       setup = g .setup;
-      room = g .room;
-      lengths = g .lengths;
+      waiting = g .waiting;
       clock = g .clock;
       numbers = g .numbers;
       live = g .live;
@@ -80,7 +79,7 @@ appended-start : (l : Lane) (r : Rec) → startR (appended l r) ≡ startR l
 unfolding appended
 appended-start l r = refl
 
-module _ (v : ℕ) (ls : List Lane) (o o′ : List ℕ) (n : Names ls o) (n′ : Names ls o′) (same : Agree ls o o′) where
+module _ (v : ℕ) (ls : List Lane) (o o′ : List ℕ) (n : Names ls o) (n′ : Names ls o′) (same : Agree ls o o′) (w : (k : ℕ) → Sound (getD ls k noLane)) where
   abbrev s : State
   s = record { clock = v; lanes = ls; order = o }
 
@@ -93,30 +92,28 @@ module _ (v : ℕ) (ls : List Lane) (o o′ : List ℕ) (n : Names ls o) (n′ :
   -- ---- take and look
 
   -- lane j is served and holds more: it goes to the end of the tie order; or it holds nothing, and is in no tie
-  serve-order : (j : ℕ) (rs : List Rec) → j < length ls
-      → Agree (set ls j (served (getD ls j noLane) rs)) (without j o ++ (if some? rs then j ∷ [] else [])) (without j o′ ++ (if some? rs then j ∷ [] else []))
-  serve-order j (r ∷ rs) inside a b h =
-      agree-last v ls o o′ n n′ same j (served (getD ls j noLane) (r ∷ rs)) (without j o) (without j o′) inside (times-same j o) (times-same j o′)
+  serve-order : (j : ℕ) (more : Bool) → holds (served (getD ls j noLane)) ≡ more → j < length ls
+      → Agree (set ls j (served (getD ls j noLane))) (without j o ++ (if more then j ∷ [] else [])) (without j o′ ++ (if more then j ∷ [] else []))
+  serve-order j true m inside a b h =
+      agree-last v ls o o′ n n′ same j (served (getD ls j noLane)) (without j o) (without j o′) inside (times-same j o) (times-same j o′)
       (λ k ne. (times-other j k o ne, times-other j k o′ ne))
       (λ a b na nb. (place-without j a b o na nb, place-without j a b o′ na nb)) a b h
-  serve-order j [] inside a b h =
-      let idle : (k : ℕ) → holds (getD (set ls j (served (getD ls j noLane) [])) k noLane) ≡ true → j ≡ k → ⊥
+  serve-order j false m inside a b h =
+      let idle : (k : ℕ) → holds (getD (set ls j (served (getD ls j noLane))) k noLane) ≡ true → j ≡ k → ⊥
       = λ k p e. false≢true (sym (gone k e) ∙ p) in
       let na = idle a (h .first) in
       let nb = idle b (h .second) in
       rw (append-nil, append-nil) (place-without j a b o na nb ∙ same a b (tied-before v ls o o′ n n′ same j _ a b inside h na nb) ∙ sym (place-without j a b o′ na nb))
     where
-      gone : (k : ℕ) → j ≡ k → holds (getD (set ls j (served (getD ls j noLane) [])) k noLane) ≡ false
-      gone k e =
-          set-cases (λ (x : Lane). holds x ≡ false) ls j k (served (getD ls j noLane) []) noLane inside
-          (λ q. ap some? (served-queue (getD ls j noLane) [])) (λ q. absurd (q e))
+      gone : (k : ℕ) → j ≡ k → holds (getD (set ls j (served (getD ls j noLane))) k noLane) ≡ false
+      gone k e = set-cases (λ (x : Lane). holds x ≡ false) ls j k (served (getD ls j noLane)) noLane inside (λ q. m) (λ q. absurd (q e))
 
   take-same : (p : Option Pick) → PickIs s p → Same (takeOf s p) (takeOf t p)
   unfolding takeOf serve
   take-same none h = record { reply = refl; state = unmoved }
   take-same (some p) h = record {
     reply = refl;
-    state = record { clock = refl; lanes = refl; turns = serve-order (p .lane) (p .rest) (held-inside ls (p .lane) (p .first) (p .rest) (h .queue)) };
+    state = record { clock = refl; lanes = refl; turns = serve-order (p .lane) (holds (served (getD ls (p .lane) noLane))) refl (held-inside ls (p .lane) (p .first) (h .is-first)) };
   }
 
   look-same : (p : Option Pick) → Same (lookOf s p) (lookOf t p)
@@ -141,7 +138,7 @@ module _ (v : ℕ) (ls : List Lane) (o o′ : List ℕ) (n : Names ls o) (n′ :
     append-like e k =
         set-cases
         (λ (x : Lane). (holds x ≡ holds (getD ls k noLane)) × (group (x .given) ≡ group ((getD ls k noLane) .given)) × (startR x ≡ startR (getD ls k noLane)))
-        ls j k (appended l r) noLane inside (λ q. rw (← q) (appended-holds l r ∙ sym e, ap group (appended-given l r), appended-start l r)) (λ q. (refl, refl, refl))
+        ls j k (appended l r) noLane inside (λ q. rw (← q) (appended-holds l r (w j) (allowed-enters s j r a) e ∙ sym e, ap group (appended-given l r), appended-start l r)) (λ q. (refl, refl, refl))
 
     append-order : holds l ≡ true → Agree (set ls j (appended l r)) o o′
     append-order e a b h =
@@ -204,13 +201,13 @@ unfolding Tied
 step-alike s t g a c =
     let same : Same (step s c) (step t c)
     = subst (λ (x : State). Same (step s c) (step x c)) (same-parts s t (a .clock) (a .lanes))
-    (step-same (s .clock) (s .lanes) (s .order) (t .order) (g .order) (λ k. sym (a .names k) ∙ g .order k) (a .turns) c) in
+    (step-same (s .clock) (s .lanes) (s .order) (t .order) (g .order) (λ k. sym (a .names k) ∙ g .order k) (a .turns) (g .waiting) c) in
     record {
       reply = same .reply;
       state = record {
         clock = same .state .clock;
         lanes = same .state .lanes;
-        names = λ k. step-tied s c (g .order) k ∙ ap (λ (ls : List Lane). if holds (getD ls k noLane) then 1 else 0) (same .state .lanes) ∙ sym (step-tied t c (alike-good s t a g .order) k);
+        names = λ k. step-tied s c (g .waiting) (g .order) k ∙ ap (λ (ls : List Lane). if holds (getD ls k noLane) then 1 else 0) (same .state .lanes) ∙ sym (step-tied t c (alike-good s t a g .waiting) (alike-good s t a g .order) k);
         turns = same .state .turns;
       };
     }

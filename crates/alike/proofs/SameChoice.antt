@@ -11,10 +11,10 @@ use lib.Dec.{ltb}
 use lib.ListN.{length, getD, set}
 use borrow.Author.Tests.{ltb-true, ltb-false}
 use Rattle.units.specs.Plain.{if_then_else_, place, times}
-use Rattle.rules.specs.State.{Lane, noLane, State, group, slot, finishR, holds}
+use Rattle.rules.specs.State.{firstOf, Lane, noLane, State, group, slot, finishR, holds}
 use Rattle.rules.specs.Choice.{Candidate, choose}
 use Rattle.rules.proofs.BySets.{laneOf}
-use Rattle.rules.specs.Calls.{firstOf, pickOf, picked}
+use Rattle.rules.specs.Calls.{pickFirst, pickOf, picked}
 use Rattle.alike.specs.Alike.{Ties}
 use Rattle.rules.proofs.Lists.{set-cases}
 use Rattle.rules.proofs.Chosen.{Chosen, Choice, chosen}
@@ -88,7 +88,7 @@ module _ (v : ℕ) (ls : List Lane) (o o′ : List ℕ) (n : Names ls o) (n′ :
   same-pick none none e = refl
   same-pick none (some d) e = let z : _≡_ {A = ℕ} 0 1 = cc in absurd (omega arith)
   same-pick (some c) none e = let z : _≡_ {A = ℕ} 0 1 = cc in absurd (omega arith)
-  same-pick (some c) (some d) e = let l : c .lane ≡ d .lane = cc in ap (λ (k : ℕ). firstOf k ((getD ls k noLane) .queue)) l
+  same-pick (some c) (some d) e = let l : c .lane ≡ d .lane = cc in ap (λ (k : ℕ). pickFirst k (firstOf (getD ls k noLane))) l
 
   pub same-picked : picked s ≡ picked t
   unfolding picked choose

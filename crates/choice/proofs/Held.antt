@@ -12,14 +12,14 @@ use borrow.Author.Tests.{eqb-true, eq-eqb}
 use Rattle.units.specs.Numbers.{roundDown}
 use Rattle.units.proofs.Round.{round-le}
 use Rattle.units.specs.Plain.{if_then_else_, times}
-use Rattle.rules.specs.State.{Rec, Setting, Lane, State, group, slot, startR, some?, holds, laneAt, setupOf}
+use Rattle.waiting.specs.Waiting.{head}
+use Rattle.rules.specs.State.{Rec, Setting, Lane, State, group, slot, startR, some?, firstOf, holds, laneAt}
 use Rattle.rules.specs.Good.{Times, Good}
 use Rattle.rules.specs.Sets.{inGroup, groupStart}
-use Rattle.rules.proofs.Lane.{group-most, group-least, slot-most}
+use Rattle.rules.proofs.Lane.{group-most, group-least}
 use Rattle.rules.proofs.Queues.{held-inside}
-use Rattle.rules.proofs.Bounds.{first}
-use Rattle.rules.proofs.SameSetup.{setting-lane}
-use Rattle.rules.proofs.Fair.{longest-most}
+use Rattle.rules.proofs.Bounds.{first-is}
+use Rattle.rules.proofs.Figures.{slot-at}
 use Rattle.rules.proofs.Lowest.{LowOf}
 use Rattle.rules.proofs.GroupRule.{in-group, group-low}
 use Rattle.table.specs.Layout.{cells, rowAt}
@@ -71,28 +71,27 @@ lanes-many t = length-tab 64 (laneOf (cells t))
 
 pub held-small : (t : List ℕ) (k : ℕ) → holds (laneAt (meant t) k) ≡ true → k < 64
 held-small t k e =
-    let f = first ((laneAt (meant t) k) .queue) e in
-    omega (arith, held-inside (meant t .lanes) k (f .0) (f .1) (f .2), lanes-many t)
+    let f = first-is (firstOf (laneAt (meant t) k)) e in
+    omega (arith, held-inside (meant t .lanes) k (f .0) (f .1), lanes-many t)
 
 -- a holding lane's S is below 2 ^ 63
 start-small : (s : State) → Good s → (k : ℕ) → holds (laneAt s k) ≡ true → (laneAt s k) .start < 2 ^ 63
 start-small s g k e =
-    let f = first ((laneAt s k) .queue) e in
-    let n : Times (s .clock) (laneAt s k) (f .0 ∷ f .1) = subst (Times (s .clock) (laneAt s k)) (f .2) (g .numbers k) in
-    let long : (laneAt s k) .given .longest ≤ 1500 = subst (λ (y : Setting). y .longest ≤ 1500) (setting-lane s k) (longest-most (setupOf s) (g .setup) k) in
-    omega (arith, n .1, g .clock, slot-most ((laneAt s k) .given) long)
+    let f = first-is (firstOf (laneAt s k)) e in
+    let n : Times (s .clock) (laneAt s k) (some (f .0)) = subst (Times (s .clock) (laneAt s k)) (f .1) (g .numbers k) in
+    omega (arith, n .1, g .clock, slot-at s (g .setup) k)
 
 pub known-steady : (t : List ℕ) → Known t → Steady t
 known-steady t k = record { sound = k .sound; named = k .good .order; early = start-small (meant t) (k .good) }
 
 -- ---- a holding lane's row
 
-timed-start : (g : Setting) (x : ℕ) (q : List Rec) → some? q ≡ true → (timed g x q) .start ≡ x
+timed-start : (g : Setting) (x : ℕ) (q : List Rec) → some? (head q) ≡ true → (timed g x q) .start ≡ x
 unfolding timed
 timed-start g x [] e = absurd (false≢true e)
 timed-start g x (r ∷ rs) e = refl
 
-timed-holds : (g : Setting) (x : ℕ) (q : List Rec) → holds (timed g x q) ≡ some? q
+timed-holds : (g : Setting) (x : ℕ) (q : List Rec) → holds (timed g x q) ≡ some? (head q)
 unfolding timed
 timed-holds g x [] = refl
 timed-holds g x (r ∷ rs) = refl

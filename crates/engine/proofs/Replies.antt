@@ -7,18 +7,16 @@ use mathlib.Core.List.{List, [], _∷_}
 use mathlib.Core.Option.{Option, none, some}
 use lib.IntN.{ℤ, subℕ}
 use borrow.Author.Tests.{lt-ltb, le-ltb}
-use Rattle.rules.specs.State.{anyHolds, Rec, Setting, State, holds, laneAt, setupOf}
+use Rattle.rules.specs.State.{anyHolds, Rec, State, firstOf, holds, laneAt, setupOf}
 use Rattle.rules.specs.Choice.{Candidate, choose}
-use Rattle.rules.specs.Calls.{restart, fresh, doRestart, Call, put, take, look, lag, lagged, lagOf, doLag, refused, Outcome, no, putRefusal, accept, putOf, doPut, Pick, firstOf, pickOf, picked, takeOf, doTake, lookOf, doLook, step}
+use Rattle.rules.specs.Calls.{restart, fresh, doRestart, Call, put, take, look, lag, lagged, lagOf, doLag, refused, Outcome, no, putRefusal, accept, putOf, doPut, Pick, pickFirst, pickOf, picked, takeOf, doTake, lookOf, doLook, step}
 use Rattle.rules.specs.Reads.{number, placeOf}
 use Rattle.rules.specs.declared.Refusal.{Refusal}
 use Rattle.rules.specs.declared.Answer.the-variants.{Restarted, Accepted, Taken, Seen, Refused}
 use Rattle.rules.specs.declared.Record.{Record}
 use Rattle.rules.specs.Good.{Times, Good}
-use Rattle.rules.proofs.Lane.{slot-most}
-use Rattle.rules.proofs.SameSetup.{setting-lane}
-use Rattle.rules.proofs.Fair.{longest-most}
-use Rattle.rules.proofs.Queues.{idle-queue}
+use Rattle.rules.proofs.Figures.{slot-at}
+use Rattle.rules.proofs.Moves.{idle-first}
 use Rattle.rules.proofs.Keep.{Picked, PickIs, pick-is, Allowed, PutOk, put-ok}
 use Rattle.rules.proofs.Chosen.{Choice, chosen}
 use Rattle.rules.proofs.BySets.{laneOf}
@@ -81,18 +79,18 @@ pub record Found (s : State) (k : ℕ) : Type 0 where
   pub is : Picked s pick
 
 pub found : (s : State) (k : ℕ) → laneOf (choose s) ≡ some k → Found s k
-unfolding picked pickOf firstOf choose
+unfolding picked pickOf pickFirst choose
 found s k e = go (choose s) refl e (pick-is s)
   where
-    first : (c : Candidate) (q : List Rec) → laneAt s (c .lane) .queue ≡ q → choose s ≡ some c → c .lane ≡ k → PickIs s (firstOf (c .lane) q) → Found s k
-    first c [] eq ec el h =
+    first : (c : Candidate) (o : Option Rec) → firstOf (laneAt s (c .lane)) ≡ o → choose s ≡ some c → c .lane ≡ k → PickIs s (pickFirst (c .lane) o) → Found s k
+    first c none eq ec el h =
         let ch = subst (Choice (s .clock) (s .order) 0 (s .lanes)) ec (chosen (s .clock) (s .order) 0 (s .lanes)) in
         absurd (false≢true (sym (h (ch .at)) ∙ ch .is))
-    first c (r ∷ rs) eq ec el h = record { pick = record { lane = c .lane; first = r; rest = rs }; picks = ap (pickOf s) ec ∙ ap (firstOf (c .lane)) eq; lane = el; is = h }
+    first c (some r) eq ec el h = record { pick = record { lane = c .lane; first = r }; picks = ap (pickOf s) ec ∙ ap (pickFirst (c .lane)) eq; lane = el; is = h }
 
     go : (o : Option Candidate) → choose s ≡ o → laneOf o ≡ some k → PickIs s (picked s) → Found s k
     go none ec q h = let z : _≡_ {A = ℕ} 0 1 = cc in absurd (omega arith)
-    go (some c) ec q h = first c (laneAt s (c .lane) .queue) refl ec (cc) (subst (λ (o : Option Candidate). PickIs s (pickOf s o)) ec h)
+    go (some c) ec q h = first c (firstOf (laneAt s (c .lane))) refl ec (cc) (subst (λ (o : Option Candidate). PickIs s (pickOf s o)) ec h)
 
 pub take-does : (t u : List ℕ) (r : Record) → Serves t r u → Does take t (Taken r) u
 unfolding step doTake takeOf
@@ -128,9 +126,8 @@ module _ (s : State) (j : ℕ) where
   -- an idle lane's F is below 2 ^ 63
   pub idle-small : Good s → holds (laneAt s j) ≡ false → laneAt s j .finish < 2 ^ 63
   idle-small g e =
-      let n : Times (s .clock) (laneAt s j) [] = subst (Times (s .clock) (laneAt s j)) (idle-queue (laneAt s j .queue) e) (g .numbers j) in
-      let long : laneAt s j .given .longest ≤ 1500 = subst (λ (x : Setting). x .longest ≤ 1500) (setting-lane s j) (longest-most (setupOf s) (g .setup) j) in
-      omega (arith, n, g .clock, slot-most (laneAt s j .given) long)
+      let n : Times (s .clock) (laneAt s j) none = subst (Times (s .clock) (laneAt s j)) (idle-first (firstOf (laneAt s j)) e) (g .numbers j) in
+      omega (arith, n, g .clock, slot-at s (g .setup) j)
 
 -- ---- restart
 

@@ -5,8 +5,11 @@ use borrow.Author.Tests.{not-false}
 use mathlib.Core.Path.{_≡_, refl, sym, ap, _∙_}
 use mathlib.Core.Bool.{Bool, true, false, not, false≢true}
 use mathlib.Core.List.{List, [], _∷_}
-use lib.ListN.{length, List·getD-eq-default}
-use Rattle.rules.specs.State.{Rec, Setting, Lane, noLane, group, rate, some?, holds, laneAt}
+use lib.ListN.{List·getD-eq-default}
+use mathlib.Core.Option.{Option, none, some}
+use Rattle.waiting.specs.Waiting.{Waiting, plain, first, head, held, GoodWaiting}
+use Rattle.waiting.proofs.Laws.{held-none, held-hand}
+use Rattle.rules.specs.State.{Rec, Setting, Lane, noLane, group, rate, some?, firstOf, holds, laneAt}
 use Rattle.rules.proofs.Lane.{group-most, group-least}
 use Rattle.words.proofs.Runs.{length-tab}
 use Rattle.table.specs.Layout.{cells, rowAt}
@@ -14,7 +17,7 @@ use Rattle.table.specs.Means.{presentAt, ringOf, givenOf, timed, meant, RowAgre
 use Rattle.table.specs.declared.LaneRow.{LaneRow}
 use Rattle.table.proofs.Footprint.{lane-is}
 use Rattle.table.proofs.Rows.{lane-present, lane-absent}
-use Rattle.table.proofs.Timed.{timed-given, timed-queue}
+use Rattle.table.proofs.Timed.{timed-given, timed-waiting}
 use Rattle.choice.proofs.Held.{lanes-many}
 
 -- a lane that the setup does not have
@@ -31,30 +34,30 @@ pub record RowIs (l : Lane) (r : LaneRow) : Type 0 where
   pub grouped : r .group ≡ group (l .given)
   pub low : 16 ≤ r .group
   pub high : r .group ≤ 31
-  pub held : length (l .queue) ≡ r .count
+  pub held : held (l .waiting) ≡ r .count
   pub busy : holds l ≡ true → l .start ≡ r .time .0
   pub idle : holds l ≡ false → l .finish ≡ r .time .0
 
-pub count-holds : (l : Lane) (n : ℕ) → length (l .queue) ≡ n → 0 < n → holds l ≡ true
-count-holds l n e h = go (l .queue) e
+pub count-holds : (l : Lane) (n : ℕ) → GoodWaiting (l .given .longest) (l .waiting) → held (l .waiting) ≡ n → 0 < n → holds l ≡ true
+count-holds l n g e h = go (firstOf l) refl
   where
-    go : (q : List Rec) → length q ≡ n → some? q ≡ true
-    go [] e = absurd (omega arith)
-    go (x ∷ xs) e = refl
+    go : (o : Option Rec) → firstOf l ≡ o → holds l ≡ true
+    go none q = absurd (omega (arith, held-none (l .given .longest) (l .waiting) g q))
+    go (some r) q = ap some? q
 
-pub count-idle : (l : Lane) → length (l .queue) ≡ 0 → holds l ≡ false
-count-idle l e = go (l .queue) e
+pub count-idle : (l : Lane) → GoodWaiting (l .given .longest) (l .waiting) → held (l .waiting) ≡ 0 → holds l ≡ false
+count-idle l g e = go (firstOf l) refl
   where
-    go : (q : List Rec) → length q ≡ 0 → some? q ≡ false
-    go [] e = refl
-    go (x ∷ xs) e = absurd (omega arith)
+    go : (o : Option Rec) → firstOf l ≡ o → holds l ≡ false
+    go none q = ap some? q
+    go (some r) q = absurd (omega (arith, held-hand (l .given .longest) (l .waiting) r g q))
 
-timed-start : (g : Setting) (x : ℕ) (q : List Rec) → some? q ≡ true → (timed g x q) .start ≡ x
+timed-start : (g : Setting) (x : ℕ) (q : List Rec) → some? (head q) ≡ true → (timed g x q) .start ≡ x
 unfolding timed
 timed-start g x [] e = absurd (false≢true e)
 timed-start g x (r ∷ rs) e = refl
 
-timed-finish : (g : Setting) (x : ℕ) (q : List Rec) → some? q ≡ false → (timed g x q) .finish ≡ x
+timed-finish : (g : Setting) (x : ℕ) (q : List Rec) → some? (head q) ≡ false → (timed g x q) .finish ≡ x
 unfolding timed
 timed-finish g x [] e = refl
 timed-finish g x (r ∷ rs) e = absurd (false≢true (sym e))
@@ -78,11 +81,11 @@ module _ (t : List ℕ) (sound : Sound t) (k : ℕ) (small : k < 64) (here : pre
   same-given : l .given ≡ givenOf r
   same-given = ap (λ (x : Lane). x .given) is-timed ∙ timed-given (givenOf r) (r .time .0) q
 
-  same-queue : l .queue ≡ q
-  same-queue = ap (λ (x : Lane). x .queue) is-timed ∙ timed-queue (givenOf r) (r .time .0) q
+  same-waiting : l .waiting ≡ plain q
+  same-waiting = ap (λ (x : Lane). x .waiting) is-timed ∙ timed-waiting (givenOf r) (r .time .0) q
 
   pub row-is : RowIs l r
-  unfolding ringOf
+  unfolding ringOf held
   row-is = record {
     given = same-given;
     weight = agrees .numbers .weight-low;
@@ -90,9 +93,9 @@ module _ (t : List ℕ) (sound : Sound t) (k : ℕ) (small : k < 64) (here : pre
     grouped = agrees .grouped ∙ ap group (sym same-given);
     low = omega (arith, agrees .grouped, group-least (givenOf r) (agrees .numbers));
     high = omega (arith, agrees .grouped, group-most (givenOf r) (agrees .numbers .longest-high));
-    held = ap length same-queue ∙ length-tab (r .count) _;
-    busy = λ e. ap (λ (x : Lane). x .start) is-timed ∙ timed-start (givenOf r) (r .time .0) q (sym (ap some? same-queue) ∙ e);
-    idle = λ e. ap (λ (x : Lane). x .finish) is-timed ∙ timed-finish (givenOf r) (r .time .0) q (sym (ap some? same-queue) ∙ e);
+    held = ap held same-waiting ∙ length-tab (r .count) _;
+    busy = λ e. ap (λ (x : Lane). x .start) is-timed ∙ timed-start (givenOf r) (r .time .0) q (sym (ap (λ (x : Waiting). some? (first x)) same-waiting) ∙ e);
+    idle = λ e. ap (λ (x : Lane). x .finish) is-timed ∙ timed-finish (givenOf r) (r .time .0) q (sym (ap (λ (x : Waiting). some? (first x)) same-waiting) ∙ e);
   }
 
 -- a lane with a row is in the setup

@@ -5,8 +5,9 @@ use mathlib.Core.Path.{_≡_}
 use mathlib.Core.Bool.{or-true}
 use mathlib.Core.Option.{none, some}
 use lib.Dec.{ltb}
-use lib.ListN.{length}
 use borrow.Author.Tests.{lt-ltb, le-ltb, le-leb, lt-leb}
+use Rattle.waiting.specs.Waiting.{full, held}
+use Rattle.waiting.proofs.Laws.{full-plain}
 use Rattle.rules.specs.State.{State, Lane, laneDepth, laneAt}
 use Rattle.rules.specs.Calls.{putRefusal}
 
@@ -28,14 +29,14 @@ module _ (s : State) (j n : ℕ) where
     too-long h = simp (le-ltb (l .given .weight) 1 w, lt-ltb (l .given .longest) n h, or-true (ltb n 1))
 
     module _ (some-bytes : 0 < n) (fits : n ≤ l .given .longest) where
-      pub lane-full : laneDepth ≤ length (l .queue) → some 13 ≡ putRefusal s j n
+      pub lane-full : laneDepth ≤ held (l .waiting) → some 13 ≡ putRefusal s j n
       unfolding putRefusal
-      lane-full h = simp (le-ltb (l .given .weight) 1 w, le-ltb n 1 some-bytes, le-ltb (l .given .longest) n fits, le-leb laneDepth (length (l .queue)) h)
+      lane-full h = simp (le-ltb (l .given .weight) 1 w, le-ltb n 1 some-bytes, le-ltb (l .given .longest) n fits, full-plain, le-leb laneDepth (held (l .waiting)) h)
 
-      pub clock-spent : length (l .queue) < laneDepth → 2 ^ 62 ≤ s .clock → some 14 ≡ putRefusal s j n
+      pub clock-spent : held (l .waiting) < laneDepth → 2 ^ 62 ≤ s .clock → some 14 ≡ putRefusal s j n
       unfolding putRefusal
-      clock-spent h v = simp (le-ltb (l .given .weight) 1 w, le-ltb n 1 some-bytes, le-ltb (l .given .longest) n fits, lt-leb laneDepth (length (l .queue)) h, le-leb (2 ^ 62) (s .clock) v)
+      clock-spent h v = simp (le-ltb (l .given .weight) 1 w, le-ltb n 1 some-bytes, le-ltb (l .given .longest) n fits, full-plain, lt-leb laneDepth (held (l .waiting)) h, le-leb (2 ^ 62) (s .clock) v)
 
-      pub allowed : length (l .queue) < laneDepth → s .clock < 2 ^ 62 → none ≡ putRefusal s j n
+      pub allowed : held (l .waiting) < laneDepth → s .clock < 2 ^ 62 → none ≡ putRefusal s j n
       unfolding putRefusal
-      allowed h v = simp (le-ltb (l .given .weight) 1 w, le-ltb n 1 some-bytes, le-ltb (l .given .longest) n fits, lt-leb laneDepth (length (l .queue)) h, lt-leb (2 ^ 62) (s .clock) v)
+      allowed h v = simp (le-ltb (l .given .weight) 1 w, le-ltb n 1 some-bytes, le-ltb (l .given .longest) n fits, full-plain, lt-leb laneDepth (held (l .waiting)) h, lt-leb (2 ^ 62) (s .clock) v)

@@ -9,13 +9,12 @@ use lib.ListN.{length}
 use borrow.Author.Tests.{ltb-true, ltb-false}
 use Rattle.units.specs.Numbers.{roundDown}
 use Rattle.units.specs.Plain.{if_then_else_}
-use Rattle.rules.specs.State.{Rec, Setting, setupOf, Lane, State, group, slot, startR, holds, laneAt, anyHolds}
+use Rattle.rules.specs.State.{Rec, Lane, State, group, slot, startR, holds, laneAt, anyHolds}
 use Rattle.rules.specs.Calls.{appended, woken, accept}
 use Rattle.rules.proofs.Bools.{if-ind, not-passed}
 use Rattle.rules.proofs.Claim.{in-range}
 use Rattle.rules.proofs.Keep.{Allowed}
-use Rattle.rules.proofs.SameSetup.{setting-lane}
-use Rattle.rules.proofs.Fair.{longest-most}
+use Rattle.rules.proofs.Figures.{longest-at}
 use Rattle.rules.proofs.Live.{some-holds, holds-some}
 use Rattle.table.specs.Layout.{cells, rowAt}
 use Rattle.table.specs.Means.{meant, Leaves, withClock, withLane, withOrder}
@@ -44,7 +43,7 @@ module _ (t : List ℕ) (known : Known t) (k n : ℕ) (a : Allowed (meant t) k n
   put-row = row-is t (known .sound) k put-small (weight-present (cells t) k put-small (a .has))
 
   pub put-length : n < 2 ^ 32
-  put-length = omega (arith, a .fits, longest-most (setupOf (meant t)) (known .good .setup) k, ap (λ (g : Setting). g .longest) (setting-lane (meant t) k))
+  put-length = omega (arith, a .fits, longest-at (meant t) (known .good .setup) k)
 
 -- ---- whether any lane holds a record
 

@@ -54,7 +54,7 @@ pub record Serves (before : List ℕ) (r : Record) (after : List ℕ) : Type 0 w
   pub lane : r .lane ≡ pick .lane
   pub mark : r .mark ≡ pick .first .mark
   pub size : r .length .0 ≡ pick .first .len
-  pub leaves : Leaves before after (serve (meant before) (pick .lane) (pick .first) (pick .rest))
+  pub leaves : Leaves before after (serve (meant before) (pick .lane) (pick .first))
 
 -- lane k holds no record
 abbrev pub Idle : State → ℕ → Type 0

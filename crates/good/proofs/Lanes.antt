@@ -12,12 +12,13 @@ use lib.Dec.{leb, ltb}
 use lib.ListN.{length, getD}
 use Rattle.words.proofs.Runs.{eq-or-ne}
 use Rattle.units.specs.Numbers.{roundDown}
+use Rattle.waiting.specs.Waiting.{Waiting, first, head}
 use Rattle.rules.specs.State.{Rec, Setting, Lane, holds, some?, eligible, slot, noLane}
 use Rattle.units.specs.Plain.{anyBelow, wordOf}
 use Rattle.table.specs.Layout.{rowAt, presentWord}
 use Rattle.table.specs.Means.{presentAt, Next, ringOf, givenOf, timed, laneOf, RowAgrees}
 use Rattle.table.specs.declared.LaneRow.{LaneRow}
-use Rattle.table.proofs.Rows.{lane-present, lane-absent, given-row, queue-row, length-ring}
+use Rattle.table.proofs.Rows.{lane-present, lane-absent, given-row, waiting-row, length-ring}
 use Rattle.lane_test.specs.Says.{LaneGood}
 use Rattle.lane_test.proofs.Setting.{group-at-most}
 use Rattle.good.specs.Pass.{Noted, FoundSays, sumTo, holdsAt, eligibleAt}
@@ -65,12 +66,12 @@ module _ (v : ℕ) (w : List ℕ) where
     abbrev row : LaneRow
     row = rowAt w k
 
-    some-count : (q : List Rec) → length q ≡ row .count → some? q ≡ ltb 0 (row .count)
+    some-count : (q : List Rec) → length q ≡ row .count → some? (head q) ≡ ltb 0 (row .count)
     some-count [] e = sym (le-ltb 0 (row .count) (omega arith))
     some-count (r ∷ rs) e = sym (lt-ltb 0 (row .count) (omega arith))
 
     holds-is : holdsAt w k ≡ ltb 0 (row .count)
-    holds-is = ap some? (queue-row w k p) ∙ some-count (ringOf w k (row .head) (row .count)) (length-ring w k (row .head) (row .count))
+    holds-is = ap (λ (x : Waiting). some? (first x)) (waiting-row w k p) ∙ some-count (ringOf w k (row .head) (row .count)) (length-ring w k (row .head) (row .count))
 
     slot-is : slot (givenOf row) ≡ 2 ^ (row .group)
     unfolding slot

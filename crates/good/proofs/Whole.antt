@@ -11,9 +11,11 @@ use lib.ListN.{length, length-map, List·getD-eq-default}
 use Rattle.words.specs.Runs.{tab}
 use Rattle.words.proofs.Runs.{length-tab}
 use Rattle.units.specs.Plain.{if_then_else_, times, anyBelow, wordOf, count}
-use Rattle.rules.specs.State.{Setting, Lane, laneAt, holds, eligible, noLane, noSetting, setupOf, laneDepth}
+use Rattle.waiting.specs.Waiting.{GoodWaiting}
+use Rattle.waiting.proofs.Laws.{good-nothing}
+use Rattle.rules.specs.State.{Setting, Lane, laneAt, firstOf, holds, eligible, noLane, noSetting, setupOf}
 use Rattle.rules.specs.Setup.{InNumbers, Setup, weights}
-use Rattle.rules.specs.Good.{Lengths, Times}
+use Rattle.rules.specs.Good.{Times}
 use Rattle.rules.proofs.Lane.{slot-pos}
 use Rattle.rules.proofs.Word.{word-lt, word-bit}
 use Rattle.rules.proofs.SameSetup.{setting-lane}
@@ -113,10 +115,9 @@ module _ (t : List ℕ) (v : ℕ) (f : Found) (clock : v ≡ meant t .clock) (s 
             beside = record { rows = λ k h p. s .lanes k h p .agrees };
             good = record {
               setup = setup;
-              room = each-lane (cells t) (λ (l : Lane). length (l .queue) ≤ laneDepth) (omega arith) (λ k h p. s .lanes k h p .room);
-              lengths = each-lane (cells t) (λ (l : Lane). Lengths (l .given) (l .queue)) tt (λ k h p. s .lanes k h p .lengths);
+              waiting = each-lane (cells t) (λ (l : Lane). GoodWaiting (l .given .longest) (l .waiting)) (good-nothing 0) (λ k h p. s .lanes k h p .waiting);
               clock = omega (arith, clock);
-              numbers = λ k. subst (λ (v : ℕ). Times v (laneAt (meant t) k) (laneAt (meant t) k .queue)) clock (each-lane (cells t) (λ (l : Lane). Times v l (l .queue)) (omega (arith, slot-pos noSetting)) (λ k h p. s .lanes k h p .numbers) k);
+              numbers = λ k. subst (λ (v : ℕ). Times v (laneAt (meant t) k) (firstOf (laneAt (meant t) k))) clock (each-lane (cells t) (λ (l : Lane). Times v l (firstOf l)) (omega (arith, slot-pos noSetting)) (λ k h p. s .lanes k h p .numbers) k);
               live = λ k h. subst (λ (v : ℕ). (i : ℕ) × (eligible v (laneAt (meant t) i) ≡ true)) clock (eligible-lane k h);
               order = λ k. ap (times k) (sym (reads-order (cells t) n holding)) ∙ ordered k ∙ bit-held k;
             };
@@ -150,9 +151,8 @@ good-lanes t v clock g k h p =
     let e = lane-is (cells t) k h in
     record {
       agrees = g .beside .rows k h p;
-      room = subst (λ (l : Lane). length (l .queue) ≤ laneDepth) e (g .good .room k);
-      lengths = subst (λ (l : Lane). Lengths (l .given) (l .queue)) e (g .good .lengths k);
-      numbers = subst (λ (l : Lane). Times v l (l .queue)) e (subst (λ (v : ℕ). Times v (laneAt (meant t) k) (laneAt (meant t) k .queue)) (sym clock) (g .good .numbers k));
+      waiting = subst (λ (l : Lane). GoodWaiting (l .given .longest) (l .waiting)) e (g .good .waiting k);
+      numbers = subst (λ (l : Lane). Times v l (firstOf l)) e (subst (λ (v : ℕ). Times v (laneAt (meant t) k) (firstOf (laneAt (meant t) k))) (sym clock) (g .good .numbers k));
     }
 
 pub says-iff : {P Q : Type 0} (b : Bool) → (P → Q) → (Q → P) → Says b P → Says b Q

@@ -8,10 +8,10 @@
 use mathlib.Core.Bool.{Bool, true, false}
 use Prim.Native.Nat.{ℕ, _+_, _*_, _^_, _≤_, _<_}
 use mathlib.Core.List.{List}
-use lib.ListN.{length}
 use Rattle.units.specs.Numbers.{roundDown}
-use Rattle.rules.specs.State.{laneDepth}
-use Rattle.rules.specs.Good.{Lengths, Times}
+use Rattle.waiting.specs.Waiting.{GoodWaiting}
+use Rattle.rules.specs.State.{firstOf}
+use Rattle.rules.specs.Good.{Times}
 use Rattle.table.specs.Layout.{rowAt}
 use Rattle.table.specs.Means.{RowAgrees, laneOf}
 use Rattle.table.specs.declared.LaneRow.{LaneRow}
@@ -27,6 +27,5 @@ pub record TimeGood (v : ℕ) (l : LaneRow) : Type 0 where
 
 pub record LaneGood (v : ℕ) (w : List ℕ) (k : ℕ) : Type 0 where
   pub agrees : RowAgrees (rowAt w k)
-  pub room : length (laneOf w k .queue) ≤ laneDepth
-  pub lengths : Lengths (laneOf w k .given) (laneOf w k .queue)
-  pub numbers : Times v (laneOf w k) (laneOf w k .queue)
+  pub waiting : GoodWaiting (laneOf w k .given .longest) (laneOf w k .waiting)
+  pub numbers : Times v (laneOf w k) (firstOf (laneOf w k))

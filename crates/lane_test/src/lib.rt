@@ -7,7 +7,7 @@ ghost use mathlib.Core.Bool.{true};
 ghost use Prim.Native.Nat.{_+_, _*_, _^_, _<_, _≤_};
 ghost use Rattle.units.specs.Numbers.{perByte};
 ghost use Rattle.rules.specs.State.{group};
-ghost use Rattle.rules.specs.Good.{Lengths};
+ghost use Rattle.waiting.specs.Waiting.{Lengths};
 ghost use Rattle.table.specs.Layout.{Room, cells, rowAt};
 ghost use Rattle.table.specs.Means.{RowAgrees, givenOf, ringOf, presentAt};
 ghost use Rattle.lane_test.specs.Says.{Says, TimeGood, LaneGood};
@@ -121,7 +121,7 @@ fn time_good(l: LaneRow, v: Clock) -> bool
 // Whether each record of a lane's queue has a length of 1 to the lane's longest.
 fn lengths_good(t: &[u8], k: usize, l: LaneRow) -> bool
     requires { ⌜ Room (now t) × (k < 64) × (l .head < 16) × (l .count ≤ 16) ⌝ }
-    ensures { λ r. ⌜ Says r (Lengths (givenOf l) (ringOf (cells (now (t .entry))) k (l .head) (l .count))) ⌝ }
+    ensures { λ r. ⌜ Says r (Lengths (givenOf l .longest) (ringOf (cells (now (t .entry))) k (l .head) (l .count))) ⌝ }
 {
     let head = l.head;
     let count = l.count;

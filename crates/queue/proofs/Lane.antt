@@ -6,7 +6,8 @@ use mathlib.Core.List.{List, [], _∷_, _++_}
 use native.Mathlib.Omega.{arith}
 use lib.ListN.{length, set, length-set, getD}
 use Rattle.units.proofs.PerByte.{rate-le}
-use Rattle.rules.specs.State.{Lane, laneAt, holds, some?, charge, rate}
+use Rattle.waiting.specs.Waiting.{head, first, held}
+use Rattle.rules.specs.State.{Lane, laneAt, firstOf, holds, some?, charge, rate}
 use Rattle.rules.specs.Calls.{appended, woken, served}
 use Rattle.table.specs.Layout.{Now, cells, placeWord, rowAt, putRow, entryWord, entryOf}
 use Rattle.table.specs.Means.{presentAt, recOf, ringOf, givenOf, timed, stateOf, meant, Sound, Leaves, withLane}
@@ -15,9 +16,9 @@ use Rattle.table.specs.declared.LaneRow.{LaneRow}
 use Rattle.table.proofs.Stores.{length-cells}
 use Rattle.table.proofs.Footprint.{Outside, lane-is}
 use Rattle.table.proofs.Leave.{leave-lane}
-use Rattle.table.proofs.Rows.{retimed, outside-trans, outside-row, outside-place, lane-put, row-place, present-place, lane-present, weight-present, holds-present, queue-row, count-row}
+use Rattle.table.proofs.Rows.{retimed, outside-trans, outside-row, outside-place, lane-put, row-place, present-place, lane-present, weight-present, holds-present, waiting-row, count-row, length-ring}
 use Rattle.table.proofs.Timed.{timed-appended, timed-woken, timed-served}
-use Rattle.queue.specs.Queue.{waiting, behind, First, Takes}
+use Rattle.queue.specs.Queue.{waiting, First, Takes}
 use Rattle.queue.proofs.Ring.{recOf-entryWord, ring-snoc, ring-one, ring-cons, none-held, one-held}
 
 -- words in which at most a record of lane k's ring was stored
@@ -50,35 +51,35 @@ module _ (w : List ℕ) (k : ℕ) (hk : k < 64) (p : presentAt w k ≡ true) whe
   lane-row : laneAt (stateOf w) k ≡ timed (givenOf (rowAt w k)) (rowAt w k .time .0) (ringOf w k (rowAt w k .head) (rowAt w k .count))
   lane-row = lane-is w k hk ∙ lane-present w k p
 
-  queue-of : laneAt (stateOf w) k .queue ≡ ringOf w k (rowAt w k .head) (rowAt w k .count)
-  queue-of = ap (λ (l : Lane). l .queue) (lane-is w k hk) ∙ queue-row w k p
+  first-of : firstOf (laneAt (stateOf w) k) ≡ head (ringOf w k (rowAt w k .head) (rowAt w k .count))
+  first-of = ap first (ap (λ (l : Lane). l .waiting) (lane-is w k hk) ∙ waiting-row w k p)
 
-  count-of : length (laneAt (stateOf w) k .queue) ≡ rowAt w k .count
-  count-of = ap (λ (l : Lane). length (l .queue)) (lane-is w k hk) ∙ count-row w k p
+  count-of : held (laneAt (stateOf w) k .waiting) ≡ rowAt w k .count
+  count-of = ap (λ (l : Lane). held (l .waiting)) (lane-is w k hk) ∙ count-row w k p
 
   holds-row : holds (laneAt (stateOf w) k) ≡ true → 0 < rowAt w k .count
-  holds-row h = omega (arith, one-held (laneAt (stateOf w) k .queue) h, count-of)
+  holds-row h = omega (arith, one-held (ringOf w k (rowAt w k .head) (rowAt w k .count)) (sym (ap some? first-of) ∙ h), length-ring w k (rowAt w k .head) (rowAt w k .count))
 
   idle-row : holds (laneAt (stateOf w) k) ≡ false → laneAt (stateOf w) k ≡ timed (givenOf (rowAt w k)) (rowAt w k .time .0) []
-  idle-row h = lane-row ∙ ap (timed (givenOf (rowAt w k)) (rowAt w k .time .0)) (sym queue-of ∙ none-held _ h)
+  idle-row h = lane-row ∙ ap (timed (givenOf (rowAt w k)) (rowAt w k .time .0)) (none-held _ (sym (ap some? first-of) ∙ h))
 
 -- ---- append
 
-append-at : (t t₁ t′ : List ℕ) (k : ℕ) (e : Entry) → Sound t → k < 64 → e .mark < 2 ^ 32 → rowAt (cells t) k .head < 16 → holds (laneAt (meant t) k) ≡ true → length (laneAt (meant t) k .queue) < 16
+append-at : (t t₁ t′ : List ℕ) (k : ℕ) (e : Entry) → Sound t → k < 64 → e .mark < 2 ^ 32 → rowAt (cells t) k .head < 16 → holds (laneAt (meant t) k) ≡ true → held (laneAt (meant t) k .waiting) < 16
     → Now t t₁ (set (cells t) (placeWord k (rowAt (cells t) k .head + rowAt (cells t) k .count)) (entryWord e))
     → Now t₁ t′ (putRow (cells t₁) k (retimed (rowAt (cells t) k) (rowAt (cells t) k .time .0) (rowAt (cells t) k .head) (rowAt (cells t) k .count + 1)))
     → Leaves t t′ (withLane (meant t) k (appended (laneAt (meant t) k) (waiting e)))
-append-at t t₁ t′ k e s hk small head held room a b =
+append-at t t₁ t′ k e s hk small top busy room a b =
     let w = cells t in
     let l = rowAt w k in
-    let p = holds-present w k hk held in
+    let p = holds-present w k hk busy in
     let q = ringOf w k (l .head) (l .count) in
     let r : l .count < 16 = omega (arith, count-of w k hk p) in
     let ring : ringOf (set w (placeWord k (l .head + l .count)) (entryWord e)) k (l .head) (l .count + 1) ≡ q ++ waiting e ∷ [] = ring-snoc w k (l .head) (l .count) (entryWord e) (length-cells t) hk r ∙ rw (recOf-entryWord e small) in
-    let same : timed (givenOf l) (l .time .0) (ringOf (set w (placeWord k (l .head + l .count)) (entryWord e)) k (l .head) (l .count + 1)) ≡ appended (laneAt (meant t) k) (waiting e) = ap (timed (givenOf l) (l .time .0)) ring ∙ sym (timed-appended (givenOf l) (l .time .0) q (waiting e) (sym (ap some? (queue-of w k hk p)) ∙ held)) ∙ ap (λ (x : Lane). appended x (waiting e)) (sym (lane-row w k hk p)) in
-    rw (← same) (rewritten t t₁ t′ _ k _ _ _ s hk head p (stage-place w k (l .head + l .count) (entryWord e) hk (length-cells t)) a b)
+    let same : timed (givenOf l) (l .time .0) (ringOf (set w (placeWord k (l .head + l .count)) (entryWord e)) k (l .head) (l .count + 1)) ≡ appended (laneAt (meant t) k) (waiting e) = ap (timed (givenOf l) (l .time .0)) ring ∙ sym (timed-appended (givenOf l) (l .time .0) q (waiting e) (sym (ap some? (first-of w k hk p)) ∙ busy)) ∙ ap (λ (x : Lane). appended x (waiting e)) (sym (lane-row w k hk p)) in
+    rw (← same) (rewritten t t₁ t′ _ k _ _ _ s hk top p (stage-place w k (l .head + l .count) (entryWord e) hk (length-cells t)) a b)
 
-pub append-leaves : (t t₁ t′ : List ℕ) (k : ℕ) (e : Entry) (l : LaneRow) → l ≡ rowAt (cells t) k → Sound t → k < 64 → e .mark < 2 ^ 32 → l .head < 16 → holds (laneAt (meant t) k) ≡ true → length (laneAt (meant t) k .queue) < 16
+pub append-leaves : (t t₁ t′ : List ℕ) (k : ℕ) (e : Entry) (l : LaneRow) → l ≡ rowAt (cells t) k → Sound t → k < 64 → e .mark < 2 ^ 32 → l .head < 16 → holds (laneAt (meant t) k) ≡ true → held (laneAt (meant t) k .waiting) < 16
     → Now t t₁ (set (cells t) (placeWord k (l .head + l .count)) (entryWord e))
     → Now t₁ t′ (putRow (cells t₁) k (retimed l (l .time .0) (l .head) (l .count + 1)))
     → Leaves t t′ (withLane (meant t) k (appended (laneAt (meant t) k) (waiting e)))
@@ -139,7 +140,7 @@ module _ (w : List ℕ) (k : ℕ) (hk : k < 64) (held : holds (laneAt (stateOf w
   unfolding timed
   finish-is = rw first-row
 
-  served-is : served (laneAt (stateOf w) k) (behind (laneAt (stateOf w) k)) ≡ timed (givenOf (rowAt w k)) (laneAt (stateOf w) k .finish) (ringOf w k ((rowAt w k .head + 1) % 16) (rowAt w k .count - 1))
+  served-is : served (laneAt (stateOf w) k) ≡ timed (givenOf (rowAt w k)) (laneAt (stateOf w) k .finish) (ringOf w k ((rowAt w k .head + 1) % 16) (rowAt w k .count - 1))
   unfolding timed
   served-is = rw first-row (timed-served (givenOf (rowAt w k)) (rowAt w k .time .0) _ _)
 
@@ -178,7 +179,7 @@ first-leaves t k l e q r hk held =
     (subst (λ (l : LaneRow). First (laneAt (meant t) k) (entryOf (getD (cells t) (placeWord k (l .head)) 0))) (sym q) (first-is (cells t) k hk held))
 
 -- the bounds that the code needs
-pub room-row : (t : List ℕ) (k n : ℕ) (l : LaneRow) → l ≡ rowAt (cells t) k → k < 64 → holds (laneAt (meant t) k) ≡ true → length (laneAt (meant t) k .queue) ≤ n → l .count ≤ n
+pub room-row : (t : List ℕ) (k n : ℕ) (l : LaneRow) → l ≡ rowAt (cells t) k → k < 64 → holds (laneAt (meant t) k) ≡ true → held (laneAt (meant t) k .waiting) ≤ n → l .count ≤ n
 room-row t k n l q hk held h =
     subst (λ (l : LaneRow). l .count ≤ n) (sym q) (omega (arith, count-of (cells t) k hk (holds-present (cells t) k hk held)))
 

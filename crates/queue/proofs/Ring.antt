@@ -9,6 +9,7 @@ use lib.ListN.{length, getD, set}
 use lib.Seq.{getD-set-same, getD-set-other}
 use Rattle.words.specs.Runs.{tab, tabFrom}
 use Rattle.words.proofs.Runs.{tab-ext, tab-snoc, tab-cons}
+use Rattle.waiting.specs.Waiting.{head}
 use Rattle.rules.specs.State.{Rec, some?}
 use Rattle.table.specs.Layout.{placeWord, entryWord}
 use Rattle.table.specs.Means.{recOf, ringOf}
@@ -45,10 +46,10 @@ ring-cons w k h n =
     tab-cons n (λ i. recOf (getD w (placeWord k (h + i)) 0)) (λ i. recOf (getD w (placeWord k ((h + 1) % 16 + i)) 0)) (λ i. ap (λ (p : ℕ). recOf (getD w p 0)) (next i))
     ∙ rw add-zero
 
-pub none-held : (q : List Rec) → some? q ≡ false → q ≡ []
+pub none-held : (q : List Rec) → some? (head q) ≡ false → q ≡ []
 none-held [] h = refl
 none-held (r ∷ rs) h = absurd (false≢true (sym h))
 
-pub one-held : (q : List Rec) → some? q ≡ true → 0 < length q
+pub one-held : (q : List Rec) → some? (head q) ≡ true → 0 < length q
 one-held [] h = absurd (false≢true h)
 one-held (r ∷ rs) h = omega arith

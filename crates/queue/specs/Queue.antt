@@ -1,16 +1,15 @@
 -- What the first record of a queue is, and what taking it leaves.
 --
 --   waiting   a record as the rules have it
---   behind    the records behind the first
 --   First     e is the lane's first record
 --   Takes     e was the first record of lane k, and the lane is served
 --
 -- Assumes nothing.
 use mathlib.Core.Path.{_≡_}
 use Prim.Native.Nat.{ℕ}
-use mathlib.Core.List.{List, _∷_}
-use lib.ListN.{drop}
-use Rattle.rules.specs.State.{Rec, Lane, laneAt}
+use mathlib.Core.List.{List}
+use mathlib.Core.Option.{some}
+use Rattle.rules.specs.State.{Rec, Lane, firstOf, laneAt}
 use Rattle.rules.specs.Calls.{served}
 use Rattle.table.specs.Means.{meant, Leaves, withLane}
 use Rattle.table.specs.declared.Entry.{Entry}
@@ -18,13 +17,10 @@ use Rattle.table.specs.declared.Entry.{Entry}
 abbrev pub waiting : Entry → Rec
 waiting e = record { mark = e .mark; len = e .length .0 }
 
-abbrev pub behind : Lane → List Rec
-behind l = drop 1 (l .queue)
-
 abbrev pub First : Lane → Entry → Type 0
-First l e = l .queue ≡ waiting e ∷ behind l
+First l e = firstOf l ≡ some (waiting e)
 
 -- "Hand out its first record .. If the lane holds more, S = F ..; else it is idle and keeps F."
 pub record Takes (before after : List ℕ) (k : ℕ) (e : Entry) : Type 0 where
   pub first : First (laneAt (meant before) k) e
-  pub leaves : Leaves before after (withLane (meant before) k (served (laneAt (meant before) k) (behind (laneAt (meant before) k))))
+  pub leaves : Leaves before after (withLane (meant before) k (served (laneAt (meant before) k)))

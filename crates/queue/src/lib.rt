@@ -5,7 +5,7 @@
 ghost use mathlib.Core.Path.{_≡_};
 ghost use mathlib.Core.Bool.{true, false};
 ghost use Prim.Native.Nat.{_+_, _^_, _<_, _≤_, max};
-ghost use lib.ListN.{length};
+ghost use Rattle.waiting.specs.Waiting.{held};
 ghost use Rattle.rules.specs.State.{laneAt, holds, laneDepth};
 ghost use Rattle.rules.specs.Calls.{appended, woken};
 ghost use Rattle.table.specs.Means.{meant, Sound, Leaves, withLane};
@@ -23,7 +23,7 @@ use units::plus;
 
 // Appends a record to lane `k`, which holds records and has room.
 pub fn append(t: &mut [u8], k: usize, e: Entry)
-    requires { ⌜ Sound (now t) × (k < 64) × (e .length .0 < 2 ^ 32) × (holds (laneAt (meant (now t)) k) ≡ true) × (length (laneAt (meant (now t)) k .queue) < laneDepth) ⌝ }
+    requires { ⌜ Sound (now t) × (k < 64) × (e .length .0 < 2 ^ 32) × (holds (laneAt (meant (now t)) k) ≡ true) × (held (laneAt (meant (now t)) k .waiting) < laneDepth) ⌝ }
     ensures { λ _. ⌜ Leaves (now (t .entry)) (now (t .exit)) (withLane (meant (now (t .entry))) k (appended (laneAt (meant (now (t .entry))) k) (waiting e))) ⌝ }
 {
     let l = row(t, k);
@@ -60,7 +60,7 @@ pub fn first(t: &[u8], k: usize) -> Entry
 
 // Takes the first record of lane `k`, which holds records. Its new clock word is F: the next S, or the F that an idle lane keeps.
 pub fn take_first(t: &mut [u8], k: usize) -> Entry
-    requires { ⌜ Sound (now t) × (k < 64) × (holds (laneAt (meant (now t)) k) ≡ true) × (length (laneAt (meant (now t)) k .queue) ≤ laneDepth) × (laneAt (meant (now t)) k .finish < 2 ^ 64) ⌝ }
+    requires { ⌜ Sound (now t) × (k < 64) × (holds (laneAt (meant (now t)) k) ≡ true) × (held (laneAt (meant (now t)) k .waiting) ≤ laneDepth) × (laneAt (meant (now t)) k .finish < 2 ^ 64) ⌝ }
     ensures { λ r. ⌜ Takes (now (t .entry)) (now (t .exit)) k r ⌝ }
 {
     let l = row(t, k);

@@ -5,18 +5,19 @@ use native.Mathlib.Omega.{arith}
 use mathlib.Core.Path.{_≡_, refl, sym, ap, subst}
 use mathlib.Core.Bool.{Bool, true}
 use mathlib.Core.List.{List, [], _∷_}
+use mathlib.Core.Option.{Option, none, some}
 use Rattle.units.specs.Plain.{if_then_else_}
-use Rattle.rules.specs.State.{Rec, Setting, settingAt, Lane, State, slot, finishR, some?, holds, laneAt, setupOf}
+use Rattle.rules.specs.State.{Rec, Setting, settingAt, Lane, State, slot, finishR, some?, firstOf, holds, laneAt, setupOf}
 use Rattle.rules.specs.Setup.{Setup, margin}
 use Rattle.rules.specs.Calls.{Call, fresh, step}
 use Rattle.rules.specs.Runs.{after}
-use Rattle.rules.specs.Good.{Lengths, Times, Good}
+use Rattle.rules.specs.Good.{Times, Good}
 use Rattle.rules.proofs.Lane.{slot-most}
-use Rattle.rules.proofs.Claim.{LaneOk, Queued, Fits}
+use Rattle.rules.proofs.Claim.{LaneOk, Queued}
 use Rattle.rules.proofs.Bounds.{fresh-inv, lower}
 use Rattle.rules.proofs.Keep.{Kept, step-kept}
 use Rattle.rules.proofs.SameSetup.{same-setup, fresh-setup}
-use Rattle.rules.proofs.Fair.{longest-most, setup-ok}
+use Rattle.rules.proofs.Figures.{longest-most, setup-ok}
 use Rattle.rules.proofs.Range.{Range, fresh-range, step-range}
 use Rattle.rules.proofs.Live.{Live, fresh-live, step-live}
 use Rattle.rules.proofs.Ties.{Tied, fresh-tied, step-tied}
@@ -43,8 +44,8 @@ step-reached s c r = record {
   setup = subst Setup (sym (same-setup s c)) (r .setup);
   kept = step-kept margin s c (r .kept);
   range = step-range margin (omega arith) s c (r .kept) (r .range);
-  live = step-live s c (r .live);
-  tied = step-tied s c (r .tied);
+  live = step-live s c (λ k. r .kept .ok k .waiting) (r .live);
+  tied = step-tied s c (λ k. r .kept .ok k .waiting) (r .tied);
 }
 
 pub reached : (s : State) (cs : List Call) → Reached s → Reached (after s cs)
@@ -54,17 +55,9 @@ reached s (c ∷ cs) r = reached ((step s c) .state) cs (step-reached s c r)
 
 -- ---- what is reached is good
 
-lengths : (g : Setting) (S F : ℕ) (q : List Rec) → Queued g S F q → Lengths g q
-lengths g S F [] h = tt
-lengths g S F (r ∷ rs) h = all (r ∷ rs) (h .2)
-  where
-    all : (q : List Rec) → Fits g q → Lengths g q
-    all [] f = tt
-    all (x ∷ xs) f = (f .1, f .0, all xs (f .2))
-
-numbers : (v : ℕ) (l : Lane) (q : List Rec) → l .queue ≡ q → LaneOk margin v l → (holds l ≡ true → v < finishR l + margin) → Times v l q
-numbers v l [] e k low = subst (λ (b : Bool). (if b then l .start else l .finish) < v + 2 * slot (l .given)) (ap some? e) (k .below)
-numbers v l (r ∷ rs) e k low = (
+numbers : (v : ℕ) (l : Lane) (o : Option Rec) → firstOf l ≡ o → LaneOk margin v l → (holds l ≡ true → v < finishR l + margin) → Times v l o
+numbers v l none e k low = subst (λ (b : Bool). (if b then l .start else l .finish) < v + 2 * slot (l .given)) (ap some? e) (k .below)
+numbers v l (some r) e k low = (
   subst (Queued (l .given) (l .start) (l .finish)) e (k .queued) .1,
   subst (λ (b : Bool). (if b then l .start else l .finish) < v + 2 * slot (l .given)) (ap some? e) (k .below),
   low (ap some? e),
@@ -74,10 +67,9 @@ pub reached-good : (s : State) → Reached s → Good s
 unfolding Live Tied
 reached-good s r = record {
   setup = r .setup;
-  room = λ k. r .range .lane k .room;
-  lengths = λ k. lengths ((laneAt s k) .given) ((laneAt s k) .start) ((laneAt s k) .finish) ((laneAt s k) .queue) (r .kept .ok k .queued);
+  waiting = λ k. r .kept .ok k .waiting;
   clock = omega (arith, r .range .clock);
-  numbers = λ k. numbers (s .clock) (laneAt s k) ((laneAt s k) .queue) refl (r .kept .ok k) (lower margin (s .clock) (s .lanes) (r .kept) k);
+  numbers = λ k. numbers (s .clock) (laneAt s k) (firstOf (laneAt s k)) refl (r .kept .ok k) (lower margin (s .clock) (s .lanes) (r .kept) k);
   live = r .live;
   order = r .tied;
 }

@@ -5,10 +5,12 @@ use native.Mathlib.Nat.{le-refl, mul-le-mul-right}
 use mathlib.Core.Path.{_≡_, refl, ap, subst}
 use mathlib.Core.Bool.{Bool, true, false≢true}
 use mathlib.Core.List.{List, [], _∷_, map}
+use mathlib.Core.Option.{Option, none, some}
 use lib.ListN.{getD}
 use Rattle.units.proofs.Round.{lt-round-slot}
 use Rattle.units.specs.Plain.{if_then_else_, sum}
-use Rattle.rules.specs.State.{Rec, Setting, noSetting, Lane, charge, slot, finishR, some?, holds, noLane}
+use Rattle.rules.specs.State.{Rec, Setting, noSetting, Lane, charge, slot, finishR, some?, firstOf, holds, noLane}
+use Rattle.waiting.proofs.Laws.{good-nothing}
 use Rattle.rules.specs.Calls.{idle}
 use Rattle.rules.proofs.Lists.{le-sum, getD-map}
 use Rattle.rules.proofs.Lane.{slot-pos}
@@ -28,7 +30,7 @@ fresh-weights (g ∷ gs) = omega (arith, fresh-weights gs)
 
 idle-lane : (M : ℕ) (g : Setting) → 1024 * charge g (g .longest) ≤ M → (holds (idle g) ≡ true → ⊥) × LaneOk M 0 (idle g)
 unfolding idle
-idle-lane M g h = (false≢true, record { queued = tt; below = omega (arith, slot-pos g); short = h })
+idle-lane M g h = (false≢true, record { queued = tt; waiting = good-nothing (g .longest); below = omega (arith, slot-pos g); short = h })
 
 pub idle-at : (gs : List Setting) (k : ℕ) → getD (map idle gs) k noLane ≡ idle (getD gs k noSetting)
 unfolding idle
@@ -41,9 +43,9 @@ fresh-inv M gs s = record {
   due = λ D k e h. absurd (idle-lane M (getD gs k noSetting) (s .short k) .0 (rw idle-at at e));
 }
 
-pub first : (q : List Rec) → some? q ≡ true → (r : Rec) × (rs : List Rec) × (q ≡ r ∷ rs)
-first [] e = absurd (false≢true e)
-first (r ∷ rs) e = (r, rs, refl)
+pub first-is : (o : Option Rec) → some? o ≡ true → (r : Rec) × (o ≡ some r)
+first-is none e = absurd (false≢true e)
+first-is (some r) e = (r, refl)
 
 -- (U): a holding lane's start is below the clock plus two slots
 pub upper : (M v : ℕ) (ls : List Lane) → Inv M v ls → (k : ℕ) → holds (getD ls k noLane) ≡ true → (getD ls k noLane) .start < v + 2 * slot ((getD ls k noLane) .given)
@@ -56,8 +58,8 @@ pub lower : (M v : ℕ) (ls : List Lane) → Inv M v ls → (k : ℕ) → holds 
 lower M v ls inv k e =
     let l : Lane = getD ls k noLane in
     let E : ℕ = finishR l in
-    let f = first (l .queue) e in
-    let q : Queued (l .given) (l .start) (l .finish) (f .0 ∷ f .1) = subst (Queued (l .given) (l .start) (l .finish)) (f .2) (inv .ok k .queued) in
+    let f = first-is (firstOf l) e in
+    let q : Queued (l .given) (l .start) (l .finish) (some (f .0)) = subst (Queued (l .given) (l .start) (l .finish)) (f .1) (inv .ok k .queued) in
     omega (
       arith,
       inv .due E k e (le-refl E),

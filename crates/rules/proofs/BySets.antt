@@ -20,7 +20,7 @@ use Rattle.rules.proofs.Lowest.{LowOf}
 use Rattle.rules.proofs.Chosen.{Chosen, Choice, chosen}
 use Rattle.rules.proofs.Keep.{eligible-is, is-eligible}
 use Rattle.rules.proofs.SameSetup.{setting-lane}
-use Rattle.rules.proofs.Fair.{longest-most}
+use Rattle.rules.proofs.Figures.{longest-most}
 use Rattle.rules.proofs.GroupRule.{in-group, is-in-group, group-low, never-fall, chosen-finish, first-bit-group, parted}
 
 -- ---- the choice through the sets

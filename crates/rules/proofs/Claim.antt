@@ -7,11 +7,13 @@ use native.Mathlib.Omega.{arith}
 use mathlib.Core.Path.{_≡_}
 use mathlib.Core.Bool.{Bool, true, false}
 use mathlib.Core.List.{List, [], _∷_}
+use mathlib.Core.Option.{Option, none, some}
 use lib.Dec.{leb}
 use lib.ListN.{length, getD, set}
 use borrow.Author.Tests.{leb-true, le-leb}
 use Rattle.units.specs.Plain.{if_then_else_, sum}
-use Rattle.rules.specs.State.{Setting, Lane, Rec, rate, slot, charge, finishR, holds, noLane}
+use Rattle.waiting.specs.Waiting.{GoodWaiting}
+use Rattle.rules.specs.State.{Setting, Lane, Rec, rate, slot, charge, finishR, firstOf, holds, noLane}
 use Rattle.rules.proofs.Lists.{sum-set, sum-mono, sum-scale}
 use Rattle.rules.proofs.Bools.{if-ind}
 
@@ -45,6 +47,10 @@ pub from-due : (v D : ℕ) (l : Lane) → holds l ≡ true → finishR l ≤ D �
 unfolding from
 from-due v D l e h = simp (e, le-leb (finishR l) D h)
 
+pub from-held : (v D : ℕ) (l : Lane) → holds l ≡ true → from v D l ≡ (if leb (finishR l) D then l .start else D)
+unfolding from
+from-held v D l e = simp e
+
 pub from-mono : (v v′ D : ℕ) (l : Lane) → v ≤ v′ → from v D l ≤ from v′ D l
 unfolding from
 from-mono v v′ D l h =
@@ -71,17 +77,14 @@ claims-mono v v′ D ls h =
 
 -- ---- the invariant
 
-abbrev pub Fits : Setting → List Rec → Type 0
-Fits g [] = Unit {0}
-Fits g (r ∷ rs) = (r .len ≤ g .longest) × (0 < r .len) × Fits g rs
-
--- a holding lane has a weight, its F is its first record's, and no record is empty or too long
-abbrev pub Queued : Setting → ℕ → ℕ → List Rec → Type 0
-Queued g S F [] = Unit {0}
-Queued g S F (r ∷ rs) = (0 < g .weight) × (F ≡ S + charge g (r .len) * rate g) × Fits g (r ∷ rs)
+-- a holding lane has a weight, its F is its first record's, and that is not too long
+abbrev pub Queued : Setting → ℕ → ℕ → Option Rec → Type 0
+Queued g S F none = Unit {0}
+Queued g S F (some r) = (0 < g .weight) × (F ≡ S + charge g (r .len) * rate g) × (r .len ≤ g .longest)
 
 pub record LaneOk (M v : ℕ) (l : Lane) : Type 0 where
-  pub queued : Queued (l .given) (l .start) (l .finish) (l .queue)
+  pub queued : Queued (l .given) (l .start) (l .finish) (firstOf l)
+  pub waiting : GoodWaiting (l .given .longest) (l .waiting)
   pub below : (if holds l then l .start else l .finish) < v + 2 * slot (l .given)
   pub short : 1024 * charge (l .given) (l .given .longest) ≤ M
 

@@ -8,13 +8,16 @@ use mathlib.Core.List.{List, [], _∷_}
 use mathlib.Core.Option.{Option, none, some}
 use lib.ListN.{length, getD, replicate}
 use Rattle.units.specs.Plain.{sum}
-use Rattle.rules.specs.State.{Rec, Lane, noLane, State, some?, holds, laneAt, setupOf, anyHolds}
+use Rattle.waiting.specs.Waiting.{held}
+use Rattle.waiting.proofs.Laws.{held-hand, held-none}
+use Rattle.rules.specs.State.{Rec, Lane, noLane, State, firstOf, holds, laneAt, setupOf, anyHolds}
 use Rattle.rules.specs.Calls.{take, restart, restarted, taken, served, serve, Pick, picked, takeOf, doTake, fresh, doRestart, step}
 use Rattle.rules.specs.Runs.{after}
 use Rattle.rules.proofs.Bools.{not-passed}
-use Rattle.rules.proofs.Lists.{sum-set, le-sum}
-use Rattle.rules.proofs.Keep.{PickIs, pick-is}
-use Rattle.rules.proofs.Queues.{held-inside, served-queue}
+use Rattle.rules.proofs.Lists.{sum-set, le-sum, sum-zero}
+use Rattle.rules.proofs.Moves.{idle-first, busy-first}
+use Rattle.rules.proofs.Keep.{AllSound, PickIs, pick-is}
+use Rattle.rules.proofs.Queues.{held-inside, served-waiting}
 use Rattle.rules.proofs.Range.{heldIn}
 use Rattle.rules.proofs.Live.{Live, nothing-held, some-holds}
 use Rattle.rules.proofs.SameSetup.{setup-kept}
@@ -24,28 +27,21 @@ abbrev pub heldBy : State → ℕ
 heldBy s = sum heldIn (s .lanes)
 
 -- one lane holds at most what all hold
-held-some : (s : State) (k : ℕ) → holds (laneAt s k) ≡ true → 0 < heldBy s
-held-some s k e = go (laneAt s k .queue) refl e
-  where
-    go : (q : List Rec) → laneAt s k .queue ≡ q → some? q ≡ true → 0 < heldBy s
-    go [] h t = absurd (false≢true t)
-    go (r ∷ rs) h t = omega (arith, le-sum heldIn (s .lanes) noLane k (held-inside (s .lanes) k r rs h), ap length h)
+held-some : (s : State) → AllSound s → (k : ℕ) → holds (laneAt s k) ≡ true → 0 < heldBy s
+held-some s w k e =
+    let x = busy-first (firstOf (laneAt s k)) e in
+    omega (arith, le-sum heldIn (s .lanes) noLane k (held-inside (s .lanes) k (x .0) (x .1)), held-hand (laneAt s k .given .longest) (laneAt s k .waiting) (x .0) (w k) (x .1))
 
-none-held : (ls : List Lane) → ((k : ℕ) → holds (getD ls k noLane) ≡ false) → sum heldIn ls ≡ 0
-none-held [] h = refl
-none-held (l ∷ ls) h = omega (arith, empty (l .queue) (h 0), none-held ls (λ k. h (suc k)))
-  where
-    empty : (q : List Rec) → some? q ≡ false → length q ≡ 0
-    empty [] e = refl
-    empty (r ∷ rs) e = absurd (false≢true (sym e))
+none-held : (s : State) → AllSound s → ((k : ℕ) → holds (laneAt s k) ≡ false) → heldBy s ≡ 0
+none-held s w h = sum-zero heldIn (s .lanes) noLane (λ k. held-none (laneAt s k .given .longest) (laneAt s k .waiting) (w k) (idle-first (firstOf (laneAt s k)) (h k)))
 
 -- a take while records are held hands one out
-pub take-one : (s : State) (n : ℕ) → Live s → heldBy s ≡ suc n → (j m l : ℕ) × ((step s take) .reply ≡ taken j m l) × (heldBy ((step s take) .state) ≡ n)
+pub take-one : (s : State) (n : ℕ) → AllSound s → Live s → heldBy s ≡ suc n → (j m l : ℕ) × ((step s take) .reply ≡ taken j m l) × (heldBy ((step s take) .state) ≡ n)
 unfolding step doTake takeOf serve
-take-one s n live e = go (picked s) (pick-is s)
+take-one s n w live e = go (picked s) (pick-is s)
   where
     go : (o : Option Pick) → PickIs s o → (j m l : ℕ) × ((takeOf s o) .reply ≡ taken j m l) × (heldBy ((takeOf s o) .state) ≡ n)
-    go none h = absurd (omega (arith, none-held (s .lanes) (nothing-held s live h)))
+    go none h = absurd (omega (arith, none-held s w (nothing-held s live h)))
     go (some p) h = (
       p .lane,
       p .first .mark,
@@ -53,17 +49,17 @@ take-one s n live e = go (picked s) (pick-is s)
       refl,
       omega (
         arith,
-        sum-set heldIn (s .lanes) (p .lane) (served (laneAt s (p .lane)) (p .rest)) noLane (held-inside (s .lanes) (p .lane) (p .first) (p .rest) (h .queue)),
-        ap length (h .queue),
-        ap length (served-queue (laneAt s (p .lane)) (p .rest)),
+        sum-set heldIn (s .lanes) (p .lane) (served (laneAt s (p .lane))) noLane (held-inside (s .lanes) (p .lane) (p .first) (h .is-first)),
+        held-hand (laneAt s (p .lane) .given .longest) (laneAt s (p .lane) .waiting) (p .first) (w (p .lane)) (h .is-first),
+        ap held (served-waiting (laneAt s (p .lane))),
       ),
     )
 
 -- as many takes as records are held leave none
 pub drained : (s : State) (n : ℕ) → Reached s → heldBy s ≡ n → anyHolds (after s (replicate n take) .lanes) ≡ false
 unfolding after
-drained s zero r e = not-passed (anyHolds (s .lanes)) (λ h. let i = some-holds (s .lanes) h in omega (arith, held-some s (i .0) (i .1)))
-drained s (suc n) r e = drained ((step s take) .state) n (step-reached s take r) (take-one s n (r .live) e .4)
+drained s zero r e = not-passed (anyHolds (s .lanes)) (λ h. let i = some-holds (s .lanes) h in omega (arith, held-some s (λ k. r .kept .ok k .waiting) (i .0) (i .1)))
+drained s (suc n) r e = drained ((step s take) .state) n (step-reached s take r) (take-one s n (λ k. r .kept .ok k .waiting) (r .live) e .4)
 
 -- and then restart gives the fresh table of the same setup
 pub restarts : (s : State) → Reached s

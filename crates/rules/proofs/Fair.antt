@@ -1,24 +1,28 @@
 -- Demand 3, proved: first with 1,024 times the setup's greatest charge, from which the figure 1,536,000 follows.
 -- Over a stretch the clock moves by 1,024 T or more and the lane's S by c O. S is below V + 2s where the stretch begins, and V below S + 2s + M where it ends.
 -- Assumes nothing.
-use Prim.Native.Nat.{ℕ, zero, suc, _+_, _*_, _≤_, _<_}
+use Prim.Native.Nat.{ℕ, _+_, _*_, _≤_, _<_}
 use native.Mathlib.Omega.{arith}
-use native.Mathlib.Nat.{mul-le-mul-left}
 use mathlib.Core.Path.{_≡_, refl, sym, ap, subst, _∙_}
 use mathlib.Core.Bool.{true}
-use mathlib.Core.Logic.{_⊎_, inl, inr}
 use mathlib.Core.List.{List, [], _∷_, _++_, append-nil}
+use mathlib.Core.Option.{Option, none, some}
+use Rattle.waiting.specs.Waiting.{queueOf}
+use Rattle.waiting.proofs.Laws.{queue-none}
 use lib.ListN.{length, length-append}
 use Rattle.units.proofs.Round.{round-le}
-use Rattle.rules.specs.State.{Rec, Setting, noSetting, settingAt, State, charge, rate, slot, some?, holds, laneAt, setupOf}
-use Rattle.rules.specs.Setup.{InNumbers, Setup, longestCharge, margin}
+use Rattle.rules.specs.State.{Rec, Setting, settingAt, State, rate, slot, some?, firstOf, Lane, holds, laneAt, setupOf}
+use Rattle.rules.specs.Setup.{Setup, longestCharge, margin}
 use Rattle.rules.specs.Calls.{Call, fresh, step}
 use Rattle.rules.specs.Runs.{Event, after, trace, sentOf, InOrder}
 use Rattle.rules.specs.Fair.{bytesSent, bytesSentOf, Holding, Fair, Demand3}
-use Rattle.rules.proofs.Lane.{charge-le}
 use Rattle.rules.proofs.Bounds.{SetupOk, fresh-inv, lower, upper}
 use Rattle.rules.proofs.Keep.{Kept, kept, step-kept}
+pub use Rattle.rules.proofs.Figures.{tight-ok, longest-most, setup-ok, longest-at, group-at, slot-at}
 use Rattle.rules.proofs.SameSetup.{setting-lane, same-setup, setup-kept, fresh-setup}
+use Rattle.rules.proofs.Moves.{Sound}
+use Rattle.rules.proofs.Sound.{fresh-sound, sound-run}
+use Rattle.rules.proofs.Queues.{queueAt}
 use Rattle.rules.proofs.Order.{in-order}
 use Rattle.rules.proofs.Track.{step-moved}
 use Rattle.rules.proofs.Runs.{after-append, trace-append, split}
@@ -46,16 +50,19 @@ module _ (M k : ℕ) (gs : List Setting) where
 
 -- ---- from a fresh table
 
-long : (q : List Rec) → 0 < length q → some? q ≡ true
-long [] h = absurd (omega arith)
-long (r ∷ rs) h = refl
+held-by-order : (l : Lane) → Sound l → 0 < length (queueOf (l .waiting) 0) → holds l ≡ true
+held-by-order l w h = go (firstOf l) refl
+  where
+    go : (o : Option Rec) → firstOf l ≡ o → holds l ≡ true
+    go none e = absurd (omega (arith, ap length (queue-none (l .given .longest) (l .waiting) w e 0)))
+    go (some r) e = ap some? e
 
 -- a lane that holds a record by the events' count holds one in the state
 pub holds-of : (gs : List Setting) (k : ℕ) (cs : List Call) → Holding k (trace (fresh gs) cs) → holds (laneAt (after (fresh gs) cs) k) ≡ true
 unfolding InOrder
 holds-of gs k cs h =
-    long ((laneAt (after (fresh gs) cs) k) .queue)
-    (omega (arith, ap length (in-order gs cs k), length-append (sentOf k (trace (fresh gs) cs)) ((laneAt (after (fresh gs) cs) k) .queue)))
+    held-by-order (laneAt (after (fresh gs) cs) k) (sound-run (fresh gs) cs (fresh-sound gs) k)
+    (omega (arith, ap length (in-order gs cs k), length-append (sentOf k (trace (fresh gs) cs)) (queueAt (after (fresh gs) cs) k)))
 
 module _ (M : ℕ) (gs : List Setting) (ok : SetupOk M gs) (k : ℕ) where
   given-is : (cs : List Call) → (laneAt (after (fresh gs) cs) k) .given ≡ settingAt gs k
@@ -104,26 +111,9 @@ fair M gs ok calls past stretch rest e k holding =
 
 -- ---- the figures
 
-longest-le : (gs : List Setting) (k : ℕ) → charge (settingAt gs k) ((settingAt gs k) .longest) ≤ longestCharge gs
-unfolding longestCharge charge
-longest-le [] k = omega arith
-longest-le (g ∷ gs) zero = omega arith
-longest-le (g ∷ gs) (suc k) = omega (arith, longest-le gs k)
-
 -- demand 3 with the setup's own greatest charge
 pub fair-tight : (gs : List Setting) → Setup gs → Fair (1024 * longestCharge gs) gs
-fair-tight gs s = fair (1024 * longestCharge gs) gs (record { weights = s .total; short = λ k. mul-le-mul-left 1024 (longest-le gs k) })
-
--- no longest is over 1,500
-pub longest-most : (gs : List Setting) → Setup gs → (k : ℕ) → (settingAt gs k) .longest ≤ 1500
-longest-most gs s k = go (settingAt gs k) (s .each k)
-  where
-    go : (g : Setting) → InNumbers g ⊎ (g ≡ noSetting) → g .longest ≤ 1500
-    go g (inl h) = h .longest-high
-    go g (inr e) = omega (arith, ap (λ (x : Setting). x .longest) e)
-
-pub setup-ok : (gs : List Setting) → Setup gs → SetupOk margin gs
-setup-ok gs s = record { weights = s .total; short = λ k. omega (arith, charge-le (settingAt gs k) ((settingAt gs k) .longest) (longest-most gs s k)) }
+fair-tight gs s = fair (1024 * longestCharge gs) gs (tight-ok gs s)
 
 pub demand3 : Demand3
 unfolding Demand3

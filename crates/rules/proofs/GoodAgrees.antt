@@ -10,17 +10,19 @@ use lib.Dec.{leb, ltb}
 use lib.ListN.{length, getD, length-map}
 use borrow.Author.Tests.{leb-true, le-leb, ltb-true, lt-ltb, eqb-true, eq-eqb, ne-eqb}
 use Rattle.units.specs.Plain.{if_then_else_, times}
-use Rattle.rules.specs.State.{noSetting, Lane, noLane, State, laneDepth, slot, holds, eligible, laneAt, setupOf, anyHolds}
+use Rattle.waiting.specs.Waiting.{nothing, waitingTest}
+use Rattle.waiting.proofs.Laws as waiting
+use Rattle.rules.specs.State.{noSetting, Lane, noLane, State, slot, firstOf, holds, eligible, laneAt, setupOf, anyHolds}
 use Rattle.rules.specs.Setup.{Setup}
 use Rattle.rules.specs.Good.{Good}
 use Rattle.rules.proofs.Bools.{and-parts, or-right}
 use Rattle.rules.proofs.Lane.{slot-pos}
 use Rattle.rules.proofs.Live.{some-holds, holds-some}
-use Rattle.rules.proofs.GoodTest.{every, everyBelow, setupTest, lengthTest, timesTest, laneTest, anyEligible, namedOnce, goodTest, every-at, at-every, below-at, at-below, setup-true, true-setup, lengths-true, true-lengths, times-true, true-times}
+use Rattle.rules.proofs.GoodTest.{every, everyBelow, setupTest, timesTest, laneTest, anyEligible, namedOnce, goodTest, every-at, at-every, below-at, at-below, setup-true, true-setup, times-true, true-times}
 
 idle-true : (v : ℕ) → laneTest v noLane ≡ true
 unfolding laneTest every timesTest
-idle-true v = lt-ltb 0 (v + 2 * slot noSetting) (omega (arith, slot-pos noSetting))
+idle-true v = simp (waiting.good-test 0 nothing (waiting.good-nothing 0)) (lt-ltb 0 (v + 2 * slot noSetting) (omega (arith, slot-pos noSetting)))
 
 eligible-some : (v : ℕ) (ls : List Lane) → anyEligible v ls ≡ true → (k : ℕ) × (eligible v (getD ls k noLane) ≡ true)
 unfolding anyEligible
@@ -81,10 +83,9 @@ module _ (s : State) where
       let setup = setup-true (setupOf s) (a .0) in
       record {
         setup = setup;
-        room = λ k. leb-true _ laneDepth (and-parts (leb (length ((laneAt s k) .queue)) laneDepth) _ (lane k) .0);
-        lengths = λ k. lengths-true _ ((laneAt s k) .queue) (and-parts (every (lengthTest ((laneAt s k) .given)) ((laneAt s k) .queue)) _ (and-parts (leb (length ((laneAt s k) .queue)) laneDepth) _ (lane k) .1) .0);
+        waiting = λ k. waiting.test-good ((laneAt s k) .given .longest) ((laneAt s k) .waiting) (and-parts (waitingTest ((laneAt s k) .given .longest) ((laneAt s k) .waiting)) _ (lane k) .0);
         clock = ltb-true (s .clock) (2 ^ 62 + 2 ^ 42) (b .0);
-        numbers = λ k. times-true (s .clock) (laneAt s k) ((laneAt s k) .queue) (and-parts (every (lengthTest ((laneAt s k) .given)) ((laneAt s k) .queue)) _ (and-parts (leb (length ((laneAt s k) .queue)) laneDepth) _ (lane k) .1) .1);
+        numbers = λ k. times-true (s .clock) (laneAt s k) (firstOf (laneAt s k)) (and-parts (waitingTest ((laneAt s k) .given .longest) ((laneAt s k) .waiting)) _ (lane k) .1);
         live = λ k h. eligible-some (s .clock) (s .lanes) (or-right (not (anyHolds (s .lanes))) (anyEligible (s .clock) (s .lanes)) (d .0) (ap not (holds-some (s .lanes) k h)));
         order = order-true setup (f .0) (f .1);
       }
@@ -102,7 +103,7 @@ module _ (s : State) where
       )
     where
       lane : (k : ℕ) → laneTest (s .clock) (laneAt s k) ≡ true
-      lane k = simp (le-leb (length ((laneAt s k) .queue)) laneDepth (g .room k), true-lengths _ ((laneAt s k) .queue) (g .lengths k), true-times (s .clock) (laneAt s k) ((laneAt s k) .queue) (g .numbers k))
+      lane k = simp (waiting.good-test ((laneAt s k) .given .longest) ((laneAt s k) .waiting) (g .waiting k), true-times (s .clock) (laneAt s k) (firstOf (laneAt s k)) (g .numbers k))
 
       live : (b : Bool) → anyHolds (s .lanes) ≡ b → (not b || anyEligible (s .clock) (s .lanes)) ≡ true
       live false e = refl

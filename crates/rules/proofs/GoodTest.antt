@@ -5,13 +5,15 @@ use mathlib.Core.Path.{_≡_, refl, ap, _∙_}
 use mathlib.Core.Bool.{Bool, true, false, not, _&&_, _||_}
 use mathlib.Core.Logic.{_⊎_, inl, inr}
 use mathlib.Core.List.{List, [], _∷_}
+use mathlib.Core.Option.{Option, none, some}
+use Rattle.waiting.specs.Waiting.{waitingTest}
 use lib.Dec.{leb, ltb, eqb}
 use lib.ListN.{length, getD}
 use borrow.Author.Tests.{leb-true, le-leb, ltb-true, lt-ltb, eqb-true, eq-eqb}
 use Rattle.units.specs.Plain.{if_then_else_, times}
-use Rattle.rules.specs.State.{Rec, Setting, noSetting, settingAt, Lane, State, charge, laneDepth, rate, slot, startR, holds, eligible, laneAt, setupOf, anyHolds}
+use Rattle.rules.specs.State.{Rec, Setting, noSetting, settingAt, Lane, State, charge, rate, slot, startR, firstOf, holds, eligible, laneAt, setupOf, anyHolds}
 use Rattle.rules.specs.Setup.{InNumbers, weights, Setup, margin}
-use Rattle.rules.specs.Good.{Lengths, Times}
+use Rattle.rules.specs.Good.{Times}
 use Rattle.rules.proofs.Bools.{and-parts, and-made}
 
 -- ---- the test
@@ -36,17 +38,14 @@ settingTest g = inNumbers g || absent g
 unfoldable pub setupTest : List Setting → Bool
 setupTest gs = eqb (length gs) 64 && (every settingTest gs && (ltb 0 (weights gs) && leb (weights gs) 1024))
 
-unfoldable pub lengthTest : Setting → Rec → Bool
-lengthTest g r = leb 1 (r .len) && leb (r .len) (g .longest)
-
-unfoldable pub timesTest : ℕ → Lane → List Rec → Bool
-timesTest v l [] = ltb (l .finish) (v + 2 * slot (l .given))
-timesTest v l (r ∷ rs) =
+unfoldable pub timesTest : ℕ → Lane → Option Rec → Bool
+timesTest v l none = ltb (l .finish) (v + 2 * slot (l .given))
+timesTest v l (some r) =
     eqb (l .finish) (l .start + charge (l .given) (r .len) * rate (l .given))
     && (ltb (l .start) (v + 2 * slot (l .given)) && ltb v (startR l + 2 * slot (l .given) + margin))
 
 unfoldable pub laneTest : ℕ → Lane → Bool
-laneTest v l = leb (length (l .queue)) laneDepth && (every (lengthTest (l .given)) (l .queue) && timesTest v l (l .queue))
+laneTest v l = waitingTest (l .given .longest) (l .waiting) && timesTest v l (firstOf l)
 
 unfoldable pub anyEligible : ℕ → List Lane → Bool
 anyEligible v [] = false
@@ -140,29 +139,16 @@ true-setup gs s =
       le-leb (weights gs) 1024 (s .total),
     )
 
-pub lengths-true : (g : Setting) (q : List Rec) → every (lengthTest g) q ≡ true → Lengths g q
-unfolding every lengthTest
-lengths-true g [] e = tt
-lengths-true g (r ∷ rs) e =
-    let a = and-parts (lengthTest g r) (every (lengthTest g) rs) e in
-    let b = and-parts (leb 1 (r .len)) (leb (r .len) (g .longest)) (a .0) in
-    (leb-true 1 (r .len) (b .0), leb-true (r .len) (g .longest) (b .1), lengths-true g rs (a .1))
-
-pub true-lengths : (g : Setting) (q : List Rec) → Lengths g q → every (lengthTest g) q ≡ true
-unfolding every lengthTest
-true-lengths g [] h = refl
-true-lengths g (r ∷ rs) h = simp (le-leb 1 (r .len) (h .0), le-leb (r .len) (g .longest) (h .1), true-lengths g rs (h .2))
-
-pub times-true : (v : ℕ) (l : Lane) (q : List Rec) → timesTest v l q ≡ true → Times v l q
+pub times-true : (v : ℕ) (l : Lane) (o : Option Rec) → timesTest v l o ≡ true → Times v l o
 unfolding timesTest
-times-true v l [] e = ltb-true (l .finish) (v + 2 * slot (l .given)) e
-times-true v l (r ∷ rs) e =
+times-true v l none e = ltb-true (l .finish) (v + 2 * slot (l .given)) e
+times-true v l (some r) e =
     let a = and-parts (eqb (l .finish) (l .start + charge (l .given) (r .len) * rate (l .given))) _ e in
     let b = and-parts (ltb (l .start) (v + 2 * slot (l .given))) _ (a .1) in
     (eqb-true (l .finish) _ (a .0), ltb-true (l .start) _ (b .0), ltb-true v _ (b .1))
 
-pub true-times : (v : ℕ) (l : Lane) (q : List Rec) → Times v l q → timesTest v l q ≡ true
+pub true-times : (v : ℕ) (l : Lane) (o : Option Rec) → Times v l o → timesTest v l o ≡ true
 unfolding timesTest
-true-times v l [] h = lt-ltb (l .finish) (v + 2 * slot (l .given)) h
-true-times v l (r ∷ rs) h =
+true-times v l none h = lt-ltb (l .finish) (v + 2 * slot (l .given)) h
+true-times v l (some r) h =
     simp (eq-eqb (l .finish) (l .start + charge (l .given) (r .len) * rate (l .given)) (h .0), lt-ltb (l .start) (v + 2 * slot (l .given)) (h .1), lt-ltb v (startR l + 2 * slot (l .given) + margin) (h .2))

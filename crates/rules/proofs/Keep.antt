@@ -8,24 +8,30 @@ use mathlib.Core.Bool.{Bool, true, false, not, _&&_, _||_, false≢true}
 use mathlib.Core.Option.{Option, none, some}
 use mathlib.Core.List.{List, [], _∷_, map}
 use lib.Dec.{leb, ltb}
-use lib.ListN.{length, set}
+use lib.ListN.{set}
 use borrow.Author.Tests.{le-leb, leb-true, leb-false, ltb-true, ltb-false, not-true}
 use Rattle.units.specs.Plain.{sum}
-use Rattle.rules.specs.State.{Setting, noSetting, setupOf, Lane, Rec, State, charge, startR, finishR, holds, some?, eligible, noLane, laneAt, anyHolds}
+use Rattle.waiting.specs.Waiting.{full}
+use Rattle.waiting.proofs.Laws.{known-zero}
+use Rattle.rules.specs.State.{Setting, noSetting, setupOf, Lane, Rec, State, charge, startR, finishR, firstOf, holds, some?, eligible, noLane, laneAt, anyHolds}
 use Rattle.rules.specs.Choice.{Candidate, choose, chooseFrom, leastOf}
-use Rattle.rules.specs.Calls.{Pick, Call, Outcome, put, take, look, sets, lag, restart, served, woken, settled, settledAt, serve, firstOf, pickOf, takeOf, lookOf, picked, doTake, putRefusal, accept, putOf, doPut, doLook, doLag, doSets, doRestart, fresh, step}
+use Rattle.rules.specs.Calls.{Pick, Call, Outcome, put, take, look, sets, lag, restart, served, woken, settled, settledAt, serve, pickFirst, pickOf, takeOf, lookOf, picked, doTake, putRefusal, accept, putOf, doPut, doLook, doLag, doSets, doRestart, fresh, step}
 use Rattle.rules.specs.Runs.{after}
 use Rattle.rules.proofs.Bools.{if-ind, and-parts, or-parts}
 use Rattle.rules.proofs.Lists.{set-all, getD-map}
 use Rattle.rules.proofs.Claim.{Inv, weightOf}
 use Rattle.rules.proofs.Serve.{serve-inv}
-use Rattle.rules.proofs.Moves.{jump, wake, append}
+use Rattle.rules.proofs.Moves.{Sound, MayEnter, jump, wake, append}
 use Rattle.rules.proofs.Bounds.{SetupOk, fresh-inv}
 use Rattle.rules.proofs.Lowest.{Low, lowest, none-holds}
 use Rattle.rules.proofs.Chosen.{Choice, chosen}
 
 abbrev pub Kept : ℕ → State → Type 0
 Kept M s = Inv M (s .clock) (s .lanes)
+
+-- what waits is good, in every lane
+abbrev pub AllSound : State → Type 0
+AllSound s = (k : ℕ) → Sound (laneAt s k)
 
 -- ---- take
 
@@ -39,7 +45,7 @@ settle M v ls inv = go (leastOf holds ls) (lowest ls)
 
 -- what a pick is: the lane's first record and the rest, of an eligible lane of least rounded finish
 pub record Picked (s : State) (p : Pick) : Type 0 where
-  pub queue : (laneAt s (p .lane)) .queue ≡ p .first ∷ p .rest
+  pub is-first : firstOf (laneAt s (p .lane)) ≡ some (p .first)
   pub start : startR (laneAt s (p .lane)) ≤ s .clock
   pub least : (k : ℕ) → holds (laneAt s k) ≡ true → startR (laneAt s k) ≤ s .clock → finishR (laneAt s (p .lane)) ≤ finishR (laneAt s k)
 
@@ -61,14 +67,14 @@ is-eligible v l e h = simp (e, le-leb (startR l) v h)
 
 first-is : (s : State) (n : ℕ) → eligible (s .clock) (laneAt s n) ≡ true
     → ((k : ℕ) → eligible (s .clock) (laneAt s k) ≡ true → finishR (laneAt s n) ≤ finishR (laneAt s k))
-    → PickIs s (firstOf n ((laneAt s n) .queue))
-unfolding firstOf
-first-is s n e h = go ((laneAt s n) .queue) refl
+    → PickIs s (pickFirst n (firstOf (laneAt s n)))
+unfolding pickFirst
+first-is s n e h = go (firstOf (laneAt s n)) refl
   where
-    go : (q : List Rec) → (laneAt s n) .queue ≡ q → PickIs s (firstOf n q)
-    go [] p = absurd (false≢true (sym (ap some? p) ∙ eligible-is (s .clock) (laneAt s n) e .0))
-    go (r ∷ rs) p = record {
-      queue = p;
+    go : (o : Option Rec) → firstOf (laneAt s n) ≡ o → PickIs s (pickFirst n o)
+    go none p = absurd (false≢true (sym (ap some? p) ∙ eligible-is (s .clock) (laneAt s n) e .0))
+    go (some r) p = record {
+      is-first = p;
       start = eligible-is (s .clock) (laneAt s n) e .1;
       least = λ k a b. h k (is-eligible (s .clock) (laneAt s k) a b);
     }
@@ -85,11 +91,11 @@ pick-is s = go (chooseFrom (s .clock) (s .order) 0 (s .lanes)) (chosen (s .clock
         (subst (λ (n : ℕ). eligible (s .clock) (laneAt s n) ≡ true) e (h .is))
         (λ k t. subst (λ (x : ℕ). x ≤ finishR (laneAt s k)) (h .fin ∙ ap (λ (n : ℕ). finishR (laneAt s n)) e) (h .least k t .fin))
 
-served-kept : (M : ℕ) (s : State) (p : Pick) → Kept M s → Picked s p → Kept M (serve s (p .lane) (p .first) (p .rest))
+served-kept : (M : ℕ) (s : State) (p : Pick) → Kept M s → Picked s p → Kept M (serve s (p .lane) (p .first))
 unfolding serve
 served-kept M s p inv h =
-    settle M (s .clock + 1024 * charge ((laneAt s (p .lane)) .given) (p .first .len)) (set (s .lanes) (p .lane) (served (laneAt s (p .lane)) (p .rest)))
-    (serve-inv M (s .clock) (s .lanes) inv (p .lane) (p .first) (p .rest) (h .queue) (h .start) (h .least))
+    settle M (s .clock + 1024 * charge ((laneAt s (p .lane)) .given) (p .first .len)) (set (s .lanes) (p .lane) (served (laneAt s (p .lane))))
+    (serve-inv M (s .clock) (s .lanes) inv (p .lane) (p .first) (h .is-first) (h .start) (h .least))
 
 take-kept : (M : ℕ) (s : State) (o : Option Pick) → Kept M s → PickIs s o → Kept M ((takeOf s o) .state)
 unfolding takeOf
@@ -103,8 +109,11 @@ pub record Allowed (s : State) (j n : ℕ) : Type 0 where
   pub has : 0 < weightOf (laneAt s j)
   pub some-bytes : 0 < n
   pub fits : n ≤ (laneAt s j) .given .longest
-  pub room : length ((laneAt s j) .queue) < 16
+  pub room : full ((laneAt s j) .waiting) 0 ≡ false
   pub early : s .clock < 2 ^ 62
+
+pub allowed-enters : (s : State) (j : ℕ) (r : Rec) → Allowed s j (r .len) → MayEnter (laneAt s j) r
+allowed-enters s j r a = record { train = known-zero ((laneAt s j) .waiting); some-bytes = a .some-bytes; fits = a .fits; room = a .room }
 
 abbrev pub PutOk : State → ℕ → ℕ → Option ℕ → Type 0
 PutOk s j n none = Allowed s j n
@@ -115,14 +124,14 @@ unfolding putRefusal
 put-ok s j n =
     if-ind (PutOk s j n) (ltb (weightOf (laneAt s j)) 1) _ _ (λ e. tt) λ e₁.
     if-ind (PutOk s j n) (ltb n 1 || ltb ((laneAt s j) .given .longest) n) _ _ (λ e. tt) λ e₂.
-    if-ind (PutOk s j n) (leb 16 (length ((laneAt s j) .queue))) _ _ (λ e. tt) λ e₃.
+    if-ind (PutOk s j n) (full ((laneAt s j) .waiting) 0) _ _ (λ e. tt) λ e₃.
     if-ind (PutOk s j n) (leb (2 ^ 62) (s .clock)) _ _ (λ e. tt) λ e₄.
     let b = or-parts (ltb n 1) (ltb ((laneAt s j) .given .longest) n) e₂ in
     record {
       has = ltb-false (weightOf (laneAt s j)) 1 e₁;
       some-bytes = ltb-false n 1 (b .0);
       fits = ltb-false ((laneAt s j) .given .longest) n (b .1);
-      room = leb-false 16 (length ((laneAt s j) .queue)) e₃;
+      room = e₃;
       early = leb-false (2 ^ 62) (s .clock) e₄;
     }
 
@@ -130,11 +139,11 @@ accept-kept : (M : ℕ) (s : State) (j : ℕ) (r : Rec) → Kept M s → Allowed
 unfolding accept
 accept-kept M s j r inv a =
     if-ind (Kept M) (holds (laneAt s j)) _ _
-    (λ e. append M (s .clock) (s .lanes) inv j r e (a .has) (a .fits) (a .some-bytes))
+    (λ e. append M (s .clock) (s .lanes) inv j r e (a .has) (allowed-enters s j r a))
     (λ e.
     let l = laneAt s j in
     let l′ = woken (s .clock) l r in
-    let w = wake M (s .clock) (s .lanes) inv j r e (a .has) (a .fits) (a .some-bytes) in
+    let w = wake M (s .clock) (s .lanes) inv j r e (a .has) (allowed-enters s j r a) in
     if-ind (λ (u : ℕ). Inv M u (set (s .lanes) j l′)) (not (anyHolds (s .lanes)) && ltb (s .clock) (startR l′)) _ _
     (λ b.
     let p = and-parts (not (anyHolds (s .lanes))) (ltb (s .clock) (startR l′)) b in

@@ -8,11 +8,13 @@ pub mod Bounds
 pub mod Lowest
 pub mod Chosen
 pub mod Keep
+pub mod Sound
 pub mod Queues
 pub mod SameSetup
 pub mod Order
 pub mod Track
 pub mod Runs
+pub mod Figures
 pub mod Fair
 pub mod Range
 pub mod Live

@@ -17,10 +17,10 @@ use Rattle.rules.specs.Calls.{Pick, Call, Outcome, put, take, look, sets
 use Rattle.rules.proofs.Bools.{if-ind, or-right}
 use Rattle.rules.proofs.Lists.{set-cases}
 use Rattle.rules.proofs.Claim.{in-range}
-use Rattle.rules.proofs.Moves.{appended-holds}
+use Rattle.rules.proofs.Moves.{appended-holds, woken-holds}
 use Rattle.rules.proofs.Bounds.{idle-at}
 use Rattle.rules.proofs.Lowest.{Low, lowest}
-use Rattle.rules.proofs.Keep.{eligible-is, is-eligible, PickIs, Allowed, PutOk, put-ok, look-same, lag-same}
+use Rattle.rules.proofs.Keep.{eligible-is, is-eligible, PickIs, AllSound, Allowed, allowed-enters, PutOk, put-ok, look-same, lag-same}
 
 unfoldable pub Live : State → Type 0
 Live s = (k : ℕ) → holds (laneAt s k) ≡ true → (i : ℕ) × (eligible (s .clock) (laneAt s i) ≡ true)
@@ -40,7 +40,7 @@ take-live : (s : State) (o : Option Pick) → Live s → Live ((takeOf s o) .sta
 unfolding takeOf serve settled Live
 take-live s none h = h
 take-live s (some p) h =
-    let ls = set (s .lanes) (p .lane) (served (laneAt s (p .lane)) (p .rest)) in
+    let ls = set (s .lanes) (p .lane) (served (laneAt s (p .lane))) in
     settle-live (s .clock + 1024 * charge ((laneAt s (p .lane)) .given) (p .first .len)) ls (leastOf holds ls) (lowest ls)
 
 -- ---- put
@@ -60,7 +60,7 @@ holds-some [] k e = absurd (false≢true e)
 holds-some (l ∷ ls) zero e = simp e
 holds-some (l ∷ ls) (suc k) e = simp (holds-some ls k e, or-true (holds l))
 
-module _ (s : State) (j : ℕ) (r : Rec) (a : Allowed s j (r .len)) (live : (k : ℕ) → holds (laneAt s k) ≡ true → (i : ℕ) × (eligible (s .clock) (laneAt s i) ≡ true)) where
+module _ (s : State) (j : ℕ) (r : Rec) (w : AllSound s) (a : Allowed s j (r .len)) (live : (k : ℕ) → holds (laneAt s k) ≡ true → (i : ℕ) × (eligible (s .clock) (laneAt s i) ≡ true)) where
   inside : j < length (s .lanes)
   inside = in-range (s .lanes) j (a .has)
 
@@ -71,7 +71,7 @@ module _ (s : State) (j : ℕ) (r : Rec) (a : Allowed s j (r .len)) (live : (k :
       let i = live j b in (
         i .0,
         set-cases (λ (m : Lane). eligible (s .clock) m ≡ true) (s .lanes) j (i .0) (appended (laneAt s j) r) noLane inside
-            (λ q. is-eligible (s .clock) (appended (laneAt s j) r) (appended-holds (laneAt s j) r)
+            (λ q. is-eligible (s .clock) (appended (laneAt s j) r) (appended-holds (laneAt s j) r (w j) (allowed-enters s j r a) b)
             (eligible-is (s .clock) (laneAt s j) (subst (λ (n : ℕ). eligible (s .clock) (laneAt s n) ≡ true) (sym q) (i .1)) .1))
             (λ n. i .1),
       )
@@ -93,7 +93,7 @@ module _ (s : State) (j : ℕ) (r : Rec) (a : Allowed s j (r .len)) (live : (k :
   wake-live false q idle k e = (
     j,
     set-cases (λ (m : Lane). eligible (if ltb (s .clock) (startR l′) then startR l′ else s .clock) m ≡ true) (s .lanes) j j l′ noLane inside
-        (λ same. is-eligible _ l′ refl
+        (λ same. is-eligible _ l′ (woken-holds (s .clock) (laneAt s j) r (w j) (allowed-enters s j r a) idle)
         (if-ind (λ (x : ℕ). startR l′ ≤ x) (ltb (s .clock) (startR l′)) (startR l′) (s .clock) (λ b. le-refl (startR l′)) (λ b. ltb-false (s .clock) (startR l′) b)))
         (λ n. absurd (n refl)),
   )
@@ -103,10 +103,10 @@ module _ (s : State) (j : ℕ) (r : Rec) (a : Allowed s j (r .len)) (live : (k :
   accept-live =
       if-ind Live (holds (laneAt s j)) _ _ append-live (λ e. wake-live (anyHolds (s .lanes)) refl e)
 
-put-live : (s : State) (j : ℕ) (r : Rec) (o : Option ℕ) → PutOk s j (r .len) o → Live s → Live ((putOf s j r o) .state)
+put-live : (s : State) (j : ℕ) (r : Rec) (o : Option ℕ) → AllSound s → PutOk s j (r .len) o → Live s → Live ((putOf s j r o) .state)
 unfolding putOf Live
-put-live s j r none a live = accept-live s j r a live
-put-live s j r (some c) a live = live
+put-live s j r none w a live = accept-live s j r w a live
+put-live s j r (some c) w a live = live
 
 pub fresh-live : (gs : List Setting) → Live (fresh gs)
 unfolding fresh idle Live
@@ -116,14 +116,14 @@ restart-live : (s : State) → Live s → Live ((doRestart s) .state)
 unfolding doRestart
 restart-live s live = if-ind (λ (o : Outcome). Live (o .state)) (anyHolds (s .lanes)) _ _ (λ e. live) (λ e. fresh-live (setupOf s))
 
-pub step-live : (s : State) (c : Call) → Live s → Live ((step s c) .state)
+pub step-live : (s : State) (c : Call) → AllSound s → Live s → Live ((step s c) .state)
 unfolding step doPut doTake doLook doSets
-step-live s (put j m n) live = put-live s j (record { mark = m; len = n }) (putRefusal s j n) (put-ok s j n) live
-step-live s take live = take-live s (picked s) live
-step-live s look live = subst Live (sym (look-same s (picked s))) live
-step-live s sets live = live
-step-live s (lag j) live = subst Live (sym (lag-same s j)) live
-step-live s restart live = restart-live s live
+step-live s (put j m n) w live = put-live s j (record { mark = m; len = n }) (putRefusal s j n) w (put-ok s j n) live
+step-live s take w live = take-live s (picked s) live
+step-live s look w live = subst Live (sym (look-same s (picked s))) live
+step-live s sets w live = live
+step-live s (lag j) w live = subst Live (sym (lag-same s j)) live
+step-live s restart w live = restart-live s live
 
 -- take is refused only where nothing is held
 pub nothing-held : (s : State) → Live s → PickIs s none → (k : ℕ) → holds (laneAt s k) ≡ false

@@ -2,21 +2,24 @@
 use Prim.Native.Nat.{ℕ, _+_, _-_, _*_, _≤_, _<_, max}
 use native.Mathlib.Omega.{arith}
 use native.Mathlib.Nat.{le-of-eq, sub-self}
-use mathlib.Core.Path.{_≡_, refl, sym, subst, ap}
+use mathlib.Core.Path.{_≡_, refl, sym, subst, ap, _∙_}
 use mathlib.Core.Bool.{Bool, true, false, not, _&&_, false≢true}
 use mathlib.Core.Logic.{_⊎_, inl, inr}
-use mathlib.Core.List.{List, [], _∷_, _++_}
+use mathlib.Core.List.{List, [], _∷_}
+use mathlib.Core.Option.{Option, none, some}
 use lib.Dec.{T, leb}
 use lib.ListN.{getD, set}
 use borrow.Author.Tests.{leb-true, le-leb}
 use Rattle.units.specs.Plain.{if_then_else_, sum}
-use Rattle.rules.specs.State.{Setting, Lane, Rec, slot, startR, finishR, holds, some?, noLane}
+use Rattle.waiting.specs.Waiting.{GoodWaiting}
+use Rattle.waiting.proofs.Laws.{Enters, first-enter, first-stays, good-enter}
+use Rattle.rules.specs.State.{Setting, Lane, Rec, slot, startR, finishR, firstOf, holds, some?, noLane}
 use Rattle.rules.specs.Calls.{woken, appended, idle}
 use Rattle.units.proofs.Round.{round-le, lt-round-slot}
 use Rattle.rules.proofs.Bools.{if-ind}
 use Rattle.rules.proofs.Lists.{sum-set, set-all, any-or-none}
 use Rattle.rules.proofs.Lane.{slot-pos}
-use Rattle.rules.proofs.Claim.{from, from-ge, claim, spread, weightOf, Fits, Queued, LaneOk, Inv, in-range, same-weights}
+use Rattle.rules.proofs.Claim.{from, from-ge, from-held, claim, spread, weightOf, Queued, LaneOk, Inv, in-range, same-weights}
 use Rattle.rules.proofs.Serve.{later-ok}
 
 -- ---- the jump: the clock moves up to u, and no holding lane has its rounded start before u
@@ -41,13 +44,36 @@ module _ (M v : ℕ) (ls : List Lane) (inv : Inv M v ls) (u : ℕ) (up : v ≤ u
 
 -- ---- a put on an idle lane
 
+pub idle-first : (o : Option Rec) → some? o ≡ false → o ≡ none
+idle-first none e = refl
+idle-first (some r) e = absurd (false≢true (sym e))
+
+pub busy-first : (o : Option Rec) → some? o ≡ true → (r : Rec) × (o ≡ some r)
+busy-first none e = absurd (false≢true e)
+busy-first (some r) e = (r, refl)
+
+-- what waits in a lane is good, and the record may enter
+abbrev pub Sound : Lane → Type 0
+Sound l = GoodWaiting (l .given .longest) (l .waiting)
+
+abbrev pub MayEnter : Lane → Rec → Type 0
+MayEnter l r = Enters (l .given .longest) (l .waiting) 0 r
+
+pub woken-first : (v : ℕ) (l : Lane) (r : Rec) → Sound l → MayEnter l r → holds l ≡ false → firstOf (woken v l r) ≡ some r
+unfolding woken
+woken-first v l r g a e = first-enter (l .given .longest) (l .waiting) 0 r g a (idle-first (firstOf l) e)
+
+pub woken-holds : (v : ℕ) (l : Lane) (r : Rec) → Sound l → MayEnter l r → holds l ≡ false → holds (woken v l r) ≡ true
+woken-holds v l r g a e = ap some? (woken-first v l r g a e)
+
 -- the woken lane claims no more than it did when idle
-woken-claim : (v D : ℕ) (l : Lane) (r : Rec) → holds l ≡ false → claim v D (woken v l r) ≤ claim v D l
+woken-claim : (v D : ℕ) (l : Lane) (r : Rec) → Sound l → MayEnter l r → holds l ≡ false → claim v D (woken v l r) ≤ claim v D l
 unfolding woken from
-woken-claim v D l r e =
-    if-ind (λ (x : ℕ). weightOf l * (D - x) ≤ claim v D l) (leb (finishR (woken v l r)) D) _ _
+woken-claim v D l r g a e =
+    subst (λ (x : ℕ). weightOf l * (D - x) ≤ claim v D l) (sym (from-held v D (woken v l r) (woken-holds v l r g a e)))
+    (if-ind (λ (x : ℕ). weightOf l * (D - x) ≤ claim v D l) (leb (finishR (woken v l r)) D) _ _
     (λ q. le-of-eq (ap (λ (x : ℕ). weightOf l * (D - x)) (sym (idle-from))))
-    (λ q. omega (arith, ap (λ (x : ℕ). weightOf l * x) (sub-self D)))
+    (λ q. omega (arith, ap (λ (x : ℕ). weightOf l * x) (sub-self D))))
   where
     idle-from : from v D l ≡ max (l .finish) v
     idle-from = simp e
@@ -55,8 +81,7 @@ woken-claim v D l r e =
 module _ (M v : ℕ) (ls : List Lane) (inv : Inv M v ls) (j : ℕ) (r : Rec)
     (idle : holds (getD ls j noLane) ≡ false)
     (has : 0 < weightOf (getD ls j noLane))
-    (fits : r .len ≤ (getD ls j noLane) .given .longest)
-    (pos : 0 < r .len)
+    (enters : MayEnter (getD ls j noLane) r)
   where
     abbrev wl : Lane
     wl = getD ls j noLane
@@ -71,8 +96,9 @@ module _ (M v : ℕ) (ls : List Lane) (inv : Inv M v ls) (j : ℕ) (r : Rec)
     woken-ok : LaneOk M v (woken v wl r)
     unfolding woken
     woken-ok = record {
-      queued = (has, refl, (fits, pos, tt));
-      below = omega (arith, slot-pos (wl .given), subst (λ (b : Bool). (if b then wl .start else wl .finish) < v + 2 * slot (wl .given)) idle (inv .ok j .below));
+      queued = rw (woken-first v wl r (inv .ok j .waiting) enters idle) (has, refl, enters .fits);
+      waiting = good-enter (wl .given .longest) (wl .waiting) 0 r (inv .ok j .waiting) enters;
+      below = rw (woken-first v wl r (inv .ok j .waiting) enters idle) (omega (arith, slot-pos (wl .given), subst (λ (b : Bool). (if b then wl .start else wl .finish) < v + 2 * slot (wl .given)) idle (inv .ok j .below)));
       short = inv .ok j .short;
     }
 
@@ -115,7 +141,7 @@ module _ (M v : ℕ) (ls : List Lane) (inv : Inv M v ls) (j : ℕ) (r : Rec)
               arith,
               inv .due D i (b .0) (leb-true (finishR (getD ls i noLane)) D (b .1)),
               sum-set (claim v D) ls j (woken v wl r) noLane (in-range ls j has),
-              woken-claim v D wl r idle,
+              woken-claim v D wl r (inv .ok j .waiting) enters idle,
             )
         go (inr f) =
             let never : Never D = λ i p q. not-both (holds (getD ls i noLane)) (leb (finishR (getD ls i noLane)) D) (f i) p (le-leb (finishR (getD ls i noLane)) D q) in
@@ -131,31 +157,22 @@ module _ (M v : ℕ) (ls : List Lane) (inv : Inv M v ls) (j : ℕ) (r : Rec)
 
 -- ---- a put on a holding lane
 
-pub appended-holds : (l : Lane) (r : Rec) → holds (appended l r) ≡ true
+pub appended-first : (l : Lane) (r : Rec) → Sound l → MayEnter l r → holds l ≡ true → firstOf (appended l r) ≡ firstOf l
 unfolding appended
-appended-holds l r = go (l .queue)
-  where
-    go : (q : List Rec) → some? (q ++ (r ∷ [])) ≡ true
-    go [] = refl
-    go (x ∷ xs) = refl
+appended-first l r g a e =
+    let x = busy-first (firstOf l) e in first-stays (l .given .longest) (l .waiting) 0 r (x .0) g a (x .1) ∙ sym (x .1)
 
-appended-from : (v D : ℕ) (l : Lane) (r : Rec) → holds l ≡ true → from v D (appended l r) ≡ from v D l
+pub appended-holds : (l : Lane) (r : Rec) → Sound l → MayEnter l r → holds l ≡ true → holds (appended l r) ≡ true
+appended-holds l r g a e = ap some? (appended-first l r g a e) ∙ e
+
+appended-from : (v D : ℕ) (l : Lane) (r : Rec) → Sound l → MayEnter l r → holds l ≡ true → from v D (appended l r) ≡ from v D l
 unfolding from appended
-appended-from v D l r e = simp (e, appended-holds l r)
-
-append-fits : (g : Setting) (q : List Rec) (r : Rec) → r .len ≤ g .longest → 0 < r .len → Fits g q → Fits g (q ++ (r ∷ []))
-append-fits g [] r h p f = (h, p, tt)
-append-fits g (x ∷ xs) r h p f = (f .0, f .1, append-fits g xs r h p (f .2))
-
-append-queued : (g : Setting) (S F : ℕ) (q : List Rec) (r : Rec) → some? q ≡ true → r .len ≤ g .longest → 0 < r .len → Queued g S F q → Queued g S F (q ++ (r ∷ []))
-append-queued g S F [] r e h p f = absurd (false≢true e)
-append-queued g S F (x ∷ xs) r e h p f = (f .0, f .1, append-fits g (x ∷ xs) r h p (f .2))
+appended-from v D l r g a e = simp (e, appended-holds l r g a e)
 
 module _ (M v : ℕ) (ls : List Lane) (inv : Inv M v ls) (j : ℕ) (r : Rec)
     (busy : holds (getD ls j noLane) ≡ true)
     (has : 0 < weightOf (getD ls j noLane))
-    (fits : r .len ≤ (getD ls j noLane) .given .longest)
-    (pos : 0 < r .len)
+    (enters : MayEnter (getD ls j noLane) r)
   where
     abbrev al : Lane
     al = getD ls j noLane
@@ -166,14 +183,15 @@ module _ (M v : ℕ) (ls : List Lane) (inv : Inv M v ls) (j : ℕ) (r : Rec)
     appended-ok : LaneOk M v (appended al r)
     unfolding appended
     appended-ok = record {
-      queued = append-queued (al .given) (al .start) (al .finish) (al .queue) r busy fits pos (inv .ok j .queued);
-      below = rw (appended-holds al r) (subst (λ (b : Bool). (if b then al .start else al .finish) < v + 2 * slot (al .given)) busy (inv .ok j .below));
+      queued = rw (appended-first al r (inv .ok j .waiting) enters busy) (inv .ok j .queued);
+      waiting = good-enter (al .given .longest) (al .waiting) 0 r (inv .ok j .waiting) enters;
+      below = rw (appended-holds al r (inv .ok j .waiting) enters busy) (subst (λ (b : Bool). (if b then al .start else al .finish) < v + 2 * slot (al .given)) busy (inv .ok j .below));
       short = inv .ok j .short;
     }
 
     same-claims : (D : ℕ) → sum (claim v D) als ≡ sum (claim v D) ls
     unfolding appended
-    same-claims D = omega (arith, sum-set (claim v D) ls j (appended al r) noLane (in-range ls j has), ap (λ (x : ℕ). weightOf al * (D - x)) (appended-from v D al r busy))
+    same-claims D = omega (arith, sum-set (claim v D) ls j (appended al r) noLane (in-range ls j has), ap (λ (x : ℕ). weightOf al * (D - x)) (appended-from v D al r (inv .ok j .waiting) enters busy))
 
     pub append : Inv M v als
     unfolding appended

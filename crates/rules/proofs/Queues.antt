@@ -11,45 +11,45 @@ use lib.Dec.{ltb, eqb}
 use lib.ListN.{length, getD, set}
 use borrow.Author.Tests.{eq-eqb, ne-eqb}
 use Rattle.units.specs.Plain.{if_then_else_}
-use Rattle.rules.specs.State.{Rec, noSetting, Lane, noLane, State, some?, holds, laneAt, setupOf, anyHolds}
-use Rattle.rules.specs.Calls.{Call, put, take, look, sets, lag, restart, Reply, accepted, seen, refused, lagged, Outcome, no, putRefusal, appended, woken, accept, putOf, doPut, served, serve, Pick, picked, takeOf, doTake, lookOf, doLook, doSets, lagOf, doLag, idle, fresh, doRestart, step}
+use Rattle.waiting.specs.Waiting.{queueOf}
+use Rattle.waiting.proofs.Laws.{queue-enter, queue-hand, queue-none, queue-nothing, turn-plain}
+use Rattle.rules.specs.State.{Rec, noSetting, Lane, noLane, State, some?, firstOf, holds, laneAt, setupOf, anyHolds}
+use Rattle.rules.specs.Calls.{Call, put, take, look, sets, lag, restart, Reply, accepted, seen, refused, lagged, Outcome, no, putRefusal, entered, appended, woken, accept, putOf, doPut, behind, served, serve, Pick, picked, takeOf, doTake, lookOf, doLook, doSets, lagOf, doLag, idle, fresh, doRestart, step}
 use Rattle.rules.specs.Runs.{sentIn, offeredIn, isAccepted, acceptedIn, ofLane}
 use Rattle.rules.proofs.Bools.{if-ind}
 use Rattle.rules.proofs.Lists.{set-cases, getD-map}
 use Rattle.rules.proofs.Claim.{weightOf, in-range}
+use Rattle.rules.proofs.Serve.{served-ind}
+use Rattle.rules.proofs.Moves.{idle-first}
 use Rattle.rules.proofs.Lowest.{none-holds}
 use Rattle.rules.proofs.Bounds.{idle-at}
-use Rattle.rules.proofs.Keep.{PickIs, pick-is, Allowed, PutOk, put-ok}
+use Rattle.rules.proofs.Keep.{AllSound, PickIs, pick-is, Allowed, allowed-enters, PutOk, put-ok}
 
 -- a lane that holds a record is in the list
-pub held-inside : (ls : List Lane) (j : ℕ) (r : Rec) (rs : List Rec) → (getD ls j noLane) .queue ≡ r ∷ rs → j < length ls
-held-inside [] j r rs h = absurd (false≢true (ap some? h))
-held-inside (l ∷ ls) zero r rs h = zero-lt-suc (length ls)
-held-inside (l ∷ ls) (suc j) r rs h = omega (arith, held-inside ls j r rs h)
+pub held-inside : (ls : List Lane) (j : ℕ) (r : Rec) → firstOf (getD ls j noLane) ≡ some r → j < length ls
+held-inside [] j r h = absurd (false≢true (ap some? h))
+held-inside (l ∷ ls) zero r h = zero-lt-suc (length ls)
+held-inside (l ∷ ls) (suc j) r h = omega (arith, held-inside ls j r h)
 
-pub served-queue : (l : Lane) (rs : List Rec) → (served l rs) .queue ≡ rs
-unfolding served
-served-queue l [] = refl
-served-queue l (r ∷ rs) = refl
+pub served-waiting : (l : Lane) → (served l) .waiting ≡ behind l
+served-waiting l = served-ind (λ (m : Lane). m .waiting ≡ behind l) l (λ e. refl) (λ r e. refl)
 
-pub served-given : (l : Lane) (rs : List Rec) → (served l rs) .given ≡ l .given
-unfolding served
-served-given l [] = refl
-served-given l (r ∷ rs) = refl
+pub served-given : (l : Lane) → (served l) .given ≡ l .given
+served-given l = served-ind (λ (m : Lane). m .given ≡ l .given) l (λ e. refl) (λ r e. refl)
 
-pub idle-queue : (q : List Rec) → some? q ≡ false → q ≡ []
-idle-queue [] e = refl
-idle-queue (r ∷ rs) e = absurd (false≢true (sym e))
+-- lane k's queue
+abbrev pub queueAt : State → ℕ → List Rec
+queueAt s k = queueOf ((laneAt s k) .waiting) 0
 
 -- from s, the call c gives the outcome o: what that means for lane k
 pub record Passed (k : ℕ) (s : State) (c : Call) (o : Outcome) : Type 0 where
   pub given : (laneAt (o .state) k) .given ≡ (laneAt s k) .given
-  pub fifo : (laneAt s k) .queue ++ ofLane k (acceptedIn (record { call = c; reply = o .reply })) ≡ ofLane k (sentIn (o .reply)) ++ (laneAt (o .state) k) .queue
+  pub fifo : AllSound s → queueAt s k ++ ofLane k (acceptedIn (record { call = c; reply = o .reply })) ≡ ofLane k (sentIn (o .reply)) ++ queueAt (o .state) k
 
 -- a call that changes nothing and neither accepts a record nor hands one out
 unchanged : (k : ℕ) (s : State) (c : Call) (a : Reply) → isAccepted a ≡ false → sentIn a ≡ none → Passed k s c (record { reply = a; state = s })
 unfolding ofLane
-unchanged k s c a e b = record { given = refl; fifo = simp (e, b, append-nil) }
+unchanged k s c a e b = record { given = refl; fifo = λ w. simp (e, b, append-nil) }
 
 refused-passed : (k n : ℕ) (s : State) (c : Call) → Passed k s c (no n s)
 unfolding isAccepted sentIn
@@ -63,12 +63,12 @@ take-passed k s none h = refused-passed k 16 s take
 take-passed k s (some p) h =
     let j = p .lane in
     let l = laneAt s j in
-    let inside = held-inside (s .lanes) j (p .first) (p .rest) (h .queue) in
+    let inside = held-inside (s .lanes) j (p .first) (h .is-first) in
     record {
-      given = set-cases (λ (m : Lane). m .given ≡ (laneAt s k) .given) (s .lanes) j k (served l (p .rest)) noLane inside
-          (λ e. rw (← e) (served-given l (p .rest))) (λ n. refl);
-      fifo = set-cases (λ (m : Lane). (laneAt s k) .queue ++ [] ≡ (if eqb j k then p .first ∷ [] else []) ++ m .queue) (s .lanes) j k (served l (p .rest)) noLane inside
-          (λ e. rw (← e) (simp (append-nil, h .queue, served-queue, eq-eqb j j refl)))
+      given = set-cases (λ (m : Lane). m .given ≡ (laneAt s k) .given) (s .lanes) j k (served l) noLane inside
+          (λ e. rw (← e) (served-given l)) (λ n. refl);
+      fifo = λ w. set-cases (λ (m : Lane). queueAt s k ++ [] ≡ (if eqb j k then p .first ∷ [] else []) ++ queueOf (m .waiting) 0) (s .lanes) j k (served l) noLane inside
+          (λ e. rw (← e) (simp (append-nil, served-waiting, eq-eqb j j refl) (queue-hand (l .given .longest) (l .waiting) (p .first) (w j) (h .is-first) 0 ∙ simp (turn-plain))))
           (λ n. simp (append-nil, ne-eqb j k n));
     }
 
@@ -76,22 +76,25 @@ take-passed k s (some p) h =
 
 module _ (k : ℕ) (s : State) (j : ℕ) (r : Rec) (a : Allowed s j (r .len)) where
   -- any new lane j with the old setting, and r behind the old queue
-  behind : (l : Lane) (v : ℕ) (order : List ℕ) → l .given ≡ (laneAt s j) .given → l .queue ≡ (laneAt s j) .queue ++ (r ∷ [])
+  added : (l : Lane) (v : ℕ) (order : List ℕ) → l .given ≡ (laneAt s j) .given → (AllSound s → queueOf (l .waiting) 0 ≡ queueAt s j ++ (r ∷ []))
       → Passed k s (put j (r .mark) (r .len)) (record { reply = accepted; state = record { clock = v; lanes = set (s .lanes) j l; order = order } })
   unfolding isAccepted sentIn offeredIn ofLane
-  behind l v order g q = record {
+  added l v order g q = record {
     given = set-cases (λ (m : Lane). m .given ≡ (laneAt s k) .given) (s .lanes) j k l noLane (in-range (s .lanes) j (a .has)) (λ e. rw (← e) g) (λ n. refl);
-    fifo = set-cases (λ (m : Lane). (laneAt s k) .queue ++ (if eqb j k then r ∷ [] else []) ≡ m .queue) (s .lanes) j k l noLane (in-range (s .lanes) j (a .has))
-        (λ e. rw (← e) (simp (eq-eqb j j refl, q)))
+    fifo = λ w. set-cases (λ (m : Lane). queueAt s k ++ (if eqb j k then r ∷ [] else []) ≡ queueOf (m .waiting) 0) (s .lanes) j k l noLane (in-range (s .lanes) j (a .has))
+        (λ e. rw (← e) (simp (eq-eqb j j refl, q w)))
         (λ n. simp (ne-eqb j k n, append-nil));
   }
+
+  entered-queue : AllSound s → queueOf (entered (laneAt s j) r) 0 ≡ queueAt s j ++ (r ∷ [])
+  entered-queue w = sym (queue-enter ((laneAt s j) .given .longest) ((laneAt s j) .waiting) 0 r (w j) (allowed-enters s j r a) 0)
 
   accept-passed : Passed k s (put j (r .mark) (r .len)) (record { reply = accepted; state = accept s j r })
   unfolding accept appended woken
   accept-passed =
       if-ind (λ (x : State). Passed k s (put j (r .mark) (r .len)) (record { reply = accepted; state = x })) (holds (laneAt s j)) _ _
-      (λ e. behind (appended (laneAt s j) r) _ _ refl refl)
-      (λ e. behind (woken (s .clock) (laneAt s j) r) _ _ refl (simp (idle-queue ((laneAt s j) .queue) e)))
+      (λ e. added (appended (laneAt s j) r) _ _ refl entered-queue)
+      (λ e. added (woken (s .clock) (laneAt s j) r) _ _ refl entered-queue)
 
 put-passed : (k : ℕ) (s : State) (j : ℕ) (r : Rec) (o : Option ℕ) → PutOk s j (r .len) o → Passed k s (put j (r .mark) (r .len)) (putOf s j r o)
 unfolding putOf
@@ -121,7 +124,7 @@ restart-passed k s =
     if-ind (Passed k s restart) (anyHolds (s .lanes)) _ _ (λ e. refused-passed k 15 s restart)
     (λ e. record {
       given = ap (λ (l : Lane). l .given) (restart-lane s k);
-      fifo = simp (append-nil, idle-queue ((laneAt s k) .queue) (none-holds (s .lanes) e k)) (sym (ap (λ (l : Lane). l .queue) (restart-lane s k)));
+      fifo = λ w. simp (append-nil, queue-none ((laneAt s k) .given .longest) ((laneAt s k) .waiting) (w k) (idle-first (firstOf (laneAt s k)) (none-holds (s .lanes) e k)) 0) (sym (ap (λ (l : Lane). queueOf (l .waiting) 0) (restart-lane s k) ∙ queue-nothing 0));
     })
 
 -- ---- every call

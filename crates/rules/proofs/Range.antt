@@ -3,16 +3,18 @@
 use Prim.Native.Nat.{ℕ, suc, _+_, _*_, _^_, _≤_, _<_, max}
 use native.Mathlib.Omega.{arith}
 use native.Mathlib.Nat.{le-refl}
-use mathlib.Core.Path.{_≡_, refl, sym, ap, subst}
+use mathlib.Core.Path.{_≡_, refl, sym, ap, subst, _∙_}
 use mathlib.Core.Bool.{Bool, true, false, not, _&&_, false≢true}
 use mathlib.Core.Option.{Option, none, some}
 use mathlib.Core.List.{List, [], _∷_, _++_, map}
 use lib.Dec.{ltb}
-use lib.ListN.{length, getD, set, length-append, length-set, length-map}
+use lib.ListN.{length, getD, set, length-set, length-map}
 use Rattle.units.specs.Plain.{if_then_else_, sum}
-use Rattle.rules.specs.State.{laneDepth, Setting, noSetting, setupOf, Lane, Rec, State, charge, slot, startR, holds, noLane, laneAt, anyHolds}
+use Rattle.waiting.specs.Waiting.{Waiting, held}
+use Rattle.waiting.proofs.Laws.{held-nothing, held-enter, held-hand, held-none, held-most, good-enter}
+use Rattle.rules.specs.State.{laneDepth, Setting, noSetting, setupOf, Lane, Rec, State, charge, slot, startR, firstOf, holds, noLane, laneAt, anyHolds}
 use Rattle.rules.specs.Choice.{leastOf}
-use Rattle.rules.specs.Calls.{Pick, Call, Outcome, put, take, look, sets, lag, restart, served, woken, appended, settled, settledAt, serve, takeOf, picked, doTake, putRefusal, accept, putOf, doPut, doLook, doSets, doRestart, idle, fresh, step}
+use Rattle.rules.specs.Calls.{Pick, Call, Outcome, put, take, look, sets, lag, restart, served, entered, woken, appended, settled, settledAt, serve, takeOf, picked, doTake, putRefusal, accept, putOf, doPut, doLook, doSets, doRestart, idle, fresh, step}
 use Rattle.rules.specs.Runs.{after}
 use Rattle.units.proofs.Round.{round-le}
 use Rattle.rules.proofs.Bools.{if-ind}
@@ -20,13 +22,14 @@ use Rattle.rules.proofs.Lists.{sum-set, sum-bound, sum-zero, set-all, g
 use Rattle.rules.proofs.Lane.{charge-mono, slot-pos}
 use Rattle.rules.proofs.Claim.{LaneOk, Queued, in-range}
 use Rattle.rules.proofs.Serve.{served-ok}
+use Rattle.rules.proofs.Moves.{MayEnter, idle-first}
 use Rattle.rules.proofs.Bounds.{idle-at}
 use Rattle.rules.proofs.Lowest.{Low, lowest, none-holds}
-use Rattle.rules.proofs.Keep.{Kept, step-kept, Picked, PickIs, pick-is, Allowed, PutOk, put-ok, look-same, lag-same}
-use Rattle.rules.proofs.Queues.{served-queue, served-given, idle-queue}
+use Rattle.rules.proofs.Keep.{Kept, step-kept, Picked, PickIs, pick-is, Allowed, allowed-enters, PutOk, put-ok, look-same, lag-same}
+use Rattle.rules.proofs.Queues.{served-waiting, served-given}
 
 abbrev pub heldIn : Lane → ℕ
-heldIn l = length (l .queue)
+heldIn l = held (l .waiting)
 
 pub record LaneRange (l : Lane) : Type 0 where
   pub slot : slot (l .given) ≤ 2 ^ 31
@@ -52,20 +55,24 @@ module _ (M : ℕ) (small : M < 2 ^ 32) (s : State) (p : Pick) (inv : Kept M s) 
   lj = laneAt s j
 
   abbrev ls′ : List Lane
-  ls′ = set (s .lanes) j (served lj (p .rest))
+  ls′ = set (s .lanes) j (served lj)
 
-  q : Queued (lj .given) (lj .start) (lj .finish) (p .first ∷ p .rest)
-  q = subst (Queued (lj .given) (lj .start) (lj .finish)) (h .queue) (inv .ok j .queued)
+  q : Queued (lj .given) (lj .start) (lj .finish) (some (p .first))
+  q = subst (Queued (lj .given) (lj .start) (lj .finish)) (h .is-first) (inv .ok j .queued)
 
   inside : j < length (s .lanes)
   inside = in-range (s .lanes) j (q .0)
 
   lanes-ok : (k : ℕ) → LaneOk M (s .clock) (getD ls′ k noLane)
-  lanes-ok = set-all (LaneOk M (s .clock)) (s .lanes) j (served lj (p .rest)) noLane (served-ok M (s .clock) (s .clock) lj (p .first) (p .rest) (inv .ok j) q (h .start) (le-refl (s .clock))) (inv .ok)
+  lanes-ok = set-all (LaneOk M (s .clock)) (s .lanes) j (served lj) noLane (served-ok M (s .clock) (s .clock) lj (p .first) (inv .ok j) q (h .start) (le-refl (s .clock))) (inv .ok)
+
+  -- one record fewer is held
+  one-less : heldIn lj ≡ suc (heldIn (served lj))
+  one-less = held-hand (lj .given .longest) (lj .waiting) (p .first) (inv .ok j .waiting) (h .is-first) ∙ ap (λ (x : Waiting). suc (held x)) (sym (served-waiting lj))
 
   lanes-range : (k : ℕ) → LaneRange (getD ls′ k noLane)
-  lanes-range = set-all LaneRange (s .lanes) j (served lj (p .rest)) noLane
-      (record { slot = rw (served-given lj (p .rest)) (r .lane j .slot); room = rw (served-queue lj (p .rest)) (omega (arith, r .lane j .room, ap length (h .queue))) }) (r .lane)
+  lanes-range = set-all LaneRange (s .lanes) j (served lj) noLane
+      (record { slot = rw (served-given lj) (r .lane j .slot); room = omega (arith, r .lane j .room, one-less) }) (r .lane)
 
   starts-lt : (k : ℕ) → holds (getD ls′ k noLane) ≡ true → startR (getD ls′ k noLane) < s .clock + 2 ^ 32
   starts-lt k e =
@@ -76,19 +83,18 @@ module _ (M : ℕ) (small : M < 2 ^ 32) (s : State) (p : Pick) (inv : Kept M s) 
         round-le (slot ((getD ls′ k noLane) .given)) ((getD ls′ k noLane) .start),
       )
 
-  take-range : Range (serve s j (p .first) (p .rest))
+  take-range : Range (serve s j (p .first))
   unfolding serve settled
   take-range = record {
     lane = lanes-range;
-    few = omega (arith, length-set (s .lanes) j (served lj (p .rest)), r .few);
+    few = omega (arith, length-set (s .lanes) j (served lj), r .few);
     clock = omega (
       arith,
       r .clock,
       settle-lt (s .clock + 1024 * charge (lj .given) (p .first .len)) (s .clock + 2 ^ 32) ls′ (leastOf holds ls′) (lowest ls′)
-          (omega (arith, inv .ok j .short, charge-mono (lj .given) (p .first .len) (lj .given .longest) (q .2 .0), small)) starts-lt,
-      sum-set heldIn (s .lanes) j (served lj (p .rest)) noLane inside,
-      ap length (h .queue),
-      ap length (served-queue lj (p .rest)),
+          (omega (arith, inv .ok j .short, charge-mono (lj .given) (p .first .len) (lj .given .longest) (q .2), small)) starts-lt,
+      sum-set heldIn (s .lanes) j (served lj) noLane inside,
+      one-less,
     );
   }
 
@@ -98,12 +104,24 @@ module _ (M : ℕ) (s : State) (j : ℕ) (x : Rec) (inv : Kept M s) (a : Allowed
   put-inside : j < length (s .lanes)
   put-inside = in-range (s .lanes) j (a .has)
 
+  enters : MayEnter (laneAt s j) x
+  enters = allowed-enters s j x a
+
+  entered-held : held (entered (laneAt s j) x) ≡ suc (heldIn (laneAt s j))
+  entered-held = held-enter ((laneAt s j) .given .longest) ((laneAt s j) .waiting) 0 x (inv .ok j .waiting) enters
+
+  entered-room : held (entered (laneAt s j) x) ≤ laneDepth
+  entered-room = held-most ((laneAt s j) .given .longest) (entered (laneAt s j) x) (good-enter ((laneAt s j) .given .longest) ((laneAt s j) .waiting) 0 x (inv .ok j .waiting) enters)
+
+  room : (l : Lane) → l .given ≡ (laneAt s j) .given → heldIn l ≡ suc (heldIn (laneAt s j)) → heldIn l ≤ laneDepth
+  room l g n = omega (arith, entered-held, entered-room)
+
   -- one record more, in a lane that has room for it
   one-more : (l : Lane) (v : ℕ) (order : List ℕ) → l .given ≡ (laneAt s j) .given → heldIn l ≡ suc (heldIn (laneAt s j))
       → (v ≡ s .clock) → Range (record { clock = v; lanes = set (s .lanes) j l; order = order })
   one-more l v order g n c =
       let lanes : (k : ℕ) → LaneRange (getD (set (s .lanes) j l) k noLane)
-      = set-all LaneRange (s .lanes) j l noLane (record { slot = rw g (r .lane j .slot); room = omega (arith, a .room) }) (r .lane) in
+      = set-all LaneRange (s .lanes) j l noLane (record { slot = rw g (r .lane j .slot); room = room l g n }) (r .lane) in
       let few : length (set (s .lanes) j l) ≤ 64 = omega (arith, length-set (s .lanes) j l, r .few) in
       record {
         lane = lanes;
@@ -135,7 +153,7 @@ module _ (M : ℕ) (s : State) (j : ℕ) (x : Rec) (inv : Kept M s) (a : Allowed
 
   woken-held : holds (laneAt s j) ≡ false → heldIn (woken (s .clock) (laneAt s j) x) ≡ suc (heldIn (laneAt s j))
   unfolding woken
-  woken-held e = omega (arith, ap length (idle-queue ((laneAt s j) .queue) e))
+  woken-held e = entered-held
 
   woken-given : (woken (s .clock) (laneAt s j) x) .given ≡ (laneAt s j) .given
   unfolding woken
@@ -143,14 +161,14 @@ module _ (M : ℕ) (s : State) (j : ℕ) (x : Rec) (inv : Kept M s) (a : Allowed
 
   appended-held : heldIn (appended (laneAt s j) x) ≡ suc (heldIn (laneAt s j))
   unfolding appended
-  appended-held = omega (arith, length-append ((laneAt s j) .queue) (x ∷ []))
+  appended-held = entered-held
 
   appended-given : (appended (laneAt s j) x) .given ≡ (laneAt s j) .given
   unfolding appended
   appended-given = refl
 
   none-held : anyHolds (s .lanes) ≡ false → sum heldIn (s .lanes) ≡ 0
-  none-held e = sum-zero heldIn (s .lanes) noLane (λ k. ap length (idle-queue ((laneAt s k) .queue) (none-holds (s .lanes) e k)))
+  none-held e = sum-zero heldIn (s .lanes) noLane (λ k. held-none ((laneAt s k) .given .longest) ((laneAt s k) .waiting) (inv .ok k .waiting) (idle-first (firstOf (laneAt s k)) (none-holds (s .lanes) e k)))
 
   accept-range : Range (accept s j x)
   unfolding accept
@@ -182,9 +200,9 @@ take-of-range M small s (some p) inv h r = take-range M small s p inv h r
 pub fresh-range : (gs : List Setting) → length gs ≤ 64 → ((k : ℕ) → slot (getD gs k noSetting) ≤ 2 ^ 31) → Range (fresh gs)
 unfolding fresh idle
 fresh-range gs few h = record {
-  lane = λ k. subst LaneRange (sym (idle-at gs k)) (record { slot = h k; room = omega arith });
+  lane = λ k. subst LaneRange (sym (idle-at gs k)) (record { slot = h k; room = omega (arith, held-nothing) });
   few = omega (arith, length-map gs idle);
-  clock = omega (arith, sum-zero heldIn (map idle gs) noLane (λ k. ap heldIn (idle-at gs k)));
+  clock = omega (arith, sum-zero heldIn (map idle gs) noLane (λ k. ap heldIn (idle-at gs k) ∙ held-nothing));
 }
 
 restart-range : (s : State) → Range s → Range ((doRestart s) .state)

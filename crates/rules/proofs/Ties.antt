@@ -14,10 +14,10 @@ use Rattle.rules.specs.Calls.{Pick, Call, Outcome, put, take, look, sets
 use Rattle.rules.proofs.Bools.{if-ind}
 use Rattle.rules.proofs.Lists.{set-cases}
 use Rattle.rules.proofs.Claim.{in-range}
-use Rattle.rules.proofs.Moves.{appended-holds}
+use Rattle.rules.proofs.Moves.{appended-holds, woken-holds}
 use Rattle.rules.proofs.Bounds.{idle-at}
-use Rattle.rules.proofs.Keep.{PickIs, pick-is, Allowed, PutOk, put-ok, look-same, lag-same}
-use Rattle.rules.proofs.Queues.{held-inside, served-queue}
+use Rattle.rules.proofs.Keep.{PickIs, pick-is, AllSound, Allowed, allowed-enters, PutOk, put-ok, look-same, lag-same}
+use Rattle.rules.proofs.Queues.{held-inside}
 
 unfoldable pub Tied : State → Type 0
 Tied s = (k : ℕ) → times k (s .order) ≡ (if holds (laneAt s k) then 1 else 0)
@@ -66,28 +66,28 @@ take-tied s none h t k = t k
 take-tied s (some p) h t k =
     let j = p .lane in
     let l = laneAt s j in
-    set-cases (λ (m : Lane). times k (without j (s .order) ++ (if some? (p .rest) then j ∷ [] else [])) ≡ (if holds m then 1 else 0))
-    (s .lanes) j k (served l (p .rest)) noLane (held-inside (s .lanes) j (p .first) (p .rest) (h .queue))
-    (λ e. rw (← e) (simp (times-append, again, times-same, served-queue, eq-eqb j j refl, one-if) (omega arith)))
+    set-cases (λ (m : Lane). times k (without j (s .order) ++ (if holds (served l) then j ∷ [] else [])) ≡ (if holds m then 1 else 0))
+    (s .lanes) j k (served l) noLane (held-inside (s .lanes) j (p .first) (h .is-first))
+    (λ e. rw (← e) (simp (times-append, again, times-same, eq-eqb j j refl, one-if) (omega arith)))
     (λ e. simp (times-append, again, times-other j k (s .order) e, ne-eqb j k e, none-if) (omega (arith, t k)))
 
 -- ---- put
 
-accept-tied : (s : State) (j : ℕ) (r : Rec) → Allowed s j (r .len) → Tied s → Tied (accept s j r)
+accept-tied : (s : State) (j : ℕ) (r : Rec) → AllSound s → Allowed s j (r .len) → Tied s → Tied (accept s j r)
 unfolding accept Tied appended woken
-accept-tied s j r a t =
+accept-tied s j r w a t =
     if-ind Tied (holds (laneAt s j)) _ _
     (λ b k. set-cases (λ (m : Lane). times k (s .order) ≡ (if holds m then 1 else 0)) (s .lanes) j k (appended (laneAt s j) r) noLane (in-range (s .lanes) j (a .has))
-    (λ e. rw (← e) (t j ∙ simp (b, appended-holds (laneAt s j) r)))
+    (λ e. rw (← e) (t j ∙ simp (b, appended-holds (laneAt s j) r (w j) (allowed-enters s j r a) b)))
     (λ e. t k))
     (λ b k. set-cases (λ (m : Lane). times k (s .order ++ (j ∷ [])) ≡ (if holds m then 1 else 0)) (s .lanes) j k (woken (s .clock) (laneAt s j) r) noLane (in-range (s .lanes) j (a .has))
-    (λ e. let u : times j (s .order) ≡ 0 = t j ∙ simp b in rw (← e) (simp (times-append, eq-eqb j j refl) (omega arith)))
+    (λ e. let u : times j (s .order) ≡ 0 = t j ∙ simp b in rw (← e) (simp (times-append, eq-eqb j j refl, woken-holds (s .clock) (laneAt s j) r (w j) (allowed-enters s j r a) b) (omega arith)))
     (λ e. simp (times-append, ne-eqb j k e) (omega (arith, t k))))
 
-put-tied : (s : State) (j : ℕ) (r : Rec) (o : Option ℕ) → PutOk s j (r .len) o → Tied s → Tied ((putOf s j r o) .state)
+put-tied : (s : State) (j : ℕ) (r : Rec) (o : Option ℕ) → AllSound s → PutOk s j (r .len) o → Tied s → Tied ((putOf s j r o) .state)
 unfolding putOf
-put-tied s j r none a t = accept-tied s j r a t
-put-tied s j r (some c) a t = t
+put-tied s j r none w a t = accept-tied s j r w a t
+put-tied s j r (some c) w a t = t
 
 pub fresh-tied : (gs : List Setting) → Tied (fresh gs)
 unfolding fresh Tied idle
@@ -97,11 +97,11 @@ restart-tied : (s : State) → Tied s → Tied ((doRestart s) .state)
 unfolding doRestart
 restart-tied s t = if-ind (λ (o : Outcome). Tied (o .state)) (anyHolds (s .lanes)) _ _ (λ e. t) (λ e. fresh-tied (setupOf s))
 
-pub step-tied : (s : State) (c : Call) → Tied s → Tied ((step s c) .state)
+pub step-tied : (s : State) (c : Call) → AllSound s → Tied s → Tied ((step s c) .state)
 unfolding step doPut doTake doLook doSets
-step-tied s (put j m n) t = put-tied s j (record { mark = m; len = n }) (putRefusal s j n) (put-ok s j n) t
-step-tied s take t = take-tied s (picked s) (pick-is s) t
-step-tied s look t = subst Tied (sym (look-same s (picked s))) t
-step-tied s sets t = t
-step-tied s (lag j) t = subst Tied (sym (lag-same s j)) t
-step-tied s restart t = restart-tied s t
+step-tied s (put j m n) w t = put-tied s j (record { mark = m; len = n }) (putRefusal s j n) w (put-ok s j n) t
+step-tied s take w t = take-tied s (picked s) (pick-is s) t
+step-tied s look w t = subst Tied (sym (look-same s (picked s))) t
+step-tied s sets w t = t
+step-tied s (lag j) w t = subst Tied (sym (lag-same s j)) t
+step-tied s restart w t = restart-tied s t

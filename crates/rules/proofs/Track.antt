@@ -10,7 +10,7 @@ use lib.Dec.{ltb, eqb}
 use lib.ListN.{set}
 use borrow.Author.Tests.{ltb-true, eq-eqb, ne-eqb}
 use Rattle.units.specs.Plain.{if_then_else_}
-use Rattle.rules.specs.State.{Rec, Lane, noLane, State, charge, rate, startR, holds, laneAt, setupOf, anyHolds}
+use Rattle.rules.specs.State.{Rec, Lane, noLane, State, charge, rate, startR, some?, holds, laneAt, setupOf, anyHolds}
 use Rattle.rules.specs.Choice.{leastOf}
 use Rattle.rules.specs.Calls.{Call, put, take, look, sets, lag, restart, Reply, accepted, seen, lagged, refused, Outcome, no, putRefusal, appended, woken, accept, putOf, doPut, served, settledAt, settled, serve, Pick, picked, takeOf, doTake, lookOf, doLook, doSets, lagOf, doLag, doRestart, step}
 use Rattle.rules.specs.Runs.{sentIn}
@@ -18,6 +18,7 @@ use Rattle.rules.specs.Fair.{charged, chargedTo}
 use Rattle.rules.proofs.Bools.{if-ind, and-parts}
 use Rattle.rules.proofs.Lists.{set-cases}
 use Rattle.rules.proofs.Claim.{weightOf, Queued, in-range}
+use Rattle.rules.proofs.Serve.{served-ind}
 use Rattle.rules.proofs.Lowest.{none-holds}
 use Rattle.rules.proofs.Keep.{Kept, PickIs, pick-is, Allowed, PutOk, put-ok}
 use Rattle.rules.proofs.Queues.{held-inside}
@@ -46,10 +47,8 @@ unfolding settledAt
 settled-ge v none = le-refl v
 settled-ge v (some r) = if-ind (λ (u : ℕ). v ≤ u) (ltb v r) r v (λ e. omega (arith, ltb-true v r e)) (λ e. le-refl v)
 
-served-start : (l : Lane) (rs : List Rec) → holds (served l rs) ≡ true → (served l rs) .start ≡ l .finish
-unfolding served
-served-start l [] e = absurd (false≢true e)
-served-start l (r ∷ rs) e = refl
+served-start : (l : Lane) → holds (served l) ≡ true → (served l) .start ≡ l .finish
+served-start l = served-ind (λ (m : Lane). holds m ≡ true → m .start ≡ l .finish) l (λ e t. absurd (false≢true (sym (ap some? e) ∙ t))) (λ r e t. refl)
 
 take-moved : (M k : ℕ) (s : State) (o : Option Pick) → Kept M s → PickIs s o → Moved k s (takeOf s o)
 unfolding takeOf serve settled sentIn charged chargedTo
@@ -58,15 +57,15 @@ take-moved M k s (some p) inv h =
     let j = p .lane in
     let l = laneAt s j in
     let n : ℕ = charge (l .given) (p .first .len) in
-    let q : Queued (l .given) (l .start) (l .finish) (p .first ∷ p .rest) = subst (Queued (l .given) (l .start) (l .finish)) (h .queue) (inv .ok j .queued) in
+    let q : Queued (l .given) (l .start) (l .finish) (some (p .first)) = subst (Queued (l .given) (l .start) (l .finish)) (h .is-first) (inv .ok j .queued) in
     record {
-      clock = λ _. rw (setting-lane s j) (settled-ge (s .clock + 1024 * n) (leastOf holds (set (s .lanes) j (served l (p .rest)))));
+      clock = λ _. rw (setting-lane s j) (settled-ge (s .clock + 1024 * n) (leastOf holds (set (s .lanes) j (served l))));
       start = λ _.
           rw (setting-lane s k)
           (set-cases
           (λ (m : Lane). holds m ≡ true → m .start ≡ (laneAt s k) .start + rate ((laneAt s k) .given) * (if eqb j k then charge ((laneAt s k) .given) (p .first .len) else 0))
-          (s .lanes) j k (served l (p .rest)) noLane (held-inside (s .lanes) j (p .first) (p .rest) (h .queue))
-          (λ e. rw (← e) (λ t. simp (eq-eqb j j refl) (omega (arith, served-start l (p .rest) t, q .1))))
+          (s .lanes) j k (served l) noLane (held-inside (s .lanes) j (p .first) (h .is-first))
+          (λ e. rw (← e) (λ t. simp (eq-eqb j j refl) (omega (arith, served-start l t, q .1))))
           (λ e t. simp (ne-eqb j k e) (omega arith)));
     }
 

@@ -12,10 +12,11 @@ use mathlib.Core.List.{List, [], _∷_, _++_, map}
 use mathlib.Core.Option.{Option, none, some}
 use lib.Dec.{leb, ltb}
 use lib.IntN.{ℤ, subℕ}
-use lib.ListN.{length, set}
+use lib.ListN.{set}
 use Rattle.units.specs.Numbers.{lineRate}
 use Rattle.units.specs.Plain.{if_then_else_, without}
-use Rattle.rules.specs.State.{Rec, Setting, Lane, State, charge, laneDepth, rate, startR, some?, holds, laneAt, setupOf, anyHolds}
+use Rattle.waiting.specs.Waiting.{Waiting, nothing, first, enter, handOut, full}
+use Rattle.rules.specs.State.{Rec, Setting, Lane, State, charge, rate, startR, firstOf, holds, laneAt, setupOf, anyHolds}
 use Rattle.rules.specs.Choice.{Candidate, choose, leastOf}
 use Rattle.rules.specs.Sets.{ready, ineligibleReady, eligibleBlocked, ineligibleBlocked, setWord}
 
@@ -50,19 +51,22 @@ putRefusal s j n =
     let l = laneAt s j in
     if ltb (l .given .weight) 1 then some 11
     else if ltb n 1 || ltb (l .given .longest) n then some 12
-    else if leb laneDepth (length (l .queue)) then some 13
+    else if full (l .waiting) 0 then some 13
     else if leb (2 ^ 62) (s .clock) then some 14
     else none
 
--- "Put appends the record."
+-- "Put appends the record." Until lanes are shared every record is of train 0.
+abbrev pub entered : Lane → Rec → Waiting
+entered l r = enter (l .given .longest) (l .waiting) 0 r
+
 unfoldable pub appended : Lane → Rec → Lane
-appended l r = record { given = l .given; start = l .start; finish = l .finish; queue = l .queue ++ (r ∷ []) }
+appended l r = record { given = l .given; start = l .start; finish = l .finish; waiting = entered l r }
 
 -- "If the lane was idle: S = the greater of F and V, F = S + length times c."
 unfoldable pub woken : ℕ → Lane → Rec → Lane
 woken v l r =
     let s = max (l .finish) v in
-    record { given = l .given; start = s; finish = s + charge (l .given) (r .len) * rate (l .given); queue = r ∷ [] }
+    record { given = l .given; start = s; finish = s + charge (l .given) (r .len) * rate (l .given); waiting = entered l r }
 
 -- "If no other lane holds a record and V is below R, then V = R." Getting an S puts the lane at the end of the tie order.
 unfoldable pub accept : State → ℕ → Rec → State
@@ -87,9 +91,16 @@ doPut s j r = putOf s j r (putRefusal s j (r .len))
 -- ---- take and look
 
 -- "If the lane holds more, S = F and F = S + next length times c ..; else it is idle and keeps F." An idle lane has no S: 0 stands for it.
-unfoldable pub served : Lane → List Rec → Lane
-served l [] = record { given = l .given; start = 0; finish = l .finish; queue = [] }
-served l (r ∷ rs) = record { given = l .given; start = l .finish; finish = l .finish + charge (l .given) (r .len) * rate (l .given); queue = r ∷ rs }
+unfoldable pub timed : Setting → ℕ → Waiting → Option Rec → Lane
+timed g x w none = record { given = g; start = 0; finish = x; waiting = w }
+timed g x w (some r) = record { given = g; start = x; finish = x + charge g (r .len) * rate g; waiting = w }
+
+-- what waits in a lane whose first record is handed out
+abbrev pub behind : Lane → Waiting
+behind l = handOut (l .given .longest) (l .waiting)
+
+unfoldable pub served : Lane → Lane
+served l = timed (l .given) (l .finish) (behind l) (first (behind l))
 
 -- "Last, if records are held and no lane is eligible, V becomes the least R." The least R, if any, is that of the lanes that hold records.
 unfoldable pub settledAt : ℕ → Option ℕ → ℕ
@@ -99,30 +110,29 @@ settledAt v (some r) = if ltb v r then r else v
 unfoldable pub settled : ℕ → List Lane → ℕ
 settled v ls = settledAt v (leastOf holds ls)
 
--- Lane j's first record r is handed out, and rs stay. "V grows by 1,024 times the length." A new S is got now, also where R is the same, so the lane
+-- Lane j's first record r is handed out. "V grows by 1,024 times the length." A new S is got now, also where R is the same, so the lane
 -- goes to the end of the tie order.
-unfoldable pub serve : State → ℕ → Rec → List Rec → State
-serve s j r rs =
-    let ls = set (s .lanes) j (served (laneAt s j) rs) in
+unfoldable pub serve : State → ℕ → Rec → State
+serve s j r =
+    let ls = set (s .lanes) j (served (laneAt s j)) in
     record {
       clock = settled (s .clock + lineRate * charge ((laneAt s j) .given) (r .len)) ls;
       lanes = ls;
-      order = without j (s .order) ++ (if some? rs then j ∷ [] else []);
+      order = without j (s .order) ++ (if holds (served (laneAt s j)) then j ∷ [] else []);
     }
 
--- the chosen lane's number, its first record and the records behind it
+-- the chosen lane's number and its first record
 pub record Pick : Type 0 where
   pub lane : ℕ
   pub first : Rec
-  pub rest : List Rec
 
-unfoldable pub firstOf : ℕ → List Rec → Option Pick
-firstOf j [] = none
-firstOf j (r ∷ rs) = some (record { lane = j; first = r; rest = rs })
+unfoldable pub pickFirst : ℕ → Option Rec → Option Pick
+pickFirst j none = none
+pickFirst j (some r) = some (record { lane = j; first = r })
 
 unfoldable pub pickOf : State → Option Candidate → Option Pick
 pickOf s none = none
-pickOf s (some c) = firstOf (c .lane) ((laneAt s (c .lane)) .queue)
+pickOf s (some c) = pickFirst (c .lane) (firstOf (laneAt s (c .lane)))
 
 unfoldable pub picked : State → Option Pick
 picked s = pickOf s (choose s)
@@ -130,7 +140,7 @@ picked s = pickOf s (choose s)
 -- "Hand out its first record"; 16 with nothing held
 unfoldable pub takeOf : State → Option Pick → Outcome
 takeOf s none = no 16 s
-takeOf s (some p) = record { reply = taken (p .lane) (p .first .mark) (p .first .len); state = serve s (p .lane) (p .first) (p .rest) }
+takeOf s (some p) = record { reply = taken (p .lane) (p .first .mark) (p .first .len); state = serve s (p .lane) (p .first) }
 
 unfoldable pub doTake : State → Outcome
 doTake s = takeOf s (picked s)
@@ -159,7 +169,7 @@ doLag s j =
 
 -- "Fresh: V = 0, each lane idle with F = 0."
 unfoldable pub idle : Setting → Lane
-idle g = record { given = g; start = 0; finish = 0; queue = [] }
+idle g = record { given = g; start = 0; finish = 0; waiting = nothing }
 
 unfoldable pub fresh : List Setting → State
 fresh gs = record { clock = 0; lanes = map idle gs; order = [] }

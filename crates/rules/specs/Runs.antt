@@ -13,6 +13,7 @@ use mathlib.Core.List.{List, [], _∷_, _++_}
 use mathlib.Core.Option.{Option, none, some}
 use lib.Dec.{eqb}
 use Rattle.units.specs.Plain.{if_then_else_}
+use Rattle.waiting.specs.Waiting.{queueOf}
 use Rattle.rules.specs.State.{Rec, Setting, State, laneAt}
 use Rattle.rules.specs.Calls.{Call, put, take, look, sets, lag, restart, Reply, accepted, taken, seen, words, lagged, restarted, refused, fresh, step}
 
@@ -82,4 +83,4 @@ sentOf k (e ∷ es) = ofLane k (sentIn (e .reply)) ++ sentOf k es
 -- "Each accepted record is handed out once, in its lane's order, or is still held." For any list of calls from a fresh table of the setup gs and any lane k:
 -- the records accepted are those handed out, and then those still queued.
 unfoldable pub InOrder : List Setting → Type 0
-InOrder gs = (calls : List Call) (k : ℕ) → acceptedOf k (trace (fresh gs) calls) ≡ sentOf k (trace (fresh gs) calls) ++ (laneAt (after (fresh gs) calls) k) .queue
+InOrder gs = (calls : List Call) (k : ℕ) → acceptedOf k (trace (fresh gs) calls) ≡ sentOf k (trace (fresh gs) calls) ++ queueOf ((laneAt (after (fresh gs) calls) k) .waiting) 0

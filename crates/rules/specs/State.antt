@@ -2,7 +2,7 @@
 --
 --   Rec          a waiting record: its mark and its length
 --   Setting      what the setup gives a lane: weight and longest
---   Lane         a setting, S, F and the queue, first record first
+--   Lane         a setting, S, F and what waits (crate `waiting`)
 --   State        the clock V, a lane for each number, and the tie order
 --   charge       what a record of a length costs: its own length
 --   rate         c, the clock units for each byte of a lane
@@ -14,16 +14,14 @@
 use Prim.Native.Nat.{ℕ, _+_, _*_, _^_}
 use mathlib.Core.Bool.{Bool, true, false, _&&_, _||_}
 use mathlib.Core.List.{List, [], _∷_, map}
+use mathlib.Core.Option.{Option, none, some}
 use lib.Dec.{leb}
 use lib.ListN.{getD}
 use Rattle.units.specs.Numbers.{perByte, leastPower, roundDown}
+pub use Rattle.waiting.specs.Waiting.{Rec, laneDepth}
+use Rattle.waiting.specs.Waiting.{Waiting, nothing, first}
 
 -- ---- what a state holds
-
--- "records as (mark, length) pairs"
-pub record Rec : Type 0 where
-  pub mark : ℕ
-  pub len : ℕ
 
 pub record Setting : Type 0 where
   pub weight : ℕ
@@ -33,7 +31,7 @@ pub record Lane : Type 0 where
   pub given : Setting
   pub start : ℕ
   pub finish : ℕ
-  pub queue : List Rec
+  pub waiting : Waiting
 
 -- The lanes stand by number; one that is not in the setup has weight 0. The tie order names the lanes that hold records, the one that got its
 -- present S earliest first. It is a list and no counter, so nothing in it can run out.
@@ -47,10 +45,6 @@ pub record State : Type 0 where
 -- "A record's own length is what is charged." The rest of the rules and the proofs know of a charge only that it grows with the length.
 unfoldable pub charge : Setting → ℕ → ℕ
 charge g n = n
-
--- "Each lane holds at most 16 records, so lanes share no room."
-abbrev pub laneDepth : ℕ
-laneDepth = 16
 
 abbrev pub rate : Setting → ℕ
 rate g = perByte (g .weight)
@@ -70,12 +64,15 @@ startR l = roundDown (slot (l .given)) (l .start)
 abbrev pub finishR : Lane → ℕ
 finishR l = startR l + 2 * slot (l .given)
 
-abbrev pub some? : List Rec → Bool
-some? [] = false
-some? (r ∷ rs) = true
+abbrev pub some? : Option Rec → Bool
+some? none = false
+some? (some r) = true
+
+abbrev pub firstOf : Lane → Option Rec
+firstOf l = first (l .waiting)
 
 abbrev pub holds : Lane → Bool
-holds l = some? (l .queue)
+holds l = some? (firstOf l)
 
 -- "A lane with a record is eligible when R is at most V."
 unfoldable pub eligible : ℕ → Lane → Bool
@@ -87,7 +84,7 @@ abbrev pub noSetting : Setting
 noSetting = record { weight = 0; longest = 0 }
 
 abbrev pub noLane : Lane
-noLane = record { given = noSetting; start = 0; finish = 0; queue = [] }
+noLane = record { given = noSetting; start = 0; finish = 0; waiting = nothing }
 
 abbrev pub settingAt : List Setting → ℕ → Setting
 settingAt gs k = getD gs k noSetting

@@ -7,6 +7,7 @@ use mathlib.Core.Logic.{_⊎_, inl, inr}
 use mathlib.Core.List.{List, [], _∷_, _++_, map}
 use mathlib.Core.Option.{Option, none, some}
 use lib.ListN.{getD}
+use Rattle.waiting.specs.Waiting.{queueOf}
 use Rattle.rules.specs.State.{Lane, noLane, State, laneAt, anyHolds}
 use Rattle.rules.specs.Calls.{Call, take, restart, Reply, restarted, refused, Pick, picked, takeOf, doTake, fresh, doRestart, step}
 use Rattle.rules.specs.Runs.{Event, after, trace, acceptedOf, sentOf, InOrder}
@@ -71,8 +72,8 @@ unfolding OrderKept InOrder
 order-kept gs t u calls b ch s e k =
     let r = begins-ran gs t b u calls ch in
     let lanes = same-lanes u (after (fresh gs) (r .calls)) s (r .encodes) e in
-    subst (λ (es : List Event). acceptedOf k es ≡ sentOf k es ++ laneAt s k .queue) (r .events)
-    (in-order gs (r .calls) k ∙ ap (λ (ls : List Lane). sentOf k (trace (fresh gs) (r .calls)) ++ (getD ls k noLane) .queue) lanes)
+    subst (λ (es : List Event). acceptedOf k es ≡ sentOf k es ++ queueOf (laneAt s k .waiting) 0) (r .events)
+    (in-order gs (r .calls) k ∙ ap (λ (ls : List Lane). sentOf k (trace (fresh gs) (r .calls)) ++ queueOf ((getD ls k noLane) .waiting) 0) lanes)
 
 pub setup-kept-calls : SetupKept
 unfolding SetupKept

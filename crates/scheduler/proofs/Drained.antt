@@ -6,8 +6,9 @@ use mathlib.Core.Bool.{Bool, true, false}
 use mathlib.Core.List.{List, [], _∷_, _++_, map}
 use lib.Dec.{ltb}
 use lib.IntN.{ℤ}
-use lib.ListN.{length, replicate}
+use lib.ListN.{replicate}
 use Rattle.units.specs.Plain.{if_then_else_, sum}
+use Rattle.waiting.specs.Waiting.{held}
 use Rattle.rules.specs.State.{Lane, State, laneAt}
 use Rattle.rules.specs.Calls.{Call, take, lag, lagged, restart, Reply, restarted, no, lagOf, doLag, fresh, step}
 use Rattle.rules.specs.Runs.{Event, after, trace}
@@ -46,7 +47,7 @@ drained-calls gs t u v calls takes e b ch more same again =
     let σ = after (fresh gs) (first .calls) in
     let made : Reached σ = reached (fresh gs) (first .calls) (fresh-reached gs (begins-setup gs t b)) in
     let rest = ran σ made (first .encodes) more in
-    let n : heldIn u ≡ heldBy σ = ap (λ (ls : List Lane). sum (λ (l : Lane). length (l .queue)) ls) (first .encodes .alike .lanes) in
+    let n : heldIn u ≡ heldBy σ = ap (λ (ls : List Lane). sum (λ (l : Lane). held (l .waiting)) ls) (first .encodes .alike .lanes) in
     let takes-are : callsOf takes ≡ replicate (heldBy σ) take = same ∙ ap (λ (k : ℕ). replicate k take) n in
     let are : rest .calls ≡ replicate (heldBy σ) take ++ (restart ∷ []) =
     sym (calls-of-trace σ (rest .calls)) ∙ ap callsOf (rest .events) ∙ calls-append takes (e ∷ [])

@@ -5,6 +5,7 @@ use mathlib.Core.Bool.{Bool, true, false, false≢true}
 use mathlib.Core.List.{List, [], _∷_, _++_, append-nil, append-assoc}
 use mathlib.Core.Option.{none}
 use lib.ListN.{getD}
+use Rattle.waiting.specs.Waiting.{queueOf}
 use Rattle.rules.specs.State.{Rec, Lane, noLane, State, laneAt}
 use Rattle.rules.specs.Calls.{Call, Reply, refused, step}
 use Rattle.rules.specs.Reads.{reads}
@@ -25,7 +26,7 @@ use Rattle.scheduler.specs.Chain.{Chain, done, then}
 use Rattle.scheduler.specs.OrderFrom.{OrderFrom}
 
 abbrev heldOf : List ℕ → ℕ → List Rec
-heldOf t k = laneAt (meant t) k .queue
+heldOf t k = queueOf (laneAt (meant t) k .waiting) 0
 
 -- one call, on bytes that are long enough and store beside their state what agrees
 record Kept (c : Call) (t : List ℕ) (a : Answer) (u : List ℕ) : Type 0 where
@@ -42,7 +43,7 @@ module _ (c : Call) (t : List ℕ) (a : Answer) (u : List ℕ) (p : Step c t a u
       record {
         fifo = λ k.
             subst (λ (r : Reply). heldOf t k ++ ofLane k (acceptedIn (record { call = c; reply = r })) ≡ ofLane k (sentIn r) ++ heldOf u k) (sym reply)
-            (step-passed k s c .fifo ∙ ap (λ (ls : List Lane). ofLane k (sentIn ((step s c) .reply)) ++ (getD ls k noLane) .queue) (sym (left .alike .lanes)));
+            (step-passed k s c .fifo (h .waiting) ∙ ap (λ (ls : List Lane). ofLane k (sentIn ((step s c) .reply)) ++ queueOf ((getD ls k noLane) .waiting) 0) (sym (left .alike .lanes)));
         encodes = record { room = left .room; alike = alike-refl (meant u); beside = left .beside };
       }
 

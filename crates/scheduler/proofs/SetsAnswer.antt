@@ -6,12 +6,12 @@ use mathlib.Core.Bool.{Bool, true, false}
 use mathlib.Core.List.{List, [], _∷_}
 use mathlib.Core.Option.{Option, none, some}
 use Rattle.words.specs.Bits.{bit}
-use Rattle.rules.specs.State.{Rec, State, Lane, group, laneAt}
+use Rattle.rules.specs.State.{Rec, State, Lane, firstOf, group, laneAt}
 use Rattle.rules.specs.Choice.{Candidate, choose}
 use Rattle.rules.specs.Good.{Good}
 use Rattle.units.specs.Plain.{count}
 use Rattle.rules.specs.Sets.{groups, ready, ineligibleReady, eligibleBlocked, ineligibleBlocked, setWord}
-use Rattle.rules.specs.Calls.{sets, look, words, seen, firstOf, pickOf, picked, lookOf, doLook, doSets, step}
+use Rattle.rules.specs.Calls.{sets, look, words, seen, pickFirst, pickOf, picked, lookOf, doLook, doSets, step}
 use Rattle.rules.proofs.Word.{word-lt, word-bit}
 use Rattle.rules.proofs.BySets.{sets-rule}
 use Rattle.table.specs.Means.{meant}
@@ -25,16 +25,16 @@ record Names (s : State) (j : ℕ) : Type 0 where
   lane : chosen .lane ≡ j
 
 look-names : (s : State) (j m n : ℕ) → (step s look) .reply ≡ seen j m n → Names s j
-unfolding step doLook picked pickOf firstOf lookOf
+unfolding step doLook picked pickOf pickFirst lookOf
 look-names s j m n h = go (choose s) refl h
   where
-    queued : (c : Candidate) (q : List Rec) → (lookOf s (firstOf (c .lane) q)) .reply ≡ seen j m n → c .lane ≡ j
-    queued c [] e = let z : _≡_ {A = ℕ} 0 1 = cc in absurd (omega arith)
-    queued c (r ∷ rs) e = cc
+    queued : (c : Candidate) (o : Option Rec) → (lookOf s (pickFirst (c .lane) o)) .reply ≡ seen j m n → c .lane ≡ j
+    queued c none e = let z : _≡_ {A = ℕ} 0 1 = cc in absurd (omega arith)
+    queued c (some r) e = cc
 
     go : (o : Option Candidate) → choose s ≡ o → (lookOf s (pickOf s o)) .reply ≡ seen j m n → Names s j
     go none q e = let z : _≡_ {A = ℕ} 0 1 = cc in absurd (omega arith)
-    go (some c) q e = record { chosen = c; is = q; lane = queued c ((laneAt s (c .lane)) .queue) e }
+    go (some c) q e = record { chosen = c; is = q; lane = queued c (firstOf (laneAt s (c .lane))) e }
 
 is-set : (b : Bool) → count b ≡ 1 → b ≡ true
 is-set true e = refl

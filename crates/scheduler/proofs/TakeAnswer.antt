@@ -3,12 +3,11 @@ use Prim.Native.Nat.{ℕ, _+_}
 use native.Mathlib.Omega.{arith}
 use mathlib.Core.Path.{_≡_, refl, sym, ap, subst, _∙_}
 use mathlib.Core.Bool.{true}
-use mathlib.Core.List.{List, [], _∷_}
 use mathlib.Core.Option.{Option, none, some}
 use Rattle.units.specs.Plain.{place}
-use Rattle.rules.specs.State.{Rec, State, group, finishR, eligible, laneAt}
+use Rattle.rules.specs.State.{Rec, State, group, finishR, firstOf, eligible, laneAt}
 use Rattle.rules.specs.Choice.{Candidate, choose, chooseFrom}
-use Rattle.rules.specs.Calls.{Pick, take, look, taken, seen, refused, step, doTake, doLook, picked, pickOf, firstOf, takeOf, lookOf}
+use Rattle.rules.specs.Calls.{Pick, take, look, taken, seen, refused, step, doTake, doLook, picked, pickFirst, pickOf, takeOf, lookOf}
 use Rattle.rules.specs.Reads.{reads}
 use Rattle.rules.proofs.Chosen.{Ahead, Chosen, Choice, chosen}
 use Rattle.table.specs.Means.{meant}
@@ -16,11 +15,11 @@ use Rattle.good.proofs.Encodes.{good-encodes}
 use Rattle.scheduler.specs.TakeAnswer.{Served, TakeCall, LookTakes}
 
 module _ (s : State) (j m n : ℕ) where
-  served-by : (c : Candidate) → Chosen (s .clock) (s .order) 0 (s .lanes) c → (q : List Rec) → laneAt s (c .lane) .queue ≡ q
-      → (takeOf s (firstOf (c .lane) q)) .reply ≡ taken j m n → Served s j m n
-  unfolding takeOf firstOf
-  served-by c h [] p e = let z : _≡_ {A = ℕ} 0 1 = cc in absurd (omega arith)
-  served-by c h (r ∷ rs) p e =
+  served-by : (c : Candidate) → Chosen (s .clock) (s .order) 0 (s .lanes) c → (o : Option Rec) → firstOf (laneAt s (c .lane)) ≡ o
+      → (takeOf s (pickFirst (c .lane) o)) .reply ≡ taken j m n → Served s j m n
+  unfolding takeOf pickFirst
+  served-by c h none p e = let z : _≡_ {A = ℕ} 0 1 = cc in absurd (omega arith)
+  served-by c h (some r) p e =
       let l : c .lane ≡ j = cc in
       let mk : r .mark ≡ m = cc in
       let ln : r .len ≡ n = cc in
@@ -30,8 +29,7 @@ module _ (s : State) (j m n : ℕ) where
       let grp : c .group ≡ group (laneAt s j .given) = h .grp ∙ ap (λ (x : ℕ). group (laneAt s x .given)) at in
       record {
         may = subst (λ (x : ℕ). eligible (s .clock) (laneAt s x) ≡ true) at (h .is);
-        behind = rs;
-        first = subst (λ (x : ℕ). laneAt s x .queue ≡ r ∷ rs) l p ∙ ap (λ (x : ℕ). record { mark = x; len = r .len } ∷ rs) mk ∙ ap (λ (x : ℕ). record { mark = m; len = x } ∷ rs) ln;
+        first = subst (λ (x : ℕ). firstOf (laneAt s x) ≡ some r) l p ∙ ap (λ (x : ℕ). some (record { mark = x; len = r .len })) mk ∙ ap (λ (x : ℕ). some (record { mark = m; len = x })) ln;
         least = λ k t. omega (arith, h .least k t .fin, fin);
         lowest = λ k t f. omega (arith, h .least k t .grp (omega (arith, fin)), grp);
         earliest = λ k t f g.
@@ -45,7 +43,7 @@ module _ (s : State) (j m n : ℕ) where
     where
       go : (o : Option Candidate) → Choice (s .clock) (s .order) 0 (s .lanes) o → (takeOf s (pickOf s o)) .reply ≡ taken j m n → Served s j m n
       go none h e = let z : _≡_ {A = ℕ} 0 1 = cc in absurd (omega arith)
-      go (some c) h e = served-by c h (laneAt s (c .lane) .queue) refl e
+      go (some c) h e = served-by c h (firstOf (laneAt s (c .lane))) refl e
 
 pub take-call : TakeCall
 unfolding TakeCall

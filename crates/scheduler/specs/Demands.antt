@@ -15,6 +15,7 @@ use mathlib.Core.Logic.{_⊎_}
 use mathlib.Core.List.{List, _∷_, _++_, map}
 use mathlib.Core.Option.{none}
 use Rattle.units.specs.Numbers.{lineRate}
+use Rattle.waiting.specs.Waiting.{queueOf}
 use Rattle.rules.specs.State.{Setting, settingAt, State, rate, slot, laneAt, setupOf}
 use Rattle.rules.specs.Setup.{margin}
 use Rattle.rules.specs.Calls.{Call, take, restart, Reply, taken, restarted, refused, fresh}
@@ -52,7 +53,7 @@ NeverTen =
 unfoldable pub OrderKept : Type 0
 OrderKept =
     (gs : List Setting) (t u : List ℕ) (calls : List Event) → Begins gs t → Chain t calls u
-    → (s : State) → Encodes u s → (k : ℕ) → acceptedOf k calls ≡ sentOf k calls ++ laneAt s k .queue
+    → (s : State) → Encodes u s → (k : ℕ) → acceptedOf k calls ≡ sentOf k calls ++ queueOf (laneAt s k .waiting) 0
 
 unfoldable pub SetupKept : Type 0
 SetupKept = (gs : List Setting) (t u : List ℕ) (calls : List Event) → Begins gs t → Chain t calls u → (s : State) → Encodes u s → setupOf s ≡ gs

@@ -9,8 +9,9 @@ use Prim.Native.Nat.{ℕ}
 use mathlib.Core.Path.{_≡_}
 use mathlib.Core.List.{List, [], _∷_, _++_}
 use lib.IntN.{ℤ}
-use lib.ListN.{length, replicate}
+use lib.ListN.{replicate}
 use Rattle.units.specs.Plain.{sum}
+use Rattle.waiting.specs.Waiting.{held}
 use Rattle.rules.specs.State.{Setting, Lane, laneAt}
 use Rattle.rules.specs.Calls.{take, lag, lagged, restart, restarted, lagOf}
 use Rattle.rules.specs.Reads.{reads}
@@ -24,7 +25,7 @@ use Rattle.scheduler.specs.Chain.{Chain, Begins}
 use Rattle.scheduler.specs.Demands.{callsOf}
 
 abbrev pub heldIn : List ℕ → ℕ
-heldIn u = sum (λ (l : Lane). length (l .queue)) (meant u .lanes)
+heldIn u = sum (λ (l : Lane). held (l .waiting)) (meant u .lanes)
 
 unfoldable pub Drained : Type 0
 Drained =

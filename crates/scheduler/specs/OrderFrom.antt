@@ -4,6 +4,7 @@
 use Prim.Native.Nat.{ℕ}
 use mathlib.Core.Path.{_≡_}
 use mathlib.Core.List.{List, _++_}
+use Rattle.waiting.specs.Waiting.{queueOf}
 use Rattle.rules.specs.State.{laneAt}
 use Rattle.rules.specs.Runs.{Event, acceptedOf, sentOf}
 use Rattle.table.specs.Means.{meant}
@@ -13,4 +14,4 @@ use Rattle.scheduler.specs.Chain.{Chain}
 unfoldable pub OrderFrom : Type 0
 OrderFrom =
     (t u : List ℕ) (es : List Event) → GoodTable t → Chain t es u
-    → (k : ℕ) → laneAt (meant t) k .queue ++ acceptedOf k es ≡ sentOf k es ++ laneAt (meant u) k .queue
+    → (k : ℕ) → queueOf (laneAt (meant t) k .waiting) 0 ++ acceptedOf k es ≡ sentOf k es ++ queueOf (laneAt (meant u) k .waiting) 0

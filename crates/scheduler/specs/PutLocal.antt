@@ -16,6 +16,6 @@ use Rattle.scheduler.specs.Step.{Step}
 unfoldable pub PutLocal : Type 0
 PutLocal =
     (t t′ u u′ : List ℕ) (a a′ : Answer) (j m m′ n r : ℕ) → GoodTable t → GoodTable t′
-    → laneAt (meant t) j .given ≡ laneAt (meant t′) j .given → laneAt (meant t) j .queue ≡ laneAt (meant t′) j .queue
+    → laneAt (meant t) j .given ≡ laneAt (meant t′) j .given → laneAt (meant t) j .waiting ≡ laneAt (meant t′) j .waiting
     → Step (put j m n) t a u → Step (put j m′ n) t′ a′ u′
     → (r ≡ 12) ⊎ (r ≡ 13) → reads a ≡ refused r none → reads a′ ≡ refused r none

@@ -8,10 +8,10 @@
 use Prim.Native.Nat.{ℕ, _≤_}
 use mathlib.Core.Path.{_≡_}
 use mathlib.Core.Bool.{true}
-use mathlib.Core.List.{List, _∷_}
-use mathlib.Core.Option.{none}
+use mathlib.Core.List.{List}
+use mathlib.Core.Option.{none, some}
 use Rattle.units.specs.Plain.{place}
-use Rattle.rules.specs.State.{Rec, State, group, finishR, eligible, laneAt}
+use Rattle.rules.specs.State.{State, group, finishR, firstOf, eligible, laneAt}
 use Rattle.rules.specs.Calls.{take, look, taken, seen, refused}
 use Rattle.rules.specs.Reads.{reads}
 use Rattle.rules.specs.declared.Answer.{Answer}
@@ -22,8 +22,7 @@ use Rattle.scheduler.specs.Step.{Step}
 pub record Served (s : State) (j m n : ℕ) : Type 0 where
   pub may : eligible (s .clock) (laneAt s j) ≡ true
   -- its first record
-  pub behind : List Rec
-  pub first : laneAt s j .queue ≡ record { mark = m; len = n } ∷ behind
+  pub first : firstOf (laneAt s j) ≡ some (record { mark = m; len = n })
   -- "the least rounded finish; ties go to the lowest group, then to the lane that got its present S earliest"
   pub least : (k : ℕ) → eligible (s .clock) (laneAt s k) ≡ true → finishR (laneAt s j) ≤ finishR (laneAt s k)
   pub lowest : (k : ℕ) → eligible (s .clock) (laneAt s k) ≡ true → finishR (laneAt s k) ≤ finishR (laneAt s j) → group (laneAt s j .given) ≤ group (laneAt s k .given)

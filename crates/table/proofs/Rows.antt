@@ -11,8 +11,9 @@ use Rattle.table.specs.Layout.{presentWord, laneWord, placeWord, rowAt, 
 use Rattle.table.specs.Means.{presentAt, ringOf, givenOf, timed, rowLane, laneOf, stateOf}
 use Rattle.table.specs.declared.LaneRow.{LaneRow}
 use Rattle.words.proofs.Runs.{length-tab}
+use Rattle.waiting.specs.Waiting.{plain, held}
 use Rattle.rules.specs.State.{Lane, laneAt, holds, noLane}
-use Rattle.table.proofs.Timed.{timed-given, timed-queue}
+use Rattle.table.proofs.Timed.{timed-given, timed-waiting}
 use Rattle.table.proofs.Footprint.{Outside, present-kept, row-kept, ring-kept, lane-is}
 
 -- ---- where the stores lie
@@ -107,8 +108,9 @@ module _ (w : List ℕ) (k : ℕ) (p : presentAt w k ≡ true) where
   pub given-row : laneOf w k .given ≡ givenOf (rowAt w k)
   given-row = ap (λ (l : Lane). l .given) (lane-present w k p) ∙ timed-given _ _ _
 
-  pub queue-row : laneOf w k .queue ≡ ringOf w k (rowAt w k .head) (rowAt w k .count)
-  queue-row = ap (λ (l : Lane). l .queue) (lane-present w k p) ∙ timed-queue _ _ _
+  pub waiting-row : laneOf w k .waiting ≡ plain (ringOf w k (rowAt w k .head) (rowAt w k .count))
+  waiting-row = ap (λ (l : Lane). l .waiting) (lane-present w k p) ∙ timed-waiting _ _ _
 
-  pub count-row : length (laneOf w k .queue) ≡ rowAt w k .count
-  count-row = ap length queue-row ∙ length-ring w k _ _
+  pub count-row : held (laneOf w k .waiting) ≡ rowAt w k .count
+  unfolding held
+  count-row = ap held waiting-row ∙ length-ring w k _ _

@@ -19,6 +19,7 @@ use lib.ListN.{length, drop, getD, set}
 use Rattle.words.specs.Bits.{bit}
 use Rattle.words.specs.Runs.{reads, tab}
 use Rattle.units.specs.Plain.{if_then_else_}
+use Rattle.waiting.specs.Waiting.{plain}
 use Rattle.rules.specs.State.{Rec, Setting, Lane, State, charge, rate, group, noLane}
 use Rattle.rules.specs.Setup.{InNumbers}
 use Rattle.table.specs.Layout.{WORDS, Room, cells, clockWord, presentWord, holdingWord, orderWord, placeWord, rowAt}
@@ -46,8 +47,8 @@ givenOf l = record { weight = l .weight; longest = l .longest .0 }
 
 -- One clock word x: F of an idle lane, whose S is 0 by definition; S of a holding one, whose F is "S + its first record's length times c".
 unfoldable pub timed : Setting → ℕ → List Rec → Lane
-timed g x [] = record { given = g; start = 0; finish = x; queue = [] }
-timed g x (r ∷ rs) = record { given = g; start = x; finish = x + charge g (r .len) * rate g; queue = r ∷ rs }
+timed g x [] = record { given = g; start = 0; finish = x; waiting = plain [] }
+timed g x (r ∷ rs) = record { given = g; start = x; finish = x + charge g (r .len) * rate g; waiting = plain (r ∷ rs) }
 
 unfoldable pub rowLane : List ℕ → ℕ → LaneRow → Lane
 rowLane w k l = timed (givenOf l) (l .time .0) (ringOf w k (l .head) (l .count))

@@ -2,6 +2,7 @@
 use mathlib.Core.Path.{_≡_, refl, sym, ap, subst, _∙_}
 use mathlib.Core.List.{List, _++_}
 use lib.ListN.{getD}
+use Rattle.waiting.specs.Waiting.{queueOf}
 use Rattle.rules.specs.State.{Lane, noLane, laneAt}
 use Rattle.rules.specs.Calls.{fresh}
 use Rattle.rules.specs.Runs.{Event, after, trace, acceptedOf, sentOf, InOrder}
@@ -35,7 +36,7 @@ after-run s limit t t′ a a′ r p l calls u ch =
       good = encodes-good u (after (fresh gs) all) last (reached-good (after (fresh gs) all) (reached (fresh gs) all (fresh-reached gs (l .setup))));
       never-ten = λ past rest e q ten. subst NotTen ten (trace-not-ten σ (more .calls) past rest e (more .events ∙ q)) refl;
       order = λ τ e k.
-          subst (λ (es : List Event). acceptedOf k es ≡ sentOf k es ++ laneAt τ k .queue) list
-          (in-order gs all k ∙ ap (λ (ls : List Lane). sentOf k (trace (fresh gs) all) ++ (getD ls k noLane) .queue) (same-lanes u (after (fresh gs) all) τ last e));
+          subst (λ (es : List Event). acceptedOf k es ≡ sentOf k es ++ queueOf (laneAt τ k .waiting) 0) list
+          (in-order gs all k ∙ ap (λ (ls : List Lane). sentOf k (trace (fresh gs) all) ++ queueOf ((getD ls k noLane) .waiting) 0) (same-lanes u (after (fresh gs) all) τ last e));
       fair = λ past stretch rest q k holding. l .fair all past stretch rest (list ∙ q) k holding;
     }

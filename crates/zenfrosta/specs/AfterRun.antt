@@ -12,6 +12,7 @@ use mathlib.Core.List.{List, _∷_, _++_}
 use mathlib.Core.Option.{none}
 use lib.ListN.{length}
 use Rattle.units.specs.Numbers.{lineRate}
+use Rattle.waiting.specs.Waiting.{queueOf}
 use Rattle.rules.specs.State.{Setting, settingAt, State, rate, slot, laneAt}
 use Rattle.rules.specs.Setup.{margin}
 use Rattle.rules.specs.Calls.{refused, fresh}
@@ -33,7 +34,7 @@ pub record GoesOn (gs : List Setting) (list calls : List Event) (u : List ℕ) :
   pub good : GoodTable u
   pub never-ten : (past rest : List Event) (e : Event) → calls ≡ past ++ e ∷ rest → e .reply ≡ refused 10 none → ⊥
   -- "Each accepted record is handed out once, in its lane's order, or is still held"
-  pub order : (σ : State) → Encodes u σ → (k : ℕ) → acceptedOf k list ≡ sentOf k list ++ laneAt σ k .queue
+  pub order : (σ : State) → Encodes u σ → (k : ℕ) → acceptedOf k list ≡ sentOf k list ++ queueOf (laneAt σ k .waiting) 0
   -- demand 3
   pub fair : (past stretch rest : List Event) → list ≡ past ++ stretch ++ rest
       → (k : ℕ) → ((p q : List Event) → p ++ q ≡ stretch → Holding k (past ++ p))

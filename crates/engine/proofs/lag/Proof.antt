@@ -58,14 +58,14 @@ difference-requires c κs =
     let a = c .before .before .before .before in
     let s = a .before .before .before .before .before in
     let v = c .before .before .before .clock .ensures in
-    let idle = count-idle (laneAt (meant (s .args .t .now)) (s .args .lane)) (row-known a .held ∙ c .before .if3 .taken) in
+    let idle = count-idle (laneAt (meant (s .args .t .now)) (s .args .lane)) (s .pre .good .waiting (s .args .lane)) (row-known a .held ∙ c .before .if3 .taken) in
     (omega (arith, v, s .pre .good .clock), omega (arith, c .later .ensures, v, s .pre .good .clock, row-known a .idle idle, idle-small (meant (s .args .t .now)) (s .args .lane) (s .pre .good) idle))
 
 returns-3 : tie.Need-returns-3
 returns-3 c =
     let a = c .before .before .before .before .before in
     let s = a .before .before .before .before .before in
-    let idle = count-idle (laneAt (meant (s .args .t .now)) (s .args .lane)) (row-known a .held ∙ c .before .before .if3 .taken) in
+    let idle = count-idle (laneAt (meant (s .args .t .now)) (s .args .lane)) (s .pre .good .waiting (s .args .lane)) (row-known a .held ∙ c .before .before .if3 .taken) in
     lag-idle _ _ (row-weighs _ _ (row-known a)) idle _ (toZ-ofZ w64 (c .difference .result) (record { sfits = c .difference .ok }) ∙ c .difference .ensures ∙ rw (c .before .later .ensures, c .before .before .before .before .clock .ensures, row-known a .idle idle))
 
 difference-requires-2 : tie.Need-difference-requires-2
@@ -73,7 +73,7 @@ difference-requires-2 c κs =
     let a = c .before .before .before in
     let s = a .before .before .before .before .before in
     let v = c .before .before .clock .ensures in
-    let busy = count-holds (laneAt (meant (s .args .t .now)) (s .args .lane)) _ (row-known a .held) (pos-of-ne-zero (c .if3 .left)) in
+    let busy = count-holds (laneAt (meant (s .args .t .now)) (s .args .lane)) _ (s .pre .good .waiting (s .args .lane)) (row-known a .held) (pos-of-ne-zero (c .if3 .left)) in
     let start = known-steady (s .args .t .now) (s .pre) .early (s .args .lane) busy in
     (omega (arith, v, s .pre .good .clock, row-known a .busy busy, start), omega (arith, v, s .pre .good .clock, row-known a .busy busy, start))
 
@@ -81,7 +81,7 @@ returns-4 : tie.Need-returns-4
 returns-4 c =
     let a = c .before .before .before .before in
     let s = a .before .before .before .before .before in
-    let busy = count-holds (laneAt (meant (s .args .t .now)) (s .args .lane)) _ (row-known a .held) (pos-of-ne-zero (c .before .if3 .left)) in
+    let busy = count-holds (laneAt (meant (s .args .t .now)) (s .args .lane)) _ (s .pre .good .waiting (s .args .lane)) (row-known a .held) (pos-of-ne-zero (c .before .if3 .left)) in
     lag-busy _ _ (row-weighs _ _ (row-known a)) busy _ (toZ-ofZ w64 (c .difference2 .result) (record { sfits = c .difference2 .ok }) ∙ c .difference2 .ensures ∙ rw (c .before .before .before .clock .ensures, row-known a .busy busy))
 
 pub lag-spec : {M : Type 1} → statement M

@@ -1,7 +1,10 @@
 -- `put_record` meets its contract. Assumes nothing.
-use mathlib.Core.Path.{_∙_}
+use mathlib.Core.Path.{sym, _∙_}
+use borrow.Author.Tests.{leb-false}
+use Rattle.waiting.specs.Waiting.{held}
+use Rattle.waiting.proofs.Laws.{full-plain}
 use native.Mathlib.Nat.{pos-of-ne-zero}
-use Rattle.rules.specs.State.{laneAt}
+use Rattle.rules.specs.State.{laneDepth, laneAt}
 use Rattle.table.specs.Means.{meant}
 use Rattle.queue.specs.Queue.{waiting}
 use Rattle.engine.proofs.RowIs.{RowIs, count-idle, count-holds}
@@ -25,7 +28,7 @@ put-first-requires c κs =
     let s = c .before .before .before .before .before .before in
     let t = s .args .t .now in
     let is : RowIs (laneAt (meant t) (s .args .k)) (c .before .before .before .row .result) = rw (c .before .before .before .row .ensures .0) (put-row t (s .pre .0) (s .args .k) (s .args .e .length .0) (s .pre .1)) in
-    (s .pre .0, s .pre .1, count-idle (laneAt (meant t) (s .args .k)) (is .held ∙ c .before .if1 .taken))
+    (s .pre .0, s .pre .1, count-idle (laneAt (meant t) (s .args .k)) (s .pre .0 .good .waiting (s .args .k)) (is .held ∙ c .before .if1 .taken))
 
 append-requires : tie.Need-append-requires
 append-requires c κs =
@@ -33,7 +36,7 @@ append-requires c κs =
     let t = s .args .t .now in
     let is : RowIs (laneAt (meant t) (s .args .k)) (c .before .before .before .row .result) = rw (c .before .before .before .row .ensures .0) (put-row t (s .pre .0) (s .args .k) (s .args .e .length .0) (s .pre .1)) in
     let a = s .pre .1 in
-    (s .pre .0 .sound, put-small t (s .pre .0) (s .args .k) (s .args .e .length .0) a, put-length t (s .pre .0) (s .args .k) (s .args .e .length .0) a, count-holds (laneAt (meant t) (s .args .k)) _ (is .held) (pos-of-ne-zero (c .before .if1 .left)), a .room)
+    (s .pre .0 .sound, put-small t (s .pre .0) (s .args .k) (s .args .e .length .0) a, put-length t (s .pre .0) (s .args .k) (s .args .e .length .0) a, count-holds (laneAt (meant t) (s .args .k)) _ (s .pre .0 .good .waiting (s .args .k)) (is .held) (pos-of-ne-zero (c .before .if1 .left)), leb-false laneDepth (held (laneAt (meant t) (s .args .k) .waiting)) (sym (full-plain (laneAt (meant t) (s .args .k) .waiting)) ∙ a .room))
 
 same-length : tie.Need-same-length
 same-length c = search needs
@@ -49,7 +52,7 @@ returns-2 c =
     let s = c .before .before .before .before .before .before .before .before .before in
     let t = s .args .t .now in
     let is : RowIs (laneAt (meant t) (s .args .k)) (c .before .before .before .before .before .before .row .result) = rw (c .before .before .before .before .before .before .row .ensures .0) (put-row t (s .pre .0) (s .args .k) (s .args .e .length .0) (s .pre .1)) in
-    rw (accept-busy (meant t) (s .args .k) (waiting (s .args .e)) (count-holds (laneAt (meant t) (s .args .k)) _ (is .held) (pos-of-ne-zero (c .before .before .before .before .if1 .left)))) (c .before .before .append .ensures)
+    rw (accept-busy (meant t) (s .args .k) (waiting (s .args .e)) (count-holds (laneAt (meant t) (s .args .k)) _ (s .pre .0 .good .waiting (s .args .k)) (is .held) (pos-of-ne-zero (c .before .before .before .before .if1 .left)))) (c .before .before .append .ensures)
 
 pub put-record-spec : {M : Type 1} → statement M
 put-record-spec =

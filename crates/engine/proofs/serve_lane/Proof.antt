@@ -8,6 +8,8 @@ use lib.Dec.{ltb}
 use lib.ListN.{length}
 use Rattle.units.specs.Numbers.{lineRate}
 use Rattle.units.specs.Plain.{if_then_else_, without}
+use Rattle.waiting.specs.Waiting.{held}
+use Rattle.waiting.proofs.Laws.{held-most}
 use Rattle.rules.specs.State.{Rec, Setting, charge, laneDepth, holds, laneAt}
 use Rattle.table.specs.Layout.{cells, rowAt}
 use Rattle.table.specs.Means.{meant, Sound, Leaves, withOrder}
@@ -48,8 +50,8 @@ take-first-requires c κs =
     let t = s .args .t .now in
     let f = found (meant t) (s .args .k) (s .pre .1) in
     let p = f .pick in
-    subst (λ (j : ℕ). Sound t × (j < 64) × (holds (laneAt (meant t) j) ≡ true) × (length (laneAt (meant t) j .queue) ≤ laneDepth) × (laneAt (meant t) j .finish < 2 ^ 64)) (f .lane)
-    (s .pre .0 .sound, pick-small t (s .pre .0) p (f .is), pick-holds t (s .pre .0) p (f .is), s .pre .0 .good .room (p .lane), omega (arith, pick-finish t (s .pre .0) p (f .is)))
+    subst (λ (j : ℕ). Sound t × (j < 64) × (holds (laneAt (meant t) j) ≡ true) × (held (laneAt (meant t) j .waiting) ≤ laneDepth) × (laneAt (meant t) j .finish < 2 ^ 64)) (f .lane)
+    (s .pre .0 .sound, pick-small t (s .pre .0) p (f .is), pick-holds t (s .pre .0) p (f .is), held-most _ _ (s .pre .0 .good .waiting (p .lane)), omega (arith, pick-finish t (s .pre .0) p (f .is)))
 
 requeue-requires : tie.Need-requeue-requires
 requeue-requires c κs =

@@ -4,7 +4,7 @@ use Rattle.lane_test.specs.Says.{TimeGood}
 use Rattle.table.specs.declared.LaneRow.{LaneRow}
 use Rattle.table.specs.Means.{RowAgrees, ringOf, givenOf}
 use Rattle.table.specs.Layout.{cells}
-use Rattle.rules.specs.Good.{Lengths}
+use Rattle.waiting.specs.Waiting.{Lengths}
 use Prim.Native.Nat.{_≤_}
 use mathlib.Core.Path.{sym, subst}
 use native.Mathlib.Omega.{arith}
@@ -62,7 +62,7 @@ returns-4 c =
     let w = cells (s .args .t .now) in
     let k = s .args .k in
     let v = s .args .v .0 in
-    λ g. says-no (c .before .lengths-good .result) (c .before .lengths-good .ensures) (c .if4 .taken) (subst (λ (l : LaneRow). Lengths (givenOf l) (ringOf w k (l .head) (l .count))) (sym e) (lane-lengths v w k (s .pre .2) g))
+    λ g. says-no (c .before .lengths-good .result) (c .before .lengths-good .ensures) (c .if4 .taken) (subst (λ (l : LaneRow). Lengths (givenOf l .longest) (ringOf w k (l .head) (l .count))) (sym e) (lane-lengths v w k (s .pre .2) g))
 
 returns-5 : tie.Need-returns-5
 returns-5 c =
@@ -73,7 +73,7 @@ returns-5 c =
     let v = s .args .v .0 in
     let a = says-yes (c .before .before .before .before .before .before .before .setting-good .result) (c .before .before .before .before .before .before .before .setting-good .ensures) (c .before .before .before .before .before .before .if1 .left) in
     lane-made v w k (s .pre .2) (subst (λ (l : LaneRow). RowAgrees l) e a) (subst (λ (l : LaneRow). l .count ≤ 16) e (c .before .before .before .before .if2 .left)) (subst (λ (l : LaneRow). TimeGood v l) e (says-yes (c .before .before .before .time-good .result) (c .before .before .before .time-good .ensures) (c .before .before .if3 .left)))
-    (subst (λ (l : LaneRow). Lengths (givenOf l) (ringOf w k (l .head) (l .count))) e (says-yes (c .before .lengths-good .result) (c .before .lengths-good .ensures) (c .if4 .left)))
+    (subst (λ (l : LaneRow). Lengths (givenOf l .longest) (ringOf w k (l .head) (l .count))) e (says-yes (c .before .lengths-good .result) (c .before .lengths-good .ensures) (c .if4 .left)))
 
 pub lane-good-spec : {M : Type 1} → statement M
 lane-good-spec =
