@@ -16,7 +16,6 @@ use Rattle.waiting.specs.Waiting.{head}
 use Rattle.rules.specs.State.{Rec, Setting, Lane, State, group, slot, startR, some?, firstOf, holds, laneAt}
 use Rattle.rules.specs.Good.{Times, Good}
 use Rattle.rules.specs.Sets.{inGroup, groupStart}
-use Rattle.rules.proofs.Lane.{group-most, group-least}
 use Rattle.rules.proofs.Queues.{held-inside}
 use Rattle.rules.proofs.Bounds.{first-is}
 use Rattle.rules.proofs.Figures.{slot-at}
@@ -26,6 +25,7 @@ use Rattle.table.specs.Layout.{cells, rowAt}
 use Rattle.table.specs.Means.{givenOf, timed, ringOf, laneOf, stateOf, meant, RowAgrees}
 use Rattle.words.proofs.Runs.{length-tab}
 use Rattle.table.specs.declared.LaneRow.{LaneRow}
+use Rattle.table.proofs.Agrees.{agrees-group}
 use Rattle.table.proofs.Footprint.{lane-is}
 use Rattle.table.proofs.Rows.{lane-present, holds-present}
 use Rattle.choice.specs.Known.{Known, Steady, Stands}
@@ -126,7 +126,7 @@ module _ (t : List ℕ) (steady : Steady t) (k : ℕ) (e : holds (laneAt (meant 
   pub row-group : (r .group ≡ group (l .given)) × (16 ≤ r .group) × (r .group ≤ 31)
   row-group =
       let g : r .group ≡ group (l .given) = agrees .grouped ∙ ap group (sym row-given) in
-      (g, omega (arith, g, agrees .grouped, group-least (givenOf r) (agrees .numbers)), omega (arith, agrees .grouped, group-most (givenOf r) (agrees .numbers .longest-high)))
+      (g, agrees-group r agrees .0, agrees-group r agrees .1)
 
   -- R by the row's own numbers
   pub row-start : roundDown (2 ^ r .group) (r .time .0) ≡ startR l

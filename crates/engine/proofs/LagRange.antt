@@ -30,10 +30,10 @@ between-wider : (l h l′ h′ : ℕ) (z : ℤ) → l ≤ l′ → h ≤ h′ �
 between-wider l h l′ h′ (pos n) a b c = omega arith
 between-wider l h l′ h′ (negsuc n) a b c = omega arith
 
-holding-lag : (v : ℕ) (l : Lane) (o : Option Rec) → firstOf l ≡ o → Times v l o → some? o ≡ true → Between (2 * slot (l .given)) (2 * slot (l .given) + margin) (lagOf v l)
+holding-lag : (v : ℕ) (l : Lane) (o : Option Rec) → firstOf l ≡ o → Times v l o → some? o ≡ true → Between (2 * slot (l .given)) (2 * slot (l .given) + margin (l .given .framing)) (lagOf v l)
 unfolding lagOf
 holding-lag v l none e n h = absurd (false≢true h)
-holding-lag v l (some r) e n h = simp e (sub-between v (l .start) (2 * slot (l .given)) (2 * slot (l .given) + margin) (n .1) (omega (arith, n .2, round-le (slot (l .given)) (l .start))))
+holding-lag v l (some r) e n h = simp e (sub-between v (l .start) (2 * slot (l .given)) (2 * slot (l .given) + margin (l .given .framing)) (n .1) (omega (arith, n .2, round-le (slot (l .given)) (l .start))))
 
 idle-lag : (v : ℕ) (l : Lane) (o : Option Rec) → firstOf l ≡ o → Times v l o → some? o ≡ false → Between (2 * slot (l .given)) 1 (lagOf v l)
 unfolding lagOf
@@ -47,15 +47,15 @@ module _ (s : State) (g : Good s) (k : ℕ) where
   two-slots : 2 * slot (l .given) ≤ 2 ^ 32
   two-slots = omega (arith, slot-at s (g .setup) k)
 
-  holding-range : holds l ≡ true → Between (2 * slot (l .given)) (2 * slot (l .given) + margin) (lagOf (s .clock) l)
+  holding-range : holds l ≡ true → Between (2 * slot (l .given)) (2 * slot (l .given) + margin (l .given .framing)) (lagOf (s .clock) l)
   holding-range = holding-lag (s .clock) l (firstOf l) refl (g .numbers k)
 
   idle-range : holds l ≡ false → Between (2 * slot (l .given)) 1 (lagOf (s .clock) l)
   idle-range = idle-lag (s .clock) l (firstOf l) refl (g .numbers k)
 
-  any-range : (b : Bool) → holds l ≡ b → Between (2 ^ 32) (2 ^ 32 + margin) (lagOf (s .clock) l)
-  any-range true h = between-wider (2 * slot (l .given)) (2 * slot (l .given) + margin) (2 ^ 32) (2 ^ 32 + margin) (lagOf (s .clock) l) two-slots (omega (arith, two-slots)) (holding-range h)
-  any-range false h = between-wider (2 * slot (l .given)) 1 (2 ^ 32) (2 ^ 32 + margin) (lagOf (s .clock) l) two-slots (omega arith) (idle-range h)
+  any-range : (b : Bool) → holds l ≡ b → Between (2 ^ 32) (2 ^ 32 + margin (l .given .framing)) (lagOf (s .clock) l)
+  any-range true h = between-wider (2 * slot (l .given)) (2 * slot (l .given) + margin (l .given .framing)) (2 ^ 32) (2 ^ 32 + margin (l .given .framing)) (lagOf (s .clock) l) two-slots (omega (arith, two-slots)) (holding-range h)
+  any-range false h = between-wider (2 * slot (l .given)) 1 (2 ^ 32) (2 ^ 32 + margin (l .given .framing)) (lagOf (s .clock) l) two-slots (omega arith) (idle-range h)
 
   pub lag-range : LagRange s k
   lag-range = record { holding = holding-range; idle = idle-range; ends = any-range (holds l) refl }

@@ -10,11 +10,11 @@ use mathlib.Core.Option.{Option, none, some}
 use Rattle.waiting.specs.Waiting.{Waiting, plain, first, head, held, GoodWaiting}
 use Rattle.waiting.proofs.Laws.{held-none, held-hand}
 use Rattle.rules.specs.State.{Rec, Setting, Lane, noLane, group, rate, some?, firstOf, holds, laneAt}
-use Rattle.rules.proofs.Lane.{group-most, group-least}
 use Rattle.words.proofs.Runs.{length-tab}
 use Rattle.table.specs.Layout.{cells, rowAt}
 use Rattle.table.specs.Means.{presentAt, ringOf, givenOf, timed, meant, RowAgrees, Sound}
 use Rattle.table.specs.declared.LaneRow.{LaneRow}
+use Rattle.table.proofs.Agrees.{agrees-group}
 use Rattle.table.proofs.Footprint.{lane-is}
 use Rattle.table.proofs.Rows.{lane-present, lane-absent}
 use Rattle.table.proofs.Timed.{timed-given, timed-waiting}
@@ -91,8 +91,8 @@ module _ (t : List ℕ) (sound : Sound t) (k : ℕ) (small : k < 64) (here : pre
     weight = agrees .numbers .weight-low;
     rated = agrees .rated ∙ ap rate (sym same-given);
     grouped = agrees .grouped ∙ ap group (sym same-given);
-    low = omega (arith, agrees .grouped, group-least (givenOf r) (agrees .numbers));
-    high = omega (arith, agrees .grouped, group-most (givenOf r) (agrees .numbers .longest-high));
+    low = agrees-group r agrees .0;
+    high = agrees-group r agrees .1;
     held = ap held same-waiting ∙ length-tab (r .count) _;
     busy = λ e. ap (λ (x : Lane). x .start) is-timed ∙ timed-start (givenOf r) (r .time .0) q (sym (ap (λ (x : Waiting). some? (first x)) same-waiting) ∙ e);
     idle = λ e. ap (λ (x : Lane). x .finish) is-timed ∙ timed-finish (givenOf r) (r .time .0) q (sym (ap (λ (x : Waiting). some? (first x)) same-waiting) ∙ e);

@@ -9,16 +9,16 @@ use Rattle.rules.specs.Setup.{InNumbers}
 use Rattle.rules.proofs.Lane.{group-most}
 use Rattle.fresh.specs.Makes.{SettingWord}
 
-module _ (w l i c : ℕ) (n : InNumbers (record { weight = w; longest = l })) (rated : c ≡ perByte w) (most : c ≤ 2 ^ 20) (least : Least (charge (record { weight = w; longest = l }) l * c) i) where
+module _ (w l i c : ℕ) (n : InNumbers (record { weight = w; longest = l; framing = 0 })) (rated : c ≡ perByte w) (most : c ≤ 2 ^ 20) (least : Least (charge (record { weight = w; longest = l; framing = 0 }) l * c) i) where
   abbrev g : Setting
-  g = record { weight = w; longest = l }
+  g = record { weight = w; longest = l; framing = 0 }
 
   pub group-is : i ≡ group g
   unfolding group
   group-is = least-unique (charge g l * c) i least ∙ ap (λ (x : ℕ). leastPower (charge g l * x)) rated
 
   pub group-small : i ≤ 31
-  group-small = rw group-is (group-most g (n .longest-high))
+  group-small = rw group-is (group-most g (n .longest-high) (omega arith))
 
   abbrev word : ℕ
   word = l + 65536 * w + 4294967296 * i + 1099511627776 * c

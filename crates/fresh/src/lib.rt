@@ -37,8 +37,8 @@ use units::lane_rate;
 
 // The setting word of a lane.
 fn setting_word(weight: u64, longest: Bytes) -> u64
-    requires { ⌜ InNumbers (record { weight = weight; longest = longest .0 }) ⌝ }
-    ensures { λ r. ⌜ SettingWord (record { weight = weight; longest = longest .0 }) r ⌝ }
+    requires { ⌜ InNumbers (record { weight = weight; longest = longest .0; framing = 0 }) ⌝ }
+    ensures { λ r. ⌜ SettingWord (record { weight = weight; longest = longest .0; framing = 0 }) r ⌝ }
 {
     let c = lane_rate(weight);
     let lane = LaneRow {
@@ -66,8 +66,8 @@ pub fn begin(t: &mut [u8])
 
 // Adds lane `k`, which is not in the setup yet: idle, with F = 0.
 pub fn add_lane(t: &mut [u8], k: usize, weight: u64, longest: Bytes)
-    requires { ⌜ Sound (now t) × (k < 64) × InNumbers (record { weight = weight; longest = longest .0 }) × (laneAt (meant (now t)) k .given .weight ≡ 0) ⌝ }
-    ensures { λ _. ⌜ Leaves (now (t .entry)) (now (t .exit)) (withLane (meant (now (t .entry))) k (idle (record { weight = weight; longest = longest .0 }))) ⌝ }
+    requires { ⌜ Sound (now t) × (k < 64) × InNumbers (record { weight = weight; longest = longest .0; framing = 0 }) × (laneAt (meant (now t)) k .given .weight ≡ 0) ⌝ }
+    ensures { λ _. ⌜ Leaves (now (t .entry)) (now (t .exit)) (withLane (meant (now (t .entry))) k (idle (record { weight = weight; longest = longest .0; framing = 0 }))) ⌝ }
 {
     let base = ROWS + ROW_WORDS * k;
     set_cell(t, base, setting_word(weight, longest));

@@ -13,11 +13,12 @@ use Rattle.words.proofs.Runs.{length-tab}
 use Rattle.units.specs.Plain.{if_then_else_, times, anyBelow, wordOf, count}
 use Rattle.waiting.specs.Waiting.{GoodWaiting}
 use Rattle.waiting.proofs.Laws.{good-nothing}
-use Rattle.rules.specs.State.{Setting, Lane, laneAt, firstOf, holds, eligible, noLane, noSetting, setupOf}
+use Rattle.rules.specs.State.{Setting, settingAt, clockEdge, Lane, laneAt, firstOf, holds, eligible, noLane, noSetting, setupOf}
 use Rattle.rules.specs.Setup.{InNumbers, Setup, weights}
 use Rattle.rules.specs.Good.{Times}
 use Rattle.rules.proofs.Lane.{slot-pos}
 use Rattle.rules.proofs.Word.{word-lt, word-bit}
+use Rattle.rules.proofs.Figures.{framing-bound, framed-by}
 use Rattle.rules.proofs.SameSetup.{setting-lane}
 use Rattle.table.specs.Layout.{Room, cells}
 use Rattle.table.specs.Means.{presentAt, laneOf, stateOf, meant}
@@ -88,9 +89,15 @@ module _ (t : List ℕ) (v : ℕ) (f : Found) (clock : v ≡ meant t .clock) (s 
 
   module _ (n : ℕ) (holding : n ≡ length (meant t .order)) where
     -- from what the test found to a good table
-    module _ (room : Room t) (end : v < 2 ^ 62 + 2 ^ 42) (some : 0 < f .weights) (total : f .weights ≤ 1024) (live : 0 < f .held → f .eligible ≡ true) (ordered : Ordered (cells t) n (f .held)) where
+    module _ (room : Room t) (end : v < clockEdge) (some : 0 < f .weights) (total : f .weights ≤ 1024) (live : 0 < f .held → f .eligible ≡ true) (ordered : Ordered (cells t) n (f .held)) where
       in-setup : (k : ℕ) → k < 64 → presentAt (cells t) k ≡ true → InNumbers (laneOf (cells t) k .given) ⊎ (laneOf (cells t) k .given ≡ noSetting)
       in-setup k h p = inl (subst InNumbers (sym (given-row (cells t) k p)) (s .lanes k h p .agrees .numbers))
+
+      framing-at : (k : ℕ) → laneAt (meant t) k .given .framing ≡ 0
+      framing-at = each-lane (cells t) (λ (l : Lane). l .given .framing ≡ 0) refl (λ k h p. ap (λ (g : Setting). g .framing) (given-row (cells t) k p))
+
+      framing-is : (k : ℕ) → settingAt (setupOf (meant t)) k .framing ≡ 0
+      framing-is k = ap (λ (g : Setting). g .framing) (setting-lane (meant t) k) ∙ framing-at k
 
       setup : Setup (setupOf (meant t))
       setup =
@@ -99,6 +106,8 @@ module _ (t : List ℕ) (v : ℕ) (f : Found) (clock : v ≡ meant t .clock) (s 
             each = λ k. subst (λ (g : Setting). InNumbers g ⊎ (g ≡ noSetting)) (sym (setting-lane (meant t) k)) (each-lane (cells t) (λ (l : Lane). InNumbers (l .given) ⊎ (l .given ≡ noSetting)) (inr refl) in-setup k);
             some-lane = omega (arith, weight-sum);
             total = omega (arith, weight-sum);
+            framing-high = omega (arith, framing-bound 0 (setupOf (meant t)) (λ k. omega (arith, framing-is k)));
+            framed = framed-by 0 (setupOf (meant t)) (λ k. omega (arith, framing-is k)) (λ k w. framing-is k);
           }
 
       eligible-lane : (k : ℕ) → holds (laneAt (meant t) k) ≡ true → (i : ℕ) × (eligible v (laneAt (meant t) i) ≡ true)

@@ -9,6 +9,7 @@ use Rattle.words.proofs.Runs.{getD-tab}
 use Rattle.units.specs.Numbers.{roundDown}
 use Rattle.waiting.specs.Waiting.{first, head, Lengths, GoodWaiting}
 use Rattle.rules.specs.State.{Rec, Setting, Lane, firstOf, slot, group, laneDepth}
+use Rattle.rules.specs.Setup.{margin}
 use Rattle.rules.specs.Good.{Times}
 use Rattle.table.specs.Layout.{rowAt, placeWord}
 use Rattle.table.specs.Means.{presentAt, recOf, ringOf, givenOf, timed, RowAgrees, laneOf}
@@ -63,7 +64,7 @@ times-of : (v : ℕ) (l : LaneRow) (q : List Rec) → length q ≡ l .count → 
 unfolding timed
 times-of v l [] e a t = omega (arith, t .below, slot-is l a)
 times-of v l (r ∷ rs) e a t =
-    (refl, omega (arith, t .below, slot-is l a), subst (λ (s : ℕ). v < roundDown s (l .time .0) + 2 * s + 1536000) (slot-is l a) (t .above (omega arith)))
+    (refl, omega (arith, t .below, slot-is l a), subst (λ (s : ℕ). v < roundDown s (l .time .0) + 2 * s + margin (givenOf l .framing)) (slot-is l a) (t .above (omega arith)))
 
 time-of : (v : ℕ) (l : LaneRow) (q : List Rec) → length q ≡ l .count → RowAgrees l → Times v (timed (givenOf l) (l .time .0) q) (head q) → TimeGood v l
 unfolding timed
@@ -71,7 +72,7 @@ time-of v l [] e a t = record { below = omega (arith, t, slot-is l a); above = �
 time-of v l (r ∷ rs) e a t =
     record {
       below = omega (arith, t .1, slot-is l a);
-      above = λ h. subst (λ (s : ℕ). v < roundDown s (l .time .0) + 2 * s + 1536000) (sym (slot-is l a)) (t .2);
+      above = λ h. subst (λ (s : ℕ). v < roundDown s (l .time .0) + 2 * s + margin (givenOf l .framing)) (sym (slot-is l a)) (t .2);
     }
 
 -- ---- a lane in the setup

@@ -72,8 +72,10 @@ module _ (l : LaneRow) (rated : l .rate .0 ≡ perByte (l .weight)) where
 
   pub group-at-most : l .longest .0 ≤ 1500 → l .group ≡ group (givenOf l) → l .group ≤ 31
   unfolding charge
-  group-at-most h same = rw (same ∙ least-group, rated) (group-le (l .weight) (l .longest .0) (omega arith))
+  group-at-most h same = rw (same ∙ least-group, rated) (group-le (l .weight) (charge (givenOf l) (l .longest .0)) (omega arith))
 
   pub span-pos : 64 ≤ l .longest .0 → 1 ≤ l .weight → l .weight ≤ 1024 → 1 ≤ span l
   unfolding charge
-  span-pos h p q = omega (arith, mul-le-mul h (rate-ge (l .weight) p q), ap (λ (x : ℕ). l .longest .0 * x) rated)
+  span-pos h p q =
+      let wide : 64 ≤ charge (givenOf l) (l .longest .0) = omega arith in
+      omega (arith, mul-le-mul wide (rate-ge (l .weight) p q), ap (λ (x : ℕ). charge (givenOf l) (l .longest .0) * x) rated)

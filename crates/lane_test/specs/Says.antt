@@ -11,9 +11,10 @@ use mathlib.Core.List.{List}
 use Rattle.units.specs.Numbers.{roundDown}
 use Rattle.waiting.specs.Waiting.{GoodWaiting}
 use Rattle.rules.specs.State.{firstOf}
+use Rattle.rules.specs.Setup.{margin}
 use Rattle.rules.specs.Good.{Times}
 use Rattle.table.specs.Layout.{rowAt}
-use Rattle.table.specs.Means.{RowAgrees, laneOf}
+use Rattle.table.specs.Means.{givenOf, RowAgrees, laneOf}
 use Rattle.table.specs.declared.LaneRow.{LaneRow}
 
 abbrev pub Says : Bool → Type 0 → Type 0
@@ -23,7 +24,7 @@ Says false P = P → ⊥
 -- "for a holding lane .. S below V + 2s, R above V - 2s - 1,536,000; for an idle lane F below V + 2s": one clock word serves the first and the last
 pub record TimeGood (v : ℕ) (l : LaneRow) : Type 0 where
   pub below : l .time .0 < v + 2 * 2 ^ (l .group)
-  pub above : 0 < l .count → v < roundDown (2 ^ (l .group)) (l .time .0) + 2 * 2 ^ (l .group) + 1536000
+  pub above : 0 < l .count → v < roundDown (2 ^ (l .group)) (l .time .0) + 2 * 2 ^ (l .group) + margin (givenOf l .framing)
 
 pub record LaneGood (v : ℕ) (w : List ℕ) (k : ℕ) : Type 0 where
   pub agrees : RowAgrees (rowAt w k)

@@ -22,7 +22,7 @@ use Rattle.scheduler.specs.Chain.{Chain, Begins}
 use Rattle.scheduler.specs.Demands.{callsOf}
 
 abbrev pub setting : ℕ → ℕ → Setting
-setting w n = record { weight = w; longest = n }
+setting w n = record { weight = w; longest = n; framing = 0 }
 
 abbrev pub alone : Setting → List Setting
 alone g = set noLanes 0 g

@@ -16,6 +16,7 @@ use lib.Dec.{eqb, ltb}
 use lib.ListN.{length}
 use Rattle.units.specs.Plain.{if_then_else_}
 use Rattle.rules.specs.State.{Setting}
+use Rattle.rules.proofs.Figures.{framing-bound, framed-by}
 use Rattle.plan.specs.Fields.{Item, whole, bad}
 use Rattle.plan.specs.Judge.{judgedAt, after}
 use Rattle.plan.specs.Read.{Reply, read, refused, nothingSeen, noLanes, next, walk, readPlan, closed, readSetup, settings, came, reads}
@@ -56,6 +57,8 @@ module _ (s : List ℕ) (at : ℕ) (gs : List Setting) (n p : ℕ) where
           each = ok .each;
           some-lane = omega (arith, ok .sum-is, ok .few, r .counted, r .some-lane);
           total = omega (arith, ok .sum-is, ok .total);
+          framing-high = omega (arith, framing-bound 0 gs (λ k. omega (arith, ok .framed k)));
+          framed = framed-by 0 gs (λ k. omega (arith, ok .framed k)) (λ k w. ok .framed k);
         };
         past = omega (arith, r .past, k .stand .after);
         within = r .within;

@@ -24,6 +24,7 @@ use Rattle.plan.proofs.Inside.{lane-number, in-numbers, is-rising, is-u
 pub record Sound (seen : Seen) (gs : List Setting) : Type 0 where
   pub size : length gs ≡ 64
   pub each : (k : ℕ) → InNumbers (settingAt gs k) ⊎ (settingAt gs k ≡ noSetting)
+  pub framed : (k : ℕ) → (settingAt gs k) .framing ≡ 0
   pub above : (k : ℕ) → seen .floor ≤ k → settingAt gs k ≡ noSetting
   pub sum-is : weights gs ≡ seen .total
   pub there-are : present gs ≡ seen .count
@@ -36,6 +37,7 @@ pub sound-first : Sound nothingSeen noLanes
 sound-first = record {
   size = refl;
   each = λ k. inr (replicate-at 64 k noSetting);
+  framed = λ k. ap (λ (g : Setting). g .framing) (replicate-at 64 k noSetting);
   above = λ k h. replicate-at 64 k noSetting;
   sum-is = refl;
   there-are = refl;
@@ -63,6 +65,7 @@ module _ (seen : Seen) (gs : List Setting) (ok : Sound seen gs) (l : LaneField) 
   lane-kept = record {
     size = length-set gs (l .lane) (given l) ∙ ok .size;
     each = λ k. set-cases (λ (g : Setting). InNumbers g ⊎ (g ≡ noSetting)) gs (l .lane) k (given l) noSetting (λ e. inl (in-numbers l o)) (λ e. ok .each k) (inr refl);
+    framed = λ k. set-cases (λ (g : Setting). g .framing ≡ 0) gs (l .lane) k (given l) noSetting (λ e. refl) (λ e. ok .framed k) refl;
     above = λ k h. set-cases (λ (g : Setting). g ≡ noSetting) gs (l .lane) k (given l) noSetting (λ e. absurd (omega (arith, e, h))) (λ e. ok .above k (omega (arith, is-rising seen l m, h))) refl;
     sum-is = omega (arith, grown (λ (g : Setting). g .weight) refl, ok .sum-is);
     there-are = omega (arith, grown there refl, ok .there-are, one);
@@ -77,6 +80,7 @@ pub sound-after : (seen : Seen) (gs : List Setting) (f : SetupField) → Sound s
 sound-after seen gs (Format v) ok m o w = record {
   size = ok .size;
   each = ok .each;
+  framed = ok .framed;
   above = ok .above;
   sum-is = ok .sum-is;
   there-are = ok .there-are;

@@ -28,4 +28,4 @@ abbrev pub twoWeights : ℕ → List ℕ
 twoWeights w = formatField ++ (16 ∷ 0 ∷ 5 ∷ 0 ∷ 3 ∷ 232 ∷ 5 ∷ 220 ∷ 16 ∷ 0 ∷ 3 ∷ 1 ∷ 0 ∷ w ∷ []) ++ endField
 
 abbrev pub twoLanes : ℕ → ℕ → ℕ → List Setting
-twoLanes w₀ w₁ longest = set (set noLanes 0 (record { weight = w₀; longest = longest })) 1 (record { weight = w₁; longest = longest })
+twoLanes w₀ w₁ longest = set (set noLanes 0 (record { weight = w₀; longest = longest; framing = 0 })) 1 (record { weight = w₁; longest = longest; framing = 0 })

@@ -31,7 +31,7 @@ longestOf Default = 1500
 
 -- A lane field gives its lane a weight and a longest.
 abbrev pub given : LaneField → Setting
-given l = record { weight = l .weight; longest = longestOf (l .longest) }
+given l = record { weight = l .weight; longest = longestOf (l .longest); framing = 0 }
 
 -- "4: first field not 0x01, 0x01 again, lane not rising, 0x7F with no lane." (A first 0x7F comes with no lane.)
 abbrev pub misplaced : Seen → SetupField → Bool

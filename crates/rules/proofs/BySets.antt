@@ -20,7 +20,7 @@ use Rattle.rules.proofs.Lowest.{LowOf}
 use Rattle.rules.proofs.Chosen.{Chosen, Choice, chosen}
 use Rattle.rules.proofs.Keep.{eligible-is, is-eligible}
 use Rattle.rules.proofs.SameSetup.{setting-lane}
-use Rattle.rules.proofs.Figures.{longest-most}
+use Rattle.rules.proofs.Figures.{longest-most, framing-most}
 use Rattle.rules.proofs.GroupRule.{in-group, is-in-group, group-low, never-fall, chosen-finish, first-bit-group, parted}
 
 -- ---- the choice through the sets
@@ -79,7 +79,11 @@ is-standing l e = and-made (inGroup (group (l .given)) l) (eqb (startR l) (start
 module _ (s : State) (good : Good s) where
   pub group-small : (k : ℕ) → group ((laneAt s k) .given) < groups
   group-small k =
-      omega (arith, group-most ((laneAt s k) .given) (subst (λ (g : Setting). g .longest ≤ 1500) (setting-lane s k) (longest-most (setupOf s) (good .setup) k)))
+      omega (
+        arith,
+        group-most ((laneAt s k) .given) (subst (λ (g : Setting). g .longest ≤ 1500) (setting-lane s k) (longest-most (setupOf s) (good .setup) k))
+            (subst (λ (g : Setting). g .framing ≤ 64) (setting-lane s k) (framing-most (setupOf s) (good .setup) k)),
+      )
 
   -- ---- no lane is eligible: then none holds a record, and no group has a start
 

@@ -8,7 +8,7 @@ use mathlib.Core.Option.{none}
 use lib.Dec.{lit≤}
 use lib.ListN.{replicate}
 use Rattle.rules.specs.State.{Setting, noSetting, settingAt, rate, slot}
-use Rattle.rules.specs.Setup.{InNumbers, Setup}
+use Rattle.rules.specs.Setup.{InNumbers, framingOf, Setup}
 use Rattle.rules.specs.Calls.{Call, put, take, sets, Reply, accepted, taken, words, refused, fresh}
 use Rattle.rules.specs.Runs.{Event, trace}
 use Rattle.rules.specs.Fair.{bytesSent, bytesSentOf, Holding, Fair, Demand3}
@@ -17,7 +17,7 @@ use Rattle.rules.proofs.Fair.{demand3}
 
 -- the setup of document 01's session: lane 0 of weight 512, lane 1 of weight 256, longest 1,500
 abbrev pub twoLanes : List Setting
-twoLanes = record { weight = 512; longest = 1500 } ∷ record { weight = 256; longest = 1500 } ∷ replicate 62 noSetting
+twoLanes = record { weight = 512; longest = 1500; framing = 0 } ∷ record { weight = 256; longest = 1500; framing = 0 } ∷ replicate 62 noSetting
 
 abbrev pub replies : List Event → List Reply
 replies es = map (λ (e : Event). e .reply) es
@@ -34,15 +34,25 @@ none-given (suc n) zero = refl
 none-given (suc n) (suc k) = none-given n k
 
 pub two-lanes : Setup twoLanes
-two-lanes = record { size = refl; each = each; some-lane = lit≤ tt; total = lit≤ tt }
+unfolding framingOf
+two-lanes = record { size = refl; each = each; some-lane = lit≤ tt; total = lit≤ tt; framing-high = lit≤ tt; framed = framed }
   where
-    within : (w : ℕ) → 1 ≤ w → w ≤ 1024 → InNumbers (record { weight = w; longest = 1500 })
+    within : (w : ℕ) → 1 ≤ w → w ≤ 1024 → InNumbers (record { weight = w; longest = 1500; framing = 0 })
     within w lo hi = record { weight-low = lo; weight-high = hi; longest-low = lit≤ tt; longest-high = lit≤ tt }
+
+    framed : (k : ℕ) → 0 < (settingAt twoLanes k) .weight → (settingAt twoLanes k) .framing ≡ framingOf twoLanes
+    framed zero h = refl
+    framed (suc zero) h = refl
+    framed (suc (suc k)) h = ap (λ (g : Setting). g .framing) (none-given 62 k)
 
     each : (k : ℕ) → InNumbers (settingAt twoLanes k) ⊎ (settingAt twoLanes k ≡ noSetting)
     each zero = inl (within 512 (lit≤ tt) (lit≤ tt))
     each (suc zero) = inl (within 256 (lit≤ tt) (lit≤ tt))
     each (suc (suc k)) = inr (none-given 62 k)
+
+its-framing : framingOf twoLanes ≡ 0
+unfolding framingOf
+its-framing = refl
 
 its-slot : slot (settingAt twoLanes 0) ≡ 4194304
 unfolding rules
@@ -53,4 +63,4 @@ pub waits : (calls : List Call) (past stretch rest : List Event) → trace (fres
     → ((p q : List Event) → p ++ q ≡ stretch → Holding 0 (past ++ p)) → bytesSentOf twoLanes 0 stretch ≡ 0 → bytesSent twoLanes stretch < 17884
 unfolding Demand3 Fair
 waits calls past stretch rest e h o =
-    omega (arith, demand3 twoLanes two-lanes calls past stretch rest e 0 h, ap (λ (n : ℕ). rate (settingAt twoLanes 0) * n) o, its-slot)
+    omega (arith, demand3 twoLanes two-lanes calls past stretch rest e 0 h, ap (λ (n : ℕ). rate (settingAt twoLanes 0) * n) o, its-slot, its-framing)

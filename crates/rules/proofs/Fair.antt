@@ -1,4 +1,4 @@
--- Demand 3, proved: first with 1,024 times the setup's greatest charge, from which the figure 1,536,000 follows.
+-- Demand 3, proved: for any M that no record's charge exceeds; so with 1,024 times the setup's greatest charge, and with 1,024 (1,500 + h).
 -- Over a stretch the clock moves by 1,024 T or more and the lane's S by c O. S is below V + 2s where the stretch begins, and V below S + 2s + M where it ends.
 -- Assumes nothing.
 use Prim.Native.Nat.{ℕ, _+_, _*_, _≤_, _<_}
@@ -12,13 +12,13 @@ use Rattle.waiting.proofs.Laws.{queue-none}
 use lib.ListN.{length, length-append}
 use Rattle.units.proofs.Round.{round-le}
 use Rattle.rules.specs.State.{Rec, Setting, settingAt, State, rate, slot, some?, firstOf, Lane, holds, laneAt, setupOf}
-use Rattle.rules.specs.Setup.{Setup, longestCharge, margin}
+use Rattle.rules.specs.Setup.{Setup, longestCharge, margin, framingOf}
 use Rattle.rules.specs.Calls.{Call, fresh, step}
 use Rattle.rules.specs.Runs.{Event, after, trace, sentOf, InOrder}
 use Rattle.rules.specs.Fair.{bytesSent, bytesSentOf, Holding, Fair, Demand3}
 use Rattle.rules.proofs.Bounds.{SetupOk, fresh-inv, lower, upper}
 use Rattle.rules.proofs.Keep.{Kept, kept, step-kept}
-pub use Rattle.rules.proofs.Figures.{tight-ok, longest-most, setup-ok, longest-at, group-at, slot-at}
+pub use Rattle.rules.proofs.Figures.{tight-ok, longest-most, framing-most, setup-ok, longest-at, framing-at, group-at, slot-at}
 use Rattle.rules.proofs.SameSetup.{setting-lane, same-setup, setup-kept, fresh-setup}
 use Rattle.rules.proofs.Moves.{Sound}
 use Rattle.rules.proofs.Sound.{fresh-sound, sound-run}
@@ -117,4 +117,4 @@ fair-tight gs s = fair (1024 * longestCharge gs) gs (tight-ok gs s)
 
 pub demand3 : Demand3
 unfolding Demand3
-demand3 gs s = fair margin gs (setup-ok gs s)
+demand3 gs s = fair (margin (framingOf gs)) gs (setup-ok gs s)

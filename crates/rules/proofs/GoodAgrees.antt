@@ -12,7 +12,7 @@ use borrow.Author.Tests.{leb-true, le-leb, ltb-true, lt-ltb, eqb-true, eq-eqb, n
 use Rattle.units.specs.Plain.{if_then_else_, times}
 use Rattle.waiting.specs.Waiting.{nothing, waitingTest}
 use Rattle.waiting.proofs.Laws as waiting
-use Rattle.rules.specs.State.{noSetting, Lane, noLane, State, slot, firstOf, holds, eligible, laneAt, setupOf, anyHolds}
+use Rattle.rules.specs.State.{clockEdge, noSetting, Lane, noLane, State, slot, firstOf, holds, eligible, laneAt, setupOf, anyHolds}
 use Rattle.rules.specs.Setup.{Setup}
 use Rattle.rules.specs.Good.{Good}
 use Rattle.rules.proofs.Bools.{and-parts, or-right}
@@ -75,7 +75,7 @@ module _ (s : State) where
   unfolding goodTest laneTest
   test-good e =
       let a = and-parts (setupTest (setupOf s)) _ e in
-      let b = and-parts (ltb (s .clock) (2 ^ 62 + 2 ^ 42)) _ (a .1) in
+      let b = and-parts (ltb (s .clock) (clockEdge)) _ (a .1) in
       let c = and-parts (every (laneTest (s .clock)) (s .lanes)) _ (b .1) in
       let d = and-parts (not (anyHolds (s .lanes)) || anyEligible (s .clock) (s .lanes)) _ (c .1) in
       let f = and-parts (every (λ (j : ℕ). ltb j 64) (s .order)) (everyBelow (namedOnce s) 64) (d .1) in
@@ -84,7 +84,7 @@ module _ (s : State) where
       record {
         setup = setup;
         waiting = λ k. waiting.test-good ((laneAt s k) .given .longest) ((laneAt s k) .waiting) (and-parts (waitingTest ((laneAt s k) .given .longest) ((laneAt s k) .waiting)) _ (lane k) .0);
-        clock = ltb-true (s .clock) (2 ^ 62 + 2 ^ 42) (b .0);
+        clock = ltb-true (s .clock) (clockEdge) (b .0);
         numbers = λ k. times-true (s .clock) (laneAt s k) (firstOf (laneAt s k)) (and-parts (waitingTest ((laneAt s k) .given .longest) ((laneAt s k) .waiting)) _ (lane k) .1);
         live = λ k h. eligible-some (s .clock) (s .lanes) (or-right (not (anyHolds (s .lanes))) (anyEligible (s .clock) (s .lanes)) (d .0) (ap not (holds-some (s .lanes) k h)));
         order = order-true setup (f .0) (f .1);
@@ -95,7 +95,7 @@ module _ (s : State) where
   good-test g =
       simp (
         true-setup (setupOf s) (g .setup),
-        lt-ltb (s .clock) (2 ^ 62 + 2 ^ 42) (g .clock),
+        lt-ltb (s .clock) (clockEdge) (g .clock),
         at-every (laneTest (s .clock)) noLane (idle-true (s .clock)) (s .lanes) (λ k. lane k),
         live (anyHolds (s .lanes)) refl,
         named-small (s .order) inside,

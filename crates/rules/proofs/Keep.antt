@@ -13,7 +13,7 @@ use borrow.Author.Tests.{le-leb, leb-true, leb-false, ltb-true, ltb-false, not-t
 use Rattle.units.specs.Plain.{sum}
 use Rattle.waiting.specs.Waiting.{full}
 use Rattle.waiting.proofs.Laws.{known-zero}
-use Rattle.rules.specs.State.{Setting, noSetting, setupOf, Lane, Rec, State, charge, startR, finishR, firstOf, holds, some?, eligible, noLane, laneAt, anyHolds}
+use Rattle.rules.specs.State.{clockSpent, Setting, noSetting, setupOf, Lane, Rec, State, charge, startR, finishR, firstOf, holds, some?, eligible, noLane, laneAt, anyHolds}
 use Rattle.rules.specs.Choice.{Candidate, choose, chooseFrom, leastOf}
 use Rattle.rules.specs.Calls.{Pick, Call, Outcome, put, take, look, sets, lag, restart, served, woken, settled, settledAt, serve, pickFirst, pickOf, takeOf, lookOf, picked, doTake, putRefusal, accept, putOf, doPut, doLook, doLag, doSets, doRestart, fresh, step}
 use Rattle.rules.specs.Runs.{after}
@@ -104,13 +104,13 @@ take-kept M s (some p) inv h = served-kept M s p inv h
 
 -- ---- put
 
--- what an accepted put has: a lane of the setup with room, a length that fits, and a clock below 2 ^ 62
+-- what an accepted put has: a lane of the setup with room, a length that fits, and a clock that is not spent
 pub record Allowed (s : State) (j n : ℕ) : Type 0 where
   pub has : 0 < weightOf (laneAt s j)
   pub some-bytes : 0 < n
   pub fits : n ≤ (laneAt s j) .given .longest
   pub room : full ((laneAt s j) .waiting) 0 ≡ false
-  pub early : s .clock < 2 ^ 62
+  pub early : s .clock < clockSpent
 
 pub allowed-enters : (s : State) (j : ℕ) (r : Rec) → Allowed s j (r .len) → MayEnter (laneAt s j) r
 allowed-enters s j r a = record { train = known-zero ((laneAt s j) .waiting); some-bytes = a .some-bytes; fits = a .fits; room = a .room }
@@ -125,14 +125,14 @@ put-ok s j n =
     if-ind (PutOk s j n) (ltb (weightOf (laneAt s j)) 1) _ _ (λ e. tt) λ e₁.
     if-ind (PutOk s j n) (ltb n 1 || ltb ((laneAt s j) .given .longest) n) _ _ (λ e. tt) λ e₂.
     if-ind (PutOk s j n) (full ((laneAt s j) .waiting) 0) _ _ (λ e. tt) λ e₃.
-    if-ind (PutOk s j n) (leb (2 ^ 62) (s .clock)) _ _ (λ e. tt) λ e₄.
+    if-ind (PutOk s j n) (leb clockSpent (s .clock)) _ _ (λ e. tt) λ e₄.
     let b = or-parts (ltb n 1) (ltb ((laneAt s j) .given .longest) n) e₂ in
     record {
       has = ltb-false (weightOf (laneAt s j)) 1 e₁;
       some-bytes = ltb-false n 1 (b .0);
       fits = ltb-false ((laneAt s j) .given .longest) n (b .1);
       room = e₃;
-      early = leb-false (2 ^ 62) (s .clock) e₄;
+      early = leb-false clockSpent (s .clock) e₄;
     }
 
 accept-kept : (M : ℕ) (s : State) (j : ℕ) (r : Rec) → Kept M s → Allowed s j (r .len) → Kept M (accept s j r)

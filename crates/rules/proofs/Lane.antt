@@ -4,7 +4,7 @@
 --   (C) R ≤ S < R + s (units/proofs/Round.antt);
 --   (D) rounding down keeps the order (there too).
 -- And what the rest knows of a charge: it grows with the length, and is at most `most` for the longest record of all. Assumes nothing.
-use Prim.Native.Nat.{ℕ, _*_, _^_, _≤_, _<_}
+use Prim.Native.Nat.{ℕ, _+_, _*_, _^_, _≤_, _<_}
 use native.Mathlib.Nat.{le-trans, mul-le-mul-right}
 use native.Mathlib.Omega.{arith}
 use lib.Pow.{pow-pos, pow-mono}
@@ -21,15 +21,15 @@ weight-rate g h = omega (arith, rate-weight-ge (g .weight) h)
 
 pub charge-mono : (g : Setting) (n m : ℕ) → n ≤ m → charge g n ≤ charge g m
 unfolding charge
-charge-mono g n m h = h
+charge-mono g n m h = omega arith
 
 pub le-charge : (g : Setting) (n : ℕ) → n ≤ charge g n
 unfolding charge
 le-charge g n = omega arith
 
-pub charge-le : (g : Setting) (n : ℕ) → n ≤ 1500 → charge g n ≤ 1500
+pub charge-le : (g : Setting) (n : ℕ) → n ≤ 1500 → charge g n ≤ 1500 + g .framing
 unfolding charge
-charge-le g n h = h
+charge-le g n h = omega arith
 
 -- ---- the slot
 
@@ -42,14 +42,14 @@ pub slot-pos : (g : Setting) → 0 < slot g
 unfolding slot
 slot-pos g = pow-pos (group g)
 
-pub group-most : (g : Setting) → g .longest ≤ 1500 → group g ≤ 31
+pub group-most : (g : Setting) → g .longest ≤ 1500 → g .framing ≤ 64 → group g ≤ 31
 unfolding group
-group-most g h = group-le (g .weight) (charge g (g .longest)) (omega (arith, charge-le g (g .longest) h))
+group-most g h f = group-le (g .weight) (charge g (g .longest)) (omega (arith, charge-le g (g .longest) h))
 
 pub group-least : (g : Setting) → InNumbers g → 16 ≤ group g
 unfolding group
 group-least g n = group-ge (g .weight) (charge g (g .longest)) (n .weight-low) (n .weight-high) (omega (arith, n .longest-low, le-charge g (g .longest)))
 
-pub slot-most : (g : Setting) → g .longest ≤ 1500 → slot g ≤ 2 ^ 31
+pub slot-most : (g : Setting) → g .longest ≤ 1500 → g .framing ≤ 64 → slot g ≤ 2 ^ 31
 unfolding slot
-slot-most g h = pow-mono (group-most g h)
+slot-most g h f = pow-mono (group-most g h f)

@@ -1,5 +1,5 @@
 -- "12 and 13 depend on the lane's own setup and queue only." Assumes nothing.
-use Prim.Native.Nat.{ℕ, _^_}
+use Prim.Native.Nat.{ℕ}
 use native.Mathlib.Omega.{arith}
 use mathlib.Core.Path.{_≡_, refl, sym, ap, _∙_}
 use mathlib.Core.Bool.{Bool, true, false, _||_}
@@ -8,27 +8,11 @@ use mathlib.Core.Option.{Option, none, some}
 use lib.Dec.{leb, ltb}
 use Rattle.units.specs.Plain.{if_then_else_}
 use Rattle.waiting.specs.Waiting.{Waiting, full}
-use Rattle.rules.specs.State.{Setting, State, laneAt}
-use Rattle.rules.specs.Calls.{putRefusal}
-
--- the refusals 11 to 13 of a setting and what waits, and what follows if there is none
-laneRefusal : Setting → Waiting → ℕ → Option ℕ → Option ℕ
-laneRefusal g w n o =
-    if ltb (g .weight) 1 then some 11
-    else if ltb n 1 || ltb (g .longest) n then some 12
-    else if full w 0 then some 13
-    else o
-
-abbrev Spent : State → Option ℕ
-Spent s = if leb (2 ^ 62) (s .clock) then some 14 else none
-
-refusal-is : (s : State) (j n : ℕ) → putRefusal s j n ≡ laneRefusal (laneAt s j .given) (laneAt s j .waiting) n (Spent s)
-unfolding putRefusal laneRefusal
-refusal-is s j n = refl
+use Rattle.rules.specs.State.{Setting, State, clockSpent, laneAt}
+use Rattle.rules.specs.Calls.{laneRefusal, clockRefusal, putRefusal}
 
 -- what follows is neither 12 nor 13, so where these are given it does not matter
 other : (g : Setting) (w : Waiting) (n : ℕ) (o o′ : Option ℕ) (r : ℕ) → (o ≡ some r → ⊥) → laneRefusal g w n o ≡ some r → laneRefusal g w n o′ ≡ some r
-unfolding laneRefusal
 other g w n o o′ r not = go (ltb (g .weight) 1) (ltb n 1 || ltb (g .longest) n) (full w 0)
   where
     go : (a b c : Bool) → (if a then some 11 else if b then some 12 else if c then some 13 else o) ≡ some r → (if a then some 11 else if b then some 12 else if c then some 13 else o′) ≡ some r
@@ -37,8 +21,8 @@ other g w n o o′ r not = go (ltb (g .weight) 1) (ltb n 1 || ltb (g .longest) n
     go false false true e = e
     go false false false e = absurd (not e)
 
-spent-only : (s : State) (r : ℕ) → (r ≡ 12) ⊎ (r ≡ 13) → Spent s ≡ some r → ⊥
-spent-only s r h = go (leb (2 ^ 62) (s .clock)) h
+spent-only : (v r : ℕ) → (r ≡ 12) ⊎ (r ≡ 13) → clockRefusal v ≡ some r → ⊥
+spent-only v r h = go (leb clockSpent v) h
   where
     go : (b : Bool) → (r ≡ 12) ⊎ (r ≡ 13) → (if b then some 14 else none) ≡ some r → ⊥
     go true (inl q) e = let z : 14 ≡ r = cc in omega arith
@@ -48,8 +32,8 @@ spent-only s r h = go (leb (2 ^ 62) (s .clock)) h
 -- whatever the clock, S, F and the other lanes are
 pub put-local : (s t : State) (j n r : ℕ) → laneAt s j .given ≡ laneAt t j .given → laneAt s j .waiting ≡ laneAt t j .waiting
     → (r ≡ 12) ⊎ (r ≡ 13) → putRefusal s j n ≡ some r → putRefusal t j n ≡ some r
+unfolding putRefusal
 put-local s t j n r g w h e =
-    refusal-is t j n
-    ∙ ap (λ (x : Setting). laneRefusal x (laneAt t j .waiting) n (Spent t)) (sym g)
-    ∙ ap (λ (x : Waiting). laneRefusal (laneAt s j .given) x n (Spent t)) (sym w)
-    ∙ other (laneAt s j .given) (laneAt s j .waiting) n (Spent s) (Spent t) r (spent-only s r h) (sym (refusal-is s j n) ∙ e)
+    ap (λ (x : Setting). laneRefusal x (laneAt t j .waiting) n (clockRefusal (t .clock))) (sym g)
+    ∙ ap (λ (x : Waiting). laneRefusal (laneAt s j .given) x n (clockRefusal (t .clock))) (sym w)
+    ∙ other (laneAt s j .given) (laneAt s j .waiting) n (clockRefusal (s .clock)) (clockRefusal (t .clock)) r (spent-only (s .clock) r h) e

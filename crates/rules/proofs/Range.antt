@@ -1,4 +1,4 @@
--- The clock stays below 2 ^ 62 + 2 ^ 42. The potential: V and 2 ^ 32 for each record held. A put is accepted below 2 ^ 62 only; a take moves V by less than
+-- The clock stays below its edge. The potential: V and 2 ^ 32 for each record held. A put is accepted before the clock is spent only; a take moves V by less than
 -- 2 ^ 32, and one record fewer is held then. Assumes nothing.
 use Prim.Native.Nat.{ℕ, suc, _+_, _*_, _^_, _≤_, _<_, max}
 use native.Mathlib.Omega.{arith}
@@ -12,7 +12,7 @@ use lib.ListN.{length, getD, set, length-set, length-map}
 use Rattle.units.specs.Plain.{if_then_else_, sum}
 use Rattle.waiting.specs.Waiting.{Waiting, held}
 use Rattle.waiting.proofs.Laws.{held-nothing, held-enter, held-hand, held-none, held-most, good-enter}
-use Rattle.rules.specs.State.{laneDepth, Setting, noSetting, setupOf, Lane, Rec, State, charge, slot, startR, firstOf, holds, noLane, laneAt, anyHolds}
+use Rattle.rules.specs.State.{clockEdge, laneDepth, Setting, noSetting, setupOf, Lane, Rec, State, charge, slot, startR, firstOf, holds, noLane, laneAt, anyHolds}
 use Rattle.rules.specs.Choice.{leastOf}
 use Rattle.rules.specs.Calls.{Pick, Call, Outcome, put, take, look, sets, lag, restart, served, entered, woken, appended, settled, settledAt, serve, takeOf, picked, doTake, putRefusal, accept, putOf, doPut, doLook, doSets, doRestart, idle, fresh, step}
 use Rattle.rules.specs.Runs.{after}
@@ -38,7 +38,7 @@ pub record LaneRange (l : Lane) : Type 0 where
 pub record Range (s : State) : Type 0 where
   pub lane : (k : ℕ) → LaneRange (laneAt s k)
   pub few : length (s .lanes) ≤ 64
-  pub clock : s .clock + sum heldIn (s .lanes) * 2 ^ 32 < 2 ^ 62 + 2 ^ 42
+  pub clock : s .clock + sum heldIn (s .lanes) * 2 ^ 32 < clockEdge
 
 -- ---- take
 

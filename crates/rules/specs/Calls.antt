@@ -16,7 +16,7 @@ use lib.ListN.{set}
 use Rattle.units.specs.Numbers.{lineRate}
 use Rattle.units.specs.Plain.{if_then_else_, without}
 use Rattle.waiting.specs.Waiting.{Waiting, nothing, first, enter, handOut, full}
-use Rattle.rules.specs.State.{Rec, Setting, Lane, State, charge, rate, startR, firstOf, holds, laneAt, setupOf, anyHolds}
+use Rattle.rules.specs.State.{clockSpent, Rec, Setting, Lane, State, charge, rate, startR, firstOf, holds, laneAt, setupOf, anyHolds}
 use Rattle.rules.specs.Choice.{Candidate, choose, leastOf}
 use Rattle.rules.specs.Sets.{ready, ineligibleReady, eligibleBlocked, ineligibleBlocked, setWord}
 
@@ -45,15 +45,22 @@ no n s = record { reply = refused n none; state = s }
 
 -- ---- put
 
--- "Calls: in rising number": 11 lane not in the setup, 12 length 0 or over the lane's longest, 13 lane holds 16, 14 V is 2^62 or more
+-- By the lane alone, of its setting and what waits in it: 11 lane not in the setup, 12 length 0 or over the lane's longest, 13 lane full. What follows where
+-- it is none of these.
+abbrev pub laneRefusal : Setting → Waiting → ℕ → Option ℕ → Option ℕ
+laneRefusal g w n next =
+    if ltb (g .weight) 1 then some 11
+    else if ltb n 1 || ltb (g .longest) n then some 12
+    else if full w 0 then some 13
+    else next
+
+-- By the clock: 14 once it is spent.
+abbrev pub clockRefusal : ℕ → Option ℕ
+clockRefusal v = if leb clockSpent v then some 14 else none
+
+-- "Calls: in rising number"
 unfoldable pub putRefusal : State → ℕ → ℕ → Option ℕ
-putRefusal s j n =
-    let l = laneAt s j in
-    if ltb (l .given .weight) 1 then some 11
-    else if ltb n 1 || ltb (l .given .longest) n then some 12
-    else if full (l .waiting) 0 then some 13
-    else if leb (2 ^ 62) (s .clock) then some 14
-    else none
+putRefusal s j n = laneRefusal (laneAt s j .given) (laneAt s j .waiting) n (clockRefusal (s .clock))
 
 -- "Put appends the record." Until lanes are shared every record is of train 0.
 abbrev pub entered : Lane → Rec → Waiting

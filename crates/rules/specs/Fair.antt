@@ -15,7 +15,7 @@ use lib.Dec.{eqb}
 use Rattle.units.specs.Numbers.{lineRate}
 use Rattle.units.specs.Plain.{if_then_else_, sum}
 use Rattle.rules.specs.State.{Setting, settingAt, charge, rate, slot}
-use Rattle.rules.specs.Setup.{Setup, margin}
+use Rattle.rules.specs.Setup.{Setup, framingOf, margin}
 use Rattle.rules.specs.Calls.{Call, fresh}
 use Rattle.rules.specs.Runs.{Event, trace, Moving, sentIn, acceptedOf, sentOf}
 
@@ -28,7 +28,8 @@ unfoldable pub chargedTo : List Setting → ℕ → Option Moving → ℕ
 chargedTo gs k none = 0
 chargedTo gs k (some x) = if eqb (x .lane) k then charge (settingAt gs k) (x .item .len) else 0
 
--- "T is the sum of the lengths of the records that the stretch's takes handed out, O the sum over those whose answer names this lane."
+-- "T is the sum of the lengths of the records that the stretch's takes handed out, O the sum over those whose answer names this lane." "T and O count charged
+-- bytes" (document 02, d).
 abbrev pub bytesSent : List Setting → List Event → ℕ
 bytesSent gs es = sum (λ (e : Event). charged gs (sentIn (e .reply))) es
 
@@ -47,6 +48,6 @@ Fair M gs =
     → (k : ℕ) → ((p q : List Event) → p ++ q ≡ stretch → Holding k (past ++ p))
     → lineRate * bytesSent gs stretch < rate (settingAt gs k) * bytesSentOf gs k stretch + 4 * slot (settingAt gs k) + M
 
--- "1,024 T < c O + 4 slots + 1,536,000", from a fresh table of any setup
+-- 1,024 T < c O + 4 slots + 1,024 (1,500 + h), from a fresh table of any setup
 unfoldable pub Demand3 : Type 0
-Demand3 = (gs : List Setting) → Setup gs → Fair margin gs
+Demand3 = (gs : List Setting) → Setup gs → Fair (margin (framingOf gs)) gs

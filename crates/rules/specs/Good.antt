@@ -7,17 +7,17 @@ use mathlib.Core.Bool.{true}
 use mathlib.Core.Option.{Option, none, some}
 use Rattle.units.specs.Plain.{if_then_else_, times}
 use Rattle.waiting.specs.Waiting.{GoodWaiting}
-use Rattle.rules.specs.State.{Rec, Lane, State, charge, rate, slot, startR, firstOf, holds, eligible, laneAt, setupOf}
+use Rattle.rules.specs.State.{Rec, Lane, State, clockEdge, charge, rate, slot, startR, firstOf, holds, eligible, laneAt, setupOf}
 use Rattle.rules.specs.Setup.{Setup, margin}
 
--- "for a holding lane F = S + its first record's length times c, S below V + 2s, R above V - 2s - 1,536,000; for an idle lane F below V + 2s". Whole
+-- "for a holding lane F = S + its first record's length times c, S below V + 2s, R above V - 2s - 1,024 (1,500 + h); for an idle lane F below V + 2s". Whole
 -- numbers are compared as sums.
 abbrev pub Times : ℕ → Lane → Option Rec → Type 0
 Times v l none = l .finish < v + 2 * slot (l .given)
 Times v l (some r) =
     (l .finish ≡ l .start + charge (l .given) (r .len) * rate (l .given))
     × (l .start < v + 2 * slot (l .given))
-    × (v < startR l + 2 * slot (l .given) + margin)
+    × (v < startR l + 2 * slot (l .given) + margin (l .given .framing))
 
 pub record Good (s : State) : Type 0 where
   -- "a setup within the numbers above"
@@ -25,7 +25,7 @@ pub record Good (s : State) : Type 0 where
   -- "queues of 0 to 16 records, each length 1 to the lane's longest"
   pub waiting : (k : ℕ) → GoodWaiting ((laneAt s k) .given .longest) ((laneAt s k) .waiting)
   -- "V below 2^62 + 2^42"
-  pub clock : s .clock < 2 ^ 62 + 2 ^ 42
+  pub clock : s .clock < clockEdge
   pub numbers : (k : ℕ) → Times (s .clock) (laneAt s k) (firstOf (laneAt s k))
   -- "an eligible lane if any holds"
   pub live : (k : ℕ) → holds (laneAt s k) ≡ true → (i : ℕ) × (eligible (s .clock) (laneAt s i) ≡ true)

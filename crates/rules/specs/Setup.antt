@@ -2,14 +2,16 @@
 --
 --   Setup           the rule for a whole setup
 --   longestCharge   the greatest charge of a record that the setup allows
---   margin          1,536,000
+--   framingOf       h, the framing bytes of the line: every lane of the setup has this number
+--   margin h        1,024 times (1,500 + h)
 --
 -- Assumes nothing.
-use Prim.Native.Nat.{ℕ, _≤_, _<_, max}
+use Prim.Native.Nat.{ℕ, _+_, _*_, _≤_, _<_, max}
 use mathlib.Core.Path.{_≡_}
 use mathlib.Core.Logic.{_⊎_}
 use mathlib.Core.List.{List, [], _∷_}
 use lib.ListN.{length}
+use Rattle.units.specs.Numbers.{lineRate}
 use Rattle.units.specs.Plain.{sum}
 use Rattle.rules.specs.State.{Setting, noSetting, settingAt, charge}
 
@@ -23,17 +25,25 @@ pub record InNumbers (g : Setting) : Type 0 where
 abbrev pub weights : List Setting → ℕ
 weights gs = sum (λ (g : Setting). g .weight) gs
 
+-- the greatest of the lanes' framing numbers; a lane that is not in the setup has 0
+unfoldable pub framingOf : List Setting → ℕ
+framingOf [] = 0
+framingOf (g ∷ gs) = max (g .framing) (framingOf gs)
+
 -- "Lanes 1 to 64, numbered 0 to 63 .. weights sum to at most 1,024." There is a setting for each number; a lane that is not in the setup has none.
 pub record Setup (gs : List Setting) : Type 0 where
   pub size : length gs ≡ 64
   pub each : (k : ℕ) → InNumbers (settingAt gs k) ⊎ (settingAt gs k ≡ noSetting)
   pub some-lane : 0 < weights gs
   pub total : weights gs ≤ 1024
+  -- "field 0x11 (u8, 0 to 64)": one number for all lanes
+  pub framing-high : framingOf gs ≤ 64
+  pub framed : (k : ℕ) → 0 < (settingAt gs k) .weight → (settingAt gs k) .framing ≡ framingOf gs
 
 unfoldable pub longestCharge : List Setting → ℕ
 longestCharge [] = 0
 longestCharge (g ∷ gs) = max (charge g (g .longest)) (longestCharge gs)
 
--- 1,536,000, the figure of demand 3 and of the rule for a good table: what a record of 1,500 bytes, the longest of any setup, costs the line
-abbrev pub margin : ℕ
-margin = 1536000
+-- "1,024 times (1,500 + h)", the figure of demand 3 and of the rule for a good table: what a record of 1,500 bytes, the longest of any setup, costs the line
+abbrev pub margin : ℕ → ℕ
+margin h = lineRate * (1500 + h)

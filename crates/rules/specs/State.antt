@@ -1,12 +1,13 @@
 -- What the rules speak of: a state of the scheduler, and the numbers of a lane.
 --
 --   Rec          a waiting record: its mark and its length
---   Setting      what the setup gives a lane: weight and longest
+--   Setting      what the setup gives a lane: weight, longest, and the line's framing bytes h
 --   Lane         a setting, S, F and what waits (crate `waiting`)
 --   State        the clock V, a lane for each number, and the tie order
---   charge       what a record of a length costs: its own length
+--   charge       what a record of a length costs: its length and h
 --   rate         c, the clock units for each byte of a lane
 --   group, slot  the group index i, and s = 2 ^ i
+--   clockSpent   where the clock is spent: no put is accepted from there on; clockEdge: where no good table's clock comes
 --   startR       R, the rounded start; finishR: R + 2s, the rounded finish
 --   holds        the lane holds a record; eligible: and its R is at most V
 --
@@ -26,6 +27,7 @@ use Rattle.waiting.specs.Waiting.{Waiting, nothing, first}
 pub record Setting : Type 0 where
   pub weight : ℕ
   pub longest : ℕ
+  pub framing : ℕ
 
 pub record Lane : Type 0 where
   pub given : Setting
@@ -42,14 +44,14 @@ pub record State : Type 0 where
 
 -- ---- the numbers of a lane
 
--- "A record's own length is what is charged." The rest of the rules and the proofs know of a charge only that it grows with the length.
+-- "Charged length is record length plus this number h" (document 02, d). The rest of the rules and the proofs know of a charge only that it grows with the length.
 unfoldable pub charge : Setting → ℕ → ℕ
-charge g n = n
+charge g n = n + g .framing
 
 abbrev pub rate : Setting → ℕ
 rate g = perByte (g .weight)
 
--- "Group index i: the least i with 2^i at least longest times c."
+-- "Group index i: the least i with 2^i at least longest times c"; "the group uses longest plus h".
 unfoldable pub group : Setting → ℕ
 group g = leastPower (charge g (g .longest) * rate g)
 
@@ -78,10 +80,18 @@ holds l = some? (firstOf l)
 unfoldable pub eligible : ℕ → Lane → Bool
 eligible v l = holds l && leb (startR l) v
 
+-- ---- the ends of the clock
+
+abbrev pub clockSpent : ℕ
+clockSpent = 2 ^ 62
+
+abbrev pub clockEdge : ℕ
+clockEdge = 2 ^ 62 + 2 ^ 42
+
 -- ---- the lanes together
 
 abbrev pub noSetting : Setting
-noSetting = record { weight = 0; longest = 0 }
+noSetting = record { weight = 0; longest = 0; framing = 0 }
 
 abbrev pub noLane : Lane
 noLane = record { given = noSetting; start = 0; finish = 0; waiting = nothing }

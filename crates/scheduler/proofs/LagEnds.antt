@@ -28,7 +28,7 @@ lag-is s j z = go (ltb (laneAt s j .given .weight) 1)
     go false e = cc
 
 -- the call answers z on a good table, of any origin
-pub lag-ends : (t u : List ℕ) (j : ℕ) (z : ℤ) → GoodTable t → Step (lag j) t (Lag z) u → Between (2 ^ 32) (2 ^ 32 + margin) z
+pub lag-ends : (t u : List ℕ) (j : ℕ) (z : ℤ) → GoodTable t → Step (lag j) t (Lag z) u → Between (2 ^ 32) (2 ^ 32 + margin (laneAt (meant t) j .given .framing)) z
 lag-ends t u j z g p =
-    subst (Between (2 ^ 32) (2 ^ 32 + margin)) (sym (lag-is (meant t) j z (p .reply g (meant t) (good-encodes t g))))
+    subst (Between (2 ^ 32) (2 ^ 32 + margin (laneAt (meant t) j .given .framing))) (sym (lag-is (meant t) j z (p .reply g (meant t) (good-encodes t g))))
     (lag-range (meant t) (g .good) j .ends)

@@ -17,7 +17,7 @@ use mathlib.Core.Option.{none}
 use Rattle.units.specs.Numbers.{lineRate}
 use Rattle.waiting.specs.Waiting.{queueOf}
 use Rattle.rules.specs.State.{Setting, settingAt, State, rate, slot, laneAt, setupOf}
-use Rattle.rules.specs.Setup.{margin}
+use Rattle.rules.specs.Setup.{framingOf, margin}
 use Rattle.rules.specs.Calls.{Call, take, restart, Reply, taken, restarted, refused, fresh}
 use Rattle.rules.specs.Runs.{Event, after, trace, acceptedOf, sentOf}
 use Rattle.rules.specs.Fair.{bytesSent, bytesSentOf, Holding}
@@ -43,7 +43,7 @@ FairCalls =
     (gs : List Setting) (t u : List ℕ) (calls : List Event) → Begins gs t → Chain t calls u
     → (past stretch rest : List Event) → calls ≡ past ++ stretch ++ rest
     → (k : ℕ) → ((p q : List Event) → p ++ q ≡ stretch → Holding k (past ++ p))
-    → lineRate * bytesSent gs stretch < rate (settingAt gs k) * bytesSentOf gs k stretch + 4 * slot (settingAt gs k) + margin
+    → lineRate * bytesSent gs stretch < rate (settingAt gs k) * bytesSentOf gs k stretch + 4 * slot (settingAt gs k) + margin (framingOf gs)
 
 unfoldable pub NeverTen : Type 0
 NeverTen =

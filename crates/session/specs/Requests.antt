@@ -13,7 +13,7 @@ use mathlib.Core.List.{List, [], _∷_, _++_}
 use mathlib.Core.Option.{some}
 use lib.ListN.{length}
 use Rattle.rules.specs.State.{Setting, State}
-use Rattle.rules.specs.Setup.{Setup, margin}
+use Rattle.rules.specs.Setup.{Setup, framingOf, margin}
 use Rattle.rules.specs.Calls.{Call, fresh}
 use Rattle.rules.specs.Runs.{Event, after, trace}
 use Rattle.rules.specs.Fair.{Fair}
@@ -50,7 +50,7 @@ pub record Lists (s : List ℕ) (limit : ℕ) (x : Script) : Type 0 where
   pub text : x .text ≡ lanesLine lanes ++ (linesOf (trace (fresh settings) (requestsOf limit s at)) ++ closing (x .why) (x .count))
   pub state : x .state ≡ some (after (fresh settings) (requestsOf limit s at))
   -- demand 3, of this list as of every one
-  pub fair : Fair margin settings
+  pub fair : Fair (margin (framingOf settings)) settings
 
 unfoldable pub RunLists : Type 0
 RunLists = (s : List ℕ) (limit table area : ℕ) (σ : State) → runOf s limit table area .state ≡ some σ → Lists s limit (runOf s limit table area)

@@ -5,3 +5,4 @@ pub mod Rows
 pub mod Timed
 pub mod Few
 pub mod Next
+pub mod Agrees

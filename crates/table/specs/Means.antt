@@ -43,7 +43,7 @@ unfoldable pub ringOf : List ℕ → ℕ → ℕ → ℕ → List Rec
 ringOf w k h n = tab n (λ i. recOf (getD w (placeWord k (h + i)) 0))
 
 abbrev pub givenOf : LaneRow → Setting
-givenOf l = record { weight = l .weight; longest = l .longest .0 }
+givenOf l = record { weight = l .weight; longest = l .longest .0; framing = 0 }
 
 -- One clock word x: F of an idle lane, whose S is 0 by definition; S of a holding one, whose F is "S + its first record's length times c".
 unfoldable pub timed : Setting → ℕ → List Rec → Lane

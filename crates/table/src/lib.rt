@@ -201,7 +201,7 @@ pub fn order_at(t: &[u8], i: usize) -> usize
 
 // What a record of this length is charged for in this lane: its own length.
 pub fn charged(l: LaneRow, length: Bytes) -> Bytes
-    ensures { λ r. ⌜ (r .0 ≡ charge (givenOf l) (length .0)) × (r .0 ≤ length .0) ⌝ }
+    ensures { λ r. ⌜ (r .0 ≡ charge (givenOf l) (length .0)) × (r .0 ≤ length .0 + 64) ⌝ }
 {
     length
 }

@@ -35,7 +35,7 @@ pub fn lane_rate(weight: u64) -> Rate
 
 // What a record of this length costs its lane.
 pub fn lane_charge(length: Bytes, c: Rate) -> Clock
-    requires { ⌜ (length .0 ≤ 2 ^ 32) × (c .0 ≤ 2 ^ 20) ⌝ }
+    requires { ⌜ (length .0 ≤ 2 ^ 33) × (c .0 ≤ 2 ^ 20) ⌝ }
     ensures { λ r. ⌜ r .0 ≡ length .0 * c .0 ⌝ }
 {
     Clock(length.0 * c.0)
@@ -43,7 +43,7 @@ pub fn lane_charge(length: Bytes, c: Rate) -> Clock
 
 // What a record of this length costs the line.
 pub fn line_charge(length: Bytes) -> Clock
-    requires { ⌜ length .0 ≤ 2 ^ 32 ⌝ }
+    requires { ⌜ length .0 ≤ 2 ^ 33 ⌝ }
     ensures { λ r. ⌜ r .0 ≡ lineRate * length .0 ⌝ }
 {
     Clock(LINE_RATE * length.0)

@@ -14,7 +14,7 @@ use lib.ListN.{length}
 use Rattle.units.specs.Numbers.{lineRate}
 use Rattle.waiting.specs.Waiting.{queueOf}
 use Rattle.rules.specs.State.{Setting, settingAt, State, rate, slot, laneAt}
-use Rattle.rules.specs.Setup.{margin}
+use Rattle.rules.specs.Setup.{framingOf, margin}
 use Rattle.rules.specs.Calls.{refused, fresh}
 use Rattle.rules.specs.Runs.{Event, trace, acceptedOf, sentOf}
 use Rattle.rules.specs.Fair.{bytesSent, bytesSentOf, Holding}
@@ -38,7 +38,7 @@ pub record GoesOn (gs : List Setting) (list calls : List Event) (u : List ℕ) :
   -- demand 3
   pub fair : (past stretch rest : List Event) → list ≡ past ++ stretch ++ rest
       → (k : ℕ) → ((p q : List Event) → p ++ q ≡ stretch → Holding k (past ++ p))
-      → lineRate * bytesSent gs stretch < rate (settingAt gs k) * bytesSentOf gs k stretch + 4 * slot (settingAt gs k) + margin
+      → lineRate * bytesSent gs stretch < rate (settingAt gs k) * bytesSentOf gs k stretch + 4 * slot (settingAt gs k) + margin (framingOf gs)
 
 unfoldable pub AfterRun : Type 0
 AfterRun =

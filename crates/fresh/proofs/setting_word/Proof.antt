@@ -18,7 +18,7 @@ lane-charge-requires : tie.Need-lane-charge-requires
 lane-charge-requires c κs = search needs
 
 group-index-requires : tie.Need-group-index-requires
-group-index-requires c κs = omega (arith, c .lane-charge .ensures, mul-le-mul {n₁ = c .before .charged .result .0} {m₁ = c .before .before .lane-rate .result .0} {n₂ = 1500} {m₂ = 1048576} (omega (arith, c .before .charged .ensures .1, c .before .before .before .pre .longest-high)) (c .before .before .lane-rate .ensures .2))
+group-index-requires c κs = omega (arith, c .lane-charge .ensures, mul-le-mul {n₁ = c .before .charged .result .0} {m₁ = c .before .before .lane-rate .result .0} {n₂ = 1564} {m₂ = 1048576} (omega (arith, c .before .charged .ensures .1, c .before .before .before .pre .longest-high)) (c .before .before .lane-rate .ensures .2))
 
 mul-result : tie.Need-mul-result
 mul-result c = search needs
