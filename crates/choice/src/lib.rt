@@ -22,10 +22,12 @@ use table::holding;
 use table::order_at;
 use table::row;
 use units::Clock;
+use units::before;
 use units::earlier;
+use units::not_after;
 use units::rounded_finish;
 use units::rounded_start;
-use units::slot;
+use units::same_time;
 
 // A holding lane's group and R.
 pub struct Placed {
@@ -115,6 +117,14 @@ pub fn group_starts(t: &[u8]) -> Starts
     found
 }
 
+// A group's bit in a set word.
+fn group_bit(i: u32) -> u64
+    requires { ⌜ i ≤ 31 ⌝ }
+    ensures { λ r. ⌜ r ≡ 2 ^ i ⌝ }
+{
+    1u64 << i
+}
+
 // Puts a group's bit into one of the four words.
 fn sorted(w: SetWords, bit: u64, eligible: bool, blocked: bool) -> SetWords
     requires { ⌜ Fits w bit ⌝ }
@@ -141,9 +151,9 @@ fn sweep_group(start: Clock, v: Clock, i: u32, a: Sweep) -> Sweep
     ensures { λ r. ⌜ r ≡ swept (start .0) (v .0) i a ⌝ }
 {
     let finish = rounded_finish(start, i);
-    let eligible = start.0 <= v.0;
+    let eligible = not_after(start, v);
     let so_far = a.least;
-    let words = sorted(a.words, slot(i).0, eligible, so_far.0 < finish.0);
+    let words = sorted(a.words, group_bit(i), eligible, before(so_far, finish));
     if eligible {
         return Sweep {
             words,
@@ -176,7 +186,7 @@ fn sweep_down(t: &[u8], s: Starts) -> SetWords
         i -= 1;
         let g = i as usize;
         let start = s.at[g];
-        if start.0 != NEVER {
+        if !same_time(start, Clock(NEVER)) {
             a = sweep_group(start, v, i, a);
         }
     }
@@ -210,7 +220,7 @@ fn is_at(p: Placed, g: u32, start: Clock) -> bool
     ensures { λ r. ⌜ r ≡ (eqb (p .group) g && eqb (p .start .0) (start .0)) ⌝ }
 {
     if p.group == g {
-        p.start.0 == start.0
+        same_time(p.start, start)
     } else {
         false
     }

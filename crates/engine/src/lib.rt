@@ -36,6 +36,7 @@ use queue::wake;
 use rules::Answer;
 use rules::Record;
 use rules::Refusal;
+use table::DEPTH;
 use table::Entry;
 use table::LaneRow;
 use table::charged;
@@ -48,6 +49,7 @@ use units::Bytes;
 use units::Clock;
 use units::later;
 use units::line_charge;
+use units::not_after;
 use units::plus;
 use units::rounded_start;
 
@@ -79,11 +81,11 @@ fn put_verdict(t: &[u8], lane: u8, length: Bytes) -> Verdict
     if l.longest.0 < length.0 {
         return Verdict::Refused(Refusal::BadLength);
     }
-    if 16 <= l.count {
+    if DEPTH <= l.count {
         return Verdict::Refused(Refusal::LaneFull);
     }
     let v = clock(t);
-    if SPENT <= v.0 {
+    if not_after(Clock(SPENT), v) {
         return Verdict::Refused(Refusal::ClockSpent);
     }
     Verdict::Allowed

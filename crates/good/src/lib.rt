@@ -22,6 +22,7 @@ use table::holding;
 use table::next_present;
 use table::row;
 use units::Clock;
+use units::not_after;
 use units::rounded_start;
 
 // No lane has this number, nor a greater one.
@@ -58,7 +59,7 @@ fn note(f: Found, k: usize, l: LaneRow, v: Clock) -> Found
         };
     }
     let held = (1u64 << (k as u32)) + f.held;
-    if rounded_start(l.time, l.group).0 <= v.0 {
+    if not_after(rounded_start(l.time, l.group), v) {
         return Found {
             weights: weights,
             held: held,
@@ -160,7 +161,7 @@ pub fn good(t: &[u8]) -> bool
         return false;
     }
     let v = clock(t);
-    if v.0 >= CLOCK_END {
+    if not_after(Clock(CLOCK_END), v) {
         return false;
     }
     let n = holding(t);

@@ -15,11 +15,17 @@ use table::DEPTH;
 use table::LaneRow;
 use table::charged;
 use table::record_at;
+use units::Bytes;
 use units::Clock;
 use units::RATE_OF_WEIGHT_ONE;
+use units::before;
 use units::lane_charge;
+use units::line_charge;
+use units::not_after;
+use units::plus;
 use units::rounded_start;
 use units::slot;
+use units::two_slots;
 
 // The numbers of a setting.
 const LEAST_WEIGHT: u64 = 1;
@@ -32,9 +38,6 @@ const MOST_LONGEST: u64 = 1500;
 
 // The greatest group index.
 const MOST_GROUP: u32 = 31;
-
-// 1,024 times the longest record of any lane: how far the clock may run ahead in one take.
-const REACH: u64 = 1536000;
 
 // Whether c is 1,048,576 / weight, rounded up: the only number with 2^20 <= c w < 2^20 + w.
 fn rate_good(l: LaneRow) -> bool
@@ -60,12 +63,12 @@ fn group_good(l: LaneRow) -> bool
     if index > MOST_GROUP {
         return false;
     }
-    let span = lane_charge(charged(l, l.longest), l.rate).0;
-    let slot = slot(index).0;
-    if slot < span {
+    let span = lane_charge(charged(l, l.longest), l.rate);
+    let slot = slot(index);
+    if before(slot, span) {
         return false;
     }
-    if 2 * span <= slot {
+    if not_after(plus(span, span), slot) {
         return false;
     }
     true
@@ -104,15 +107,17 @@ fn time_good(l: LaneRow, v: Clock) -> bool
     requires { ⌜ (l .group ≤ 31) × (v .0 < 2 ^ 63) ⌝ }
     ensures { λ r. ⌜ Says r (TimeGood (v .0) l) ⌝ }
 {
-    let window = 2 * slot(l.group).0;
-    if l.time.0 >= v.0 + window {
+    let window = two_slots(l.group);
+    if not_after(plus(v, window), l.time) {
         return false;
     }
     if l.count == 0 {
         return true;
     }
-    let rounded = rounded_start(l.time, l.group).0;
-    if v.0 >= rounded + window + REACH {
+    let rounded = rounded_start(l.time, l.group);
+    // How far the clock may run ahead in one take: what the longest record of any lane costs the line.
+    let reach = line_charge(Bytes(MOST_LONGEST));
+    if not_after(plus(plus(rounded, window), reach), v) {
         return false;
     }
     true

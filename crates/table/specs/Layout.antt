@@ -1,5 +1,6 @@
 -- Where a table's parts lie, in 64-bit words (docs/TABLE.md), and what a store leaves.
 --
+--   placesWord       the first word of the rings' places
 --   WORDS, Room      the number of words; bytes that are long enough for them
 --   cells            the words of a table's bytes
 --   Now              what a store leaves: the words, and the bytes past the table
@@ -18,8 +19,13 @@ use Rattle.rules.specs.State.{laneDepth}
 use Rattle.table.specs.declared.LaneRow.{LaneRow}
 use Rattle.table.specs.declared.Entry.{Entry}
 
+-- the first word of the places, behind the 64 rows
+abbrev pub placesWord : ℕ
+placesWord = 336
+
+-- 1,360
 abbrev pub WORDS : ℕ
-WORDS = 1360
+WORDS = placesWord + laneDepth * 64
 
 abbrev pub Room : List ℕ → Type 0
 Room t = WORDS * 8 ≤ length t
@@ -51,7 +57,7 @@ abbrev pub laneWord : ℕ → ℕ
 laneWord k = 80 + 4 * k
 
 abbrev pub placeWord : ℕ → ℕ → ℕ
-placeWord k i = 336 + laneDepth * k + i % laneDepth
+placeWord k i = placesWord + laneDepth * k + i % laneDepth
 
 abbrev pub rowOf : ℕ → ℕ → ℕ → LaneRow
 rowOf setting time ring = record {
@@ -60,8 +66,8 @@ rowOf setting time ring = record {
   group = setting / 2 ^ 32 % 2 ^ 8;
   rate = record { 0 = setting / 2 ^ 40 };
   time = record { 0 = time };
-  head = ring % 16;
-  count = ring / 16;
+  head = ring % laneDepth;
+  count = ring / laneDepth;
 }
 
 unfoldable pub rowAt : List ℕ → ℕ → LaneRow
@@ -69,7 +75,7 @@ rowAt w k = rowOf (getD w (laneWord k) 0) (getD w (laneWord k + 1) 0) (getD w (l
 
 -- the words with lane k's clock and ring changed; the setting stays
 unfoldable pub putRow : List ℕ → ℕ → LaneRow → List ℕ
-putRow w k l = set (set w (laneWord k + 1) (l .time .0)) (laneWord k + 2) (l .head + 16 * l .count)
+putRow w k l = set (set w (laneWord k + 1) (l .time .0)) (laneWord k + 2) (l .head + laneDepth * l .count)
 
 -- ---- a record
 

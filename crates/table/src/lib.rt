@@ -17,9 +17,6 @@ use units::Rate;
 use words::set_word;
 use words::word;
 
-// The fixed size of a table, in bytes.
-pub const SIZE: usize = 10880;
-
 // Lanes are numbered 0 to 63.
 pub const LANES: usize = 64;
 
@@ -39,10 +36,13 @@ pub const ROWS: usize = 80;
 
 const PLACES: usize = 336;
 
-// Words of a row, and of a ring.
+// Words of a row, and of a ring: one for each place.
 pub const ROW_WORDS: usize = 4;
 
-const PLACE_WORDS: usize = 16;
+const RING_WORDS: usize = DEPTH as usize;
+
+// The fixed size of a table, in bytes: 1,360 words.
+pub const SIZE: usize = 8 * (PLACES + RING_WORDS * LANES);
 
 // Where weight, group and c begin in a setting word, after longest.
 pub const WEIGHT_UNIT: u64 = 65536;
@@ -127,7 +127,7 @@ pub fn record_at(t: &[u8], k: usize, i: u64) -> Entry
     requires { ⌜ Room (now t) × (k < 64) ⌝ }
     ensures { λ r. ⌜ (r ≡ entryOf (getD (cells (now (t .entry))) (placeWord k i) 0)) × (r .length .0 < 2 ^ 32) ⌝ }
 {
-    let e = cell(t, PLACES + PLACE_WORDS * k + (i % DEPTH) as usize);
+    let e = cell(t, PLACES + RING_WORDS * k + (i % DEPTH) as usize);
     Entry {
         mark: (e % LENGTH_UNIT) as u32,
         length: Bytes(e / LENGTH_UNIT),
@@ -140,7 +140,7 @@ pub fn set_record(t: &mut [u8], k: usize, i: u64, e: Entry)
     ensures { λ _. ⌜ Now (now (t .entry)) (now (t .exit)) (set (cells (now (t .entry))) (placeWord k i) (entryWord e)) ⌝ }
 {
     let word = (e.mark as u64) + e.length.0 * LENGTH_UNIT;
-    set_cell(t, PLACES + PLACE_WORDS * k + (i % DEPTH) as usize, word);
+    set_cell(t, PLACES + RING_WORDS * k + (i % DEPTH) as usize, word);
 }
 
 // Whether lane `k` is in the setup.

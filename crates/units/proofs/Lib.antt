@@ -1,3 +1,4 @@
 pub mod PerByte
 pub mod Group
 pub mod Round
+pub mod Compare

@@ -5,12 +5,14 @@
 //   Clock   clock units (virtual time): the clock V, starts, finishes and slots
 //   Rate    clock units for each byte: c of a lane, 1,024 of the line
 //
-// Bytes and clock units are never added to each other. Only `lane_charge` and `line_charge` turn the first into the second.
+// Bytes and clock units are never added to each other. Only `lane_charge` and `line_charge` turn the first into the second. Times are compared by
+// `not_after`, `before` and `same_time`, so that the crates above compare a time with a time.
 //
 // These are inner functions: a `requires` says what the crates above keep. Ranges (document 01): weight 1 to 1,024, so c is 1,024 to 1,048,576;
 // group index 16 to 31; the clock below 2^62 + 2^42.
 ghost use mathlib.Core.Path.{_≡_};
 ghost use Prim.Native.Nat.{_+_, _*_, _^_, _<_, _≤_, max, min};
+ghost use lib.Dec.{eqb, leb, ltb};
 ghost use Rattle.units.specs.Numbers.{perByte, lineRate, Least, roundDown};
 
 pub struct Bytes(pub u64);
@@ -80,12 +82,20 @@ pub fn rounded_start(start: Clock, index: u32) -> Clock
     Clock(start.0 >> index << index)
 }
 
+// 2s: two slots of group `index`.
+pub fn two_slots(index: u32) -> Clock
+    requires { ⌜ index ≤ 31 ⌝ }
+    ensures { λ r. ⌜ (r .0 ≡ 2 * 2 ^ index) × (r .0 ≤ 2 ^ 32) ⌝ }
+{
+    Clock(2 * slot(index).0)
+}
+
 // R + 2s, from R and the group index.
 pub fn rounded_finish(rounded: Clock, index: u32) -> Clock
     requires { ⌜ (rounded .0 ≤ 2 ^ 63) × (index ≤ 31) ⌝ }
     ensures { λ r. ⌜ r .0 ≡ rounded .0 + 2 * 2 ^ index ⌝ }
 {
-    Clock(rounded.0 + 2 * slot(index).0)
+    plus(rounded, two_slots(index))
 }
 
 // A time, some clock units later.
@@ -94,6 +104,27 @@ pub fn plus(time: Clock, units: Clock) -> Clock
     ensures { λ r. ⌜ r .0 ≡ time .0 + units .0 ⌝ }
 {
     Clock(time.0 + units.0)
+}
+
+// Whether time `a` is at most `b`.
+pub fn not_after(a: Clock, b: Clock) -> bool
+    ensures { λ r. ⌜ r ≡ leb (a .0) (b .0) ⌝ }
+{
+    a.0 <= b.0
+}
+
+// Whether time `a` is below `b`.
+pub fn before(a: Clock, b: Clock) -> bool
+    ensures { λ r. ⌜ r ≡ ltb (a .0) (b .0) ⌝ }
+{
+    a.0 < b.0
+}
+
+// Whether two times are the same.
+pub fn same_time(a: Clock, b: Clock) -> bool
+    ensures { λ r. ⌜ r ≡ eqb (a .0) (b .0) ⌝ }
+{
+    a.0 == b.0
 }
 
 // The greater of two times.

@@ -5,6 +5,8 @@ use Rattle.good.specs.Pass.{PassSays}
 use Rattle.table.specs.Layout.{cells}
 use mathlib.Core.Path.{subst}
 use native.Mathlib.Omega.{arith}
+use Prim.Native.Nat.{_+_, _^_}
+use Rattle.units.proofs.Compare.{is-not-after, is-after}
 use borrow.Author.Needs.{needs}
 use Rattle.good.proofs.good.Statement.{statement}
 use Rattle.good.proofs.good.Tie as tie
@@ -15,8 +17,13 @@ returns c = search needs
 clock-requires : tie.Need-clock-requires
 clock-requires c κs = search needs
 
+not-after-requires : tie.Need-not-after-requires
+not-after-requires c κs = search needs
+
 returns-2 : tie.Need-returns-2
-returns-2 c = search needs
+returns-2 c =
+    let v = c .before .before in
+    λ g. omega (arith, is-not-after (2 ^ 62 + 2 ^ 42) (v .clock .result .0) (c .before .not-after .ensures) (c .if2 .taken), v .clock .ensures, g .good .clock)
 
 holding-requires : tie.Need-holding-requires
 holding-requires c κs = search needs
@@ -25,7 +32,10 @@ returns-3 : tie.Need-returns-3
 returns-3 c = λ g. omega (arith, few-good _ (g .good), c .before .holding .ensures, c .if3 .taken)
 
 lanes-good-requires : tie.Need-lanes-good-requires
-lanes-good-requires c κs = search needs
+lanes-good-requires c κs =
+    let e = c .before .before in
+    let v = e .before .before in
+    (v .before .if1 .left, omega (arith, is-after (2 ^ 62 + 2 ^ 42) (v .clock .result .0) (e .before .not-after .ensures) (e .if2 .left)))
 
 enum-told : tie.Need-enum-told
 enum-told c = search needs
@@ -53,7 +63,7 @@ returns-5 c =
     let holding = c .before .before .before .before .before .before .holding .ensures in
     let found = subst (λ (r : Pass). PassSays v (cells t) r) (c .before .before .f .given .1) (c .before .before .before .before .lanes-good .ensures) in
     says-iff (c .found-good .result)
-    (λ q. whole-good t v _ clock found n holding (c .before .before .before .before .before .before .before .before .before .before .if1 .left) (c .before .before .before .before .before .before .before .if2 .left) (q .0) (q .1) (q .2) (q .3))
+    (λ q. whole-good t v _ clock found n holding (c .before .before .before .before .before .before .before .before .before .before .if1 .left) (is-after (2 ^ 62 + 2 ^ 42) v (c .before .before .before .before .before .before .before .before .not-after .ensures) (c .before .before .before .before .before .before .before .if2 .left)) (q .0) (q .1) (q .2) (q .3))
     (λ g. let sums = good-weights t v _ clock found n holding g in (sums .0, sums .1, good-live t v _ clock found n holding g, good-ordered t v _ clock found n holding g))
     (c .found-good .ensures)
 
@@ -63,6 +73,7 @@ good-spec =
     (tie.spec
     returns
     clock-requires
+    not-after-requires
     returns-2
     holding-requires
     returns-3

@@ -1,5 +1,5 @@
 use Rattle.words.proofs.Bits.{shift-one}
-use borrow.Author.Tests.{lt-ltb, le-ltb, le-leb, lt-leb}
+use borrow.Author.Tests.{lt-ltb, le-ltb}
 use native.Mathlib.Nat.{two-pow-succ}
 use lib.Pow.{pow-mono}
 use Prim.Native.Nat.{_-_}
@@ -35,19 +35,24 @@ add-held c =
 rounded-start-requires : tie.Need-rounded-start-requires
 rounded-start-requires c κs = search needs
 
+not-after-requires : tie.Need-not-after-requires
+not-after-requires c κs = search needs
+
 returns-2 : tie.Need-returns-2
 returns-2 c =
-    let s = c .before .before .before .before .before .before .before .before .before in
+    let e = c .before .before .before .before in
+    let s = e .before .before .before .before in
     let l = s .args .l in
-    let some = lt-ltb 0 (l .count) (omega (arith, c .before .before .before .before .before .if1 .left)) in
-    record { weights = refl; held = rw (some, shift-one (s .args .k) (s .pre .0)); eligible = rw (some, ← c .before .before .before .rounded-start .ensures .0, le-leb _ _ (c .if2 .taken)) }
+    let some = lt-ltb 0 (l .count) (omega (arith, e .if1 .left)) in
+    record { weights = refl; held = rw (some, shift-one (s .args .k) (s .pre .0)); eligible = rw (some, ← c .before .before .rounded-start .ensures .0, ← c .before .not-after .ensures, c .if2 .taken) }
 
 returns-3 : tie.Need-returns-3
 returns-3 c =
-    let s = c .before .before .before .before .before .before .before .before .before in
+    let e = c .before .before .before .before in
+    let s = e .before .before .before .before in
     let l = s .args .l in
-    let some = lt-ltb 0 (l .count) (omega (arith, c .before .before .before .before .before .if1 .left)) in
-    record { weights = refl; held = rw (some, shift-one (s .args .k) (s .pre .0)); eligible = rw (some, ← c .before .before .before .rounded-start .ensures .0, lt-leb _ _ (c .if2 .left)) }
+    let some = lt-ltb 0 (l .count) (omega (arith, e .if1 .left)) in
+    record { weights = refl; held = rw (some, shift-one (s .args .k) (s .pre .0)); eligible = rw (some, ← c .before .before .rounded-start .ensures .0, ← c .before .not-after .ensures, c .if2 .left) }
 
 pub note-spec : {M : Type 1} → statement M
 note-spec =
@@ -60,5 +65,6 @@ note-spec =
     shl-held
     add-held
     rounded-start-requires
+    not-after-requires
     returns-2
     returns-3)
