@@ -1,4 +1,4 @@
--- What the plain choice is: an eligible lane, and no eligible lane is ahead of it by finish, then group, then place in the tie order. Assumes nothing.
+-- The plain choice is an eligible lane, and no eligible lane is ahead of it by finish, then group, then place in the tie order. Assumes nothing.
 use Prim.Native.Nat.{ℕ, zero, suc, _+_, _≤_}
 use native.Mathlib.Omega.{arith}
 use native.Mathlib.Nat.{add-suc, suc-add, add-zero}
@@ -9,18 +9,14 @@ use mathlib.Core.List.{List, [], _∷_}
 use lib.Dec.{ltb, eqb}
 use lib.ListN.{getD}
 use borrow.Author.Tests.{ltb-true, ltb-false, eqb-true, eqb-false}
-use Rattle.rules.specs.State.{Lane, group, finishR, eligible, noLane}
+use Rattle.rules.specs.State.{Lane, State, group, finishR, eligible, noLane}
 use Rattle.units.specs.Plain.{place}
-use Rattle.rules.specs.Choice.{Candidate, before, best, chooseFrom, least}
+use Rattle.rules.specs.Choice.{Candidate, before, best, chooseFrom, choose, least}
+pub use Rattle.rules.specs.Chosen.{Ahead, Chosen, Choice}
+use Rattle.rules.specs.Chosen.{AheadOf, ChoiceRule}
 use Rattle.rules.proofs.Bools.{if-ind}
 
 -- ---- the choice
-
--- (f, g, t) comes before (f′, g′, t′), or is the same: finish first, then group, then turn
-pub record Ahead (f g t f′ g′ t′ : ℕ) : Type 0 where
-  pub fin : f ≤ f′
-  pub grp : f′ ≤ f → g ≤ g′
-  pub trn : f′ ≤ f → g′ ≤ g → t ≤ t′
 
 ahead-trans : (f g t f′ g′ t′ f″ g″ t″ : ℕ) → Ahead f g t f′ g′ t′ → Ahead f′ g′ t′ f″ g″ t″ → Ahead f g t f″ g″ t″
 ahead-trans f g t f′ g′ t′ f″ g″ t″ p q = record {
@@ -77,32 +73,13 @@ module _ (a b : Candidate) where
           record { fin = le; grp = λ h. absurd (eqb-false (a .finish) (b .finish) q (omega arith)); trn = λ h. absurd (eqb-false (a .finish) (b .finish) q (omega arith)) }
 
 module _ (v : ℕ) (order : List ℕ) where
-  -- lane k of a list whose first lane has the number i, beside a candidate
-  abbrev AheadOf : Candidate → ℕ → List Lane → ℕ → Type 0
-  AheadOf c i ls k = Ahead (c .finish) (c .group) (c .turn) (finishR (getD ls k noLane)) (group ((getD ls k noLane) .given)) (place (i + k) order)
-
-  -- the candidate c is lane `at` of the list, eligible, and no eligible lane is ahead of it
-  pub record Chosen (i : ℕ) (ls : List Lane) (c : Candidate) : Type 0 where
-    pub at : ℕ
-    pub num : c .lane ≡ i + at
-    pub is : eligible v (getD ls at noLane) ≡ true
-    pub fin : c .finish ≡ finishR (getD ls at noLane)
-    pub grp : c .group ≡ group ((getD ls at noLane) .given)
-    pub trn : c .turn ≡ place (i + at) order
-    pub least : (k : ℕ) → eligible v (getD ls k noLane) ≡ true → AheadOf c i ls k
-
-  -- what the answer of `chooseFrom` says
-  abbrev pub Choice : ℕ → List Lane → Option Candidate → Type 0
-  Choice i ls none = (k : ℕ) → eligible v (getD ls k noLane) ≡ false
-  Choice i ls (some c) = Chosen i ls c
-
   module _ (i : ℕ) (l : Lane) (ls : List Lane) where
     -- what is so of the rest of the list is so of the whole, one place on
-    shift : (c : Candidate) (k : ℕ) → AheadOf c (suc i) ls k → AheadOf c i (l ∷ ls) (suc k)
+    shift : (c : Candidate) (k : ℕ) → AheadOf v order c (suc i) ls k → AheadOf v order c i (l ∷ ls) (suc k)
     shift c k h = rw (add-suc, ← suc-add) h
 
     -- the choice of the rest is that of the whole, where the first lane is not ahead of it
-    later : (c : Candidate) → Chosen (suc i) ls c → (eligible v l ≡ true → AheadOf c i (l ∷ ls) 0) → Chosen i (l ∷ ls) c
+    later : (c : Candidate) → Chosen v order (suc i) ls c → (eligible v l ≡ true → AheadOf v order c i (l ∷ ls) 0) → Chosen v order i (l ∷ ls) c
     later c h z = record {
       at = suc (h .at);
       num = omega (arith, h .num);
@@ -113,14 +90,14 @@ module _ (v : ℕ) (order : List ℕ) where
       least = elim [ zero ↦ z | suc k ↦ λ t. shift c k (h .least k t) ];
     }
 
-    skip : (o : Option Candidate) → eligible v l ≡ false → Choice (suc i) ls o → Choice i (l ∷ ls) o
+    skip : (o : Option Candidate) → eligible v l ≡ false → Choice v order (suc i) ls o → Choice v order i (l ∷ ls) o
     skip none e h = elim [ zero ↦ e | suc k ↦ h k ]
     skip (some c) e h = later c h (λ t. absurd (false≢true (sym e ∙ t)))
 
     abbrev here : Candidate
     here = record { lane = i; finish = finishR l; group = group (l .given); turn = place i order }
 
-    first : eligible v l ≡ true → ((k : ℕ) → eligible v (getD ls k noLane) ≡ true → AheadOf here (suc i) ls k) → Chosen i (l ∷ ls) here
+    first : eligible v l ≡ true → ((k : ℕ) → eligible v (getD ls k noLane) ≡ true → AheadOf v order here (suc i) ls k) → Chosen v order i (l ∷ ls) here
     first e h = record {
       at = 0;
       num = omega arith;
@@ -131,20 +108,24 @@ module _ (v : ℕ) (order : List ℕ) where
       least = elim [ zero ↦ λ t. rw add-zero (omega arith) | suc k ↦ λ t. shift here k (h k t) ];
     }
 
-    keep : (o : Option Candidate) → eligible v l ≡ true → Choice (suc i) ls o → Choice i (l ∷ ls) (best here o)
+    keep : (o : Option Candidate) → eligible v l ≡ true → Choice v order (suc i) ls o → Choice v order i (l ∷ ls) (best here o)
     unfolding best
     keep none e h = first e (λ k t. absurd (false≢true (sym (h k) ∙ t)))
     keep (some d) e h =
-        if-ind (Chosen i (l ∷ ls)) (before d here) d here
+        if-ind (Chosen v order i (l ∷ ls)) (before d here) d here
         (λ b. later d h (λ t. rw add-zero (before-true d here b)))
         (λ b. first e (λ k t.
         ahead-trans (finishR l) (group (l .given)) (place i order) (d .finish) (d .group) (d .turn)
         (finishR (getD ls k noLane)) (group ((getD ls k noLane) .given)) (place (suc i + k) order) (before-false d here b) (h .least k t)))
 
-  pub chosen : (i : ℕ) (ls : List Lane) → Choice i ls (chooseFrom v order i ls)
+  pub chosen : (i : ℕ) (ls : List Lane) → Choice v order i ls (chooseFrom v order i ls)
   unfolding chooseFrom eligible
   chosen i [] = λ k. refl
   chosen i (l ∷ ls) =
-      if-ind (Choice i (l ∷ ls)) (eligible v l) _ _
+      if-ind (Choice v order i (l ∷ ls)) (eligible v l) _ _
       (λ e. keep i l ls (chooseFrom v order (suc i) ls) e (chosen (suc i) ls))
       (λ e. skip i l ls (chooseFrom v order (suc i) ls) e (chosen (suc i) ls))
+
+pub choice-rule : ChoiceRule
+unfolding ChoiceRule choose
+choice-rule s = chosen (s .clock) (s .order) 0 (s .lanes)

@@ -30,3 +30,5 @@ pub mod Examples
 pub mod NotTen
 pub mod Local
 pub mod Drain
+pub mod Refused
+pub mod Ranges

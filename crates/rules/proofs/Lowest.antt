@@ -11,17 +11,9 @@ use lib.ListN.{getD}
 use borrow.Author.Tests.{leb-true, leb-false}
 use Rattle.rules.specs.State.{Lane, startR, holds, noLane, anyHolds}
 use Rattle.rules.specs.Choice.{least, leastOf}
+pub use Rattle.rules.specs.Lowest.{LowestOf, LowOf}
+use Rattle.rules.specs.Lowest.{LowestRule}
 use Rattle.rules.proofs.Bools.{if-ind, or-parts}
-
-pub record LowestOf (p : Lane → Bool) (ls : List Lane) (r : ℕ) : Type 0 where
-  pub at : ℕ
-  pub is : p (getD ls at noLane) ≡ true
-  pub start : startR (getD ls at noLane) ≡ r
-  pub bound : (k : ℕ) → p (getD ls k noLane) ≡ true → r ≤ startR (getD ls k noLane)
-
-abbrev pub LowOf : (Lane → Bool) → List Lane → Option ℕ → Type 0
-LowOf p ls none = (k : ℕ) → p (getD ls k noLane) ≡ false
-LowOf p ls (some r) = LowestOf p ls r
 
 module _ (p : Lane → Bool) (l : Lane) (ls : List Lane) where
   low-skip : (o : Option ℕ) → p l ≡ false → LowOf p ls o → LowOf p (l ∷ ls) o
@@ -48,6 +40,10 @@ Low ls o = LowOf holds ls o
 
 pub lowest : (ls : List Lane) → Low ls (leastOf holds ls)
 lowest = lowest-of holds refl
+
+pub lowest-rule : LowestRule
+unfolding LowestRule
+lowest-rule = lowest
 
 -- ---- no lane holds a record
 

@@ -8,17 +8,9 @@ use lib.Dec.{leb, ltb}
 use Rattle.waiting.specs.Waiting.{full}
 use Rattle.rules.specs.State.{clockSpent, Rec, State, laneAt, anyHolds}
 use Rattle.rules.specs.Calls.{Call, put, take, look, sets, lag, restart, Reply, accepted, taken, seen, words, lagged, restarted, refused, Outcome, putRefusal, putOf, doPut, Pick, picked, takeOf, doTake, lookOf, doLook, doSets, doLag, doRestart, step}
+pub use Rattle.rules.specs.Refusals.{NotTen}
+use Rattle.rules.specs.Refusals.{RulesNotTen}
 use Rattle.rules.proofs.Bools.{if-ind}
-
--- a reply other than 10
-abbrev pub NotTen : Reply → Type 0
-NotTen accepted = Unit {0}
-NotTen (taken j m n) = Unit {0}
-NotTen (seen j m n) = Unit {0}
-NotTen (words a b c d) = Unit {0}
-NotTen (lagged z) = Unit {0}
-NotTen restarted = Unit {0}
-NotTen (refused n p) = n ≡ 10 → ⊥
 
 OtherThanTen : Option ℕ → Type 0
 OtherThanTen none = Unit {0}
@@ -55,3 +47,7 @@ step-not-ten s look = look-not-ten s (picked s)
 step-not-ten s sets = tt
 step-not-ten s (lag j) = if-ind (λ (o : Outcome). NotTen (o .reply)) (ltb (laneAt s j .given .weight) 1) _ _ (λ e q. omega arith) (λ e. tt)
 step-not-ten s restart = if-ind (λ (o : Outcome). NotTen (o .reply)) (anyHolds (s .lanes)) _ _ (λ e q. omega arith) (λ e. tt)
+
+pub rules-not-ten : RulesNotTen
+unfolding RulesNotTen
+rules-not-ten = step-not-ten

@@ -7,3 +7,8 @@ pub mod Setup
 pub mod Fair
 pub mod Good
 pub mod Reads
+pub mod Chosen
+pub mod Lowest
+pub mod Refusals
+pub mod Ranges
+pub mod Examples

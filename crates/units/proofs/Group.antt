@@ -10,6 +10,7 @@ use lib.Dec.{leb}
 use lib.Pow.{pow-mono, pow-lt}
 use borrow.Author.Tests.{leb-true, leb-false}
 use Rattle.units.specs.Numbers.{perByte, powerFrom, leastPower, Least}
+use Rattle.units.specs.Rules.{PowerRule}
 use Rattle.units.proofs.PerByte.{rate-le, rate-ge}
 
 lt-pow : (n : ℕ) → n < 2 ^ n
@@ -52,6 +53,10 @@ pub least-unique : (n i : ℕ) → Least n i → i ≡ leastPower n
 least-unique n i l =
     let d = power-least n in
     le-antisymm (l .none-below (leastPower n) (d .enough)) (d .none-below i (l .enough))
+
+pub power-rule : PowerRule
+unfolding PowerRule
+power-rule n = (power-least n, least-unique n)
 
 -- longest times c is at most the slot
 pub span-le-slot : (n : ℕ) → n ≤ 2 ^ leastPower n

@@ -4,6 +4,7 @@ use native.Mathlib.Nat.{mul-le-mul-left, div-add-mod, mod-lt, div-le-of-le-mul, 
 use mathlib.Core.Path.{_≡_}
 use native.Mathlib.Omega.{arith}
 use Rattle.units.specs.Numbers.{perByte}
+use Rattle.units.specs.Rules.{RateRule, IsRate}
 
 -- c w ≥ 2^20: c is rounded up, so weights never exceed the line
 pub rate-weight-ge : (w : ℕ) → 0 < w → 2 ^ 20 ≤ perByte w * w
@@ -26,6 +27,10 @@ pred-rate-weight-lt w h = go (perByte w) (rate-weight-lt w h)
 pub rate-unique : (w c : ℕ) → 0 < w → 2 ^ 20 ≤ c * w → c * w < 2 ^ 20 + w → c ≡ perByte w
 rate-unique w c h lo hi =
     le-antisymm (le-of-suc-le-suc (lt-of-mul-lt-mul-right w (omega (arith, rate-weight-ge w h)))) (le-of-suc-le-suc (lt-of-mul-lt-mul-right w (omega (arith, rate-weight-lt w h))))
+
+pub rate-rule : RateRule
+unfolding RateRule
+rate-rule w h = (record { enough = rate-weight-ge w h; close = rate-weight-lt w h }, λ c r. rate-unique w c h (r .enough) (r .close))
 
 pub rate-le : (w : ℕ) → perByte w ≤ 2 ^ 20
 unfolding perByte

@@ -1,0 +1,36 @@
+-- Document 01's session over the rules, and what demand 3 says of its lane 0.
+--
+--   twoLanes   the session's setup: lane 0 of weight 512, lane 1 of weight 256, longest 1,500
+--   Session    its eight requests and the rules' replies to them
+--   Waits      in any list of calls, while lane 0 holds a record and none of its bytes is sent, fewer than 17,884 bytes are
+--
+-- Assumes nothing.
+use Prim.Native.Nat.{ℕ, _<_}
+use mathlib.Core.Path.{_≡_}
+use mathlib.Core.List.{List, [], _∷_, _++_, map}
+use mathlib.Core.Option.{none}
+use lib.ListN.{replicate}
+use Rattle.rules.specs.State.{Setting, noSetting}
+use Rattle.rules.specs.Calls.{Call, put, take, sets, Reply, accepted, taken, words, refused, fresh}
+use Rattle.rules.specs.Runs.{Event, trace}
+use Rattle.rules.specs.Fair.{bytesSent, bytesSentOf, Holding}
+
+abbrev pub twoLanes : List Setting
+twoLanes = record { weight = 512; longest = 1500; framing = 0 } ∷ record { weight = 256; longest = 1500; framing = 0 } ∷ replicate 62 noSetting
+
+abbrev pub replies : List Event → List Reply
+replies es = map (λ (e : Event). e .reply) es
+
+-- "A session in full": put 0/1/1000, put 1/2/1000, put 0/3/500, sets, four takes
+unfoldable pub Session : Type 0
+Session =
+    replies (trace (fresh twoLanes) (put 0 1 1000 ∷ put 1 2 1000 ∷ put 0 3 500 ∷ sets ∷ take ∷ take ∷ take ∷ take ∷ []))
+    ≡ accepted ∷ accepted ∷ accepted ∷ words 12582912 0 0 0 ∷ taken 0 1 1000 ∷ taken 0 3 500 ∷ taken 1 2 1000 ∷ refused 16 none ∷ []
+
+-- "By demand 3 a waiting lane 0 above, with O = 0, sees fewer than 17,884 bytes sent."
+unfoldable pub Waits : Type 0
+Waits = (calls : List Call) (past stretch rest : List Event)
+    → trace (fresh twoLanes) calls ≡ past ++ stretch ++ rest
+    → ((p q : List Event) → p ++ q ≡ stretch → Holding 0 (past ++ p))
+    → bytesSentOf twoLanes 0 stretch ≡ 0
+    → bytesSent twoLanes stretch < 17884
