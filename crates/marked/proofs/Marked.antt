@@ -1,43 +1,39 @@
--- The table of marked examples, computed. Assumes nothing.
+-- The table of marked examples: what the rules compute, carried to the public calls by `as-ruled`. Assumes nothing.
 use Prim.Native.Nat.{ℕ}
-use mathlib.Core.Path.{_≡_, refl, sym, ap, _∙_}
+use mathlib.Core.Path.{_≡_, refl, sym, subst}
 use mathlib.Core.List.{List, [], _∷_, _++_, map}
 use mathlib.Core.Option.{none}
-use lib.ListN.{replicate}
-use Rattle.rules.specs.Calls.{Call, Reply, accepted, taken, refused, fresh}
-use Rattle.rules.specs.Runs.{Event, trace}
+use lib.IntN.{subℕ}
+use lib.ListN.{replicate, getD}
+use Rattle.rules.specs.State.{Setting, Lane, noLane}
+use Rattle.rules.specs.Calls.{Call, put, take, lag, Reply, accepted, taken, lagged, refused, fresh}
+use Rattle.rules.specs.Runs.{Event, after, trace}
 use Rattle.rules.proofs.Computes.{rules}
 use Rattle.fields.specs.Bytes.{big}
 use Rattle.plan.specs.Fields.{fieldOf, itemAt}
 use Rattle.plan.specs.Judge.{laneOutside, judgedAt}
 use Rattle.plan.specs.Read.{walk, readPlan, readSetup}
-use Rattle.scheduler.specs.Chain.{Chain, Begins}
+use Rattle.plan.specs.Examples.{twoLanes}
+use Rattle.table.specs.Means.{meant}
 use Rattle.scheduler.specs.Demands.{callsOf, AsRuled}
 use Rattle.scheduler.proofs.Demands.{as-ruled}
-use Rattle.marked.specs.Marked.{setting, alone, third, fourth, full, Marked}
+use Rattle.marked.specs.Marked.{setting, alone, Given, toThird, toThirdReplies, full, Marked}
 
 abbrev replies : List Event → List Reply
 replies es = map (λ (e : Event). e .reply) es
 
-computed : replies (trace (fresh (alone (setting 512 1500))) full) ≡ replicate 16 accepted ++ (refused 13 none ∷ taken 0 7 1000 ∷ accepted ∷ [])
-unfolding rules
-computed = refl
-
-called : (t u : List ℕ) (es : List Event) → Begins (alone (setting 512 1500)) t → Chain t es u → callsOf es ≡ full
-    → replies es ≡ replicate 16 accepted ++ (refused 13 none ∷ taken 0 7 1000 ∷ accepted ∷ [])
+-- what is so of the rules' replies, clock and lanes is so of the calls' answers and of the bytes after them
+given : (gs : List Setting) (calls : List Call) (P : List Reply → ℕ → List Lane → Type 0)
+    → P (replies (trace (fresh gs) calls)) (after (fresh gs) calls .clock) (after (fresh gs) calls .lanes)
+    → Given gs calls (λ rs s. P rs (s .clock) (s .lanes))
 unfolding AsRuled
-called t u es b ch same =
-    let fr = fresh (alone (setting 512 1500)) in
-    sym (ap replies (as-ruled (alone (setting 512 1500)) t u es b ch .0)) ∙ ap (λ (cs : List Call). replies (trace fr cs)) same ∙ computed
-
--- V before and after M2's put
-before : third .clock ≡ 2560000
-unfolding rules
-before = refl
-
-behind : fourth .clock ≡ 2560000
-unfolding rules
-behind = refl
+given gs calls P h t u es b ch same =
+    let r = as-ruled gs t u es b ch in
+    let s = after (fresh gs) (callsOf es) in
+    let ruled : P (replies (trace (fresh gs) (callsOf es))) (s .clock) (s .lanes) = subst (λ (cs : List Call). P (replies (trace (fresh gs) cs)) (after (fresh gs) cs .clock) (after (fresh gs) cs .lanes)) (sym same) h in
+    subst (λ (ls : List Lane). P (replies es) (meant u .clock) ls) (sym (r .1 .alike .lanes))
+    (subst (λ (v : ℕ). P (replies es) v (s .lanes)) (sym (r .1 .alike .clock))
+    (subst (λ (xs : List Event). P (replies xs) (s .clock) (s .lanes)) (r .0) ruled))
 
 pub marked : Marked
 unfolding rules readSetup readPlan walk judgedAt itemAt fieldOf laneOutside big
@@ -46,13 +42,23 @@ marked =
       session = refl;
       lane0 = (refl, refl);
       lane1 = (refl, refl);
-      m1 = (before, refl, refl);
-      m2 = (refl, refl, behind ∙ sym before, refl);
+      m1 =
+          given (twoLanes 512 256 1500) toThird
+          (λ rs v ls. (rs ≡ toThirdReplies) × (v ≡ 2560000) × ((getD ls 0 noLane) .finish ≡ 3072000) × ((getD ls 1 noLane) .finish ≡ 4096000))
+          (refl, refl, refl, refl);
+      m2 =
+          given (twoLanes 512 256 1500) (toThird ++ (put 0 4 100 ∷ lag 0 ∷ []))
+          (λ rs v ls. (rs ≡ toThirdReplies ++ (accepted ∷ lagged (subℕ 0 512000) ∷ [])) × (v ≡ 2560000) × ((getD ls 0 noLane) .start ≡ 3072000) × ((getD ls 0 noLane) .finish ≡ 3276800))
+          (refl, refl, refl, refl);
       m3 = (refl, refl, refl);
-      m4 = (refl, refl);
+      light = refl;
+      m4 = (
+        given (alone (setting 1 64)) (put 0 1 64 ∷ take ∷ []) (λ rs v ls. v ≡ 65536) refl,
+        given (alone (setting 1 64)) (put 0 1 64 ∷ take ∷ put 0 2 64 ∷ []) (λ rs v ls. v ≡ 67108864) refl,
+      );
       m5 = (refl, refl);
       m6 = refl;
       lone = refl;
-      m7 = called;
+      m7 = given (alone (setting 512 1500)) full (λ rs v ls. rs ≡ replicate 16 accepted ++ (refused 13 none ∷ taken 0 7 1000 ∷ accepted ∷ [])) refl;
       m8 = (refl, refl);
     }
