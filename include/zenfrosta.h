@@ -4,7 +4,8 @@
  *
  *   - The result is 0, or document 01's number of the refusal (ZF_... below).
  *   - Values stand in the lent answer buffer `out`, which has at least 32 bytes: four 64-bit words, each low byte first. What a call does not
- *     use is 0. A refusal leaves its place in word 0, and 0 where it has none; zf_run has it in word 3.
+ *     use is 0. A refusal leaves its place in word 0 and 1 in word 1; 0 in both if it has none. (0 is a place, too.) zf_run has the place in
+ *     word 3, and says in word 2 whether there is one.
  *   - A shorter answer buffer gives ZF_BUFFER_SHORT: nothing is done and nothing is written.
  *
  * A byte area is a pointer and its length in bytes. Any bytes are allowed in it, at any address. What the host must see to: a pointer may be
@@ -56,7 +57,8 @@ extern "C" {
 /* Why a run stopped: word 2 of zf_run's answer. */
 #define ZF_STOP_END 0
 #define ZF_STOP_LIMIT 1
-#define ZF_STOP_REFUSAL 2
+#define ZF_STOP_REFUSAL 2  /* a refusal that has no place */
+#define ZF_STOP_AT_PLACE 3 /* a refusal, and word 3 is its place */
 
 uint64_t zf_table_size(void);
 

@@ -182,6 +182,7 @@ static void make(const uint8_t *data, size_t size, uint8_t choice, int at_end) {
   check(result <= ZF_TABLE_SHORT, "a result that making does not give");
   check(result == ZF_DONE || memcmp(before, table.at, table.length) == 0, "a refused making wrote the table");
   check(result != ZF_DONE || (word(0) >= 1 && word(0) <= 64), "a number of lanes");
+  check(word(1) == (result != ZF_DONE), "a refused making has a place, and says so");
   check((table.length < ZF_TABLE_SIZE) == (result == ZF_TABLE_SHORT), "7 is for short tables");
   calls(data, size, at_end);
   if (result == ZF_DONE) check(ask(LAG, 255, 0, ZF_OUT_SIZE, at_end) == ZF_NO_LANE, "a table made by calls is good");
@@ -212,7 +213,8 @@ static void run(const uint8_t *data, size_t size, const uint8_t *choice, int at_
   beside(&out);
   check(result <= ZF_TABLE_SHORT || result == ZF_RUN_BOUNDS, "a result that a run does not give");
   check(answered <= limit && answered <= ZF_MOST_REQUESTS, "more requests than the limit");
-  check((why == ZF_STOP_REFUSAL) == (result != ZF_DONE), "why it stopped");
+  check((why == ZF_STOP_REFUSAL || why == ZF_STOP_AT_PLACE) == (result != ZF_DONE), "why it stopped");
+  check((why == ZF_STOP_REFUSAL) == (result == ZF_RUN_BOUNDS), "17 alone has no place");
   check((limit > ZF_MOST_REQUESTS || length < asked) == (result == ZF_RUN_BOUNDS), "17 is for bounds");
   check(written <= answers.length, "more bytes than the area has");
   check(memcmp(answers.at + written, fill, answers.length - written) == 0, "answer bytes past the last line were written");

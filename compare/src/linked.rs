@@ -2,7 +2,8 @@
 //!
 //! Every function takes byte areas as pointer and length and answers a 64-bit number: 0 for done, else document
 //! 01's refusal number, or 255 where the lent answer buffer is shorter than 32 bytes and nothing was done. Values
-//! come in the answer buffer as four 64-bit words, low byte first.
+//! come in the answer buffer as four 64-bit words, low byte first. A refusal's words are its place and 1, or 0 and 0
+//! where it has none.
 
 #![allow(unsafe_code)]
 
@@ -52,6 +53,8 @@ extern "C" {
 const OUT: usize = 32;
 /// Given where the answer buffer is shorter.
 pub const OUT_SHORT: u64 = 255;
+/// A run's limit or answer area is out of bounds: the one refusal of a run that has no place.
+const RUN_BOUNDS: u8 = 17;
 /// Stands for an answer that the boundary cannot give, such as a lane over 255: no rule gives it, so it differs.
 const OUT_OF_RANGE: u8 = 254;
 
@@ -110,7 +113,8 @@ impl Unit for Linked {
         });
         match made {
             Ok([lanes, 0, 0, 0]) => Ok(lanes),
-            Err((number, [place, 0, 0, 0])) => Err(Fault { number, place }),
+            // every refusal of making has a place
+            Err((number, [place, 1, 0, 0])) => Err(Fault { number, place }),
             Ok(words) | Err((_, words)) => Err(Fault { number: OUT_OF_RANGE, place: words[1] }),
         }
     }
@@ -161,7 +165,9 @@ impl Unit for Linked {
                 Run { answered, written, stop: Stop::Refused(Fault { number: OUT_OF_RANGE, place }) }
             }
             Err((number, [answered, written, kind, place])) => {
-                let number = if kind == 2 { number } else { OUT_OF_RANGE };
+                // 3: a refusal with a place; 2: one without, which is 17 alone, and then the place's word is 0
+                let told = if number == RUN_BOUNDS { kind == 2 && place == 0 } else { kind == 3 };
+                let number = if told { number } else { OUT_OF_RANGE };
                 Run { answered, written, stop: Stop::Refused(Fault { number, place }) }
             }
         }

@@ -30,7 +30,9 @@ int main(void) {
   };
   uint64_t result = zf_make(setup, sizeof setup, table, sizeof table, out, sizeof out);
   if (result != ZF_DONE) {
-    printf("setup refused with %" PRIu64 " at byte %" PRIu64 "\n", result, word(0));
+    printf("setup refused with %" PRIu64, result);
+    if (word(1)) printf(" at byte %" PRIu64, word(0));
+    printf("\n");
     return 1;
   }
   printf("lanes %" PRIu64 "\n", word(0));

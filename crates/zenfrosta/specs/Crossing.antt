@@ -1,6 +1,7 @@
 -- How an answer crosses to a host in C or Rust: a code, and four words in a lent buffer.
 --
 --   code, values   of a reply: 0 or the refusal's number; what stands in the four words
+--   refusalWords   of a refusal: its place, and whether it has one
 --   spoken         a buffer with these words at its start
 --   Crosses        the promise of an exported call; CrossesMaking of zf_make, CrossesRun of zf_run
 --
@@ -27,10 +28,10 @@ use Rattle.zenfrosta.specs.declared.Four.{Four}
 abbrev pub four : ℕ → ℕ → ℕ → ℕ → Four
 four a b c d = record { a = a; b = b; c = c; d = d }
 
--- a place, 0 where the list has none
-abbrev pub placeOr0 : Option ℕ → ℕ
-placeOr0 none = 0
-placeOr0 (some p) = p
+-- a refusal: its place, and 1; 0 and 0 where the list has none. 0 is a place too, so the second word says which it is.
+abbrev pub refusalWords : Option ℕ → Four
+refusalWords none = four 0 0 0 0
+refusalWords (some p) = four p 1 0 0
 
 -- 0: done. Else document 01's number of the refusal.
 abbrev pub code : Reply → ℕ
@@ -42,7 +43,7 @@ code (lagged z) = 0
 code restarted = 0
 code (refused n p) = n
 
--- A record: lane, mark, length. The sets: their four words. A lag: in two's complement. A refusal: its place. What is left is 0.
+-- A record: lane, mark, length. The sets: their four words. A lag: in two's complement. What is left is 0.
 abbrev pub values : Reply → Four
 values accepted = four 0 0 0 0
 values (taken j m n) = four j m n 0
@@ -50,16 +51,16 @@ values (seen j m n) = four j m n 0
 values (words a b c d) = four a b c d
 values (lagged z) = four (ofZ w64 z) 0 0 0
 values restarted = four 0 0 0 0
-values (refused n p) = four (placeOr0 p) 0 0 0
+values (refused n p) = refusalWords p
 
 abbrev pub makeCode : making.Reply → ℕ
 makeCode (made n) = 0
 makeCode (notMade n p) = n
 
--- the number of lanes; a refusal: its place
+-- the number of lanes, or a refusal
 abbrev pub makeValues : making.Reply → Four
 makeValues (made n) = four n 0 0 0
-makeValues (notMade n p) = four (placeOr0 p) 0 0 0
+makeValues (notMade n p) = refusalWords p
 
 -- 0: the run went as far as the end field or the limit. Else the number of the refusal that it stopped at.
 abbrev pub stopCode : Why → ℕ
@@ -67,16 +68,18 @@ stopCode atEnd = 0
 stopCode atLimit = 0
 stopCode (refusal n p) = n
 
--- why a run stopped: 0 the end field, 1 the limit, 2 a refusal
+-- why a run stopped: 0 the end field, 1 the limit, 2 a refusal that has no place, 3 one that has
 abbrev pub stopKind : Why → ℕ
 stopKind atEnd = 0
 stopKind atLimit = 1
-stopKind (refusal n p) = 2
+stopKind (refusal n none) = 2
+stopKind (refusal n (some p)) = 3
 
 abbrev pub stopPlace : Why → ℕ
 stopPlace atEnd = 0
 stopPlace atLimit = 0
-stopPlace (refusal n p) = placeOr0 p
+stopPlace (refusal n none) = 0
+stopPlace (refusal n (some p)) = p
 
 -- requests answered, answer bytes written, why it stopped, a refusal's place
 abbrev pub runValues : RunResult → Four

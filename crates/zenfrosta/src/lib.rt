@@ -14,7 +14,7 @@ ghost use Rattle.scheduler.specs.Step.{Step};
 ghost use Rattle.scheduler.specs.Make as Make;
 ghost use Rattle.walk.specs.Follows.{whyIs};
 ghost use Rattle.session.specs.Ran.{Ran};
-ghost use Rattle.zenfrosta.specs.Crossing.{four, code, values, stopCode, runValues, placeOr0, spoken, Crosses, CrossesMaking, CrossesRun};
+ghost use Rattle.zenfrosta.specs.Crossing.{four, code, values, stopCode, runValues, refusalWords, spoken, Crosses, CrossesMaking, CrossesRun};
 use lines::Place;
 use rules::Answer;
 use rules::Refusal;
@@ -30,16 +30,6 @@ pub struct Four {
     pub b: u64,
     pub c: u64,
     pub d: u64,
-}
-
-// A refusal's place, 0 where the list has none.
-fn place(x: Refusal) -> u64
-    ensures { λ r. ⌜ r ≡ placeOr0 (Reads.placeOf x) ⌝ }
-{
-    match lines::place_of(x) {
-        Place::At(p) => p as u64,
-        Place::Nowhere => 0,
-    }
 }
 
 // A signed number in two's complement.
@@ -61,6 +51,21 @@ fn one(a: u64) -> Four
         b: 0,
         c: 0,
         d: 0,
+    }
+}
+
+// The words that tell a refusal: its place and 1, or 0 and 0 where the list has none.
+fn refusal_words(x: Refusal) -> Four
+    ensures { λ r. ⌜ r ≡ refusalWords (Reads.placeOf x) ⌝ }
+{
+    match lines::place_of(x) {
+        Place::At(p) => Four {
+            a: p as u64,
+            b: 1,
+            c: 0,
+            d: 0,
+        },
+        Place::Nowhere => one(0),
     }
 }
 
@@ -90,7 +95,7 @@ fn words_of(x: Answer) -> Four
         },
         Answer::Lag(z) => one(complement(z)),
         Answer::Restarted => one(0),
-        Answer::Refused(x) => one(place(x)),
+        Answer::Refused(x) => refusal_words(x),
     }
 }
 
@@ -136,11 +141,19 @@ fn run_words(x: RunResult) -> Four
             c: 1,
             d: 0,
         },
-        Stop::Refused(f) => Four {
-            a: x.answered,
-            b: x.written as u64,
-            c: 2,
-            d: place(f),
+        Stop::Refused(f) => match lines::place_of(f) {
+            Place::At(p) => Four {
+                a: x.answered,
+                b: x.written as u64,
+                c: 3,
+                d: p as u64,
+            },
+            Place::Nowhere => Four {
+                a: x.answered,
+                b: x.written as u64,
+                c: 2,
+                d: 0,
+            },
         },
     }
 }
@@ -187,7 +200,7 @@ pub extern "C" fn zf_make(setup: &[u8], table: &mut [u8], out: &mut [u8]) -> u64
             0
         }
         Making::Refused(x) => {
-            speak(out, one(place(x)));
+            speak(out, refusal_words(x));
             lines::number(x)
         }
     }

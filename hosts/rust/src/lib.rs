@@ -17,7 +17,7 @@ pub const fn answer_area(limit: u64) -> usize {
     64 * (limit as usize + 2)
 }
 
-/// Why something is refused: document 01's number, and the place of the fault where the list has one (1 to 7).
+/// Why something is refused: document 01's number, and the place of the fault where the list has one.
 #[derive(Clone, Copy, Debug, PartialEq, Eq)]
 pub struct Refusal {
     /// Document 01's number; `include/zenfrosta.h` has the list.
@@ -83,15 +83,12 @@ pub struct Run {
     pub stop: Stop,
 }
 
-fn refusal(number: u64, place: u64) -> Refusal {
-    Refusal { number, place: (1..=7).contains(&number).then_some(place) }
-}
-
 /// The words of an answer, or the refusal.
 fn answer((result, words): boundary::Told) -> Result<[u64; 4], Refusal> {
     match result {
         0 => Ok(words),
-        number => Err(refusal(number, words[0])),
+        // A refusal's words: its place, and whether it has one.
+        number => Err(Refusal { number, place: (words[1] == 1).then_some(words[0]) }),
     }
 }
 
@@ -143,10 +140,11 @@ pub fn restart(table: &mut [u8]) -> Result<(), Refusal> {
 /// Runs a session on the lent table; its lines stand in the answer area.
 pub fn run(session: &[u8], limit: u64, table: &mut [u8], answers: &mut [u8]) -> Run {
     let (result, [answered, written, kind, place]) = boundary::run(session, limit, table, answers);
+    // Kind: 0 the end field, 1 the limit, 2 a refusal that has no place, 3 one that has.
     let stop = match (result, kind) {
         (0, 0) => Stop::End,
         (0, _) => Stop::Limit,
-        (number, _) => Stop::Refused(refusal(number, place)),
+        (number, _) => Stop::Refused(Refusal { number, place: (kind == 3).then_some(place) }),
     };
     Run { answered, written: written as usize, stop }
 }

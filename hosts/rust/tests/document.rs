@@ -45,6 +45,9 @@ fn refusals() {
     let before = t.clone();
     assert_eq!(make(SETUP, &mut t[..TABLE_SIZE - 1]), refused(7, Some(0)));
     assert_eq!(make(&SETUP[..22], &mut t), refused(1, Some(21)));
+    // A fault at byte 0 has a place, as has an empty setup's end.
+    assert_eq!(make(b"\xFF\0\0", &mut t), refused(2, Some(0)));
+    assert_eq!(make(b"", &mut t), refused(1, Some(0)));
     assert_eq!(put(&mut t, 2, 1, 1), refused(11, None));
     assert_eq!(put(&mut t, 0, 1, u64::MAX), refused(12, None));
     assert_eq!(look(&t[1..]), refused(10, None));
@@ -64,5 +67,7 @@ fn the_session_by_run() {
     let byte_after = [&session[..], b"\0"].concat();
     let place = Some(session.len() as u64);
     assert_eq!(run(&byte_after, 9, &mut t, &mut a).stop, Stop::Refused(Refusal { number: 4, place }));
+    let at_0 = Stop::Refused(Refusal { number: 2, place: Some(0) });
+    assert_eq!(run(b"\xFF\0\0", 9, &mut t, &mut a).stop, at_0);
     assert_eq!(run(&session, 1_001, &mut t, &mut a).stop, Stop::Refused(Refusal { number: 17, place: None }));
 }

@@ -10,7 +10,7 @@ use Rattle.zenfrosta.proofs.words_of.Reads as reads
 use Rattle.zenfrosta.proofs.words_of.Lts as lts
 use Rattle.zenfrosta.proofs.complement.Reads as complement-reads
 use Rattle.zenfrosta.proofs.one.Reads as one-reads
-use Rattle.zenfrosta.proofs.place.Reads as place-reads
+use Rattle.zenfrosta.proofs.refusal_words.Reads as refusal-words-reads
 
 enum-told : tie.Need-enum-told
 enum-told c = search needs
@@ -57,11 +57,8 @@ one-requires-3 c κs = search needs
 enum-known-x-5 : tie.Need-enum-known-x-5
 enum-known-x-5 c = search needs
 
-place-requires : tie.Need-place-requires
-place-requires c κs = search needs
-
-one-requires-4 : tie.Need-one-requires-4
-one-requires-4 c κs = search needs
+refusal-words-requires : tie.Need-refusal-words-requires
+refusal-words-requires c κs = search needs
 
 returns : tie.Need-returns
 returns c = c .one .ensures ∙ rw (c .before .enum-told .given .1)
@@ -85,7 +82,7 @@ returns-6 : tie.Need-returns-6
 returns-6 c = c .one3 .ensures ∙ rw (c .before .enum-told2 .given .1)
 
 returns-7 : tie.Need-returns-7
-returns-7 c = c .one4 .ensures ∙ rw (c .before .place .ensures, c .before .before .before .x5 .given .1)
+returns-7 c = c .refusal-words .ensures ∙ rw (c .before .before .x5 .given .1)
 
 pub words-of-spec : {M : Type 1} → statement M
 words-of-spec =
@@ -106,8 +103,7 @@ words-of-spec =
     enum-told-2
     one-requires-3
     enum-known-x-5
-    place-requires
-    one-requires-4
+    refusal-words-requires
     returns
     returns-2
     returns-3

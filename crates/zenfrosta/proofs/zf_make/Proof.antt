@@ -9,7 +9,7 @@ use Rattle.zenfrosta.proofs.zf_make.Lts as lts
 use Rattle.scheduler.proofs.make.Reads as make-reads
 use Rattle.lines.proofs.number.Reads as number-reads
 use Rattle.zenfrosta.proofs.one.Reads as one-reads
-use Rattle.zenfrosta.proofs.place.Reads as place-reads
+use Rattle.zenfrosta.proofs.refusal_words.Reads as refusal-words-reads
 use Rattle.zenfrosta.proofs.speak.Reads as speak-reads
 
 returns : tie.Need-returns
@@ -30,11 +30,8 @@ speak-requires c κs = search needs
 enum-known-x : tie.Need-enum-known-x
 enum-known-x c = search needs
 
-place-requires : tie.Need-place-requires
-place-requires c κs = search needs
-
-one-requires-2 : tie.Need-one-requires-2
-one-requires-2 c κs = search needs
+refusal-words-requires : tie.Need-refusal-words-requires
+refusal-words-requires c κs = search needs
 
 speak-requires-2 : tie.Need-speak-requires-2
 speak-requires-2 c κs = search needs
@@ -65,11 +62,11 @@ same-length-4 c = search needs
 
 returns-3 : tie.Need-returns-3
 returns-3 c =
-    let m = c .before .before .before .before .before .before .before .before .before .before .before .before .make in
-    let e = c .before .before .before .before .before .before .before .before .x .given .1 in
+    let m = c .before .before .before .before .before .before .before .before .before .before .before .make in
+    let e = c .before .before .before .before .before .before .before .x .given .1 in
     record {
-      short = λ h. absurd (omega (arith, c .before .before .before .before .before .before .before .before .before .before .before .before .before .before .if1 .left));
-      told = λ _. (m .result, m .ensures, c .number .ensures .0 ∙ rw e, c .before .before .before .speak2 .ensures ∙ rw (c .before .before .before .before .one2 .ensures, c .before .before .before .before .before .place .ensures, e));
+      short = λ h. absurd (omega (arith, c .before .before .before .before .before .before .before .before .before .before .before .before .before .if1 .left));
+      told = λ _. (m .result, m .ensures, c .number .ensures .0 ∙ rw e, c .before .before .before .speak2 .ensures ∙ rw (c .before .before .before .before .refusal-words .ensures, e));
     }
 
 pub zf-make-spec : {M : Type 1} → statement M
@@ -82,8 +79,7 @@ zf-make-spec =
     one-requires
     speak-requires
     enum-known-x
-    place-requires
-    one-requires-2
+    refusal-words-requires
     speak-requires-2
     number-requires
     same-length
