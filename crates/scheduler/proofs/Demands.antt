@@ -8,7 +8,7 @@ use mathlib.Core.List.{List, [], _∷_, _++_, map}
 use mathlib.Core.Option.{Option, none, some}
 use lib.ListN.{getD}
 use Rattle.waiting.specs.Waiting.{queueOf}
-use Rattle.rules.specs.State.{Lane, noLane, State, laneAt, anyHolds}
+use Rattle.rules.specs.State.{Setting, Lane, noLane, State, laneAt, anyHolds}
 use Rattle.rules.specs.Calls.{Call, take, restart, Reply, restarted, refused, Pick, picked, takeOf, doTake, fresh, doRestart, step}
 use Rattle.rules.specs.Runs.{Event, after, trace, acceptedOf, sentOf, InOrder}
 use Rattle.rules.specs.Fair.{Holding, Fair, Demand3}
@@ -20,66 +20,26 @@ use Rattle.rules.proofs.Fair.{holds-of, demand3}
 use Rattle.rules.proofs.Order.{in-order}
 use Rattle.rules.proofs.SameSetup.{setup-kept, fresh-setup}
 use Rattle.rules.proofs.NotTen.{NotTen, step-not-ten}
-use Rattle.rules.proofs.AlwaysGood.{fresh-reached, reached, reached-good}
+use Rattle.rules.proofs.AlwaysGood.{fresh-reached, reached}
 use Rattle.table.specs.Encodes.{Encodes}
-use Rattle.good.proofs.Encodes.{encodes-good}
-use Rattle.scheduler.specs.Demands.{callsOf, AsRuled, FairCalls, NeverTen, OrderKept, SetupKept, RestartHeld, HandsOut, Drains}
-use Rattle.scheduler.proofs.Chains.{begins-setup, begins-ran}
-
--- the calls of a run are those that were given
-calls-of-trace : (s : State) (cs : List Call) → callsOf (trace s cs) ≡ cs
-unfolding trace
-calls-of-trace s [] = refl
-calls-of-trace s (c ∷ cs) = ap (λ (x : List Call). c ∷ x) (calls-of-trace ((step s c) .state) cs)
-
-pub as-ruled : AsRuled
-unfolding AsRuled
-as-ruled gs t u calls b ch =
-    let r = begins-ran gs t b u calls ch in
-    let same = sym (calls-of-trace (fresh gs) (r .calls)) ∙ ap callsOf (r .events) in
-    subst (λ (cs : List Call). (trace (fresh gs) cs ≡ calls) × Encodes u (after (fresh gs) cs)) same (r .events, r .encodes)
-
--- demand 3
-pub fair-calls : FairCalls
-unfolding FairCalls Demand3 Fair
-fair-calls gs t u calls b ch past stretch rest e k holding =
-    let r = begins-ran gs t b u calls ch in
-    demand3 gs (begins-setup gs t b) (r .calls) past stretch rest (r .events ∙ e) k holding
+use Rattle.scheduler.specs.Chain.{callsOf, Led}
+use Rattle.scheduler.specs.Drained.{HandsOut}
+use Rattle.scheduler.specs.Demands.{FairCalls, NeverTen, OrderKept, SetupKept, RestartHeld, Drains, Demands, EveryList, AfterMake, AfterRestart, AsRuled}
+use Rattle.scheduler.proofs.Chains.{led-good, led-on}
+use Rattle.scheduler.proofs.Begins.{by-make, by-restart}
+use Rattle.scheduler.proofs.Drained.{drained-table}
 
 -- no event of a list of the rules' calls is refused by 10
-pub trace-not-ten : (s : State) (cs : List Call) (past rest : List Event) (e : Event) → trace s cs ≡ past ++ e ∷ rest → NotTen (e .reply)
+trace-not-ten : (s : State) (cs : List Call) (past rest : List Event) (e : Event) → trace s cs ≡ past ++ e ∷ rest → NotTen (e .reply)
 unfolding trace
 trace-not-ten s [] [] rest e q = let z : _≡_ {A = ℕ} 0 1 = cc in absurd (omega arith)
 trace-not-ten s [] (x ∷ past) rest e q = let z : _≡_ {A = ℕ} 0 1 = cc in absurd (omega arith)
 trace-not-ten s (c ∷ cs) [] rest e q = let same : record { call = c; reply = (step s c) .reply } ≡ e = cc in subst (λ (x : Event). NotTen (x .reply)) same (step-not-ten s c)
 trace-not-ten s (c ∷ cs) (x ∷ past) rest e q = trace-not-ten ((step s c) .state) cs past rest e (cc)
 
-pub never-ten : NeverTen
-unfolding NeverTen
-never-ten gs t u calls b ch =
-    let r = begins-ran gs t b u calls ch in
-    let s = after (fresh gs) (r .calls) in (
-      encodes-good u s (r .encodes) (reached-good s (reached (fresh gs) (r .calls) (fresh-reached gs (begins-setup gs t b)))),
-      λ past rest e q ten. subst NotTen ten (trace-not-ten (fresh gs) (r .calls) past rest e (r .events ∙ q)) refl,
-    )
-
 -- two states that one table encodes have the same lanes
-pub same-lanes : (u : List ℕ) (s s′ : State) → Encodes u s → Encodes u s′ → s .lanes ≡ s′ .lanes
+same-lanes : (u : List ℕ) (s s′ : State) → Encodes u s → Encodes u s′ → s .lanes ≡ s′ .lanes
 same-lanes u s s′ e e′ = sym (e .alike .lanes) ∙ e′ .alike .lanes
-
-pub order-kept : OrderKept
-unfolding OrderKept InOrder
-order-kept gs t u calls b ch s e k =
-    let r = begins-ran gs t b u calls ch in
-    let lanes = same-lanes u (after (fresh gs) (r .calls)) s (r .encodes) e in
-    subst (λ (es : List Event). acceptedOf k es ≡ sentOf k es ++ queueOf (laneAt s k .waiting) 0) (r .events)
-    (in-order gs (r .calls) k ∙ ap (λ (ls : List Lane). sentOf k (trace (fresh gs) (r .calls)) ++ queueOf ((getD ls k noLane) .waiting) 0) lanes)
-
-pub setup-kept-calls : SetupKept
-unfolding SetupKept
-setup-kept-calls gs t u calls b ch s e =
-    let r = begins-ran gs t b u calls ch in
-    ap (map (λ (l : Lane). l .given)) (same-lanes u s (after (fresh gs) (r .calls)) e (r .encodes)) ∙ setup-kept (fresh gs) (r .calls) ∙ fresh-setup gs
 
 -- a restart is refused by 15 while a record is held
 restart-no : (s : State) → anyHolds (s .lanes) ≡ true → (step s restart) .reply ≡ refused 15 none
@@ -94,15 +54,6 @@ restart-first s (x ∷ cs) rest e h q c =
     let same : record { call = x; reply = (step s x) .reply } ≡ e = cc in
     let is : x ≡ restart = ap (λ (y : Event). y .call) same ∙ c in
     sym (ap (λ (y : Event). y .reply) same) ∙ subst (λ (y : Call). (step s y) .reply ≡ refused 15 none) (sym is) (restart-no s h)
-
-pub restart-held : RestartHeld
-unfolding RestartHeld
-restart-held gs t u calls b ch past rest e q k holding c =
-    let r = begins-ran gs t b u calls ch in
-    let two = split (fresh gs) (r .calls) past (e ∷ rest) (r .events ∙ q) in
-    let s = after (fresh gs) (two .calls) in
-    let held = subst (Holding k) (sym (two .past-is)) holding in
-    restart-first s (two .more) rest e (holds-some (s .lanes) k (holds-of gs k (two .calls) held)) (two .rest-is) c
 
 -- a take hands a record out or gives 16
 take-is : (s : State) → HandsOut ((step s take) .reply) ⊎ ((step s take) .reply ≡ refused 16 none)
@@ -147,10 +98,68 @@ drain-first s live (x ∷ cs) rest e q c =
         let is : x ≡ restart = ap (λ (y : Event). y .call) same ∙ r in
         sym (ap (λ (y : Event). y .reply) same) ∙ subst (λ (y : Call). (step s y) .reply ≡ restarted) (sym is) h
 
-pub drains : Drains
-unfolding Drains
-drains gs t u calls b ch past rest e q c =
-    let r = begins-ran gs t b u calls ch in
-    let two = split (fresh gs) (r .calls) past (e ∷ rest) (r .events ∙ q) in
-    let s = after (fresh gs) (two .calls) in
-    drain-first s (reached (fresh gs) (two .calls) (fresh-reached gs (begins-setup gs t b)) .live) (two .more) rest e (two .rest-is) c
+-- ---- of a list that led to a table
+
+module _ (gs : List Setting) (es : List Event) (u : List ℕ) (l : Led gs es u) where
+  fair-calls : FairCalls gs es
+  unfolding FairCalls Demand3 Fair
+  fair-calls past stretch rest e k holding = demand3 gs (l .setup) (callsOf es) past stretch rest (l .answers ∙ e) k holding
+
+  never-ten : NeverTen es u
+  unfolding NeverTen
+  never-ten = (led-good gs es u l, λ past rest e q ten. subst NotTen ten (trace-not-ten (fresh gs) (callsOf es) past rest e (l .answers ∙ q)) refl)
+
+  order-kept : OrderKept es u
+  unfolding OrderKept InOrder
+  order-kept s e k =
+      let lanes = same-lanes u (after (fresh gs) (callsOf es)) s (l .table) e in
+      subst (λ (xs : List Event). acceptedOf k xs ≡ sentOf k xs ++ queueOf (laneAt s k .waiting) 0) (l .answers)
+      (in-order gs (callsOf es) k ∙ ap (λ (ls : List Lane). sentOf k (trace (fresh gs) (callsOf es)) ++ queueOf ((getD ls k noLane) .waiting) 0) lanes)
+
+  setup-kept-calls : SetupKept gs es u
+  unfolding SetupKept
+  setup-kept-calls s e =
+      ap (map (λ (x : Lane). x .given)) (same-lanes u s (after (fresh gs) (callsOf es)) e (l .table)) ∙ setup-kept (fresh gs) (callsOf es) ∙ fresh-setup gs
+
+  restart-held : RestartHeld es
+  unfolding RestartHeld
+  restart-held past rest e q k holding c =
+      let two = split (fresh gs) (callsOf es) past (e ∷ rest) (l .answers ∙ q) in
+      let s = after (fresh gs) (two .calls) in
+      let held = subst (Holding k) (sym (two .past-is)) holding in
+      restart-first s (two .more) rest e (holds-some (s .lanes) k (holds-of gs k (two .calls) held)) (two .rest-is) c
+
+  drains : Drains es
+  unfolding Drains
+  drains past rest e q c =
+      let two = split (fresh gs) (callsOf es) past (e ∷ rest) (l .answers ∙ q) in
+      let s = after (fresh gs) (two .calls) in
+      drain-first s (reached (fresh gs) (two .calls) (fresh-reached gs (l .setup)) .live) (two .more) rest e (two .rest-is) c
+
+  pub demands : Demands gs es u
+  demands = record {
+    led = l;
+    fair = fair-calls;
+    never-ten = never-ten;
+    order = order-kept;
+    setup-kept = setup-kept-calls;
+    restart-held = restart-held;
+    drains = drains;
+    drained = drained-table gs es u l;
+  }
+
+pub every-list : EveryList
+unfolding EveryList
+every-list gs first calls t u l ch = demands gs (first ++ calls) u (led-on gs first calls t u l ch)
+
+pub after-make : AfterMake
+unfolding AfterMake
+after-make gs t u calls b ch = demands gs calls u (led-on gs [] calls t u (by-make gs t b) ch)
+
+pub after-restart : AfterRestart
+unfolding AfterRestart
+after-restart before t u a calls g p e ch = demands _ calls u (led-on _ [] calls t u (by-restart before t a g p e) ch)
+
+pub as-ruled : AsRuled
+unfolding AsRuled
+as-ruled gs t u calls b ch = let l = led-on gs [] calls t u (by-make gs t b) ch in (l .answers, l .table)

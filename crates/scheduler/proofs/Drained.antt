@@ -1,71 +1,79 @@
--- A unit is drained and restarted; the ends of lag. Assumes nothing.
-use Prim.Native.Nat.{ℕ}
+-- A unit is drained and restarted. Assumes nothing.
+use Prim.Native.Nat.{ℕ, zero, suc}
 use native.Mathlib.Omega.{arith}
 use mathlib.Core.Path.{_≡_, refl, sym, ap, subst, _∙_}
-use mathlib.Core.Bool.{Bool, true, false}
-use mathlib.Core.List.{List, [], _∷_, _++_, map}
-use lib.Dec.{ltb}
-use lib.IntN.{ℤ}
+use mathlib.Core.Bool.{true, false, false≢true}
+use mathlib.Core.List.{List, [], _∷_, _++_}
+use mathlib.Core.Option.{Option, none, some}
 use lib.ListN.{replicate}
-use Rattle.units.specs.Plain.{if_then_else_, sum}
+use Rattle.units.specs.Plain.{sum}
 use Rattle.waiting.specs.Waiting.{held}
-use Rattle.rules.specs.State.{Lane, State, laneAt}
-use Rattle.rules.specs.Calls.{Call, take, lag, lagged, restart, Reply, restarted, no, lagOf, doLag, fresh, step}
+use Rattle.rules.specs.State.{Setting, Lane, State, some?, anyHolds}
+use Rattle.rules.specs.Calls.{Call, take, restart, Reply, restarted, refused, Pick, picked, takeOf, doTake, fresh, doRestart, step}
 use Rattle.rules.specs.Runs.{Event, after, trace}
-use Rattle.rules.proofs.Runs.{trace-append}
-use Rattle.rules.proofs.Drain.{heldBy, restarts}
-use Rattle.rules.proofs.AlwaysGood.{Reached, fresh-reached, reached}
-use Rattle.table.specs.Means.{meant}
-use Rattle.good.proofs.Encodes.{good-encodes}
-use Rattle.engine.proofs.LagRange.{lag-range}
-use Rattle.scheduler.specs.Demands.{callsOf}
-use Rattle.scheduler.specs.Drained.{heldIn, Drained, LagCall}
-use Rattle.scheduler.proofs.Chains.{ran, begins-setup, begins-ran}
+use Rattle.rules.proofs.Keep.{PickIs, pick-is}
+use Rattle.rules.proofs.Live.{holds-some}
+use Rattle.rules.proofs.Drain.{heldBy, take-one, drained}
+use Rattle.rules.proofs.AlwaysGood.{Reached, step-reached, reached}
+use Rattle.table.specs.Encodes.{Encodes}
+use Rattle.scheduler.specs.Chain.{Chain, callsOf, Led}
+use Rattle.scheduler.specs.Drained.{HandsOut, heldIn, Emptied, Drained}
+use Rattle.scheduler.proofs.Chains.{ran, led-reached, led-ran}
 
-lastOf : Reply → List Event → Reply
-lastOf d [] = d
-lastOf d (x ∷ xs) = lastOf (x .reply) xs
-
-last-is : (d : Reply) (xs : List Event) (e : Event) → lastOf d (xs ++ e ∷ []) ≡ e .reply
-unfolding lastOf
-last-is d [] e = refl
-last-is d (x ∷ xs) e = last-is (x .reply) xs e
-
-calls-of-trace : (s : State) (cs : List Call) → callsOf (trace s cs) ≡ cs
+-- each of as many takes as records are held hands one out
+takes-hand-out : (n : ℕ) (s : State) → Reached s → heldBy s ≡ n → (past rest : List Event) (e : Event) → trace s (replicate n take) ≡ past ++ e ∷ rest → HandsOut (e .reply)
 unfolding trace
-calls-of-trace s [] = refl
-calls-of-trace s (c ∷ cs) = ap (λ (x : List Call). c ∷ x) (calls-of-trace ((step s c) .state) cs)
+takes-hand-out zero s r h [] rest e q = let z : _≡_ {A = ℕ} 0 1 = cc in absurd (omega arith)
+takes-hand-out zero s r h (x ∷ past) rest e q = let z : _≡_ {A = ℕ} 0 1 = cc in absurd (omega arith)
+takes-hand-out (suc n) s r h [] rest e q =
+    let one = take-one s n (λ k. r .kept .ok k .waiting) (r .live) h in
+    let same : record { call = take; reply = (step s take) .reply } ≡ e = cc in
+    record { lane = one .0; mark = one .1; len = one .2; is = sym (ap (λ (y : Event). y .reply) same) ∙ one .3 }
+takes-hand-out (suc n) s r h (x ∷ past) rest e q =
+    takes-hand-out n ((step s take) .state) (step-reached s take r) (take-one s n (λ k. r .kept .ok k .waiting) (r .live) h .4) past rest e (cc)
 
-calls-append : (xs ys : List Event) → callsOf (xs ++ ys) ≡ callsOf xs ++ callsOf ys
-calls-append [] ys = refl
-calls-append (x ∷ xs) ys = ap (λ (cs : List Call). x .call ∷ cs) (calls-append xs ys)
-
-pub drained-calls : Drained
-unfolding Drained trace
-drained-calls gs t u v calls takes e b ch more same again =
-    let first = begins-ran gs t b u calls ch in
-    let σ = after (fresh gs) (first .calls) in
-    let made : Reached σ = reached (fresh gs) (first .calls) (fresh-reached gs (begins-setup gs t b)) in
-    let rest = ran σ made (first .encodes) more in
-    let n : heldIn u ≡ heldBy σ = ap (λ (ls : List Lane). sum (λ (l : Lane). held (l .waiting)) ls) (first .encodes .alike .lanes) in
-    let takes-are : callsOf takes ≡ replicate (heldBy σ) take = same ∙ ap (λ (k : ℕ). replicate k take) n in
-    let are : rest .calls ≡ replicate (heldBy σ) take ++ (restart ∷ []) =
-    sym (calls-of-trace σ (rest .calls)) ∙ ap callsOf (rest .events) ∙ calls-append takes (e ∷ [])
-    ∙ ap (λ (cs : List Call). cs ++ (e .call ∷ [])) takes-are ∙ ap (λ (c : Call). replicate (heldBy σ) take ++ (c ∷ [])) again in
-    let drained = after σ (replicate (heldBy σ) take) in
-    let event : Event = record { call = restart; reply = (step drained restart) .reply } in
-    let all : takes ++ e ∷ [] ≡ trace σ (replicate (heldBy σ) take) ++ event ∷ [] =
-    sym (rest .events) ∙ ap (trace σ) are ∙ trace-append σ (replicate (heldBy σ) take) (restart ∷ []) in
-    sym (last-is restarted takes e) ∙ ap (lastOf restarted) all ∙ last-is restarted (trace σ (replicate (heldBy σ) take)) event ∙ restarts σ made .0
-
-lag-is : (s : State) (j : ℕ) (z : ℤ) → lagged z ≡ (step s (lag j)) .reply → z ≡ lagOf (s .clock) (laneAt s j)
-unfolding step doLag
-lag-is s j z = go (ltb (laneAt s j .given .weight) 1)
+-- with nothing held a take gives 16 and leaves the state as it is; a restart is accepted
+take-none : (s : State) → anyHolds (s .lanes) ≡ false → ((step s take) .reply ≡ refused 16 none) × ((step s take) .state ≡ s)
+unfolding step doTake takeOf
+take-none s h = go (picked s) (pick-is s)
   where
-    go : (b : Bool) → lagged z ≡ (if b then no 11 s else record { reply = lagged (lagOf (s .clock) (laneAt s j)); state = s }) .reply → z ≡ lagOf (s .clock) (laneAt s j)
-    go true e = let y : _≡_ {A = ℕ} 0 1 = cc in absurd (omega arith)
-    go false e = cc
+    go : (o : Option Pick) → PickIs s o → ((takeOf s o) .reply ≡ refused 16 none) × ((takeOf s o) .state ≡ s)
+    go none p = (refl, refl)
+    go (some x) p = absurd (false≢true (sym h ∙ holds-some (s .lanes) (x .lane) (ap some? (p .is-first))))
 
-pub lag-call : LagCall
-unfolding LagCall
-lag-call t u a j z g p e = (lag-is (meant t) j z (sym e ∙ p .reply g (meant t) (good-encodes t g)), lag-range (meant t) (g .good) j)
+restart-none : (s : State) → anyHolds (s .lanes) ≡ false → (step s restart) .reply ≡ restarted
+unfolding step doRestart
+restart-none s h = simp h
+
+-- the one call of a list, and the second of two
+call-is : (s : State) (e : Event) (c : Call) (r : Reply) → trace s (callsOf (e ∷ [])) ≡ e ∷ [] → e .call ≡ c → (step s c) .reply ≡ r → e .reply ≡ r
+unfolding trace
+call-is s e c r q is h =
+    let same : record { call = e .call; reply = (step s (e .call)) .reply } ≡ e = cc in
+    sym (ap (λ (y : Event). y .reply) same) ∙ ap (λ (x : Call). (step s x) .reply) is ∙ h
+
+second-is : (s : State) (e f : Event) → anyHolds (s .lanes) ≡ false → trace s (callsOf (e ∷ f ∷ [])) ≡ e ∷ f ∷ [] → e .call ≡ take → f .call ≡ restart → f .reply ≡ restarted
+unfolding trace
+second-is s e f h q first again =
+    let left : (step s (e .call)) .state ≡ s = ap (λ (x : Call). (step s x) .state) first ∙ take-none s h .1 in
+    let rest : trace ((step s (e .call)) .state) (callsOf (f ∷ [])) ≡ f ∷ [] = cc in
+    call-is s f restart restarted (subst (λ (x : State). trace x (callsOf (f ∷ [])) ≡ f ∷ []) left rest) again (restart-none s h)
+
+pub drained-table : (gs : List Setting) (es : List Event) (t : List ℕ) → Led gs es t → Drained t
+unfolding Drained
+drained-table gs es t l takes u ch same =
+    let s = after (fresh gs) (callsOf es) in
+    let made : Reached s = led-reached gs es t l in
+    let r = led-ran gs es t l takes u ch in
+    let n : heldIn t ≡ heldBy s = ap (λ (ls : List Lane). sum (λ (x : Lane). held (x .waiting)) ls) (l .table .alike .lanes) in
+    let are : callsOf takes ≡ replicate (heldBy s) take = same ∙ ap (λ (k : ℕ). replicate k take) n in
+    let empty = after s (replicate (heldBy s) take) in
+    let none-held : anyHolds (empty .lanes) ≡ false = drained s (heldBy s) made refl in
+    let left : Encodes u empty = subst (λ (cs : List Call). Encodes u (after s cs)) are (r .encodes) in
+    let reached-empty : Reached empty = reached s (replicate (heldBy s) take) made in
+    record {
+      hand-out = λ past rest e q. takes-hand-out (heldBy s) s made refl past rest e (sym (ap (trace s) are) ∙ r .events ∙ q);
+      none-left = λ e v more is. call-is empty e take (refused 16 none) (ran empty reached-empty left more .events) is (take-none empty none-held .0);
+      restarts = λ e v more is. call-is empty e restart restarted (ran empty reached-empty left more .events) is (restart-none empty none-held);
+      restarts-then = λ e f v more is again. second-is empty e f none-held (ran empty reached-empty left more .events) is again;
+    }

@@ -1,11 +1,12 @@
 pub mod Steps
 pub mod Made
 pub mod Chains
+pub mod Begins
+pub mod Drained
 pub mod Demands
-pub mod LagEnds
 pub mod One
 pub mod SetsAnswer
 pub mod TakeAnswer
 pub mod PutLocal
 pub mod OrderFrom
-pub mod Drained
+pub mod LagAnswer

@@ -1,81 +1,99 @@
--- What holds of every list of public calls that begins with a table that `make` left: the demands, of the calls' own answers.
+-- What holds of every list of public calls from the fresh table of a setup: the demands, of the calls' own answers. Each is said once, of a list that led to a
+-- table; a list begins with `make`, with an accepted restart, or with a session's run (zenfrosta/specs/AfterRun.antt).
 --
---   AsRuled      demand 2, of the whole list
---   FairCalls    demand 3
---   NeverTen     "No table made by these calls from a fresh one is ever found not good."
---   OrderKept    "Each accepted record is handed out once, in its lane's order, or is still held."
---   SetupKept    no call changes the setup
---   RestartHeld  "A restart in such a stretch is always refused, by 15."
---   Drains       "Take is never refused for 14, so a spent unit can be drained and restarted."
+--   FairCalls      demand 3
+--   NeverTen       "No table made by these calls from a fresh one is ever found not good."
+--   OrderKept      "Each accepted record is handed out once, in its lane's order, or is still held."
+--   SetupKept      the table's setup is the one in force
+--   RestartHeld    "A restart in such a stretch is always refused, by 15."
+--   Drains         "Take is never refused for 14, so a spent unit can be drained and restarted."; Drained: how many takes that needs
+--   Demands        all of them, and demand 2
+--   EveryList      the claim: a list of public calls on a table that a list led to
+--   AfterMake      .. that `make` left; AfterRestart: that an accepted restart left
+--   AsRuled        demand 2 alone, after `make`
 --
 -- Assumes nothing.
 use Prim.Native.Nat.{ℕ, _+_, _*_, _<_}
 use mathlib.Core.Path.{_≡_}
 use mathlib.Core.Logic.{_⊎_}
-use mathlib.Core.List.{List, _∷_, _++_, map}
+use mathlib.Core.List.{List, _∷_, _++_}
 use mathlib.Core.Option.{none}
 use Rattle.units.specs.Numbers.{lineRate}
 use Rattle.waiting.specs.Waiting.{queueOf}
 use Rattle.rules.specs.State.{Setting, settingAt, State, rate, slot, laneAt, setupOf}
 use Rattle.rules.specs.Setup.{framingOf, margin}
-use Rattle.rules.specs.Calls.{Call, take, restart, Reply, taken, restarted, refused, fresh}
+use Rattle.rules.specs.Calls.{take, restart, restarted, refused, fresh}
+use Rattle.rules.specs.Reads.{reads}
 use Rattle.rules.specs.Runs.{Event, after, trace, acceptedOf, sentOf}
 use Rattle.rules.specs.Fair.{bytesSent, bytesSentOf, Holding}
+use Rattle.rules.specs.declared.Answer.{Answer}
+use Rattle.table.specs.Means.{meant}
 use Rattle.table.specs.Encodes.{Encodes}
 use Rattle.good.specs.Table.{GoodTable}
-use Rattle.scheduler.specs.Chain.{Chain, Begins}
+use Rattle.scheduler.specs.Step.{Step}
+use Rattle.scheduler.specs.Chain.{Chain, Begins, Led, inForce}
+use Rattle.scheduler.specs.Drained.{HandsOut, Drained}
+pub use Rattle.scheduler.specs.Chain.{callsOf}
 
-abbrev pub callsOf : List Event → List Call
-callsOf es = map (λ (e : Event). e .call) es
+-- ---- of a list es from the fresh table of the setup gs, which led to the bytes u
 
--- "Every answer, and the table after it, is what the published rules give": a list's answers are those of the rules' own run from the fresh state, and
--- the bytes after it encode the state that the run leaves.
+-- For any lane and any stretch of the list (what comes before it, the stretch, what follows) in which the lane holds a record before the stretch and after each call
+-- in it, with T the bytes sent in the stretch and O those of this lane: 1,024 T < c O + 4 slots + 1,024 (1,500 + h), by the setup in force. Refused calls are in the list.
+unfoldable pub FairCalls : List Setting → List Event → Type 0
+FairCalls gs es =
+    (past stretch rest : List Event) → es ≡ past ++ stretch ++ rest
+    → (k : ℕ) → ((p q : List Event) → p ++ q ≡ stretch → Holding k (past ++ p))
+    → lineRate * bytesSent (inForce gs past) stretch
+    < rate (settingAt (inForce gs past) k) * bytesSentOf (inForce gs past) k stretch + 4 * slot (settingAt (inForce gs past) k) + margin (framingOf (inForce gs past))
+
+unfoldable pub NeverTen : List Event → List ℕ → Type 0
+NeverTen es u = GoodTable u × ((past rest : List Event) (e : Event) → es ≡ past ++ e ∷ rest → e .reply ≡ refused 10 none → ⊥)
+
+unfoldable pub OrderKept : List Event → List ℕ → Type 0
+OrderKept es u = (s : State) → Encodes u s → (k : ℕ) → acceptedOf k es ≡ sentOf k es ++ queueOf (laneAt s k .waiting) 0
+
+unfoldable pub SetupKept : List Setting → List Event → List ℕ → Type 0
+SetupKept gs es u = (s : State) → Encodes u s → setupOf s ≡ inForce gs es
+
+-- Wherever a lane holds a record by the list's own count, as before a stretch of demand 3 and after each call in it, the next call, if it is a restart, gives 15.
+unfoldable pub RestartHeld : List Event → Type 0
+RestartHeld es =
+    (past rest : List Event) (e : Event) → es ≡ past ++ e ∷ rest
+    → (k : ℕ) → Holding k past → e .call ≡ restart → e .reply ≡ refused 15 none
+
+-- Whatever the clock: each take hands a record out or gives 16, and a restart right after a 16 is accepted.
+unfoldable pub Drains : List Event → Type 0
+Drains es =
+    (past rest : List Event) (e : Event) → es ≡ past ++ e ∷ rest → e .call ≡ take
+    → (HandsOut (e .reply) ⊎ (e .reply ≡ refused 16 none))
+    × ((f : Event) (more : List Event) → rest ≡ f ∷ more → e .reply ≡ refused 16 none → f .call ≡ restart → f .reply ≡ restarted)
+
+pub record Demands (gs : List Setting) (es : List Event) (u : List ℕ) : Type 0 where
+  -- demand 2: every answer, and the table after the list, is what the rules give; so the list may go on
+  pub led : Led gs es u
+  pub fair : FairCalls gs es
+  pub never-ten : NeverTen es u
+  pub order : OrderKept es u
+  pub setup-kept : SetupKept gs es u
+  pub restart-held : RestartHeld es
+  pub drains : Drains es
+  pub drained : Drained u
+
+-- ---- the claim, and how a list begins
+
+unfoldable pub EveryList : Type 0
+EveryList = (gs : List Setting) (first calls : List Event) (t u : List ℕ) → Led gs first t → Chain t calls u → Demands gs (first ++ calls) u
+
+unfoldable pub AfterMake : Type 0
+AfterMake = (gs : List Setting) (t u : List ℕ) (calls : List Event) → Begins gs t → Chain t calls u → Demands gs calls u
+
+-- a good table of any origin, and its own setup
+unfoldable pub AfterRestart : Type 0
+AfterRestart =
+    (before t u : List ℕ) (a : Answer) (calls : List Event) → GoodTable before → Step restart before a t → reads a ≡ restarted
+    → Chain t calls u → Demands (setupOf (meant before)) calls u
+
 unfoldable pub AsRuled : Type 0
 AsRuled =
     (gs : List Setting) (t u : List ℕ) (calls : List Event) → Begins gs t → Chain t calls u
     → (trace (fresh gs) (callsOf calls) ≡ calls) × Encodes u (after (fresh gs) (callsOf calls))
-
--- "For every list of the calls put, take, look, sets, lag and restart, refused ones included, from a fresh table of any setup, each call getting the table
--- the last one left: for any lane and any stretch of the list in which it holds a record before the stretch and after each call in it, with T the bytes
--- sent in the stretch and O those from this lane, 1,024 T < c O + 4 slots + 1,536,000."
-unfoldable pub FairCalls : Type 0
-FairCalls =
-    (gs : List Setting) (t u : List ℕ) (calls : List Event) → Begins gs t → Chain t calls u
-    → (past stretch rest : List Event) → calls ≡ past ++ stretch ++ rest
-    → (k : ℕ) → ((p q : List Event) → p ++ q ≡ stretch → Holding k (past ++ p))
-    → lineRate * bytesSent gs stretch < rate (settingAt gs k) * bytesSentOf gs k stretch + 4 * slot (settingAt gs k) + margin (framingOf gs)
-
-unfoldable pub NeverTen : Type 0
-NeverTen =
-    (gs : List Setting) (t u : List ℕ) (calls : List Event) → Begins gs t → Chain t calls u
-    → GoodTable u × ((past rest : List Event) (e : Event) → calls ≡ past ++ e ∷ rest → e .reply ≡ refused 10 none → ⊥)
-
-unfoldable pub OrderKept : Type 0
-OrderKept =
-    (gs : List Setting) (t u : List ℕ) (calls : List Event) → Begins gs t → Chain t calls u
-    → (s : State) → Encodes u s → (k : ℕ) → acceptedOf k calls ≡ sentOf k calls ++ queueOf (laneAt s k .waiting) 0
-
-unfoldable pub SetupKept : Type 0
-SetupKept = (gs : List Setting) (t u : List ℕ) (calls : List Event) → Begins gs t → Chain t calls u → (s : State) → Encodes u s → setupOf s ≡ gs
-
--- Wherever a lane holds a record by the list's own count, as before a stretch of demand 3 and after each call in it, the next call, if it is a restart, gives 15.
-unfoldable pub RestartHeld : Type 0
-RestartHeld =
-    (gs : List Setting) (t u : List ℕ) (calls : List Event) → Begins gs t → Chain t calls u
-    → (past rest : List Event) (e : Event) → calls ≡ past ++ e ∷ rest
-    → (k : ℕ) → Holding k past → e .call ≡ restart → e .reply ≡ refused 15 none
-
--- a reply hands a record out
-pub record HandsOut (r : Reply) : Type 0 where
-  pub lane : ℕ
-  pub mark : ℕ
-  pub len : ℕ
-  pub is : r ≡ taken lane mark len
-
--- Whatever the clock: each take hands a record out or gives 16, and a restart right after a 16 is accepted. (Each record that is handed out leaves one less: `drained` of rules.)
-unfoldable pub Drains : Type 0
-Drains =
-    (gs : List Setting) (t u : List ℕ) (calls : List Event) → Begins gs t → Chain t calls u
-    → (past rest : List Event) (e : Event) → calls ≡ past ++ e ∷ rest → e .call ≡ take
-    → (HandsOut (e .reply) ⊎ (e .reply ≡ refused 16 none))
-    × ((f : Event) (more : List Event) → rest ≡ f ∷ more → e .reply ≡ refused 16 none → f .call ≡ restart → f .reply ≡ restarted)

@@ -1,38 +1,43 @@
--- "so a spent unit can be drained and restarted", of the public calls' own answers: whatever the clock, after as many takes as records are held a restart is accepted.
+-- A unit can be drained and restarted, whatever its clock is: of the public calls' own answers, on a table that a list of calls led to.
 --
---   heldIn    how many records a table holds
---   Drained   the claim. (`Drains`: each of these takes hands a record out or gives 16)
---   LagCall   the ends of lag's range, of the call's own answer, on any good table
+--   HandsOut   a reply hands a record out
+--   heldIn     how many records a table holds
+--   Emptied    what holds of so many takes
+--   Drained    the claim, of a table
 --
 -- Assumes nothing.
 use Prim.Native.Nat.{ℕ}
 use mathlib.Core.Path.{_≡_}
 use mathlib.Core.List.{List, [], _∷_, _++_}
-use lib.IntN.{ℤ}
+use mathlib.Core.Option.{none}
 use lib.ListN.{replicate}
 use Rattle.units.specs.Plain.{sum}
 use Rattle.waiting.specs.Waiting.{held}
-use Rattle.rules.specs.State.{Setting, Lane, laneAt}
-use Rattle.rules.specs.Calls.{take, lag, lagged, restart, restarted, lagOf}
-use Rattle.rules.specs.Reads.{reads}
+use Rattle.rules.specs.State.{Lane}
+use Rattle.rules.specs.Calls.{take, restart, Reply, taken, restarted, refused}
 use Rattle.rules.specs.Runs.{Event}
-use Rattle.rules.specs.declared.Answer.{Answer}
 use Rattle.table.specs.Means.{meant}
-use Rattle.good.specs.Table.{GoodTable}
-use Rattle.engine.specs.LagRange.{LagRange}
-use Rattle.scheduler.specs.Step.{Step}
-use Rattle.scheduler.specs.Chain.{Chain, Begins}
-use Rattle.scheduler.specs.Demands.{callsOf}
+use Rattle.scheduler.specs.Chain.{Chain, callsOf}
+
+pub record HandsOut (r : Reply) : Type 0 where
+  pub lane : ℕ
+  pub mark : ℕ
+  pub len : ℕ
+  pub is : r ≡ taken lane mark len
 
 abbrev pub heldIn : List ℕ → ℕ
-heldIn u = sum (λ (l : Lane). held (l .waiting)) (meant u .lanes)
+heldIn t = sum (λ (l : Lane). held (l .waiting)) (meant t .lanes)
 
-unfoldable pub Drained : Type 0
-Drained =
-    (gs : List Setting) (t u v : List ℕ) (calls takes : List Event) (e : Event) → Begins gs t → Chain t calls u → Chain u (takes ++ e ∷ []) v
-    → callsOf takes ≡ replicate (heldIn u) take → e .call ≡ restart → e .reply ≡ restarted
+-- these takes left the bytes u
+pub record Emptied (takes : List Event) (u : List ℕ) : Type 0 where
+  -- each hands a record out,
+  pub hand-out : (past rest : List Event) (e : Event) → takes ≡ past ++ e ∷ rest → HandsOut (e .reply)
+  -- a take more gives 16,
+  pub none-left : (e : Event) (v : List ℕ) → Chain u (e ∷ []) v → e .call ≡ take → e .reply ≡ refused 16 none
+  -- and a restart is accepted, also after that 16
+  pub restarts : (e : Event) (v : List ℕ) → Chain u (e ∷ []) v → e .call ≡ restart → e .reply ≡ restarted
+  pub restarts-then : (e f : Event) (v : List ℕ) → Chain u (e ∷ f ∷ []) v → e .call ≡ take → f .call ≡ restart → f .reply ≡ restarted
 
-unfoldable pub LagCall : Type 0
-LagCall =
-    (t u : List ℕ) (a : Answer) (j : ℕ) (z : ℤ) → GoodTable t → Step (lag j) t a u → reads a ≡ lagged z
-    → (z ≡ lagOf (meant t .clock) (laneAt (meant t) j)) × LagRange (meant t) j
+-- as many takes as records are held
+unfoldable pub Drained : List ℕ → Type 0
+Drained t = (takes : List Event) (u : List ℕ) → Chain t takes u → callsOf takes ≡ replicate (heldIn t) take → Emptied takes u

@@ -1,10 +1,11 @@
 pub mod Step
 pub mod Make
 pub mod Chain
+pub mod Drained
 pub mod Demands
 pub mod One
 pub mod SetsAnswer
 pub mod TakeAnswer
 pub mod PutLocal
 pub mod OrderFrom
-pub mod Drained
+pub mod LagAnswer

@@ -1,9 +1,9 @@
 // The public calls on a lent table: make, put, take, look, sets, lag and restart.
 //
 // None asks anything of its caller: each tests what it is given, the whole table too, each time, and refuses by number as document 01's list says. Nothing
-// is written before the last test. What each promises is `Step` (specs/Step.antt), and `MakeStep` (specs/Make.antt) for making, whole; specs/Demands.antt
+// is written before the last test. What each promises is `Step` (specs/Step.antt), and `MakeStep` (specs/Make.antt) for making, whole. specs/Demands.antt
 // has what follows for every list of these calls: demand 3, never 10, the records' order and the setup kept, how a unit is drained and restarted. specs/One.antt
-// says that nothing of an answer is left open, specs/SetsAnswer.antt what the bits of the four words mean.
+// says that nothing of an answer is left open; TakeAnswer, LagAnswer, SetsAnswer and PutLocal say what one answer means, OrderFrom what any good table keeps.
 //
 // The table is SIZE bytes of the lent slice; bytes past them are never touched. `look`, `sets` and `lag` take it by `&`.
 ghost use Rattle.rules.specs.Calls as Calls;
