@@ -2,10 +2,12 @@
 --
 --   header-whole, header-cut, header-none   what stands at a place, by the bytes left there
 --   fits-left                               whether a value fits, by the bytes left at its place
+--   behind-none, behind-cut, behind-short, behind-whole   the place behind a field, by its header and whether its value fits
 --
 -- Assumes nothing.
 use Prim.Native.Nat.{ℕ, _+_, _-_, _≤_, _<_}
-use mathlib.Core.Path.{_≡_, sym, _∙_}
+use mathlib.Core.Path.{_≡_, sym, ap, _∙_}
+use mathlib.Core.Bool.{true, false}
 use mathlib.Core.List.{List}
 use native.Mathlib.Omega.{arith}
 use native.Mathlib.Decide.{decLe}
@@ -13,7 +15,7 @@ use borrow.Author.Tests.{lt-ltb, le-ltb, le-leb, lt-leb}
 use lib.Dec.{leb}
 use lib.ListN.{length}
 use Rattle.fields.specs.Bytes.{byteAt, big}
-use Rattle.fields.specs.Header.{headerAt}
+use Rattle.fields.specs.Header.{headerAt, behind, behindAt}
 use Rattle.fields.specs.declared.Field.the-variants.{Nothing, Cut, Header}
 
 module _ (s : List ℕ) (at : ℕ) where
@@ -32,3 +34,21 @@ fits-left l at n h =
       | yes a ↦ le-leb n (l - at) a ∙ sym (le-leb (at + n) l (omega arith))
       | no a ↦ lt-leb n (l - at) (omega arith) ∙ sym (lt-leb (at + n) l (omega arith))
     ]
+
+module _ (s : List ℕ) (at : ℕ) where
+  pub behind-none : headerAt s at ≡ Nothing → behindAt s at ≡ at
+  unfolding behindAt
+  behind-none h = ap (behind s at) h
+
+  pub behind-cut : headerAt s at ≡ Cut → behindAt s at ≡ at
+  unfolding behindAt
+  behind-cut h = ap (behind s at) h
+
+  module _ (tag value n : ℕ) (h : headerAt s at ≡ Header tag value n) where
+    pub behind-short : leb (value + n) (length s) ≡ false → behindAt s at ≡ at
+    unfolding behindAt
+    behind-short f = ap (behind s at) h ∙ simp f
+
+    pub behind-whole : leb (value + n) (length s) ≡ true → behindAt s at ≡ value + n
+    unfolding behindAt
+    behind-whole f = ap (behind s at) h ∙ simp f

@@ -1,6 +1,7 @@
 -- The header of a field.
 --
 --   headerAt   what stands at a place where a field is wanted
+--   behindAt   the place behind the field at a place
 --
 -- Assumes nothing.
 use Prim.Native.Nat.{ℕ, _+_}
@@ -12,7 +13,7 @@ use Rattle.fields.specs.Bytes.{byteAt, big}
 use Rattle.fields.specs.declared.Field.{Field}
 use Rattle.fields.specs.declared.Field.the-variants.{Nothing, Cut, Header}
 
-abbrev pub pick : Bool → Field → Field → Field
+abbrev pub pick : {A : Type 0} → Bool → A → A → A
 pick true a b = a
 pick false a b = b
 
@@ -21,3 +22,12 @@ abbrev pub headerAt : List ℕ → ℕ → Field
 headerAt s at =
     pick (leb (at + 3) (length s)) (Header (byteAt s at) (at + 3) (big s (at + 1) 2))
     (pick (ltb at (length s)) Cut Nothing)
+
+-- Behind the value, where header and value are whole. Where they are not there is no field to move by, and the place stays.
+abbrev pub behind : List ℕ → ℕ → Field → ℕ
+behind s at Nothing = at
+behind s at Cut = at
+behind s at (Header tag value n) = pick (leb (value + n) (length s)) (value + n) at
+
+unfoldable pub behindAt : List ℕ → ℕ → ℕ
+behindAt s at = behind s at (headerAt s at)

@@ -1,16 +1,17 @@
 // Fields of lent bytes: document 01, "Setup and session fields". "Each field: one-byte tag, two-byte length, value; high byte first."
 //
 // A field is read in two steps, for the order in a field is 1 (header), 2, 3, 1 (value): `field_at` answers the header, the caller judges the tag
-// and the length, and `fits` then says whether the value is whole. Nothing here knows what a tag means, and nothing here refuses.
+// and the length, and `fits` then says whether the value is whole. `behind` moves on by a field. Nothing here knows what a tag means, and nothing here
+// refuses.
 //
-// Units: a place is a number of bytes from the first byte of the slice; a length is a number of bytes. `field_at` and `fits` take any slice and
-// any place. The numbers are inner functions: their `requires` says that the bytes are there.
+// Units: a place is a number of bytes from the first byte of the slice; a length is a number of bytes. `field_at`, `fits` and `behind` take any slice
+// and any place. The numbers are inner functions: their `requires` says that the bytes are there.
 ghost use mathlib.Core.Path.{_≡_};
 ghost use Prim.Native.Nat.{_+_, _^_, _≤_, _<_};
 ghost use lib.Dec.{leb};
 ghost use lib.ListN.{length};
 ghost use Rattle.fields.specs.Bytes.{big};
-ghost use Rattle.fields.specs.Header.{headerAt};
+ghost use Rattle.fields.specs.Header.{headerAt, behindAt};
 
 // What stands at a place where a field is wanted.
 pub enum Field {
@@ -53,6 +54,27 @@ pub fn fits(s: &[u8], at: usize, n: usize) -> bool
         return false;
     }
     n <= s.len() - at
+}
+
+// The place behind the field at a place; the place itself where no whole field stands.
+pub fn behind(s: &[u8], at: usize) -> usize
+    ensures { λ r. ⌜ r ≡ behindAt (now (s .entry)) at ⌝ }
+{
+    match field_at(s, at) {
+        Field::Nothing => at,
+        Field::Cut => at,
+        Field::Header {
+            tag: _,
+            value,
+            length,
+        } => {
+            if fits(s, value, length) {
+                value + length
+            } else {
+                at
+            }
+        }
+    }
 }
 
 // A byte as the low digit of a number.

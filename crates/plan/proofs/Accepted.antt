@@ -1,4 +1,4 @@
--- Whatever `readPlan` reads is an accepted setup.
+-- Whatever `readPlan` reads is an accepted setup, and its plan is within the numbers.
 --
 --   accepted         the theorem, for a setup at a place of an input
 --   accepted-whole   the same for a setup that is the whole input, and its 0x7F ends the input
@@ -8,7 +8,7 @@
 use Prim.Native.Nat.{ℕ, zero, suc, _-_}
 use mathlib.Core.Path.{_≡_, refl, sym, ap, _∙_}
 use mathlib.Core.Bool.{Bool, true, false}
-use mathlib.Core.List.{List, _∷_}
+use mathlib.Core.List.{List}
 use mathlib.Core.Option.{some}
 use native.Mathlib.Omega.{arith}
 use borrow.Author.Tests.{eqb-true, not-false, ltb-false}
@@ -20,7 +20,7 @@ use Rattle.rules.proofs.Figures.{framing-bound, framed-by}
 use Rattle.plan.specs.Fields.{Item, whole, bad}
 use Rattle.plan.specs.Judge.{judgedAt, after}
 use Rattle.plan.specs.Read.{Reply, read, refused, nothingSeen, noLanes, next, walk, readPlan, closed, readSetup, settings, came, reads}
-use Rattle.plan.specs.Accepted.{listed, fieldsFrom, Accepted}
+use Rattle.plan.specs.Accepted.{Laid, PlanWithin}
 use Rattle.plan.specs.declared.Reading.{Reading}
 use Rattle.plan.specs.declared.Outcome.the-variants.{Read}
 use Rattle.plan.specs.declared.parse.SetupField.{SetupField}
@@ -32,26 +32,22 @@ use Rattle.plan.proofs.Rest.{Rest, rest, refused-read}
 
 module _ (s : List ℕ) (at : ℕ) (gs : List Setting) (n p : ℕ) where
   -- the first field is 0x01 with format 1
-  first-format : (turns v m : ℕ) → Taken nothingSeen s at (Format v) m → Rest turns s (after nothingSeen (Format v)) noLanes m gs n p
-      → length s - at ≡ suc turns → Accepted s at gs n p
-  unfolding fieldsFrom
-  first-format turns v m k r e =
+  first-format : (v m : ℕ) → Taken nothingSeen s at (Format v) m → Rest s (after nothingSeen (Format v)) noLanes m gs n p → PlanWithin s at gs n p
+  unfolding Laid
+  first-format v m k r =
       let one : v ≡ 1 = eqb-true v 1 (not-false (eqb v 1) (k .inside)) in
       let ok = r .sound in
       record {
-        lanes = r .lanes;
-        fields =
-            ap (λ (t : ℕ). fieldsFrom t s at) e
-            ∙ ap (λ (i : Item). listed i (fieldsFrom turns s)) (k .item)
-            ∙ ap (λ (x : ℕ). Format x ∷ fieldsFrom turns s m) one
-            ∙ ap (λ (fs : List SetupField). Format 1 ∷ fs) (r .fields);
-        rising = r .rising;
-        given = r .given;
-        number = omega (arith, r .number);
-        some-lane = r .some-lane;
-        few = omega (arith, ok .count, ok .floor, r .counted);
-        are-there = ok .there-are ∙ r .counted;
-        weigh = omega (arith, ok .sum-is, r .weigh);
+        rule = record {
+          lanes = r .lanes;
+          laid = (m, k .item ∙ ap (λ (x : ℕ). whole (Format x) m) one, r .laid);
+          rising = r .rising;
+          each = r .each;
+          total = omega (arith, r .weigh, ok .total);
+          some-lane = omega (arith, r .number, r .some-lane);
+          given = r .given;
+          number = omega (arith, r .number);
+        };
         setup = record {
           size = ok .size;
           each = ok .each;
@@ -60,55 +56,58 @@ module _ (s : List ℕ) (at : ℕ) (gs : List Setting) (n p : ℕ) where
           framing-high = omega (arith, framing-bound 0 gs (λ k. omega (arith, ok .framed k)));
           framed = framed-by 0 gs (λ k. omega (arith, ok .framed k)) (λ k w. ok .framed k);
         };
+        are-there = ok .there-are ∙ r .counted;
+        some-lane = r .some-lane;
+        few = omega (arith, ok .count, ok .floor, r .counted);
+        weigh = omega (arith, ok .sum-is, r .weigh);
         past = omega (arith, r .past, k .stand .after);
         within = r .within;
       }
 
   first-field : (turns : ℕ) (f : SetupField) (m : ℕ) → Taken nothingSeen s at f m → next nothingSeen noLanes (whole f m) (walk turns s) ≡ read gs n p
-      → length s - at ≡ suc turns → Accepted s at gs n p
-  first-field turns (Format v) m k h e =
-      first-format turns v m k
+      → PlanWithin s at gs n p
+  first-field turns (Format v) m k h =
+      first-format v m k
       (rest turns s (after nothingSeen (Format v)) noLanes m gs n p refl
       (sound-after nothingSeen noLanes (Format v) sound-first (k .in-place) (k .inside) (k .under)) h)
-      e
-  first-field turns (Lane l) m k h e = true-false (k .in-place)
-  first-field turns End m k h e = true-false (k .in-place)
+  first-field turns (Lane l) m k h = true-false (k .in-place)
+  first-field turns End m k h = true-false (k .in-place)
 
   first-item : (turns : ℕ) (i : Item) → judgedAt nothingSeen s at ≡ i → next nothingSeen noLanes i (walk turns s) ≡ read gs n p
-      → length s - at ≡ suc turns → Accepted s at gs n p
-  first-item turns (bad a b) j h e = refused-read h
-  first-item turns (whole f m) j h e = first-field turns f m (is-taken nothingSeen s at f m j) h e
+      → PlanWithin s at gs n p
+  first-item turns (bad a b) j h = refused-read h
+  first-item turns (whole f m) j h = first-field turns f m (is-taken nothingSeen s at f m j) h
 
-  first-turn : (turns : ℕ) → length s - at ≡ turns → walk turns s nothingSeen noLanes at ≡ read gs n p → Accepted s at gs n p
+  first-turn : (turns : ℕ) → walk turns s nothingSeen noLanes at ≡ read gs n p → PlanWithin s at gs n p
   unfolding walk
-  first-turn zero e h = refused-read h
-  first-turn (suc turns) e h = first-item turns (judgedAt nothingSeen s at) refl h e
+  first-turn zero h = refused-read h
+  first-turn (suc turns) h = first-item turns (judgedAt nothingSeen s at) refl h
 
-  pub accepted : readPlan s at ≡ read gs n p → Accepted s at gs n p
+  pub accepted : readPlan s at ≡ read gs n p → PlanWithin s at gs n p
   unfolding readPlan
-  accepted h = first-turn (length s - at) refl h
+  accepted h = first-turn (length s - at) h
 
 module _ (s : List ℕ) (gs : List Setting) (n p : ℕ) where
   whole-test : (gs₁ : List Setting) (n₁ p₁ : ℕ) (b : Bool) → readPlan s 0 ≡ read gs₁ n₁ p₁ → ltb p₁ (length s) ≡ b
-      → (if b then refused 4 (some p₁) else read gs₁ n₁ p₁) ≡ read gs n p → Accepted s 0 gs n p × (p ≡ length s)
+      → (if b then refused 4 (some p₁) else read gs₁ n₁ p₁) ≡ read gs n p → PlanWithin s 0 gs n p × (p ≡ length s)
   whole-test gs₁ n₁ p₁ true e t h = refused-read h
   whole-test gs₁ n₁ p₁ false e t h =
       let a = accepted s 0 gs n p (e ∙ h) in
       let q : p₁ ≡ p = cc in
       (a, omega (arith, a .within, ltb-false p₁ (length s) t))
 
-  whole-reply : (r : Reply) → readPlan s 0 ≡ r → closed s r ≡ read gs n p → Accepted s 0 gs n p × (p ≡ length s)
+  whole-reply : (r : Reply) → readPlan s 0 ≡ r → closed s r ≡ read gs n p → PlanWithin s 0 gs n p × (p ≡ length s)
   whole-reply (refused a b) e h = refused-read h
   whole-reply (read gs₁ n₁ p₁) e h = whole-test gs₁ n₁ p₁ (ltb p₁ (length s)) e refl h
 
-  pub accepted-whole : readSetup s ≡ read gs n p → Accepted s 0 gs n p × (p ≡ length s)
+  pub accepted-whole : readSetup s ≡ read gs n p → PlanWithin s 0 gs n p × (p ≡ length s)
   unfolding readSetup
   accepted-whole h = whole-reply (readPlan s 0) refl h
 
 -- what a caller of `read_plan` or of `read_setup` has: the contract's equation, and the outcome that it found
-pub accepted-plan : (r : Reading) (s : List ℕ) (at p : ℕ) → reads r ≡ readPlan s at → r .outcome ≡ Read p → Accepted s at (settings (r .plan)) (r .plan .count) p
+pub accepted-plan : (r : Reading) (s : List ℕ) (at p : ℕ) → reads r ≡ readPlan s at → r .outcome ≡ Read p → PlanWithin s at (settings (r .plan)) (r .plan .count) p
 accepted-plan r s at p e o = accepted s at (settings (r .plan)) (r .plan .count) p (sym e ∙ ap (came (r .plan)) o)
 
 pub accepted-setup : (r : Reading) (s : List ℕ) (p : ℕ) → reads r ≡ readSetup s → r .outcome ≡ Read p
-    → Accepted s 0 (settings (r .plan)) (r .plan .count) p × (p ≡ length s)
+    → PlanWithin s 0 (settings (r .plan)) (r .plan .count) p × (p ≡ length s)
 accepted-setup r s p e o = accepted-whole s (settings (r .plan)) (r .plan .count) p (sym e ∙ ap (came (r .plan)) o)

@@ -7,7 +7,7 @@ use native.Mathlib.Omega.{arith}
 use borrow.Author.Tests.{leb-true, ltb-false, not-false}
 use lib.Dec.{leb, ltb}
 use Rattle.rules.specs.Setup.{InNumbers}
-use Rattle.plan.specs.Judge.{longestOf, given, within, misplaced, laneOutside, over}
+use Rattle.plan.specs.Judge.{longestOf, given, lastLane, within, misplaced, laneOutside, over}
 use Rattle.plan.specs.declared.judge.Seen.{Seen}
 use Rattle.plan.specs.declared.parse.LaneField.{LaneField}
 use Rattle.plan.specs.declared.parse.SetupField.the-variants.{Lane}
@@ -28,7 +28,7 @@ within-true low high n h = let w = and-true (leb low n) (leb n high) h in (leb-t
 
 module _ (l : LaneField) (h : laneOutside l ≡ false) where
   abbrev number : Bool
-  number = leb (l .lane) 63
+  number = leb (l .lane) lastLane
 
   abbrev weight : Bool
   weight = within 1 1024 (l .weight)
@@ -43,7 +43,7 @@ module _ (l : LaneField) (h : laneOutside l ≡ false) where
       (t .0, and-true weight longest (t .1))
 
   pub lane-number : l .lane ≤ 63
-  lane-number = leb-true (l .lane) 63 (tests .0)
+  lane-number = let n : l .lane ≤ lastLane = leb-true (l .lane) lastLane (tests .0) in omega arith
 
   pub in-numbers : InNumbers (given l)
   in-numbers =

@@ -8,7 +8,7 @@ use mathlib.Core.Option.{Option, some}
 use borrow.Author.Tests.{le-leb, lt-leb}
 use lib.Dec.{leb}
 use Rattle.plan.specs.Fields.{whole, bad, itemAt}
-use Rattle.plan.specs.Judge.{longestOf, within, misplaced, laneOutside, outside, over, judged, judgedAt}
+use Rattle.plan.specs.Judge.{longestOf, lastLane, within, misplaced, laneOutside, outside, over, judged, judgedAt}
 use Rattle.plan.specs.declared.judge.Seen.{Seen}
 use Rattle.plan.specs.declared.parse.LaneField.{LaneField}
 use Rattle.plan.specs.declared.parse.SetupField.{SetupField}
@@ -21,17 +21,17 @@ module _ (low high n : ℕ) where
   within-below h = rw (lt-leb low n h)
 
 module _ (l : LaneField) where
-  pub outside-number : 63 < l .lane → laneOutside l ≡ true
+  pub outside-number : lastLane < l .lane → laneOutside l ≡ true
   unfolding laneOutside
-  outside-number h = rw (lt-leb (l .lane) 63 h)
+  outside-number h = rw (lt-leb (l .lane) lastLane h)
 
-  pub outside-weight : l .lane ≤ 63 → within 1 1024 (l .weight) ≡ false → laneOutside l ≡ true
+  pub outside-weight : l .lane ≤ lastLane → within 1 1024 (l .weight) ≡ false → laneOutside l ≡ true
   unfolding laneOutside
-  outside-weight h w = simp (le-leb (l .lane) 63 h, w)
+  outside-weight h w = simp (le-leb (l .lane) lastLane h, w)
 
-  pub outside-longest : l .lane ≤ 63 → within 1 1024 (l .weight) ≡ true → laneOutside l ≡ not (within 64 1500 (longestOf (l .longest)))
+  pub outside-longest : l .lane ≤ lastLane → within 1 1024 (l .weight) ≡ true → laneOutside l ≡ not (within 64 1500 (longestOf (l .longest)))
   unfolding laneOutside
-  outside-longest h w = simp (le-leb (l .lane) 63 h, w)
+  outside-longest h w = simp (le-leb (l .lane) lastLane h, w)
 
 module _ (seen : Seen) (s : List ℕ) (at : ℕ) where
   pub judged-no : (n : ℕ) (p : Option ℕ) → itemAt s at ≡ bad n p → judgedAt seen s at ≡ bad n p

@@ -12,3 +12,4 @@ pub mod Accepted
 pub mod Prefix
 pub mod Refusals
 pub mod Complete
+pub mod Promises

@@ -1,42 +1,39 @@
 -- What the walk reads once it has its format: lane fields with rising numbers, and 0x7F.
 --
---   Rest   what is left of a setup that is read to its end
+--   Rest   what is left of a setup that is read to its end: its fields, and what they fix
 --   rest   a walk that reads has a `Rest`
 --
 -- Assumes nothing.
 use Prim.Native.Nat.{ℕ, zero, suc, _+_, _≤_, _<_}
-use mathlib.Core.Path.{_≡_, refl, sym, subst, ap, _∙_}
+use mathlib.Core.Path.{_≡_, refl, sym, subst, _∙_}
 use mathlib.Core.Bool.{true}
 use mathlib.Core.List.{List, [], _∷_, _++_, map}
 use mathlib.Core.Option.{Option}
 use native.Mathlib.Omega.{arith}
 use borrow.Author.Tests.{eqb-false}
 use lib.ListN.{length}
-use Rattle.units.specs.Plain.{sum}
 use Rattle.rules.specs.State.{Setting}
-use Rattle.plan.specs.Fields.{Item, whole, bad, itemAt}
+use Rattle.plan.specs.Fields.{Item, whole, bad}
 use Rattle.plan.specs.Judge.{judgedAt, after}
 use Rattle.plan.specs.Read.{read, refused, placed, next, walk}
-use Rattle.plan.specs.Accepted.{listed, fieldsFrom, Rising, placedAll}
+use Rattle.plan.specs.Accepted.{Laid, Rising, LanesWithin, weighed, placedAll}
 use Rattle.plan.specs.declared.judge.Seen.{Seen}
 use Rattle.plan.specs.declared.parse.LaneField.{LaneField}
 use Rattle.plan.specs.declared.parse.SetupField.{SetupField}
 use Rattle.plan.specs.declared.parse.SetupField.the-variants.{Format, Lane, End}
-use Rattle.plan.proofs.Inside.{true-false, is-rising}
+use Rattle.plan.proofs.Inside.{true-false, lane-number, in-numbers, is-rising}
 use Rattle.plan.proofs.Stands.{Taken, is-taken}
 use Rattle.plan.proofs.Sound.{Sound, sound-after}
 
 pub refused-read : {A : Type 0} {n : ℕ} {p : Option ℕ} {gs : List Setting} {k m : ℕ} → refused n p ≡ read gs k m → A
 refused-read h = absurd (let z : _≡_ {A = ℕ} 0 1 = cc in omega arith)
 
-abbrev pub weighed : List LaneField → ℕ
-weighed ls = sum (λ (l : LaneField). l .weight) ls
-
 -- what a walk that has its format still reads: lane fields, and 0x7F
-pub record Rest (turns : ℕ) (s : List ℕ) (seen : Seen) (gs : List Setting) (at : ℕ) (gs′ : List Setting) (n p : ℕ) : Type 0 where
+pub record Rest (s : List ℕ) (seen : Seen) (gs : List Setting) (at : ℕ) (gs′ : List Setting) (n p : ℕ) : Type 0 where
   pub lanes : List LaneField
-  pub fields : fieldsFrom turns s at ≡ map Lane lanes ++ (End ∷ [])
+  pub laid : Laid s at (map Lane lanes ++ (End ∷ [])) p
   pub rising : Rising (seen .floor) lanes
+  pub each : LanesWithin lanes
   pub given : gs′ ≡ placedAll gs lanes
   pub number : seen .count + length lanes ≡ n
   pub last : Seen
@@ -48,21 +45,17 @@ pub record Rest (turns : ℕ) (s : List ℕ) (seen : Seen) (gs : List Setting) (
   pub within : p ≤ length s
 
 module _ (turns : ℕ) (s : List ℕ) (seen : Seen) (gs : List Setting) (at : ℕ) (gs′ : List Setting) (n p : ℕ) (begun : seen .begun ≡ true) (ok : Sound seen gs) where
-  -- the fields of a turn
-  fields-turn : (f : SetupField) (m : ℕ) → itemAt s at ≡ whole f m → fieldsFrom (suc turns) s at ≡ listed (whole f m) (fieldsFrom turns s)
-  unfolding fieldsFrom
-  fields-turn f m e = ap (λ (i : Item). listed i (fieldsFrom turns s)) e
-
-  rest-end : (m : ℕ) → Taken seen s at End m → read gs (seen .count) m ≡ read gs′ n p → Rest (suc turns) s seen gs at gs′ n p
-  unfolding Rising placedAll
+  rest-end : (m : ℕ) → Taken seen s at End m → read gs (seen .count) m ≡ read gs′ n p → Rest s seen gs at gs′ n p
+  unfolding Laid Rising LanesWithin placedAll
   rest-end m k h =
       let g : gs ≡ gs′ = cc in
       let c : seen .count ≡ n = cc in
       let q : m ≡ p = cc in
       record {
         lanes = [];
-        fields = fields-turn End m (k .item);
+        laid = (m, k .item, q);
         rising = tt;
+        each = tt;
         given = sym g;
         number = omega arith;
         last = seen;
@@ -74,13 +67,14 @@ module _ (turns : ℕ) (s : List ℕ) (seen : Seen) (gs : List Setting) (at : �
         within = omega (arith, k .stand .after, k .stand .fits);
       }
 
-  rest-lane : (l : LaneField) (m : ℕ) → Taken seen s at (Lane l) m → Rest turns s (after seen (Lane l)) (placed gs (Lane l)) m gs′ n p
-      → Rest (suc turns) s seen gs at gs′ n p
-  unfolding Rising placedAll
+  rest-lane : (l : LaneField) (m : ℕ) → Taken seen s at (Lane l) m → Rest s (after seen (Lane l)) (placed gs (Lane l)) m gs′ n p
+      → Rest s seen gs at gs′ n p
+  unfolding Laid Rising LanesWithin placedAll
   rest-lane l m k r = record {
     lanes = l ∷ r .lanes;
-    fields = fields-turn (Lane l) m (k .item) ∙ ap (λ (fs : List SetupField). Lane l ∷ fs) (r .fields);
+    laid = (m, k .item, r .laid);
     rising = (is-rising seen l (k .in-place), r .rising);
+    each = (record { number = lane-number l (k .inside); numbers = in-numbers l (k .inside) }, r .each);
     given = r .given;
     number = omega (arith, r .number);
     last = r .last;
@@ -92,19 +86,19 @@ module _ (turns : ℕ) (s : List ℕ) (seen : Seen) (gs : List Setting) (at : �
     within = r .within;
   }
 
-  module _ (more : (seen₁ : Seen) (gs₁ : List Setting) (m : ℕ) → seen₁ .begun ≡ true → Sound seen₁ gs₁ → walk turns s seen₁ gs₁ m ≡ read gs′ n p → Rest turns s seen₁ gs₁ m gs′ n p) where
-    rest-field : (f : SetupField) (m : ℕ) → Taken seen s at f m → next seen gs (whole f m) (walk turns s) ≡ read gs′ n p → Rest (suc turns) s seen gs at gs′ n p
+  module _ (more : (seen₁ : Seen) (gs₁ : List Setting) (m : ℕ) → seen₁ .begun ≡ true → Sound seen₁ gs₁ → walk turns s seen₁ gs₁ m ≡ read gs′ n p → Rest s seen₁ gs₁ m gs′ n p) where
+    rest-field : (f : SetupField) (m : ℕ) → Taken seen s at f m → next seen gs (whole f m) (walk turns s) ≡ read gs′ n p → Rest s seen gs at gs′ n p
     rest-field (Format v) m k h = true-false (sym begun ∙ k .in-place)
     rest-field (Lane l) m k h =
         rest-lane l m k (more (after seen (Lane l)) (placed gs (Lane l)) m refl (sound-after seen gs (Lane l) ok (k .in-place) (k .inside) (k .under)) h)
     rest-field End m k h = rest-end m k h
 
-    rest-item : (i : Item) → judgedAt seen s at ≡ i → next seen gs i (walk turns s) ≡ read gs′ n p → Rest (suc turns) s seen gs at gs′ n p
+    rest-item : (i : Item) → judgedAt seen s at ≡ i → next seen gs i (walk turns s) ≡ read gs′ n p → Rest s seen gs at gs′ n p
     rest-item (bad a b) e h = refused-read h
     rest-item (whole f m) e h = rest-field f m (is-taken seen s at f m e) h
 
 pub rest : (turns : ℕ) (s : List ℕ) (seen : Seen) (gs : List Setting) (at : ℕ) (gs′ : List Setting) (n p : ℕ) → seen .begun ≡ true → Sound seen gs
-    → walk turns s seen gs at ≡ read gs′ n p → Rest turns s seen gs at gs′ n p
+    → walk turns s seen gs at ≡ read gs′ n p → Rest s seen gs at gs′ n p
 unfolding walk
 rest zero s seen gs at gs′ n p b ok h = refused-read h
 rest (suc turns) s seen gs at gs′ n p b ok h =

@@ -1,6 +1,7 @@
 -- What is known where a whole field stands, and where one was judged and taken.
 --
 --   Stands     `itemAt` answers a whole field: its header, its value and the place after it are there
+--   behind-item   a reader moves from it to the place after it
 --   Taken      `judgedAt` answers a whole field: it stands there and no refusal is due
 --
 -- Assumes nothing.
@@ -10,12 +11,13 @@ use mathlib.Core.Bool.{Bool, true, false, not}
 use mathlib.Core.List.{List}
 use mathlib.Core.Option.{Option, some}
 use native.Mathlib.Omega.{arith}
-use borrow.Author.Tests.{leb-true}
+use borrow.Author.Tests.{leb-true, le-leb}
 use lib.Dec.{leb, ltb}
 use lib.ListN.{length}
 use Rattle.fields.specs.Bytes.{byteAt, big}
-use Rattle.fields.specs.Header.{pick}
+use Rattle.fields.specs.Header.{pick, behindAt}
 use Rattle.fields.specs.declared.Field.the-variants.{Nothing, Cut, Header}
+use Rattle.fields.proofs.Header.{header-whole, behind-whole}
 use Rattle.units.specs.Plain.{if_then_else_}
 use Rattle.plan.specs.Fields.{Item, whole, bad, known, fitting, fieldOf, taken, itemAt}
 use Rattle.plan.specs.Judge.{misplaced, outside, over, judged, judgedAt}
@@ -56,6 +58,12 @@ module _ (s : List ℕ) (at : ℕ) (f : SetupField) (m : ℕ) where
   pub stands : itemAt s at ≡ whole f m → Stands s at f m
   unfolding itemAt
   stands h = judge-header (leb (at + 3) (length s)) (ltb at (length s)) refl h
+
+-- a reader moves from a whole field to the place after it
+pub behind-item : (s : List ℕ) (at : ℕ) (f : SetupField) (m : ℕ) → itemAt s at ≡ whole f m → behindAt s at ≡ m
+behind-item s at f m h =
+    let k = stands s at f m h in
+    behind-whole s at (byteAt s at) (at + 3) (big s (at + 1) 2) (header-whole s at (omega (arith, k .fits))) (le-leb (at + 3 + big s (at + 1) 2) (length s) (k .fits)) ∙ k .after
 
 pub record Taken (seen : Seen) (s : List ℕ) (at : ℕ) (f : SetupField) (m : ℕ) : Type 0 where
   pub item : itemAt s at ≡ whole f m

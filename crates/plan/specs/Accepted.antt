@@ -1,15 +1,17 @@
--- What an accepted setup is, said without the walk. proofs/Accepted.antt shows that whatever `readPlan` reads is `Accepted`, and
--- proofs/Refusals.antt that whatever it refuses is `Refused`.
+-- What an accepted setup is, and what a refusal of one is, said without the walk. specs/Promises.antt says that exactly these are read and refused.
 --
---   present     how many lanes are there
---   fieldsOf    the whole fields from a place on, as far as 0x7F
---   Rising      lane numbers rise, from a least one on
---   placedAll   the lanes, with those that some fields describe
---   Accepted    the rule for a setup that was read
---   Refused     the rule for a refusal
+--   Laid          fields that stand one after another, from a place to a place
+--   Rising        lane numbers rise, from a least one on
+--   LaneWithin    a lane field within the numbers; LanesWithin: each of some
+--   weighed       the weights of lane fields together
+--   placedAll     the lanes, with those that some fields describe
+--   Accepted      the rule for a setup that is read
+--   present       how many lanes are there
+--   PlanWithin    what follows of the plan of an accepted setup
+--   Refused       the rule for a refusal
 --
 -- Assumes nothing.
-use Prim.Native.Nat.{ℕ, zero, suc, _+_, _-_, _≤_, _<_}
+use Prim.Native.Nat.{ℕ, _+_, _≤_, _<_}
 use mathlib.Core.Path.{_≡_}
 use mathlib.Core.List.{List, [], _∷_, _++_, map}
 use mathlib.Core.Option.{Option, some}
@@ -17,12 +19,52 @@ use lib.Dec.{ltb}
 use lib.ListN.{length}
 use Rattle.units.specs.Plain.{if_then_else_, sum}
 use Rattle.rules.specs.State.{Setting}
-use Rattle.rules.specs.Setup.{Setup, weights}
-use Rattle.plan.specs.Fields.{Item, whole, bad, ends, itemAt}
+use Rattle.rules.specs.Setup.{Setup, InNumbers, weights}
+use Rattle.plan.specs.Fields.{whole, itemAt}
+use Rattle.plan.specs.Judge.{given}
 use Rattle.plan.specs.Read.{noLanes, placed}
 use Rattle.plan.specs.declared.parse.LaneField.{LaneField}
 use Rattle.plan.specs.declared.parse.SetupField.{SetupField}
 use Rattle.plan.specs.declared.parse.SetupField.the-variants.{Format, Lane, End}
+
+-- Each field stands whole where the one before it ends, the first at `at`, and the last ends at `next`.
+unfoldable pub Laid : List ℕ → ℕ → List SetupField → ℕ → Type 0
+Laid s at [] next = at ≡ next
+Laid s at (f ∷ fs) next = (m : ℕ) × (itemAt s at ≡ whole f m) × Laid s m fs next
+
+-- "Rising lane numbers": each is above the one before it; equal is not rising.
+unfoldable pub Rising : ℕ → List LaneField → Type 0
+Rising low [] = Unit
+Rising low (l ∷ ls) = (low ≤ l .lane) × Rising (l .lane + 1) ls
+
+-- Lanes are numbered 0 to 63; a weight is 1 to 1,024 and a longest 64 to 1,500, given or not.
+pub record LaneWithin (l : LaneField) : Type 0 where
+  pub number : l .lane ≤ 63
+  pub numbers : InNumbers (given l)
+
+unfoldable pub LanesWithin : List LaneField → Type 0
+LanesWithin [] = Unit
+LanesWithin (l ∷ ls) = LaneWithin l × LanesWithin ls
+
+abbrev pub weighed : List LaneField → ℕ
+weighed ls = sum (λ (l : LaneField). l .weight) ls
+
+-- Each lane field, in order, gives its lane a setting.
+unfoldable pub placedAll : List Setting → List LaneField → List Setting
+placedAll gs [] = gs
+placedAll gs (l ∷ ls) = placedAll (placed gs (Lane l)) ls
+
+-- The fields from `at` to `next` are 0x01 with format 1, one or more lane fields with rising numbers, and 0x7F; each lane field is within the numbers, and
+-- the weights sum to at most 1,024. The plan's lanes are those of the fields, each with its field's setting, and n is how many they are.
+pub record Accepted (s : List ℕ) (at : ℕ) (gs : List Setting) (n next : ℕ) : Type 0 where
+  pub lanes : List LaneField
+  pub laid : Laid s at (Format 1 ∷ (map Lane lanes ++ (End ∷ []))) next
+  pub rising : Rising 0 lanes
+  pub each : LanesWithin lanes
+  pub total : weighed lanes ≤ 1024
+  pub some-lane : 1 ≤ length lanes
+  pub given : gs ≡ placedAll noLanes lanes
+  pub number : n ≡ length lanes
 
 -- A lane that is not in the setup has weight 0.
 abbrev pub there : Setting → ℕ
@@ -32,43 +74,15 @@ there g = if ltb 0 (g .weight) then 1 else 0
 abbrev pub present : List Setting → ℕ
 present gs = sum there gs
 
--- A whole field, and those after it, unless it is 0x7F.
-abbrev pub listed : Item → (ℕ → List SetupField) → List SetupField
-listed (bad n p) go = []
-listed (whole f at) go = f ∷ (if ends f then [] else go at)
-
--- Fields in order, each as `itemAt` takes it apart. There is a turn for each byte left, and a field has three or more.
-unfoldable pub fieldsFrom : ℕ → List ℕ → ℕ → List SetupField
-fieldsFrom zero s at = []
-fieldsFrom (suc turns) s at = listed (itemAt s at) (fieldsFrom turns s)
-
--- The whole fields that stand from a place on.
-abbrev pub fieldsOf : List ℕ → ℕ → List SetupField
-fieldsOf s at = fieldsFrom (length s - at) s at
-
--- "Rising lane numbers": each is above the one before it; equal is not rising.
-unfoldable pub Rising : ℕ → List LaneField → Type 0
-Rising low [] = Unit
-Rising low (l ∷ ls) = (low ≤ l .lane) × Rising (l .lane + 1) ls
-
--- Each lane field, in order, gives its lane a setting.
-unfoldable pub placedAll : List Setting → List LaneField → List Setting
-placedAll gs [] = gs
-placedAll gs (l ∷ ls) = placedAll (placed gs (Lane l)) ls
-
--- "0x01 (format, u16 = 1) first and once; one or more 0x10 .. with rising lane numbers; 0x7F, empty." The lanes are those of the fields, each with
--- its field's setting; their number is the number of lane fields, 1 to 64; and all are within the numbers, so that the weights sum to at most 1,024.
-pub record Accepted (s : List ℕ) (at : ℕ) (gs : List Setting) (n next : ℕ) : Type 0 where
-  pub lanes : List LaneField
-  pub fields : fieldsOf s at ≡ Format 1 ∷ (map Lane lanes ++ (End ∷ []))
-  pub rising : Rising 0 lanes
-  pub given : gs ≡ placedAll noLanes lanes
-  pub number : length lanes ≡ n
+-- What follows of the plan: it is a setup of the rules; n is the number of its lanes, 1 to 64; its weights are those of the fields; and the setup has bytes,
+-- all of them in the input.
+pub record PlanWithin (s : List ℕ) (at : ℕ) (gs : List Setting) (n next : ℕ) : Type 0 where
+  pub rule : Accepted s at gs n next
+  pub setup : Setup gs
+  pub are-there : present gs ≡ n
   pub some-lane : 1 ≤ n
   pub few : n ≤ 64
-  pub are-there : present gs ≡ n
-  pub weigh : sum (λ (l : LaneField). l .weight) lanes ≡ weights gs
-  pub setup : Setup gs
+  pub weigh : weighed (rule .lanes) ≡ weights gs
   pub past : at < next
   pub within : next ≤ length s
 

@@ -2,6 +2,7 @@
 --
 --   longestOf   a lane field's longest, given or not
 --   given       the setting that a lane field gives its lane
+--   lastLane    the last lane number
 --   misplaced   refusal 4
 --   outside     refusal 5
 --   over        refusal 6
@@ -43,9 +44,13 @@ misplaced seen End = eqb (seen .count) 0
 abbrev pub within : ℕ → ℕ → ℕ → Bool
 within low high n = leb low n && leb n high
 
+-- Lanes are numbered 0 to 63.
+abbrev pub lastLane : ℕ
+lastLane = 63
+
 -- "Lanes 1 to 64, numbered 0 to 63. Weight w: 1 to 1,024 .. Longest record of a lane: 64 to 1,500 bytes."
 unfoldable pub laneOutside : LaneField → Bool
-laneOutside l = not (leb (l .lane) 63 && (within 1 1024 (l .weight) && within 64 1500 (longestOf (l .longest))))
+laneOutside l = not (leb (l .lane) lastLane && (within 1 1024 (l .weight) && within 64 1500 (longestOf (l .longest))))
 
 -- "5: format not 1, lane over 63, weight or longest outside its numbers."
 abbrev pub outside : SetupField → Bool

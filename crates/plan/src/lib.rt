@@ -1,13 +1,12 @@
 // The setup reader: document 01, "Setup and session fields", with the refusals 1 to 6 of "Numbers given back".
 //
 //   parse    one field of a setup, taken apart: refusals 1 to 3, in the order 1 (header), 2, 3, 1 (value)
-//   reader   the reader, a struct of the lent bytes and a place: each field is read through it
+//   reader   the reader, a struct of the lent bytes and a place: each field is read through it, and it moves on by a field
 //   judge    a field judged by the fields before it: refusals 4, 5 and 6, in this order
 //   lib      the walk: `read_plan` where a setup stands in a longer input, `read_setup` where it is the whole input
 //
-// The walk moves by fields, and nothing is written but the plan, which is answered by value. `read_plan` and
-// `read_setup` take any bytes and any place. What they answer is `readPlan` and `readSetup` of specs/Read.antt, and proofs/Accepted.antt says that
-// an accepted plan is within the numbers.
+// The walk moves by fields, and nothing is written but the plan, which is answered by value. `read_plan` and `read_setup` take any bytes and any place.
+// What they answer is `readPlan` and `readSetup` of specs/Read.antt, and specs/Promises.antt says that exactly the setups within the numbers are read.
 //
 // Units: a place is a number of bytes from the first byte of the input, a length a number of bytes, a longest is in `Bytes`; weights are plain numbers.
 ghost use mathlib.Core.Path.{_≡_};
@@ -116,7 +115,8 @@ pub fn read_plan(s: &[u8], at: usize) -> Reading
             Parsed::Refused(x) => {
                 return answered(lanes, seen.count, Outcome::Refused(x));
             }
-            Parsed::Whole(field, next) => {
+            Parsed::Whole(field, _) => {
+                let next = reader::next_at(s, p);
                 if parse::ends(field) {
                     return answered(lanes, seen.count, Outcome::Read(next));
                 }

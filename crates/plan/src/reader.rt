@@ -1,8 +1,10 @@
 // The reader: document 01, "The reader stands on the lent setup bytes and moves by fields."
 //
-// A small struct of the bytes and a place, and thin functions over it. What stands at a place is worked out below, by `parsed_field` of `parse`, on
-// a slice and a number; above, `field_at` takes the same two and serves callers that hold no reader.
+// A small struct of the bytes and a place, and thin functions over it. What stands at a place, and where it ends, is worked out below on a slice and a
+// number, by `parsed_field` of `parse` and by `behind` of `fields`; above, `field_at` and `next_at` take the same two and serve callers that hold no
+// reader.
 ghost use mathlib.Core.Path.{_≡_};
+ghost use Rattle.fields.specs.Header.{behindAt};
 ghost use Rattle.plan.specs.Fields.{itemAt, itemOf};
 use crate::parse::Parsed;
 
@@ -18,7 +20,7 @@ pub fn new<'a>(src: &'a [u8]) -> Reader<'a>
     Reader { src, at: 0 }
 }
 
-// The reader moved to the place after a field, on the same bytes.
+// The reader at another place of the same bytes.
 pub fn moved<'a>(r: Reader<'a>, at: usize) -> Reader<'a>
     ensures { λ q. ⌜ (q .src ≡ r .entry .src) × (q .at ≡ at) ⌝ }
 {
@@ -32,9 +34,24 @@ pub fn field<'a>(r: Reader<'a>) -> Parsed
     crate::parse::parsed_field(r.src, r.at)
 }
 
+// The reader that stands behind the field where this one stood, on the same bytes. Where no whole field stands it stays.
+pub fn next<'a>(r: Reader<'a>) -> Reader<'a>
+    ensures { λ q. ⌜ (q .src ≡ r .entry .src) × (q .at ≡ behindAt (now (r .entry .src)) (r .entry .at)) ⌝ }
+{
+    let at = fields::behind(r.src, r.at);
+    Reader { src: r.src, at }
+}
+
 // The field of a setup at a place of its bytes, through a reader that stands there.
 pub fn field_at(s: &[u8], at: usize) -> Parsed
     ensures { λ p. ⌜ itemOf p ≡ itemAt (now (s .entry)) at ⌝ }
 {
     field(moved(new(s), at))
+}
+
+// The place behind the field at a place of a setup's bytes, through a reader that stands there and moves on.
+pub fn next_at(s: &[u8], at: usize) -> usize
+    ensures { λ n. ⌜ n ≡ behindAt (now (s .entry)) at ⌝ }
+{
+    next(moved(new(s), at)).at
 }

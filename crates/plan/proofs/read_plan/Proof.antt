@@ -5,6 +5,7 @@ use lib.ListN.{length}
 use mathlib.Core.List.{map}
 use mathlib.Core.Path.{_≡_, sym, ap, _∙_}
 use native.Mathlib.Omega.{arith}
+use Rattle.plan.proofs.Stands.{behind-item, is-taken}
 use Rattle.plan.proofs.Walks.{Standing, stand-first, stand-no, taken-here, moves, stand-end, stand-next}
 use Rattle.plan.proofs.read_plan.Statement.{statement}
 use Rattle.plan.proofs.read_plan.Tie as tie
@@ -18,10 +19,17 @@ Inv-loop s at lanes₀ seen₀ p₀ lanes seen p = Standing s at seen (map setti
 abbrev μ-loop : tie.MeasureT-loop
 μ-loop s at lanes₀ seen₀ p₀ lanes seen p = length s - p
 
--- the judged field, as it is taken apart
+-- the judged field, as it is taken apart ..
 field-is : (c : tie.After-field Inv-loop μ-loop)
     → judgedAt (c .before .before .before .loop .seen) (c .before .before .before .before .before .before .args .s .now) (c .before .before .before .loop .p) ≡ whole (c .field .given .0 .0) (c .field .given .0 .1 .0)
 field-is c = sym (c .before .before .judged-field .ensures) ∙ ap itemOf (c .field .given .1)
+
+-- .. and the reader moves to the place behind it
+moved-is : (c : tie.After-next-at Inv-loop μ-loop)
+    → judgedAt (c .before .before .before .before .before .loop .seen) (c .before .before .before .before .before .before .before .before .args .s .now) (c .before .before .before .before .before .loop .p) ≡ whole (c .before .before .field .given .0 .0) (c .next-at .result)
+moved-is c =
+    let f = field-is (c .before .before) in
+    f ∙ ap (whole (c .before .before .field .given .0 .0)) (sym (c .next-at .ensures ∙ behind-item _ _ _ _ (is-taken _ _ _ _ _ f .item)))
 
 no-lanes-requires : tie.Need-no-lanes-requires Inv-loop μ-loop
 no-lanes-requires c κs = search needs
@@ -44,6 +52,9 @@ returns c = c .answered .ensures ∙ stand-no _ _ _ _ _ (c .before .before .befo
 enum-known-field : tie.Need-enum-known-field Inv-loop μ-loop
 enum-known-field c = search needs
 
+next-at-requires : tie.Need-next-at-requires Inv-loop μ-loop
+next-at-requires c κs = search needs
+
 ends-requires : tie.Need-ends-requires Inv-loop μ-loop
 ends-requires c κs = search needs
 
@@ -51,19 +62,19 @@ answered-requires-2 : tie.Need-answered-requires-2 Inv-loop μ-loop
 answered-requires-2 c κs = search needs
 
 returns-2 : tie.Need-returns-2 Inv-loop μ-loop
-returns-2 c = c .answered2 .ensures ∙ stand-end _ _ _ _ _ (c .before .before .before .before .before .before .before .loop .inv) _ _ (field-is (c .before .before .before .before)) (sym (c .before .before .ends .ensures) ∙ c .before .if1 .taken)
+returns-2 c = c .answered2 .ensures ∙ stand-end _ _ _ _ _ (c .before .before .before .before .before .before .before .before .loop .inv) _ _ (moved-is (c .before .before .before)) (sym (c .before .before .ends .ensures) ∙ c .before .if1 .taken)
 
 placed-requires : tie.Need-placed-requires Inv-loop μ-loop
-placed-requires c κs = taken-here _ _ _ _ _ (c .before .before .before .before .before .before .loop .inv) _ _ (field-is (c .before .before .before)) .inside
+placed-requires c κs = taken-here _ _ _ _ _ (c .before .before .before .before .before .before .before .loop .inv) _ _ (moved-is (c .before .before)) .inside
 
 after-requires : tie.Need-after-requires Inv-loop μ-loop
-after-requires c κs = let k = c .before .before .before .before .before .before .before .loop .inv .sound in omega (arith, k .total, k .count, k .floor)
+after-requires c κs = let k = c .before .before .before .before .before .before .before .before .loop .inv .sound in omega (arith, k .total, k .count, k .floor)
 
 loop-less : tie.Need-loop-less Inv-loop μ-loop
-loop-less c = omega (arith, moves _ _ _ _ _ (c .before .before .before .before .before .before .before .before .loop .inv) _ _ (field-is (c .before .before .before .before .before)))
+loop-less c = omega (arith, moves _ _ _ _ _ (c .before .before .before .before .before .before .before .before .before .loop .inv) _ _ (moved-is (c .before .before .before .before)))
 
 loop-again : tie.Need-loop-again Inv-loop μ-loop
-loop-again c = rw (c .before .placed .ensures, c .after .ensures) (stand-next _ _ _ _ _ (c .before .before .before .before .before .before .before .before .loop .inv) _ _ (field-is (c .before .before .before .before .before)) (sym (c .before .before .before .ends .ensures) ∙ c .before .before .if1 .left))
+loop-again c = rw (c .before .placed .ensures, c .after .ensures) (stand-next _ _ _ _ _ (c .before .before .before .before .before .before .before .before .before .loop .inv) _ _ (moved-is (c .before .before .before .before)) (sym (c .before .before .before .ends .ensures) ∙ c .before .before .if1 .left))
 
 pub read-plan-spec : {M : Type 1} → statement M
 read-plan-spec =
@@ -78,6 +89,7 @@ read-plan-spec =
     answered-requires
     returns
     enum-known-field
+    next-at-requires
     ends-requires
     answered-requires-2
     returns-2

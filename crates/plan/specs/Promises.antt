@@ -1,0 +1,37 @@
+-- What is promised of reading a setup, of every input and every place. Theorems of these names in small letters are in proofs/Promises.antt.
+--
+--   ReadsExactly    the setups that are read are exactly the accepted ones, each as its own plan and as far as the place behind its 0x7F
+--   ReadsWhole      the same where the setup is the whole input
+--   PlansWithin     the plan of an accepted setup is within the numbers
+--   LooksNoFurther  what is read depends on no byte behind the setup's 0x7F
+--   RefusesInside   a refusal has a number from 1 to 6 and a place in the input
+--
+-- Assumes nothing.
+use Prim.Native.Nat.{ℕ}
+use mathlib.Core.Path.{_≡_}
+use mathlib.Core.List.{List}
+use mathlib.Core.Option.{Option}
+use lib.ListN.{length, take}
+use Rattle.rules.specs.State.{Setting}
+use Rattle.plan.specs.Read.{read, refused, readPlan, readSetup}
+use Rattle.plan.specs.Accepted.{Accepted, PlanWithin, Refused}
+
+unfoldable pub ReadsExactly : Type 0
+ReadsExactly =
+    (s : List ℕ) (at : ℕ) (gs : List Setting) (n next : ℕ)
+    → (readPlan s at ≡ read gs n next → Accepted s at gs n next) × (Accepted s at gs n next → readPlan s at ≡ read gs n next)
+
+unfoldable pub ReadsWhole : Type 0
+ReadsWhole =
+    (s : List ℕ) (gs : List Setting) (n next : ℕ)
+    → (readSetup s ≡ read gs n next → Accepted s 0 gs n next × (next ≡ length s)) × (Accepted s 0 gs n next → next ≡ length s → readSetup s ≡ read gs n next)
+
+unfoldable pub PlansWithin : Type 0
+PlansWithin = (s : List ℕ) (at : ℕ) (gs : List Setting) (n next : ℕ) → Accepted s at gs n next → PlanWithin s at gs n next
+
+-- An input t that has the bytes of s as far as the place behind the setup's 0x7F is read alike, whatever stands behind it.
+unfoldable pub LooksNoFurther : Type 0
+LooksNoFurther = (s t : List ℕ) (at : ℕ) (gs : List Setting) (n next : ℕ) → readPlan s at ≡ read gs n next → take next s ≡ take next t → readPlan t at ≡ read gs n next
+
+unfoldable pub RefusesInside : Type 0
+RefusesInside = (s : List ℕ) (at n : ℕ) (place : Option ℕ) → readPlan s at ≡ refused n place → Refused s at n place
