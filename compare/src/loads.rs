@@ -1,28 +1,71 @@
-//! The benchmark's loads: puts and takes on a line, whoever answers them, and the same as a session.
+//! The benchmark's loads: lists of puts and takes that every side makes alike, and the same lists as sessions.
+//!
+//! They are those on which packet schedulers are commonly set side by side: equal weights and mixed ones, every flow backlogged or few of them, lengths
+//! that are uniform from the shortest to the longest.
 
-use crate::calls::Taken;
+use crate::rng::Rng;
 use crate::rules::State;
 use crate::setup;
 
-/// The records of a full lane.
+/// The records of a lane in a steady load.
 pub const DEPTH: usize = 16;
 /// The requests of a full session.
 pub const REQUESTS: usize = 1_000;
+/// Lengths are uniform between these.
+pub const LENGTHS: (u64, u64) = (64, 1_500);
+/// Mixed weights, by turns; eight times their sum is 696.
+const MIXED: [u8; 8] = [1, 2, 3, 5, 8, 13, 21, 34];
+/// The equal weight: 64 lanes of it sum to 1,024.
+const EQUAL: u8 = 16;
 
-#[derive(Clone, Copy, PartialEq)]
-pub enum Load {
-    /// Every lane holds as many records as it may; the served lane gets the next one.
+#[derive(Clone, Copy, Debug, PartialEq)]
+pub enum Weights {
+    Equal,
+    Mixed,
+}
+
+#[derive(Clone, Copy, Debug, PartialEq)]
+pub enum Fill {
+    /// Every lane holds as many records; a pair takes one and puts the next one into the lane that was served.
     Steady,
-    /// One record is held at most, in each lane by turns.
+    /// Few records are held in all, in lanes by chance; a pair puts one more and takes one.
     Sparse,
 }
 
-pub const LOADS: [(Load, &str); 2] = [(Load::Sparse, "sparse"), (Load::Steady, "steady")];
+#[derive(Clone, Copy, Debug, PartialEq)]
+pub struct Load {
+    pub lanes: u8,
+    pub weights: Weights,
+    pub fill: Fill,
+}
 
-/// Either side: what a load does to it.
+/// A put or a take, in the three bytes that the library of the inner calls reads: a lane and a length, high byte first; lane 64 stands for a take.
+pub type Call = [u8; 3];
+pub const TAKE: Call = [64, 0, 0];
+
+fn put(lane: u8, length: u64) -> Call {
+    let [high, low] = u16::try_from(length).expect("at most 1,500").to_be_bytes();
+    [lane, high, low]
+}
+
+pub fn length_of(call: Call) -> u64 {
+    u64::from(u16::from_be_bytes([call[1], call[2]]))
+}
+
+/// Either side: what makes a load's calls.
 pub trait Line {
     fn put(&mut self, lane: u8, length: u64);
-    fn take(&mut self) -> Taken;
+    fn take(&mut self);
+
+    fn make(&mut self, calls: &[Call]) {
+        for &call in calls {
+            if call == TAKE {
+                self.take();
+            } else {
+                self.put(call[0], length_of(call));
+            }
+        }
+    }
 }
 
 impl Line for State {
@@ -30,8 +73,8 @@ impl Line for State {
         plain_put(self, lane, length);
     }
 
-    fn take(&mut self) -> Taken {
-        plain_take(self)
+    fn take(&mut self) {
+        plain_take(self);
     }
 }
 
@@ -42,116 +85,114 @@ fn plain_put(state: &mut State, lane: u8, length: u64) {
 }
 
 #[inline(never)]
-fn plain_take(state: &mut State) -> Taken {
-    state.take().expect("a record is held")
+fn plain_take(state: &mut State) {
+    state.take().expect("a record is held");
 }
 
-/// A load in the making: first the lanes are filled, then pairs follow. On every side it is the same list of calls.
-pub struct Loading {
-    load: Load,
-    lanes: u8,
-    /// The calls made so far.
-    calls: u64,
-    turn: usize,
+/// A load's calls: first the lanes are filled, then pairs follow. A longer list begins with a shorter one.
+pub struct List {
+    pub filling: Vec<Call>,
+    pub pairs: Vec<Call>,
 }
 
-impl Loading {
-    pub fn new(load: Load, lanes: u8, depth: usize, line: &mut impl Line) -> Loading {
-        let mut loading = Loading { load, lanes, calls: 0, turn: 0 };
-        if load == Load::Steady {
-            (0..depth).for_each(|_| (0..lanes).for_each(|lane| loading.put(lane, line)));
+impl List {
+    pub fn whole(&self) -> Vec<Call> {
+        [&self.filling[..], &self.pairs[..]].concat()
+    }
+}
+
+impl Load {
+    /// The ten loads; one lane has no mixture.
+    pub fn all() -> Vec<Load> {
+        let mut all = Vec::new();
+        for lanes in [1, 8, 64] {
+            for weights in [Weights::Equal, Weights::Mixed] {
+                for fill in [Fill::Steady, Fill::Sparse] {
+                    if lanes > 1 || weights == Weights::Equal {
+                        all.push(Load { lanes, weights, fill });
+                    }
+                }
+            }
         }
-        loading
+        all
     }
 
-    /// Lengths from 64 to 1,087, by the call's place in the list, as the library of the inner calls has them.
-    fn put(&mut self, lane: u8, line: &mut impl Line) {
-        line.put(lane, 64 + self.calls % 1_024);
-        self.calls += 1;
-    }
-
-    fn take(&mut self, line: &mut impl Line) -> Taken {
-        self.calls += 1;
-        line.take()
-    }
-
-    pub fn pair(&mut self, line: &mut impl Line) {
-        if self.load == Load::Steady {
-            let lane = self.take(line).lane;
-            self.put(lane, line);
-        } else {
-            self.put((self.turn % usize::from(self.lanes)) as u8, line);
-            self.turn += 1;
-            self.take(line);
+    pub fn setup(&self) -> Vec<u8> {
+        let mut bytes = vec![0x01, 0, 2, 0, 1];
+        for lane in 0..self.lanes {
+            let weight = if self.weights == Weights::Mixed { MIXED[usize::from(lane % 8)] } else { EQUAL };
+            bytes.extend([0x10, 0, 3, lane, 0, weight]);
         }
+        bytes.extend([0x7F, 0, 0]);
+        bytes
+    }
+
+    pub fn plain(&self) -> State {
+        State::fresh(&setup::whole(&self.setup()).expect("a valid setup"))
+    }
+
+    /// The records that a sparse load holds in all between its pairs.
+    pub fn sparse(&self) -> usize {
+        usize::from(self.lanes / 8).max(2)
+    }
+
+    /// The calls; the rules say which lane a take serves. `depth`: the records of a lane in a steady load.
+    pub fn list(&self, depth: usize, pairs: usize) -> List {
+        let (mut state, mut random) = (self.plain(), Rng::new(7));
+        let mut accepted = |state: &mut State, lane: Option<u8>| {
+            let lane = lane.unwrap_or_else(|| random.below(u64::from(self.lanes)) as u8);
+            let length = random.between(LENGTHS.0, LENGTHS.1);
+            state.put(lane, 7, length).expect("a put that is accepted");
+            put(lane, length)
+        };
+        let filling = match self.fill {
+            Fill::Steady => {
+                (0..depth).flat_map(|_| 0..self.lanes).map(|lane| accepted(&mut state, Some(lane))).collect()
+            }
+            Fill::Sparse => (0..self.sparse()).map(|_| accepted(&mut state, None)).collect(),
+        };
+        let mut list = List { filling, pairs: Vec::new() };
+        for _ in 0..pairs {
+            if self.fill == Fill::Steady {
+                let lane = state.take().expect("a record is held").lane;
+                list.pairs.extend([TAKE, accepted(&mut state, Some(lane))]);
+            } else {
+                list.pairs.extend([accepted(&mut state, None), TAKE]);
+                state.take().expect("a record is held");
+            }
+        }
+        list
+    }
+
+    /// Records in each lane of a steady session: with 64 lanes fewer than 16, as a session has at most 1,000 requests.
+    fn session_depth(&self) -> usize {
+        DEPTH.min(450 / usize::from(self.lanes))
+    }
+
+    /// The pairs of a session of 1,000 requests.
+    pub fn session_pairs(&self) -> usize {
+        (REQUESTS - self.list(self.session_depth(), 0).filling.len()) / 2
+    }
+
+    pub fn session(&self, pairs: usize) -> Vec<u8> {
+        let calls = self.list(self.session_depth(), pairs).whole();
+        assert!(calls.len() <= REQUESTS);
+        let mut bytes = self.setup();
+        for call in calls {
+            match call {
+                TAKE => bytes.extend([0x21, 0, 0]),
+                [lane, high, low] => bytes.extend([0x20, 0, 7, lane, 0, 0, 0, 7, high, low]),
+            }
+        }
+        bytes.extend([0x7F, 0, 0]);
+        bytes
     }
 }
 
-/// The setup of so many lanes, of weights 1 to 16 by turns.
-pub fn setup_of(lanes: u8) -> Vec<u8> {
-    let mut bytes = vec![0x01, 0, 2, 0, 1];
-    for lane in 0..lanes {
-        bytes.extend([0x10, 0, 3, lane, 0, 1 + lane % 16]);
+impl std::fmt::Display for Load {
+    fn fmt(&self, f: &mut std::fmt::Formatter) -> std::fmt::Result {
+        let weights = if self.weights == Weights::Equal { "equal" } else { "mixed" };
+        let fill = if self.fill == Fill::Steady { "steady" } else { "sparse" };
+        write!(f, "{:>5}  {weights}    {fill}", self.lanes)
     }
-    bytes.extend([0x7F, 0, 0]);
-    bytes
-}
-
-pub fn plain(lanes: u8) -> State {
-    State::fresh(&setup::whole(&setup_of(lanes)).expect("a valid setup"))
-}
-
-/// A load as it is written: as a session's fields and as bytes for the inner calls, with the rules' choice of the served lane.
-struct Written {
-    state: State,
-    fields: Vec<u8>,
-    calls: Vec<u8>,
-}
-
-/// The byte that takes a record; one below it puts a record into that lane.
-const TAKE: u8 = 64;
-
-impl Line for Written {
-    fn put(&mut self, lane: u8, length: u64) {
-        Line::put(&mut self.state, lane, length);
-        let [high, low] = (length as u16).to_be_bytes();
-        self.fields.extend([0x20, 0, 7, lane, 0, 0, 0, 7, high, low]);
-        self.calls.push(lane);
-    }
-
-    fn take(&mut self) -> Taken {
-        self.fields.extend([0x21, 0, 0]);
-        self.calls.push(TAKE);
-        Line::take(&mut self.state)
-    }
-}
-
-fn written(load: Load, lanes: u8, depth: usize, pairs: usize) -> Written {
-    let mut written = Written { state: plain(lanes), fields: setup_of(lanes), calls: Vec::new() };
-    let mut loading = Loading::new(load, lanes, depth, &mut written);
-    (0..pairs).for_each(|_| loading.pair(&mut written));
-    written
-}
-
-/// The bytes of a load for the inner calls.
-pub fn calls_of(load: Load, lanes: u8, pairs: usize) -> Vec<u8> {
-    written(load, lanes, DEPTH, pairs).calls
-}
-
-/// Records in each lane of a steady session: with 64 lanes fewer than 16, as a session has at most 1,000 requests.
-fn session_depth(lanes: u8) -> usize {
-    DEPTH.min(450 / usize::from(lanes))
-}
-
-/// The pairs of a session of 1,000 requests.
-pub fn most_pairs(load: Load, lanes: u8) -> usize {
-    let filled = if load == Load::Steady { session_depth(lanes) * usize::from(lanes) } else { 0 };
-    (REQUESTS - filled) / 2
-}
-
-pub fn session_of(load: Load, lanes: u8, pairs: usize) -> Vec<u8> {
-    let mut written = written(load, lanes, session_depth(lanes), pairs);
-    assert!(written.calls.len() <= REQUESTS);
-    written.fields.extend([0x7F, 0, 0]);
-    written.fields
 }

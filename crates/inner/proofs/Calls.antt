@@ -1,13 +1,14 @@
--- The call of a byte, the calls one after another, and the restart that they begin with. Assumes nothing.
-use Prim.Native.Nat.{ℕ, suc, _+_, _*_, _%_, _<_, _≤_}
+-- The call of three bytes, the calls one after another, and the restart that they begin with. Assumes nothing.
+use Prim.Native.Nat.{ℕ, suc, _+_, _*_, _/_, _<_, _≤_}
 use native.Mathlib.Omega.{arith}
 use mathlib.Core.Path.{_≡_, refl, sym, ap, subst, _∙_}
 use mathlib.Core.Bool.{Bool, true, false, false≢true}
 use mathlib.Core.List.{List, [], _∷_}
-use lib.ListN.{length, drop, getD}
+use lib.ListN.{length, drop}
 use borrow.Author.Tests.{lt-ltb, le-ltb}
 use types.Run.{OneOf, miss}
 use denote.Enum.Declared.{tagOf}
+use Rattle.fields.specs.Bytes.{byteAt, big}
 use Rattle.rules.proofs.Answer.{the-type}
 use Rattle.units.specs.Plain.{if_then_else_}
 use Rattle.rules.specs.State.{State, anyHolds, setupOf}
@@ -23,15 +24,15 @@ use Rattle.engine.specs.Does.{Does, Unchanged}
 use Rattle.answers.specs.Answers.{Made}
 use Rattle.answers.proofs.Made.{made-step}
 use Rattle.good.specs.Table.{GoodTable}
-use Rattle.inner.specs.Works.{callAt, worked, Leads, Works}
+use Rattle.inner.specs.Works.{CALL, callAt, callsIn, worked, Leads, Works}
 
-pub put-at : {t u : List ℕ} {a : Answer} (i b : ℕ) → b < 64 → Does (put b 7 (64 + i % 1024)) t a u → Does (callAt i b) t a u
+pub put-at : {t u : List ℕ} {a : Answer} (calls : List ℕ) (at n : ℕ) → byteAt calls at < 64 → n ≡ big calls (at + 1) 2 → Does (put (byteAt calls at) 7 n) t a u → Does (callAt calls at) t a u
 unfolding callAt
-put-at {t} {u} {a} i b h d = subst (λ (x : Bool). Does (if x then put b 7 (64 + i % 1024) else take) t a u) (sym (lt-ltb b 64 h)) d
+put-at {t} {u} {a} calls at n h e d = subst (λ (x : Bool). Does (if x then put (byteAt calls at) 7 (big calls (at + 1) 2) else take) t a u) (sym (lt-ltb (byteAt calls at) 64 h)) (subst (λ (x : ℕ). Does (put (byteAt calls at) 7 x) t a u) e d)
 
-pub take-at : {t u : List ℕ} {a : Answer} (i b : ℕ) → 64 ≤ b → Does take t a u → Does (callAt i b) t a u
+pub take-at : {t u : List ℕ} {a : Answer} (calls : List ℕ) (at : ℕ) → 64 ≤ byteAt calls at → Does take t a u → Does (callAt calls at) t a u
 unfolding callAt
-take-at {t} {u} {a} i b h d = subst (λ (x : Bool). Does (if x then put b 7 (64 + i % 1024) else take) t a u) (sym (le-ltb b 64 h)) d
+take-at {t} {u} {a} calls at h d = subst (λ (x : Bool). Does (if x then put (byteAt calls at) 7 (big calls (at + 1) 2) else take) t a u) (sym (le-ltb (byteAt calls at) 64 h)) d
 
 -- ---- one call more
 
@@ -46,14 +47,15 @@ so-none calls t m = record { made = m; leads = record { state = refl; beside = m
 one-more : (i : ℕ) → suc i ≡ i + 1
 one-more i = omega arith
 
-pub so-more : (calls t₀ t u : List ℕ) (i b : ℕ) → So calls t₀ t i → b ≡ getD calls i 0 → length u ≡ length t → Leaves t u ((step (meant t) (callAt i b)) .state) → So calls t₀ u (i + 1)
+pub so-more : (calls t₀ t u : List ℕ) (i : ℕ) → So calls t₀ t i → length u ≡ length t → Leaves t u ((step (meant t) (callAt calls (i * CALL))) .state) → So calls t₀ u (i + 1)
 unfolding worked
-so-more calls t₀ t u i b s e len l = record {
-  made = made-step t u (callAt i b) (s .made) (omega (arith, len, s .made .room)) l;
-  leads = record { beside = l .beside (s .made .beside); state = l .state ∙ subst (λ (k : ℕ). (step (meant t) (callAt i b)) .state ≡ worked calls (meant t₀) k) (one-more i) (ap (λ (x : State). (step x (callAt i b)) .state) (s .leads .state) ∙ ap (λ (x : ℕ). (step (worked calls (meant t₀) i) (callAt i x)) .state) e); rest = l .rest ∙ s .leads .rest };
+so-more calls t₀ t u i s len l = record {
+  made = made-step t u (callAt calls (i * CALL)) (s .made) (omega (arith, len, s .made .room)) l;
+  leads = record { beside = l .beside (s .made .beside); state = l .state ∙ subst (λ (k : ℕ). (step (meant t) (callAt calls (i * CALL))) .state ≡ worked calls (meant t₀) k) (one-more i) (ap (λ (x : State). (step x (callAt calls (i * CALL))) .state) (s .leads .state)); rest = l .rest ∙ s .leads .rest };
 }
 
-pub so-all : (calls t₀ t : List ℕ) (i : ℕ) → i ≡ length calls → So calls t₀ t i → Leads t₀ t (worked calls (meant t₀) (length calls))
+pub so-all : (calls t₀ t : List ℕ) (i : ℕ) → i ≡ length calls / CALL → So calls t₀ t i → Leads t₀ t (worked calls (meant t₀) (callsIn calls))
+unfolding callsIn
 so-all calls t₀ t i e s = subst (λ (k : ℕ). Leads t₀ t (worked calls (meant t₀) k)) e (s .leads)
 
 -- ---- the restart before them
@@ -129,10 +131,10 @@ held-works calls t u a g o d =
       size = ap length (s .1);
     }
 
-pub done-works : (calls t u v : List ℕ) → GoodTable t → Begun t u → length v ≡ length t → Leads u v (worked calls (meant u) (length calls)) → Works calls t 0 v
+pub done-works : (calls t u v : List ℕ) → GoodTable t → Begun t u → length v ≡ length t → Leads u v (worked calls (meant u) (callsIn calls)) → Works calls t 0 v
 done-works calls t u v g b len l = record {
   not-good = λ h. absurd (h g);
   held = λ _ e. absurd (false≢true (sym (b .none-held) ∙ e));
-  done = λ _ _. (refl, record { state = l .state ∙ ap (λ (s : State). worked calls s (length calls)) (b .state); beside = l .beside; rest = l .rest ∙ b .rest });
+  done = λ _ _. (refl, record { state = l .state ∙ ap (λ (s : State). worked calls s (callsIn calls)) (b .state); beside = l .beside; rest = l .rest ∙ b .rest });
   size = len;
 }

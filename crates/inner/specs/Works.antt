@@ -1,17 +1,20 @@
 -- The calls of a list of bytes, and what they leave.
 --
---   callAt   the call of a byte
---   worked   the state after the first calls
---   Leads    a table after them
---   Works    the promise of the exported call
+--   CALL      the bytes of a call
+--   callAt    the call of the bytes from a place on
+--   callsIn   how many calls the bytes are
+--   worked    the state after the first calls
+--   Leads     a table after them
+--   Works     the promise of the exported call
 --
 -- Assumes nothing.
-use Prim.Native.Nat.{ℕ, zero, suc, _+_, _*_, _%_}
+use Prim.Native.Nat.{ℕ, zero, suc, _+_, _*_, _/_}
 use mathlib.Core.Path.{_≡_}
 use mathlib.Core.Bool.{true, false}
 use mathlib.Core.List.{List}
 use lib.Dec.{ltb}
-use lib.ListN.{length, drop, getD}
+use lib.ListN.{length, drop}
+use Rattle.fields.specs.Bytes.{byteAt, big}
 use Rattle.units.specs.Plain.{if_then_else_}
 use Rattle.rules.specs.State.{State, setupOf, anyHolds}
 use Rattle.rules.specs.Calls.{Call, put, take, fresh, step}
@@ -19,14 +22,21 @@ use Rattle.table.specs.Layout.{WORDS, cells}
 use Rattle.table.specs.Means.{meant, Beside}
 use Rattle.good.specs.Table.{GoodTable}
 
--- The byte at the place i: a lane to put a record into, of 64 to 1,087 bytes by turns, or from 64 on a take.
-unfoldable pub callAt : ℕ → ℕ → Call
-callAt i b = if ltb b 64 then put b 7 (64 + i % 1024) else take
+abbrev pub CALL : ℕ
+CALL = 3
+
+-- A lane and a length, high byte first: a record of that length is put into the lane. From lane 64 on a record is taken, whatever the length says.
+unfoldable pub callAt : List ℕ → ℕ → Call
+callAt calls at = if ltb (byteAt calls at) 64 then put (byteAt calls at) 7 (big calls (at + 1) 2) else take
+
+-- Bytes behind the last whole call mean nothing.
+unfoldable pub callsIn : List ℕ → ℕ
+callsIn calls = length calls / CALL
 
 -- the state after the first n calls
 unfoldable pub worked : List ℕ → State → ℕ → State
 worked calls s zero = s
-worked calls s (suc n) = (step (worked calls s n) (callAt n (getD calls n 0))) .state
+worked calls s (suc n) = (step (worked calls s n) (callAt calls (n * CALL))) .state
 
 -- The table means the state, and the bytes past it are as they were.
 pub record Leads (before after : List ℕ) (s : State) : Type 0 where
@@ -37,5 +47,5 @@ pub record Leads (before after : List ℕ) (s : State) : Type 0 where
 pub record Works (calls before : List ℕ) (r : ℕ) (after : List ℕ) : Type 0 where
   pub not-good : (GoodTable before → ⊥) → (r ≡ 10) × (after ≡ before)
   pub held : GoodTable before → anyHolds (meant before .lanes) ≡ true → (r ≡ 15) × (after ≡ before)
-  pub done : GoodTable before → anyHolds (meant before .lanes) ≡ false → (r ≡ 0) × Leads before after (worked calls (fresh (setupOf (meant before))) (length calls))
+  pub done : GoodTable before → anyHolds (meant before .lanes) ≡ false → (r ≡ 0) × Leads before after (worked calls (fresh (setupOf (meant before))) (callsIn calls))
   pub size : length after ≡ length before

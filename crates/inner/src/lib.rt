@@ -1,25 +1,33 @@
-// The inner calls by themselves: puts and takes by a list of bytes, on a table that is tested once. A library of its own, for the benchmark alone
+// The inner calls by themselves: any list of puts and takes, on a table that is tested once. A library of its own, for the benchmark alone
 // (`compare/measure`): the unit has no such call, and document 01 names none.
+//
+// Three bytes make a call: a lane and a length, high byte first. A lane below 64 gets a record of that length; from 64 on a record is taken.
 //
 // Like a session it rests on a table that it made by these calls from a fresh one (`answers/specs/Answers.antt`), here the restarted table.
 ghost use mathlib.Core.Path.{_≡_};
+ghost use Prim.Native.Nat.{_+_, _≤_};
 ghost use lib.ListN.{length};
 ghost use Rattle.table.specs.Means.{meant};
 ghost use Rattle.choice.specs.Known.{Known};
 ghost use Rattle.engine.specs.Does.{Does};
 ghost use Rattle.answers.specs.Answers.{Made};
-ghost use Rattle.inner.specs.Works.{callAt, worked, Leads, Works};
+ghost use Rattle.inner.specs.Works.{CALL, callAt, callsIn, worked, Leads, Works};
+use fields::u16_at;
 use good::good;
 use rules::Answer;
 use units::Bytes;
 
-// A byte below 64 puts a record into that lane, any other takes one.
-fn call(t: &mut [u8], byte: u8, i: usize) -> Answer
-    requires { ⌜ Known (now t) ⌝ }
-    ensures { λ r. ⌜ Does (callAt i byte) (now (t .entry)) r (now (t .exit)) ⌝ }
+// The bytes of a call.
+const CALL: usize = 3;
+
+// The call of the bytes from `at` on.
+fn call(t: &mut [u8], calls: &[u8], at: usize) -> Answer
+    requires { ⌜ Known (now t) × (at + CALL ≤ length (now calls)) ⌝ }
+    ensures { λ r. ⌜ Does (callAt (now (calls .entry)) at) (now (t .entry)) r (now (t .exit)) ⌝ }
 {
-    if byte < 64 {
-        engine::put(t, byte, 7, Bytes(64 + (i % 1024) as u64))
+    let lane = calls[at];
+    if lane < 64 {
+        engine::put(t, lane, 7, Bytes(u16_at(calls, at + 1) as u64))
     } else {
         engine::take(t)
     }
@@ -28,11 +36,12 @@ fn call(t: &mut [u8], byte: u8, i: usize) -> Answer
 // The calls of the bytes, one after another.
 fn work(t: &mut [u8], calls: &[u8])
     requires { ⌜ Made (now t) ⌝ }
-    ensures { λ _. ⌜ Leads (now (t .entry)) (now (t .exit)) (worked (now (calls .entry)) (meant (now (t .entry))) (length (now (calls .entry)))) ⌝ }
+    ensures { λ _. ⌜ Leads (now (t .entry)) (now (t .exit)) (worked (now (calls .entry)) (meant (now (t .entry))) (callsIn (now (calls .entry)))) ⌝ }
 {
+    let many = calls.len() / CALL;
     let mut i = 0;
-    while i < calls.len() {
-        call(t, calls[i], i);
+    while i < many {
+        call(t, calls, i * CALL);
         i += 1;
     }
 }

@@ -7,9 +7,19 @@ use Rattle.inner.proofs.call.Reads as reads
 use Rattle.inner.proofs.call.Lts as lts
 use Rattle.engine.proofs.put.Reads as put-reads
 use Rattle.engine.proofs.take.Reads as take-reads
+use Rattle.fields.proofs.u16_at.Reads as u16-at-reads
 
-add-t10 : tie.Need-add-t10
-add-t10 c = search needs
+shared-slice-read-lane : tie.Need-shared-slice-read-lane
+shared-slice-read-lane c = search needs
+
+add-u16-at : tie.Need-add-u16-at
+add-u16-at c = search needs
+
+u16-at-requires : tie.Need-u16-at-requires
+u16-at-requires c κs = search needs
+
+cast-t13 : tie.Need-cast-t13
+cast-t13 c = search needs
 
 put-requires : tie.Need-put-requires
 put-requires c κs = search needs
@@ -21,7 +31,7 @@ same-length : tie.Need-same-length
 same-length c = search needs
 
 returns : tie.Need-returns
-returns c = put-at _ _ (c .before .before .before .before .if1 .taken) (c .before .before .put .ensures)
+returns c = put-at _ _ _ (c .before .before .before .before .before .if1 .taken) (c .before .before .before .u16-at .ensures .0) (c .before .before .put .ensures)
 
 same-length-2 : tie.Need-same-length-2
 same-length-2 c = search needs
@@ -32,4 +42,14 @@ returns-2 c = take-at _ _ (c .before .before .before .before .if1 .left) (c .bef
 pub call-spec : {M : Type 1} → statement M
 call-spec =
     tie.close
-    (tie.spec add-t10 put-requires take-requires same-length returns same-length-2 returns-2)
+    (tie.spec
+    shared-slice-read-lane
+    add-u16-at
+    u16-at-requires
+    cast-t13
+    put-requires
+    take-requires
+    same-length
+    returns
+    same-length-2
+    returns-2)

@@ -13,19 +13,19 @@ use Rattle.inner.proofs.work.Lts as lts
 use Rattle.inner.proofs.call.Reads as call-reads
 
 abbrev Inv-loop : tie.InvT-loop
-Inv-loop t₀ calls i₀ t i = So calls t₀ t i × (length t ≡ length t₀) × (i ≤ length calls)
+Inv-loop t₀ calls many i₀ t i = So calls t₀ t i × (length t ≡ length t₀) × (i ≤ many)
 
 abbrev μ-loop : tie.MeasureT-loop
-μ-loop t₀ calls i₀ t i = length calls - i
+μ-loop t₀ calls many i₀ t i = many - i
 
 loop-holds : tie.Need-loop-holds Inv-loop μ-loop
 loop-holds c = (so-none _ _ (c .before .before .pre), refl, omega arith)
 
-shared-slice-read-call : tie.Need-shared-slice-read-call Inv-loop μ-loop
-shared-slice-read-call c = search needs
+mul-call : tie.Need-mul-call Inv-loop μ-loop
+mul-call c = search needs
 
 call-requires : tie.Need-call-requires Inv-loop μ-loop
-call-requires c κs = reached-known _ (c .before .before .before .loop .inv .0 .made)
+call-requires c κs = (reached-known _ (c .before .before .loop .inv .0 .made), omega (arith, c .before .loop-test .taken))
 
 add-i : tie.Need-add-i Inv-loop μ-loop
 add-i c = search needs
@@ -35,9 +35,9 @@ loop-less c = search needs
 
 loop-again : tie.Need-loop-again Inv-loop μ-loop
 loop-again c =
-    let l = c .before .before .before .before .before .before .loop in
+    let l = c .before .before .before .before .before .loop in
     let r = c .before .before .call in
-    (so-more _ _ _ _ _ _ (l .inv .0) refl (r .kept .0) (r .ensures .leaves), r .kept .0 ∙ l .inv .1, omega (arith, c .before .before .before .before .before .loop-test .taken))
+    (so-more _ _ _ _ _ (l .inv .0) (r .kept .0) (r .ensures .leaves), r .kept .0 ∙ l .inv .1, omega (arith, c .before .before .before .before .loop-test .taken))
 
 same-length : tie.Need-same-length Inv-loop μ-loop
 same-length c = c .before .loop .inv .1
@@ -54,7 +54,7 @@ work-spec =
     Inv-loop
     μ-loop
     loop-holds
-    shared-slice-read-call
+    mul-call
     call-requires
     add-i
     loop-less
