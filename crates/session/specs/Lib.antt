@@ -1,4 +1,6 @@
 pub mod Ran
 pub mod Requests
 pub mod Examples
+pub mod Computed
+pub mod EveryKind
 pub mod One
