@@ -44,7 +44,7 @@ extern "C" {
 #define ZF_OUTSIDE_NUMBERS 5 /* format, lane, weight or longest outside its numbers; place: the field's tag */
 #define ZF_WEIGHTS_OVER 6    /* weights so far over 1,024; place: the field's tag */
 #define ZF_TABLE_SHORT 7     /* table shorter than ZF_TABLE_SIZE, on making one; place: 0 */
-#define ZF_NOT_GOOD 10       /* the table is not good: zf_make and the calls never leave such bytes */
+#define ZF_NOT_GOOD 10       /* the table is not good; never on one that zf_make or zf_run made and these calls alone changed */
 #define ZF_NO_LANE 11        /* lane not in the setup */
 #define ZF_BAD_LENGTH 12     /* length 0, or over the lane's longest */
 #define ZF_LANE_FULL 13      /* the lane holds 16 records */

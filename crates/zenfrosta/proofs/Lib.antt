@@ -1,1 +1,5 @@
+pub mod Spoken
 pub mod AfterRun
+pub mod Heard
+pub mod HostLists
+pub mod HostMakes

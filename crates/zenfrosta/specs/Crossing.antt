@@ -2,8 +2,8 @@
 --
 --   code, values   of a reply: 0 or the refusal's number; what stands in the four words
 --   refusalWords   of a refusal: its place, and whether it has one
---   spoken         a buffer with these words at its start
---   Crosses        the promise of an exported call; CrossesMaking of zf_make, CrossesRun of zf_run
+--   spoken         a buffer with these words at its start; wordsIn: the words that a host reads there
+--   Crosses        the promise of an exported call; CrossesCall of those on a table, CrossesMaking of zf_make, CrossesRun of zf_run
 --
 -- Assumes nothing.
 use Prim.Native.Nat.{ℕ, _≤_, _<_}
@@ -13,10 +13,11 @@ use mathlib.Core.Option.{Option, none, some}
 use lib.ListN.{length}
 use mir.Syntax.{w64}
 use mir.Val.{ofZ}
-use Rattle.words.specs.Words.{putWord}
-use Rattle.rules.specs.Calls.{Reply, accepted, taken, seen, words, lagged, restarted, refused}
+use Rattle.words.specs.Words.{wordAt, putWord}
+use Rattle.rules.specs.Calls.{Call, Reply, accepted, taken, seen, words, lagged, restarted, refused}
 use Rattle.rules.specs.Reads.{reads}
 use Rattle.rules.specs.declared.Answer.{Answer}
+use Rattle.scheduler.specs.Step.{Step}
 use Rattle.scheduler.specs.Make as making
 use Rattle.scheduler.specs.Make.{made, notMade}
 use Rattle.scheduler.specs.declared.Making.{Making}
@@ -89,15 +90,27 @@ runValues x = four (x .answered) (x .written) (stopKind (whyIs (x .why))) (stopP
 unfoldable pub spoken : List ℕ → Four → List ℕ
 spoken out w = putWord (putWord (putWord (putWord out 0 (w .a)) 1 (w .b)) 2 (w .c)) 3 (w .d)
 
+abbrev pub wordsIn : List ℕ → Four
+wordsIn out = four (wordAt out 0) (wordAt out 1) (wordAt out 2) (wordAt out 3)
+
+-- the words w are told in a buffer, and are what a host reads there
+pub record Spoken (out : List ℕ) (w : Four) (out′ : List ℕ) : Type 0 where
+  pub buffer : out′ ≡ spoken out w
+  pub read : wordsIn out′ ≡ w
+
 -- A buffer shorter than 32 bytes gives 255, and nothing is done. Else the call is made, and its answer is told.
 pub record Crosses (Call : Answer → Type 0) (same : Type 0) (out : List ℕ) (r : ℕ) (out′ : List ℕ) : Type 0 where
   pub short : length out < 32 → (r ≡ 255) × same × (out′ ≡ out)
-  pub told : 32 ≤ length out → (a : Answer) × Call a × (r ≡ code (reads a)) × (out′ ≡ spoken out (values (reads a)))
+  pub told : 32 ≤ length out → (a : Answer) × Call a × (r ≡ code (reads a)) × Spoken out (values (reads a)) out′
+
+-- .. of a call on a table, which leaves the bytes u
+abbrev pub CrossesCall : Call → List ℕ → List ℕ → List ℕ → ℕ → List ℕ → Type 0
+CrossesCall c t u out r out′ = Crosses (λ a. Step c t a u) (u ≡ t) out r out′
 
 pub record CrossesMaking (Make : Making → Type 0) (same : Type 0) (out : List ℕ) (r : ℕ) (out′ : List ℕ) : Type 0 where
   pub short : length out < 32 → (r ≡ 255) × same × (out′ ≡ out)
-  pub told : 32 ≤ length out → (a : Making) × Make a × (r ≡ makeCode (making.reads a)) × (out′ ≡ spoken out (makeValues (making.reads a)))
+  pub told : 32 ≤ length out → (a : Making) × Make a × (r ≡ makeCode (making.reads a)) × Spoken out (makeValues (making.reads a)) out′
 
 pub record CrossesRun (Run : RunResult → Type 0) (same : Type 0) (out : List ℕ) (r : ℕ) (out′ : List ℕ) : Type 0 where
   pub short : length out < 32 → (r ≡ 255) × same × (out′ ≡ out)
-  pub told : 32 ≤ length out → (x : RunResult) × Run x × (r ≡ stopCode (whyIs (x .why))) × (out′ ≡ spoken out (runValues x))
+  pub told : 32 ≤ length out → (x : RunResult) × Run x × (r ≡ stopCode (whyIs (x .why))) × Spoken out (runValues x) out′

@@ -1,7 +1,10 @@
 // The public calls for hosts in C and Rust: exported functions on numbers and byte slices. include/zenfrosta.h documents each.
 //
 // One rule for every answer (specs/Crossing.antt): the result is 0, or document 01's number of the refusal; values stand in a lent buffer of at least 32 bytes as
-// four 64-bit words, low byte first. A shorter buffer gives 255, and nothing is done. The table and the buffer must not overlap.
+// four 64-bit words, low byte first. A shorter buffer gives 255, and nothing is done. specs/Heard.antt says what lists of these calls come to for a host.
+//
+// The contracts are of slices, as Rust lends them: no area that is written overlaps another one of the call. Safe Rust cannot lend otherwise; a host in C can,
+// and nothing here finds it out, so include/zenfrosta.h asks it of the host.
 ghost use mathlib.Core.Path.{_≡_};
 ghost use Prim.Native.Nat.{_*_, _≤_};
 ghost use mir.Syntax.{w64};
@@ -10,13 +13,13 @@ ghost use lib.ListN.{length};
 ghost use Rattle.rules.specs.Calls as Calls;
 ghost use Rattle.rules.specs.Reads as Reads;
 ghost use Rattle.table.specs.Layout.{WORDS};
-ghost use Rattle.scheduler.specs.Step.{Step};
 ghost use Rattle.scheduler.specs.Make as Make;
 ghost use Rattle.walk.specs.Follows.{whyIs};
 ghost use Rattle.session.specs.Ran.{Ran};
-ghost use Rattle.zenfrosta.specs.Crossing.{four, code, values, stopCode, runValues, refusalWords, spoken, Crosses, CrossesMaking, CrossesRun};
+ghost use Rattle.zenfrosta.specs.Crossing.{four, code, values, stopCode, runValues, refusalWords, Spoken, CrossesCall, CrossesMaking, CrossesRun};
 use lines::Place;
 use rules::Answer;
+use rules::Record;
 use rules::Refusal;
 use scheduler::Making;
 use units::Bytes;
@@ -69,24 +72,26 @@ fn refusal_words(x: Refusal) -> Four
     }
 }
 
+// The words that tell a record: lane, mark and length.
+fn record_words(r: Record) -> Four
+    ensures { λ w. ⌜ w ≡ four (r .lane) (r .mark) (r .length .0) 0 ⌝ }
+{
+    Four {
+        a: r.lane as u64,
+        b: r.mark as u64,
+        c: r.length.0,
+        d: 0,
+    }
+}
+
 // The words that tell an answer.
 fn words_of(x: Answer) -> Four
     ensures { λ r. ⌜ r ≡ values (Reads.reads x) ⌝ }
 {
     match x {
         Answer::Accepted => one(0),
-        Answer::Taken(r) => Four {
-            a: r.lane as u64,
-            b: r.mark as u64,
-            c: r.length.0,
-            d: 0,
-        },
-        Answer::Seen(r) => Four {
-            a: r.lane as u64,
-            b: r.mark as u64,
-            c: r.length.0,
-            d: 0,
-        },
+        Answer::Taken(r) => record_words(r),
+        Answer::Seen(r) => record_words(r),
         Answer::Sets(w) => Four {
             a: w.er,
             b: w.ir,
@@ -159,22 +164,23 @@ fn run_words(x: RunResult) -> Four
 }
 
 // Writes the four words.
-fn speak(out: &mut [u8], w: Four)
+fn speak(out: &mut [u8], a: u64, b: u64, c: u64, d: u64)
     requires { ⌜ 32 ≤ length (now out) ⌝ }
-    ensures { λ _. ⌜ now (out .exit) ≡ spoken (now (out .entry)) w ⌝ }
+    ensures { λ _. ⌜ Spoken (now (out .entry)) (four a b c d) (now (out .exit)) ⌝ }
 {
-    set_word(out, 0, w.a);
-    set_word(out, 1, w.b);
-    set_word(out, 2, w.c);
-    set_word(out, 3, w.d);
+    set_word(out, 0, a);
+    set_word(out, 1, b);
+    set_word(out, 2, c);
+    set_word(out, 3, d);
 }
 
 // Tells an answer: its words into the buffer, and its code.
 fn tell(out: &mut [u8], x: Answer) -> u64
     requires { ⌜ 32 ≤ length (now out) ⌝ }
-    ensures { λ r. ⌜ (r ≡ code (Reads.reads x)) × (now (out .exit) ≡ spoken (now (out .entry)) (values (Reads.reads x))) ⌝ }
+    ensures { λ r. ⌜ (r ≡ code (Reads.reads x)) × Spoken (now (out .entry)) (values (Reads.reads x)) (now (out .exit)) ⌝ }
 {
-    speak(out, words_of(x));
+    let w = words_of(x);
+    speak(out, w.a, w.b, w.c, w.d);
     code_of(x)
 }
 
@@ -196,11 +202,12 @@ pub extern "C" fn zf_make(setup: &[u8], table: &mut [u8], out: &mut [u8]) -> u64
     }
     match scheduler::make(setup, table) {
         Making::Made(n) => {
-            speak(out, one(n as u64));
+            speak(out, n as u64, 0, 0, 0);
             0
         }
         Making::Refused(x) => {
-            speak(out, refusal_words(x));
+            let w = refusal_words(x);
+            speak(out, w.a, w.b, w.c, w.d);
             lines::number(x)
         }
     }
@@ -209,7 +216,7 @@ pub extern "C" fn zf_make(setup: &[u8], table: &mut [u8], out: &mut [u8]) -> u64
 // Puts a record into a lane.
 #[no_mangle]
 pub extern "C" fn zf_put(table: &mut [u8], lane: u8, mark: u32, size: u64, out: &mut [u8]) -> u64
-    ensures { λ r. ⌜ Crosses (λ a. Step (Calls.put lane mark size) (now (table .entry)) a (now (table .exit))) (now (table .exit) ≡ now (table .entry)) (now (out .entry)) r (now (out .exit)) ⌝ }
+    ensures { λ r. ⌜ CrossesCall (Calls.put lane mark size) (now (table .entry)) (now (table .exit)) (now (out .entry)) r (now (out .exit)) ⌝ }
 {
     if out.len() < 32 {
         return 255;
@@ -220,8 +227,9 @@ pub extern "C" fn zf_put(table: &mut [u8], lane: u8, mark: u32, size: u64, out: 
 // Takes the next record.
 #[no_mangle]
 pub extern "C" fn zf_take(table: &mut [u8], out: &mut [u8]) -> u64
-    ensures { λ r. ⌜ Crosses (λ a. Step Calls.take (now (table .entry)) a (now (table .exit))) (now (table .exit) ≡ now (table .entry)) (now (out .entry)) r (now (out .exit)) ⌝ }
+    ensures { λ r. ⌜ CrossesCall Calls.take (now (table .entry)) (now (table .exit)) (now (out .entry)) r (now (out .exit)) ⌝ }
 {
+    // First: a record that is taken and cannot be told is lost.
     if out.len() < 32 {
         return 255;
     }
@@ -231,7 +239,7 @@ pub extern "C" fn zf_take(table: &mut [u8], out: &mut [u8]) -> u64
 // Looks at the record that take would hand out.
 #[no_mangle]
 pub extern "C" fn zf_look(table: &[u8], out: &mut [u8]) -> u64
-    ensures { λ r. ⌜ Crosses (λ a. Step Calls.look (now (table .entry)) a (now (table .entry))) (Unit {0}) (now (out .entry)) r (now (out .exit)) ⌝ }
+    ensures { λ r. ⌜ CrossesCall Calls.look (now (table .entry)) (now (table .entry)) (now (out .entry)) r (now (out .exit)) ⌝ }
 {
     if out.len() < 32 {
         return 255;
@@ -242,7 +250,7 @@ pub extern "C" fn zf_look(table: &[u8], out: &mut [u8]) -> u64
 // The four words of the group sets.
 #[no_mangle]
 pub extern "C" fn zf_sets(table: &[u8], out: &mut [u8]) -> u64
-    ensures { λ r. ⌜ Crosses (λ a. Step Calls.sets (now (table .entry)) a (now (table .entry))) (Unit {0}) (now (out .entry)) r (now (out .exit)) ⌝ }
+    ensures { λ r. ⌜ CrossesCall Calls.sets (now (table .entry)) (now (table .entry)) (now (out .entry)) r (now (out .exit)) ⌝ }
 {
     if out.len() < 32 {
         return 255;
@@ -253,7 +261,7 @@ pub extern "C" fn zf_sets(table: &[u8], out: &mut [u8]) -> u64
 // How far the clock is ahead of a lane.
 #[no_mangle]
 pub extern "C" fn zf_lag(table: &[u8], lane: u8, out: &mut [u8]) -> u64
-    ensures { λ r. ⌜ Crosses (λ a. Step (Calls.lag lane) (now (table .entry)) a (now (table .entry))) (Unit {0}) (now (out .entry)) r (now (out .exit)) ⌝ }
+    ensures { λ r. ⌜ CrossesCall (Calls.lag lane) (now (table .entry)) (now (table .entry)) (now (out .entry)) r (now (out .exit)) ⌝ }
 {
     if out.len() < 32 {
         return 255;
@@ -264,7 +272,7 @@ pub extern "C" fn zf_lag(table: &[u8], lane: u8, out: &mut [u8]) -> u64
 // Gives the fresh table of the same setup, once no record is held.
 #[no_mangle]
 pub extern "C" fn zf_restart(table: &mut [u8], out: &mut [u8]) -> u64
-    ensures { λ r. ⌜ Crosses (λ a. Step Calls.restart (now (table .entry)) a (now (table .exit))) (now (table .exit) ≡ now (table .entry)) (now (out .entry)) r (now (out .exit)) ⌝ }
+    ensures { λ r. ⌜ CrossesCall Calls.restart (now (table .entry)) (now (table .exit)) (now (out .entry)) r (now (out .exit)) ⌝ }
 {
     if out.len() < 32 {
         return 255;
@@ -287,7 +295,8 @@ pub extern "C" fn zf_run(
         return 255;
     }
     let result = session::run(session, limit, table, answers);
-    speak(out, run_words(result));
+    let w = run_words(result);
+    speak(out, w.a, w.b, w.c, w.d);
     let why = result.why;
     stop_code(why)
 }

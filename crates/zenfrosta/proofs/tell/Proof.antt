@@ -1,6 +1,5 @@
 -- `tell` meets its contract. Assumes nothing.
-use mathlib.Core.Path.{ap, _∙_}
-use Rattle.zenfrosta.specs.Crossing.{spoken}
+use Rattle.zenfrosta.proofs.Spoken.{told-as}
 use borrow.Author.Needs.{needs}
 use Rattle.zenfrosta.proofs.tell.Statement.{statement}
 use Rattle.zenfrosta.proofs.tell.Tie as tie
@@ -23,7 +22,7 @@ same-length : tie.Need-same-length
 same-length c = search needs
 
 returns : tie.Need-returns
-returns c = (c .code-of .ensures, c .before .before .before .speak .ensures ∙ ap (spoken (c .before .before .before .before .before .before .before .args .out .now)) (c .before .before .before .before .words-of .ensures))
+returns c = (c .code-of .ensures, told-as _ _ _ _ (c .before .before .before .before .before .words-of .ensures) (c .before .before .before .speak .ensures))
 
 pub tell-spec : {M : Type 1} → statement M
 tell-spec =

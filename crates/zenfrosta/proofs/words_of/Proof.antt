@@ -10,6 +10,7 @@ use Rattle.zenfrosta.proofs.words_of.Reads as reads
 use Rattle.zenfrosta.proofs.words_of.Lts as lts
 use Rattle.zenfrosta.proofs.complement.Reads as complement-reads
 use Rattle.zenfrosta.proofs.one.Reads as one-reads
+use Rattle.zenfrosta.proofs.record_words.Reads as record-words-reads
 use Rattle.zenfrosta.proofs.refusal_words.Reads as refusal-words-reads
 
 enum-told : tie.Need-enum-told
@@ -21,20 +22,14 @@ one-requires c κs = search needs
 enum-known-x : tie.Need-enum-known-x
 enum-known-x c = search needs
 
-cast-t8 : tie.Need-cast-t8
-cast-t8 c = search needs
-
-cast-t9 : tie.Need-cast-t9
-cast-t9 c = search needs
+record-words-requires : tie.Need-record-words-requires
+record-words-requires c κs = search needs
 
 enum-known-x-2 : tie.Need-enum-known-x-2
 enum-known-x-2 c = search needs
 
-cast-t10 : tie.Need-cast-t10
-cast-t10 c = search needs
-
-cast-t11 : tie.Need-cast-t11
-cast-t11 c = search needs
+record-words-requires-2 : tie.Need-record-words-requires-2
+record-words-requires-2 c κs = search needs
 
 enum-known-x-3 : tie.Need-enum-known-x-3
 enum-known-x-3 c = search needs
@@ -64,10 +59,10 @@ returns : tie.Need-returns
 returns c = c .one .ensures ∙ rw (c .before .enum-told .given .1)
 
 returns-2 : tie.Need-returns-2
-returns-2 c = rw (c .before .before .before .x .given .1)
+returns-2 c = c .record-words .ensures ∙ rw (c .before .before .x .given .1)
 
 returns-3 : tie.Need-returns-3
-returns-3 c = rw (c .before .before .before .x2 .given .1)
+returns-3 c = c .record-words2 .ensures ∙ rw (c .before .before .x2 .given .1)
 
 returns-4 : tie.Need-returns-4
 returns-4 c = rw (c .before .x3 .given .1)
@@ -91,11 +86,9 @@ words-of-spec =
     enum-told
     one-requires
     enum-known-x
-    cast-t8
-    cast-t9
+    record-words-requires
     enum-known-x-2
-    cast-t10
-    cast-t11
+    record-words-requires-2
     enum-known-x-3
     enum-known-x-4
     complement-requires

@@ -10,7 +10,7 @@ use Rattle.scheduler.proofs.look.Reads as look-reads
 use Rattle.zenfrosta.proofs.tell.Reads as tell-reads
 
 returns : tie.Need-returns
-returns c = record { short = λ _. (refl, tt, refl); told = λ h. absurd (omega (arith, c .if1 .taken)) }
+returns c = record { short = λ _. (refl, refl, refl); told = λ h. absurd (omega (arith, c .if1 .taken)) }
 
 look-requires : tie.Need-look-requires
 look-requires c κs = search needs

@@ -1,6 +1,7 @@
 -- `zf_make` meets its contract. Assumes nothing.
 use mathlib.Core.Path.{refl, _∙_}
 use native.Mathlib.Omega.{arith}
+use Rattle.zenfrosta.proofs.Spoken.{told-as}
 use borrow.Author.Needs.{needs}
 use Rattle.zenfrosta.proofs.zf_make.Statement.{statement}
 use Rattle.zenfrosta.proofs.zf_make.Tie as tie
@@ -8,7 +9,6 @@ use Rattle.zenfrosta.proofs.zf_make.Reads as reads
 use Rattle.zenfrosta.proofs.zf_make.Lts as lts
 use Rattle.scheduler.proofs.make.Reads as make-reads
 use Rattle.lines.proofs.number.Reads as number-reads
-use Rattle.zenfrosta.proofs.one.Reads as one-reads
 use Rattle.zenfrosta.proofs.refusal_words.Reads as refusal-words-reads
 use Rattle.zenfrosta.proofs.speak.Reads as speak-reads
 
@@ -20,9 +20,6 @@ make-requires c κs = search needs
 
 enum-known-n : tie.Need-enum-known-n
 enum-known-n c = search needs
-
-one-requires : tie.Need-one-requires
-one-requires c κs = search needs
 
 speak-requires : tie.Need-speak-requires
 speak-requires c κs = search needs
@@ -47,11 +44,11 @@ same-length-2 c = search needs
 
 returns-2 : tie.Need-returns-2
 returns-2 c =
-    let m = c .before .before .before .before .before .before .before .before .before .before .make in
-    let e = c .before .before .before .before .before .before .n .given .1 in
+    let m = c .before .before .before .before .before .before .before .before .before .make in
+    let e = c .before .before .before .before .before .n .given .1 in
     record {
-      short = λ h. absurd (omega (arith, c .before .before .before .before .before .before .before .before .before .before .before .before .if1 .left));
-      told = λ _. (m .result, m .ensures, rw e, c .before .before .speak .ensures ∙ rw (c .before .before .before .one .ensures, e));
+      short = λ h. absurd (omega (arith, c .before .before .before .before .before .before .before .before .before .before .before .if1 .left));
+      told = λ _. (m .result, m .ensures, rw e, told-as _ _ _ _ (rw e) (c .before .before .speak .ensures));
     }
 
 same-length-3 : tie.Need-same-length-3
@@ -66,7 +63,7 @@ returns-3 c =
     let e = c .before .before .before .before .before .before .before .x .given .1 in
     record {
       short = λ h. absurd (omega (arith, c .before .before .before .before .before .before .before .before .before .before .before .before .before .if1 .left));
-      told = λ _. (m .result, m .ensures, c .number .ensures .0 ∙ rw e, c .before .before .before .speak2 .ensures ∙ rw (c .before .before .before .before .refusal-words .ensures, e));
+      told = λ _. (m .result, m .ensures, c .number .ensures .0 ∙ rw e, told-as _ _ _ _ (c .before .before .before .before .before .refusal-words .ensures ∙ rw e) (c .before .before .before .speak2 .ensures));
     }
 
 pub zf-make-spec : {M : Type 1} → statement M
@@ -76,7 +73,6 @@ zf-make-spec =
     returns
     make-requires
     enum-known-n
-    one-requires
     speak-requires
     enum-known-x
     refusal-words-requires

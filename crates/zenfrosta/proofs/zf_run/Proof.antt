@@ -1,6 +1,7 @@
 -- `zf_run` meets its contract. Assumes nothing.
-use mathlib.Core.Path.{refl, _∙_}
+use mathlib.Core.Path.{refl}
 use native.Mathlib.Omega.{arith}
+use Rattle.zenfrosta.proofs.Spoken.{told-as}
 use borrow.Author.Needs.{needs}
 use Rattle.zenfrosta.proofs.zf_run.Statement.{statement}
 use Rattle.zenfrosta.proofs.zf_run.Tie as tie
@@ -40,7 +41,7 @@ returns-2 c =
     let m = c .before .before .before .before .before .before .before .before .before .before .run in
     record {
       short = λ h. absurd (omega (arith, c .before .before .before .before .before .before .before .before .before .before .before .before .before .if1 .left));
-      told = λ _. (m .result, m .ensures, c .stop-code .ensures, c .before .before .before .speak .ensures ∙ rw (c .before .before .before .before .run-words .ensures));
+      told = λ _. (m .result, m .ensures, c .stop-code .ensures, told-as _ _ _ _ (c .before .before .before .before .before .run-words .ensures) (c .before .before .before .speak .ensures));
     }
 
 pub zf-run-spec : {M : Type 1} → statement M

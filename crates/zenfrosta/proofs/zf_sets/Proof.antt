@@ -10,7 +10,7 @@ use Rattle.scheduler.proofs.sets.Reads as sets-reads
 use Rattle.zenfrosta.proofs.tell.Reads as tell-reads
 
 returns : tie.Need-returns
-returns c = record { short = λ _. (refl, tt, refl); told = λ h. absurd (omega (arith, c .if1 .taken)) }
+returns c = record { short = λ _. (refl, refl, refl); told = λ h. absurd (omega (arith, c .if1 .taken)) }
 
 sets-requires : tie.Need-sets-requires
 sets-requires c κs = search needs

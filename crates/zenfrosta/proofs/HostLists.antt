@@ -1,0 +1,43 @@
+-- A list of exported calls is a list of public calls, as the host hears it. Assumes nothing.
+use Prim.Native.Nat.{ℕ, _*_, _≤_, _<_}
+use native.Mathlib.Omega.{arith}
+use mathlib.Core.Path.{_≡_, refl, sym, ap, subst, _∙_}
+use mathlib.Core.Logic.{_⊎_, inl, inr, ⊎-elim}
+use mathlib.Core.List.{List, [], _∷_, _++_}
+use lib.ListN.{length}
+use Rattle.words.proofs.Runs.{le-or-lt}
+use Rattle.rules.specs.State.{Setting}
+use Rattle.rules.specs.Calls.{Call, Reply}
+use Rattle.rules.specs.Reads.{reads}
+use Rattle.rules.specs.Runs.{Event}
+use Rattle.table.specs.Means.{meant}
+use Rattle.good.proofs.Encodes.{good-encodes}
+use Rattle.scheduler.specs.Chain.{Chain, done, then, Led}
+use Rattle.scheduler.specs.Demands.{EveryList}
+use Rattle.scheduler.proofs.Chains.{led-good, led-on}
+use Rattle.scheduler.proofs.Demands.{every-list}
+use Rattle.zenfrosta.specs.Crossing.{code, values, wordsIn}
+use Rattle.zenfrosta.specs.declared.Four.{Four}
+use Rattle.zenfrosta.specs.Heard.{heard, Crossed, nothing, short, whole, HostLists}
+use Rattle.zenfrosta.proofs.Heard.{heard-back}
+
+host-chain : (gs : List Setting) (first : List Event) {t u : List ℕ} {es : List Event} → Led gs first t → Crossed t es u → Chain t es u
+host-chain gs first l nothing = done
+host-chain gs first l (short {t} {u} {v} {es = es} h x more) =
+    let same = x .short h .1 in
+    subst (λ (b : List ℕ). Chain b es v) same (host-chain gs first (subst (Led gs first) (sym same) l) more)
+host-chain gs first l (whole {t} {u} {v} {out} {out′} {c} {r} {es} h x more) =
+    let told = x .told h in
+    let step-is = told .1 in
+    let g = led-good gs first t l in
+    let reply : reads (told .0) ≡ _ = step-is .reply g (meant t) (good-encodes t g) in
+    let back : heard c (code (reads (told .0))) (values (reads (told .0))) ≡ reads (told .0)
+    = subst (λ (y : Reply). heard c (code y) (values y) ≡ y) (sym reply) (heard-back (meant t) (g .good) c) in
+    let hears : heard c r (wordsIn out′) ≡ reads (told .0)
+    = ap (λ (n : ℕ). heard c n (wordsIn out′)) (told .2) ∙ ap (heard c (code (reads (told .0)))) (told .3 .read) ∙ back in
+    let rest = host-chain gs (first ++ record { call = c; reply = reads (told .0) } ∷ []) (led-on gs first (record { call = c; reply = reads (told .0) } ∷ []) t u l (then step-is done)) more in
+    subst (λ (y : Reply). Chain t (record { call = c; reply = y } ∷ es) v) (sym hears) (then step-is rest)
+
+pub host-lists : HostLists
+unfolding HostLists EveryList
+host-lists gs first calls t u l x = let ch = host-chain gs first l x in (ch, every-list gs first calls t u l ch)

@@ -1,0 +1,71 @@
+-- A table that zf_make told as made begins a list. Assumes nothing.
+use Prim.Native.Nat.{ℕ, _*_, _≤_, _<_}
+use native.Mathlib.Omega.{arith}
+use mathlib.Core.Path.{_≡_, refl, sym, ap, subst, _∙_}
+use mathlib.Core.Logic.{_⊎_, inl, inr}
+use mathlib.Core.List.{List}
+use lib.ListN.{length}
+use Rattle.words.proofs.Runs.{le-or-lt}
+use Rattle.rules.specs.Reads.{number}
+use Rattle.rules.specs.declared.Refusal.{Refusal}
+use Rattle.rules.specs.declared.Refusal.the-variants.{Cut, UnknownTag, WrongLength, OutOfOrder, OutsideNumbers, WeightsOver, TableShort, NotGood, NoLane, BadLength, LaneFull, ClockSpent, StillHolds, NothingHeld, RunBounds, InputLong}
+use Rattle.plan.specs.Read as plan
+use Rattle.plan.specs.Read.{readSetup}
+use Rattle.table.specs.Layout.{WORDS}
+use Rattle.scheduler.specs.Make as making
+use Rattle.scheduler.specs.Make.{MakeStep}
+use Rattle.scheduler.specs.declared.Making.{Making}
+use Rattle.scheduler.specs.declared.Making.the-variants.{Made, Refused}
+use Rattle.scheduler.proofs.Begins.{by-make}
+use Rattle.zenfrosta.specs.Crossing.{makeCode, makeValues, Spoken, CrossesMaking}
+use Rattle.zenfrosta.specs.declared.Four.{Four}
+use Rattle.zenfrosta.specs.Heard.{Begun, HostMakes}
+
+-- no refusal has the number 0
+number-not-0 : (x : Refusal) → number x ≡ 0 → ⊥
+number-not-0 (Cut p) e = omega arith
+number-not-0 (UnknownTag p) e = omega arith
+number-not-0 (WrongLength p) e = omega arith
+number-not-0 (OutOfOrder p) e = omega arith
+number-not-0 (OutsideNumbers p) e = omega arith
+number-not-0 (WeightsOver p) e = omega arith
+number-not-0 TableShort e = omega arith
+number-not-0 NotGood e = omega arith
+number-not-0 NoLane e = omega arith
+number-not-0 BadLength e = omega arith
+number-not-0 LaneFull e = omega arith
+number-not-0 ClockSpent e = omega arith
+number-not-0 StillHolds e = omega arith
+number-not-0 NothingHeld e = omega arith
+number-not-0 RunBounds e = omega arith
+number-not-0 InputLong e = omega arith
+
+module _ (setup before t out out′ : List ℕ) (n : ℕ) (m : MakeStep setup before (Made n) t) (w : Spoken out (makeValues (making.made n)) out′) where
+  by-plan : WORDS * 8 ≤ length before → (y : plan.Reply) → readSetup setup ≡ y → making.Follows y before (Made n) t → Begun setup t out′
+  by-plan h (plan.refused k p) e f = let is = f .0 in let z : _≡_ {A = ℕ} 0 1 = cc in absurd (omega arith)
+  by-plan h (plan.read gs k at) e f =
+      let is = f .0 in
+      let lanes : k ≡ n = cc in
+      let told : n ≡ _ = sym (ap (λ (x : Four). x .a) (w .read)) in
+      record {
+        settings = gs;
+        at = at;
+        reads-it = e ∙ ap (λ (x : ℕ). plan.read gs x at) (lanes ∙ told);
+        led = by-make gs t (record { setup = setup; before = before; answer = Made n; lanes = k; at = at; reads-it = e; room = h; makes = m });
+      }
+
+  by-room : (WORDS * 8 ≤ length before) ⊎ (length before < WORDS * 8) → Begun setup t out′
+  by-room (inl h) = by-plan h (readSetup setup) refl (m .follows h)
+  by-room (inr h) = let is = m .short h .0 in let z : _≡_ {A = ℕ} 0 1 = cc in absurd (omega arith)
+
+pub host-makes : HostMakes
+unfolding HostMakes
+host-makes setup before t out out′ r x zero = go (le-or-lt 32 (length out))
+  where
+    made : (a : Making) → MakeStep setup before a t → r ≡ makeCode (making.reads a) → Spoken out (makeValues (making.reads a)) out′ → Begun setup t out′
+    made (Made n) m c w = by-room setup before t out out′ n m w (le-or-lt (WORDS * 8) (length before))
+    made (Refused y) m c w = absurd (number-not-0 y (sym c ∙ zero))
+
+    go : (32 ≤ length out) ⊎ (length out < 32) → Begun setup t out′
+    go (inl h) = let told = x .told h in made (told .0) (told .1) (told .2) (told .3)
+    go (inr h) = let short = x .short h .0 in absurd (omega (arith, short, zero))
