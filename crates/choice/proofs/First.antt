@@ -19,7 +19,8 @@ use Rattle.rules.proofs.Bools.{and-parts, not-passed}
 use Rattle.rules.proofs.Lowest.{LowOf}
 use Rattle.rules.proofs.Word.{word-lt}
 use Rattle.rules.proofs.GroupRule.{in-group, group-low}
-use Rattle.rules.proofs.BySets.{standsAt, firstIn, laneOfGroup, chooseBySets, laneOf, group-small, same-choice}
+use Rattle.rules.specs.BySets.{standsAt, firstIn, laneOfGroup, chooseBySets, laneOf}
+use Rattle.rules.proofs.BySets.{group-small, same-choice}
 use Rattle.choice.specs.Known.{Stands}
 use Rattle.choice.specs.Starts.{never, noClock, readStart, AreStarts}
 use Rattle.choice.specs.declared.Placed.{Placed}

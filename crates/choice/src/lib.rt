@@ -1,7 +1,7 @@
 // Which lane is served next, found as QFQ finds it, on a table known to be good: document 01, "Take" and "Sets".
 //
 // Four steps: the groups' starts (`group_starts`: one pass over the holding lanes), the eligible-ready word from them (`set_words`), its first set bit
-// (`first_set`), and in that group the lane of least R that stands first in the tie order (`lane_at`). rules/proofs/BySets.antt: that is the plain choice.
+// (`first_set`), and in that group the lane of least R that stands first in the tie order (`lane_at`). rules/specs/BySets.antt, `SameChoice`: that is the plain choice.
 //
 // Units: starts and finishes are `Clock`; bit i of a word stands for group i.
 ghost use mathlib.Core.Path.{_≡_};
@@ -12,7 +12,7 @@ ghost use lib.Dec.{eqb};
 ghost use lib.Count.{trailingZeros};
 ghost use Rattle.rules.specs.State.{laneAt, holds};
 ghost use Rattle.rules.specs.Choice.{choose, leastOf};
-ghost use Rattle.rules.proofs.BySets.{laneOf, laneOfGroup};
+ghost use Rattle.rules.specs.BySets.{laneOf, laneOfGroup};
 ghost use Rattle.table.specs.Means.{meant};
 ghost use Rattle.choice.specs.Known.{Known, Steady, Stands, leastIs, choiceIs};
 ghost use Rattle.choice.specs.Starts.{AreStarts, sortedInto, swept, Fits, AreWords};

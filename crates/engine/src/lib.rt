@@ -15,7 +15,7 @@ ghost use Rattle.rules.specs.Choice.{choose};
 ghost use Rattle.rules.specs.Calls as Calls;
 ghost use Rattle.rules.specs.Calls.{accept, putRefusal, settled};
 ghost use Rattle.rules.proofs.Keep.{Allowed};
-ghost use Rattle.rules.proofs.BySets.{laneOf};
+ghost use Rattle.rules.specs.BySets.{laneOf};
 ghost use Rattle.table.specs.Means.{meant, Sound, Leaves, withClock, withOrder};
 ghost use Rattle.queue.specs.Queue.{waiting};
 ghost use Rattle.choice.specs.Known.{Known, Steady};

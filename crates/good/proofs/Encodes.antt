@@ -7,6 +7,7 @@ use Rattle.alike.proofs.Alike.{alike-refl, alike-sym, alike-good}
 use Rattle.table.specs.Means.{meant, Sound}
 use Rattle.table.specs.Encodes.{Encodes}
 use Rattle.table.proofs.Few.{few-good}
+use Rattle.good.specs.Encodes.{GoodEncodes, EncodesGood}
 use Rattle.good.specs.Table.{GoodTable}
 
 pub good-encodes : (t : List ℕ) → GoodTable t → Encodes t (meant t)
@@ -14,6 +15,14 @@ good-encodes t g = record { room = g .room; alike = alike-refl (meant t); beside
 
 pub encodes-good : (t : List ℕ) (s : State) → Encodes t s → Good s → GoodTable t
 encodes-good t s e g = record { room = e .room; good = alike-good s (meant t) (alike-sym (meant t) s (e .alike)) g; beside = e .beside }
+
+pub tables-encode : GoodEncodes
+unfolding GoodEncodes
+tables-encode = good-encodes
+
+pub tables-good : EncodesGood
+unfolding EncodesGood
+tables-good = encodes-good
 
 -- what the inner functions rest on
 pub good-sound : (t : List ℕ) → GoodTable t → Sound t

@@ -1,2 +1,3 @@
 pub mod Pass
 pub mod Table
+pub mod Encodes

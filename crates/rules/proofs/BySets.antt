@@ -14,6 +14,8 @@ use Rattle.rules.specs.State.{Setting, Lane, State, group, slot, startR,
 use Rattle.rules.specs.Choice.{Candidate, choose}
 use Rattle.rules.specs.Sets.{groups, inGroup, groupStart, finishFrom, groupFinish, firstGroup, SetsRule}
 use Rattle.rules.specs.Good.{Good}
+pub use Rattle.rules.specs.BySets.{standsAt, firstIn, laneOfGroup, chooseBySets, laneOf}
+use Rattle.rules.specs.BySets.{SameChoice}
 use Rattle.rules.proofs.Bools.{and-parts, and-made}
 use Rattle.rules.proofs.Lane.{group-most}
 use Rattle.rules.proofs.Lowest.{LowOf}
@@ -22,28 +24,6 @@ use Rattle.rules.proofs.Keep.{eligible-is, is-eligible}
 use Rattle.rules.proofs.SameSetup.{setting-lane}
 use Rattle.rules.proofs.Figures.{longest-most, framing-most}
 use Rattle.rules.proofs.GroupRule.{in-group, is-in-group, group-low, never-fall, chosen-finish, first-bit-group, parted}
-
--- ---- the choice through the sets
-
--- the lane is of group i and has the rounded start r
-unfoldable pub standsAt : ℕ → ℕ → Lane → Bool
-standsAt i r l = inGroup i l && eqb (startR l) r
-
-unfoldable pub firstIn : (ℕ → Bool) → List ℕ → Option ℕ
-firstIn p [] = none
-firstIn p (k ∷ ks) = if p k then some k else firstIn p ks
-
-unfoldable pub laneOfGroup : State → ℕ → Option ℕ → Option ℕ
-laneOfGroup s i none = none
-laneOfGroup s i (some r) = firstIn (λ k. standsAt i r (laneAt s k)) (s .order)
-
-unfoldable pub chooseBySets : State → Option ℕ
-chooseBySets s = laneOfGroup s (firstGroup s) (groupStart (s .lanes) (firstGroup s))
-
--- the lane that is chosen, if one is
-abbrev pub laneOf : Option Candidate → Option ℕ
-laneOf none = none
-laneOf (some c) = some (c .lane)
 
 -- ---- the first in a list of a test: the one of least place
 
@@ -179,3 +159,7 @@ module _ (s : State) (good : Good s) where
   pub same-choice : chooseBySets s ≡ laneOf (choose s)
   unfolding choose
   same-choice = by-sets (choose s) (chosen (s .clock) (s .order) 0 (s .lanes))
+
+pub the-same-choice : SameChoice
+unfolding SameChoice
+the-same-choice s good = same-choice s good

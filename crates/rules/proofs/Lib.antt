@@ -32,3 +32,4 @@ pub mod Local
 pub mod Drain
 pub mod Refused
 pub mod Ranges
+pub mod Kept

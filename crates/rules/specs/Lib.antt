@@ -12,3 +12,5 @@ pub mod Lowest
 pub mod Refusals
 pub mod Ranges
 pub mod Examples
+pub mod BySets
+pub mod Kept

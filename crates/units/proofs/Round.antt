@@ -4,6 +4,7 @@ use native.Mathlib.Nat.{le-trans, mul-le-mul-right, div-add-mod', mod-lt, mod-le
 use native.Mathlib.Omega.{arith}
 use mathlib.Core.Path.{_≡_}
 use Rattle.units.specs.Numbers.{roundDown}
+use Rattle.units.specs.Rules.{RoundRule}
 
 pub round-le : (s x : ℕ) → roundDown s x ≤ x
 unfolding roundDown
@@ -25,3 +26,7 @@ round-mono s x y p h =
 -- s divides R
 pub round-mod : (s x : ℕ) → roundDown s x % s ≡ 0
 round-mod s x = rw (round-div, mul-mod-left)
+
+pub round-rule : RoundRule
+unfolding RoundRule
+round-rule s x h = (round-le s x, lt-round-slot s x h, round-mod s x, λ y l. round-mono s x y h l)

@@ -2,11 +2,12 @@
 --
 --   RateRule    c w is 2 ^ 20 or more and below 2 ^ 20 + w, and no other number is such: c is the quotient, rounded up
 --   PowerRule   the definition by search is the least power, and there is one least only
+--   RoundRule   R ≤ S < R + s, s divides R, and a later S has no smaller R
 --
 -- Assumes nothing.
-use Prim.Native.Nat.{ℕ, _+_, _*_, _^_, _≤_, _<_}
+use Prim.Native.Nat.{ℕ, _+_, _*_, _%_, _^_, _≤_, _<_}
 use mathlib.Core.Path.{_≡_}
-use Rattle.units.specs.Numbers.{perByte, leastPower, Least}
+use Rattle.units.specs.Numbers.{perByte, leastPower, Least, roundDown}
 
 pub record IsRate (w c : ℕ) : Type 0 where
   pub enough : 2 ^ 20 ≤ c * w
@@ -17,3 +18,7 @@ RateRule = (w : ℕ) → 0 < w → IsRate w (perByte w) × ((c : ℕ) → IsRate
 
 unfoldable pub PowerRule : Type 0
 PowerRule = (n : ℕ) → Least n (leastPower n) × ((i : ℕ) → Least n i → i ≡ leastPower n)
+
+unfoldable pub RoundRule : Type 0
+RoundRule = (s x : ℕ) → 0 < s
+    → (roundDown s x ≤ x) × (x < roundDown s x + s) × (roundDown s x % s ≡ 0) × ((y : ℕ) → x ≤ y → roundDown s x ≤ roundDown s y)

@@ -9,7 +9,7 @@ use native.Mathlib.Omega.{arith}
 use lib.ListN.{length, drop, getD}
 use Rattle.units.specs.declared.Clock.{Clock}
 use Rattle.rules.specs.State.{laneAt}
-use Rattle.rules.proofs.BySets.{standsAt, firstIn, laneOfGroup}
+use Rattle.rules.specs.BySets.{standsAt, firstIn, laneOfGroup}
 use Rattle.table.specs.Means.{meant}
 use Rattle.choice.specs.Known.{Stands}
 use Rattle.choice.proofs.Held.{order-lane, known-steady, turn-lane}
