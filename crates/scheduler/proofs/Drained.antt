@@ -2,7 +2,7 @@
 use Prim.Native.Nat.{ℕ, zero, suc}
 use native.Mathlib.Omega.{arith}
 use mathlib.Core.Path.{_≡_, refl, sym, ap, subst, _∙_}
-use mathlib.Core.Bool.{true, false, false≢true}
+use mathlib.Core.Bool.{false, false≢true}
 use mathlib.Core.List.{List, [], _∷_, _++_}
 use mathlib.Core.Option.{Option, none, some}
 use lib.ListN.{replicate}
@@ -16,8 +16,8 @@ use Rattle.rules.proofs.Live.{holds-some}
 use Rattle.rules.proofs.Drain.{heldBy, take-one, drained}
 use Rattle.rules.proofs.AlwaysGood.{Reached, step-reached, reached}
 use Rattle.table.specs.Encodes.{Encodes}
-use Rattle.scheduler.specs.Chain.{Chain, callsOf, Led}
-use Rattle.scheduler.specs.Drained.{HandsOut, heldIn, Emptied, Drained}
+use Rattle.scheduler.specs.Chain.{callsOf, Led}
+use Rattle.scheduler.specs.Drained.{HandsOut, heldIn, Drained}
 use Rattle.scheduler.proofs.Chains.{ran, led-reached, led-ran}
 
 -- each of as many takes as records are held hands one out

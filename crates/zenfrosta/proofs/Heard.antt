@@ -15,7 +15,6 @@ use Rattle.rules.specs.State.{Rec, State, clockSpent, laneAt}
 use Rattle.rules.specs.Setup.{margin}
 use Rattle.rules.specs.Good.{Good}
 use Rattle.rules.specs.Calls.{Call, put, take, look, sets, lag, restart, Reply, lagged, restarted, no, Pick, picked, putRefusal, putOf, doPut, takeOf, doTake, lookOf, doLook, doSets, lagOf, doLag, doRestart, fresh, step}
-use Rattle.rules.specs.State.{setupOf, anyHolds}
 use Rattle.engine.specs.LagRange.{Between}
 use Rattle.rules.proofs.Figures.{framing-at}
 use Rattle.engine.proofs.LagRange.{lag-range}
@@ -67,9 +66,6 @@ module _ (s : State) where
   unfolding step doLag heard
   heard-lag j g = go (ltb (laneAt s j .given .weight) 1)
     where
-      z : ℤ
-      z = lagOf (s .clock) (laneAt s j)
-
       go : (b : Bool) → Heard (lag j) ((if b then no 11 s else record { reply = lagged (lagOf (s .clock) (laneAt s j)); state = s }) .reply)
       go true = refl
       go false = ap lagged (toZ-ofZ w64 (lagOf (s .clock) (laneAt s j)) (lag-fits (laneAt s j .given .framing) (lagOf (s .clock) (laneAt s j)) (framing-at s (g .setup) j) (lag-range s g j .ends)))

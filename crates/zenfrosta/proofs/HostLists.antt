@@ -1,13 +1,9 @@
 -- A list of exported calls is a list of public calls, as the host hears it. Assumes nothing.
-use Prim.Native.Nat.{ℕ, _*_, _≤_, _<_}
-use native.Mathlib.Omega.{arith}
-use mathlib.Core.Path.{_≡_, refl, sym, ap, subst, _∙_}
-use mathlib.Core.Logic.{_⊎_, inl, inr, ⊎-elim}
+use Prim.Native.Nat.{ℕ}
+use mathlib.Core.Path.{_≡_, sym, ap, subst, _∙_}
 use mathlib.Core.List.{List, [], _∷_, _++_}
-use lib.ListN.{length}
-use Rattle.words.proofs.Runs.{le-or-lt}
 use Rattle.rules.specs.State.{Setting}
-use Rattle.rules.specs.Calls.{Call, Reply}
+use Rattle.rules.specs.Calls.{Reply}
 use Rattle.rules.specs.Reads.{reads}
 use Rattle.rules.specs.Runs.{Event}
 use Rattle.table.specs.Means.{meant}
@@ -17,7 +13,6 @@ use Rattle.scheduler.specs.Demands.{EveryList}
 use Rattle.scheduler.proofs.Chains.{led-good, led-on}
 use Rattle.scheduler.proofs.Demands.{every-list}
 use Rattle.zenfrosta.specs.Crossing.{code, values, wordsIn}
-use Rattle.zenfrosta.specs.declared.Four.{Four}
 use Rattle.zenfrosta.specs.Heard.{heard, Crossed, nothing, short, whole, HostLists}
 use Rattle.zenfrosta.proofs.Heard.{heard-back}
 

@@ -1,7 +1,7 @@
 -- A table that zf_make told as made begins a list. Assumes nothing.
 use Prim.Native.Nat.{ℕ, _*_, _≤_, _<_}
 use native.Mathlib.Omega.{arith}
-use mathlib.Core.Path.{_≡_, refl, sym, ap, subst, _∙_}
+use mathlib.Core.Path.{_≡_, refl, sym, ap, _∙_}
 use mathlib.Core.Logic.{_⊎_, inl, inr}
 use mathlib.Core.List.{List}
 use lib.ListN.{length}
@@ -17,7 +17,7 @@ use Rattle.scheduler.specs.Make.{MakeStep}
 use Rattle.scheduler.specs.declared.Making.{Making}
 use Rattle.scheduler.specs.declared.Making.the-variants.{Made, Refused}
 use Rattle.scheduler.proofs.Begins.{by-make}
-use Rattle.zenfrosta.specs.Crossing.{makeCode, makeValues, Spoken, CrossesMaking}
+use Rattle.zenfrosta.specs.Crossing.{makeCode, makeValues, Spoken}
 use Rattle.zenfrosta.specs.declared.Four.{Four}
 use Rattle.zenfrosta.specs.Heard.{Begun, HostMakes}
 

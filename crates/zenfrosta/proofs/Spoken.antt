@@ -1,5 +1,5 @@
 -- A host reads the words that were told. Assumes nothing.
-use Prim.Native.Nat.{ℕ, _*_, _+_, _^_, _≤_, _<_}
+use Prim.Native.Nat.{ℕ, _^_, _≤_, _<_}
 use native.Mathlib.Omega.{arith}
 use mathlib.Core.Path.{_≡_, subst, _∙_}
 use mathlib.Core.List.{List}

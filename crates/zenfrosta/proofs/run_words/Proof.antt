@@ -1,6 +1,6 @@
 -- `run_words` meets its contract. Assumes nothing.
 use Prim.Native.Nat.{ℕ}
-use mathlib.Core.Path.{_≡_, refl, sym, ap, _∙_}
+use mathlib.Core.Path.{_≡_, sym, ap, _∙_}
 use mathlib.Core.Option.{Option}
 use Rattle.rules.specs.Reads.{number, placeOf}
 use Rattle.rules.specs.declared.Refusal.{Refusal}
@@ -9,7 +9,6 @@ use Rattle.walk.specs.Script.{refusal}
 use Rattle.walk.specs.declared.Stop.the-variants.{Refused}
 use Rattle.walk.specs.declared.RunResult.{RunResult}
 use Rattle.zenfrosta.specs.Crossing.{four, stopKind, stopPlace, runValues}
-use Rattle.zenfrosta.specs.declared.Four.{Four}
 use borrow.Author.Needs.{needs}
 use Rattle.zenfrosta.proofs.run_words.Statement.{statement}
 use Rattle.zenfrosta.proofs.run_words.Tie as tie
