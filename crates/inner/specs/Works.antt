@@ -38,7 +38,7 @@ unfoldable pub worked : List ℕ → State → ℕ → State
 worked calls s zero = s
 worked calls s (suc n) = (step (worked calls s n) (callAt calls (n * CALL))) .state
 
--- The table means the state, and the bytes past it are as they were.
+-- The table means the state, what is stored beside it agrees, and the bytes past it are as they were.
 pub record Leads (before after : List ℕ) (s : State) : Type 0 where
   pub state : meant after ≡ s
   pub beside : Beside (cells after)
