@@ -107,7 +107,7 @@ module _ (gs : List Setting) (es : List Event) (u : List ℕ) (l : Led gs es u) 
 
   never-ten : NeverTen es u
   unfolding NeverTen
-  never-ten = (led-good gs es u l, λ past rest e q ten. subst NotTen ten (trace-not-ten (fresh gs) (callsOf es) past rest e (l .answers ∙ q)) refl)
+  never-ten = (led-good gs es u l, λ past rest e p q ten. subst NotTen ten (trace-not-ten (fresh gs) (callsOf es) past rest e (l .answers ∙ q)) refl)
 
   order-kept : OrderKept es u
   unfolding OrderKept InOrder

@@ -17,7 +17,7 @@ use Prim.Native.Nat.{ℕ, _+_, _*_, _<_}
 use mathlib.Core.Path.{_≡_}
 use mathlib.Core.Logic.{_⊎_}
 use mathlib.Core.List.{List, _∷_, _++_}
-use mathlib.Core.Option.{none}
+use mathlib.Core.Option.{Option, none}
 use Rattle.units.specs.Numbers.{lineRate}
 use Rattle.waiting.specs.Waiting.{queueOf}
 use Rattle.rules.specs.State.{Setting, settingAt, State, rate, slot, laneAt, setupOf}
@@ -47,7 +47,7 @@ FairCalls gs es =
     < rate (settingAt (inForce gs past) k) * bytesSentOf (inForce gs past) k stretch + 4 * slot (settingAt (inForce gs past) k) + margin (framingOf (inForce gs past))
 
 unfoldable pub NeverTen : List Event → List ℕ → Type 0
-NeverTen es u = GoodTable u × ((past rest : List Event) (e : Event) → es ≡ past ++ e ∷ rest → e .reply ≡ refused 10 none → ⊥)
+NeverTen es u = GoodTable u × ((past rest : List Event) (e : Event) (p : Option ℕ) → es ≡ past ++ e ∷ rest → e .reply ≡ refused 10 p → ⊥)
 
 unfoldable pub OrderKept : List Event → List ℕ → Type 0
 OrderKept es u = (s : State) → Encodes u s → (k : ℕ) → acceptedOf k es ≡ sentOf k es ++ queueOf (laneAt s k .waiting) 0
