@@ -1,5 +1,5 @@
 -- What a host hears of a call on a good table is what the call answered. Assumes nothing.
-use Prim.Native.Nat.{ℕ, _+_, _^_, _≤_, _<_}
+use Prim.Native.Nat.{ℕ, _+_, _^_, _≤_}
 use native.Mathlib.Omega.{arith}
 use mathlib.Core.Path.{_≡_, refl, ap}
 use mathlib.Core.Bool.{Bool, true, false, _||_}
@@ -11,7 +11,7 @@ use mir.Val.{SFits}
 use mir.ValLaws.{toZ-ofZ}
 use Rattle.units.specs.Plain.{if_then_else_}
 use Rattle.waiting.specs.Waiting.{full}
-use Rattle.rules.specs.State.{Rec, State, clockSpent, laneAt}
+use Rattle.rules.specs.State.{Rec, State, clockSpent, laneAt, setupOf, anyHolds}
 use Rattle.rules.specs.Setup.{margin}
 use Rattle.rules.specs.Good.{Good}
 use Rattle.rules.specs.Calls.{Call, put, take, look, sets, lag, restart, Reply, lagged, restarted, no, Pick, picked, putRefusal, putOf, doPut, takeOf, doTake, lookOf, doLook, doSets, lagOf, doLag, doRestart, fresh, step}
