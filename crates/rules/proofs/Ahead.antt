@@ -15,7 +15,7 @@ use Rattle.rules.proofs.Order.{in-order}
 use Rattle.rules.proofs.Runs.{Split, split}
 
 -- of one state
-put-says : (s : State) (j : ℕ) (r : Rec) (n : ℕ) (o : Option ℕ) → PutOk s j (r .len) o → (putOf s j r o) .reply ≡ accepted n → (n ≡ ahead s j) × (n < laneDepth)
+pub put-says : (s : State) (j : ℕ) (r : Rec) (n : ℕ) (o : Option ℕ) → PutOk s j (r .len) o → (putOf s j r o) .reply ≡ accepted n → (n ≡ ahead s j) × (n < laneDepth)
 unfolding putOf
 put-says s j r n none a e =
     let is : n ≡ ahead s j = cc in
