@@ -65,7 +65,8 @@ uint64_t zf_table_size(void);
 /* Makes the fresh table of a setup. out: the number of lanes. */
 uint64_t zf_make(const uint8_t *setup, size_t setup_length, uint8_t *table, size_t table_length, uint8_t *out, size_t out_length);
 
-/* Puts a record into a lane; the record is its mark, which the unit only carries, and its length in bytes. */
+/* Puts a record into a lane; the record is its mark, which the unit only carries, and its length in bytes. out: how many records the lane
+ * held before it, 0 to 15: so many of this lane go out first. */
 uint64_t zf_put(uint8_t *table, size_t table_length, uint8_t lane, uint32_t mark, uint64_t length, uint8_t *out, size_t out_length);
 
 /* Takes the next record off the table. out: its lane, mark and length. */

@@ -129,6 +129,9 @@ static uint64_t ask(enum call call, uint8_t lane, uint64_t length, size_t out_le
   if (result == ZF_DONE && (call == TAKE || call == LOOK)) {
     check(word(0) < 64 && word(1) <= UINT32_MAX && word(2) >= 1 && word(2) <= 1500 && word(3) == 0, "a record outside its numbers");
   }
+  if (result == ZF_DONE && call == PUT) {
+    check(word(0) < 16 && word(1) == 0 && word(2) == 0 && word(3) == 0, "a number ahead that no lane can hold");
+  }
   if (result == ZF_DONE && call == SETS) saw(16, word(0) >> 16 ^ word(1) ^ word(2) ^ word(3));
   return result;
 }

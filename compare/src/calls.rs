@@ -23,7 +23,8 @@ pub enum Call {
 /// "A put's answer, a taken record and a refusal are separate cases".
 #[derive(Clone, Copy, Debug, PartialEq, Eq)]
 pub enum Answer {
-    Put,
+    /// How many records the lane held before the put: those that go out before this one.
+    Put(u64),
     Taken(Taken),
     Looked(Taken),
     Sets([u64; 4]),
@@ -63,7 +64,7 @@ impl fmt::Display for Call {
 impl fmt::Display for Answer {
     fn fmt(&self, f: &mut fmt::Formatter) -> fmt::Result {
         match self {
-            Answer::Put => write!(f, "put ok"),
+            Answer::Put(ahead) => write!(f, "put ok {ahead}"),
             Answer::Taken(r) => write!(f, "take {} {} {}", r.lane, r.mark, r.length),
             Answer::Looked(r) => write!(f, "look {} {} {}", r.lane, r.mark, r.length),
             Answer::Sets([a, b, c, d]) => write!(f, "sets {a} {b} {c} {d}"),

@@ -119,9 +119,9 @@ impl Unit for Linked {
         }
     }
 
-    fn put(&mut self, table: &mut [u8], lane: u8, mark: u32, length: u64) -> Result<(), u8> {
+    fn put(&mut self, table: &mut [u8], lane: u8, mark: u32, length: u64) -> Result<u64, u8> {
         let (at, size) = (table.as_mut_ptr(), table.len());
-        plain(0, |out, len| unsafe { zf_put(at, size, lane, mark, length, out, len) }).map(|_| ())
+        plain(1, |out, len| unsafe { zf_put(at, size, lane, mark, length, out, len) }).map(|words| words[0])
     }
 
     fn take(&mut self, table: &mut [u8]) -> Result<Taken, u8> {

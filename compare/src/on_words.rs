@@ -139,7 +139,7 @@ impl Unit for OnWords {
         Ok(setup.lanes.len() as u64)
     }
 
-    fn put(&mut self, table: &mut [u8], lane: u8, mark: u32, length: u64) -> Result<(), u8> {
+    fn put(&mut self, table: &mut [u8], lane: u8, mark: u32, length: u64) -> Result<u64, u8> {
         self.change(table, |state| state.put(lane, mark, length))
     }
 

@@ -135,7 +135,8 @@ impl State {
         self.events
     }
 
-    pub fn put(&mut self, number: u8, mark: u32, length: u64) -> Result<(), u8> {
+    /// Answers how many records the lane held before (document 02, b).
+    pub fn put(&mut self, number: u8, mark: u32, length: u64) -> Result<u64, u8> {
         let at = self.place(number)?;
         let lane = &self.lanes[at];
         if length == 0 || length > u64::from(lane.plan.longest) {
@@ -147,7 +148,7 @@ impl State {
         if self.clock >= CLOCK_EDGE {
             return Err(refusal::CLOCK_SPENT);
         }
-        let was_idle = !lane.holds();
+        let (was_idle, ahead) = (!lane.holds(), lane.queue.len() as u64);
         let event = self.event();
         let lane = &mut self.lanes[at];
         lane.queue.push_back(Record { mark, length });
@@ -159,7 +160,7 @@ impl State {
         if self.holding().count() == 1 && self.clock < rounded_start {
             self.clock = rounded_start;
         }
-        Ok(())
+        Ok(ahead)
     }
 
     /// "choose among eligible lanes the least rounded finish; ties go to the lowest group, then to the lane that
@@ -240,7 +241,7 @@ impl State {
 
     pub fn answer(&mut self, call: Call) -> Answer {
         let answer = match call {
-            Call::Put { lane, mark, length } => self.put(lane, mark, length).map(|()| Answer::Put),
+            Call::Put { lane, mark, length } => self.put(lane, mark, length).map(Answer::Put),
             Call::Take => self.take().map(Answer::Taken),
             Call::Look => self.look().map(Answer::Looked),
             Call::Sets => Ok(Answer::Sets(self.sets())),

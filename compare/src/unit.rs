@@ -19,7 +19,8 @@ pub trait Unit {
     }
     /// The number of lanes, or a refusal 1 to 7 with its place.
     fn make(&mut self, setup: &[u8], table: &mut [u8]) -> Result<u64, Fault>;
-    fn put(&mut self, table: &mut [u8], lane: u8, mark: u32, length: u64) -> Result<(), u8>;
+    /// The number of records that the lane held before.
+    fn put(&mut self, table: &mut [u8], lane: u8, mark: u32, length: u64) -> Result<u64, u8>;
     fn take(&mut self, table: &mut [u8]) -> Result<Taken, u8>;
     fn look(&mut self, table: &mut [u8]) -> Result<Taken, u8>;
     fn sets(&mut self, table: &mut [u8]) -> Result<[u64; 4], u8>;
@@ -29,7 +30,7 @@ pub trait Unit {
 
     fn answer(&mut self, table: &mut [u8], call: Call) -> Answer {
         let answer = match call {
-            Call::Put { lane, mark, length } => self.put(table, lane, mark, length).map(|()| Answer::Put),
+            Call::Put { lane, mark, length } => self.put(table, lane, mark, length).map(Answer::Put),
             Call::Take => self.take(table).map(Answer::Taken),
             Call::Look => self.look(table).map(Answer::Looked),
             Call::Sets => self.sets(table).map(Answer::Sets),
@@ -78,7 +79,7 @@ impl Unit for Reference {
         Ok(setup.lanes.len() as u64)
     }
 
-    fn put(&mut self, table: &mut [u8], lane: u8, mark: u32, length: u64) -> Result<(), u8> {
+    fn put(&mut self, table: &mut [u8], lane: u8, mark: u32, length: u64) -> Result<u64, u8> {
         self.change(table, |state| state.put(lane, mark, length))
     }
 

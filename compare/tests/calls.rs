@@ -27,8 +27,8 @@ fn lengths() {
     for length in [0, 101, 65_535, 65_536, 65_636, 1 << 32, u64::MAX] {
         assert_eq!(state.put(2, 1, length), Err(12), "{length}");
     }
-    assert_eq!(state.put(2, 1, 1), Ok(()));
-    assert_eq!(state.put(2, 1, 100), Ok(()));
+    assert_eq!(state.put(2, 1, 1), Ok(0));
+    assert_eq!(state.put(2, 1, 100), Ok(1));
 }
 
 #[test]
@@ -39,7 +39,17 @@ fn a_full_lane() {
     }
     assert_eq!(state.put(0, 16, 50), Err(13));
     assert_eq!(state.put(0, 16, 101), Err(12), "12 before 13");
-    assert_eq!(state.put(1, 16, 50), Ok(()), "lanes share no room");
+    assert_eq!(state.put(1, 16, 50), Ok(0), "lanes share no room");
+}
+
+#[test]
+fn how_many_are_ahead() {
+    let mut state = fresh(&[(0, 512, 100), (1, 256, 100)]);
+    assert_eq!([state.put(0, 1, 50), state.put(1, 2, 50), state.put(0, 3, 50)], [Ok(0), Ok(0), Ok(1)]);
+    assert_eq!([state.put(0, 4, 101), state.put(2, 4, 50)], [Err(12), Err(11)], "a refused put tells none");
+    assert_eq!(state.put(0, 4, 50), Ok(2));
+    while state.take().unwrap().lane != 0 {}
+    assert_eq!(state.put(0, 5, 50), Ok(2), "one of three has gone out");
 }
 
 #[test]
@@ -47,7 +57,7 @@ fn the_clocks_edge() {
     let mut state = fresh(&[(0, 512, 1500), (1, 256, 1500)]);
     state.put(0, 1, 100).unwrap();
     state.clock = (1 << 62) - 1;
-    assert_eq!(state.put(0, 2, 100), Ok(()));
+    assert_eq!(state.put(0, 2, 100), Ok(1));
     state.clock = 1 << 62;
     assert_eq!(state.put(0, 3, 100), Err(14), "on a lane that holds records too");
     assert_eq!(state.put(1, 3, 100), Err(14));
@@ -56,7 +66,7 @@ fn the_clocks_edge() {
     assert_eq!(state.restart(), Err(15));
     assert_eq!(state.take(), taken(0, 2, 100));
     assert_eq!(state.restart(), Ok(()));
-    assert_eq!((state.clock, state.put(0, 4, 100)), (0, Ok(())));
+    assert_eq!((state.clock, state.put(0, 4, 100)), (0, Ok(0)));
 }
 
 #[test]

@@ -1,4 +1,4 @@
-//! Document 01's own examples: "A session in full" and M1 to M8.
+//! Document 01's own examples: "A session in full", with document 02's line of a put, and M1 to M8.
 
 mod common;
 use common::*;
@@ -11,7 +11,7 @@ use compare::setup;
 const SESSION: &str = "0100020001 10000500020005DC 10000501010005DC 7F0000 \
     2000070000000001 03E8 2000070100000002 03E8 2000070000000003 01F4 230000 210000 210000 210000 210000 7F0000";
 
-const OUTPUT: &str = "lanes 2\nput ok\nput ok\nput ok\nsets 12582912 0 0 0\n\
+const OUTPUT: &str = "lanes 2\nput ok 0\nput ok 0\nput ok 1\nsets 12582912 0 0 0\n\
     take 0 1 1000\ntake 0 3 500\ntake 1 2 1000\nno 16\nend 8\n";
 
 fn bytes(hex: &str) -> Vec<u8> {
@@ -85,11 +85,11 @@ fn m4() {
 fn m7() {
     let mut state = fresh(&[(0, 512, 1500), (1, 256, 1500)]);
     for mark in 0..16 {
-        assert_eq!(state.put(0, mark, 100), Ok(()));
+        assert_eq!(state.put(0, mark, 100), Ok(u64::from(mark)));
     }
     assert_eq!(state.put(0, 16, 100), Err(refusal::LANE_FULL));
     state.take().unwrap();
-    assert_eq!(state.put(0, 16, 100), Ok(()));
+    assert_eq!(state.put(0, 16, 100), Ok(15));
 }
 
 #[test]

@@ -35,7 +35,7 @@ fn random_lists() {
 fn every_stretch(fresh: &State, list: &[(Call, Answer)]) -> bool {
     let holds = |lane: u8, upto: usize| {
         let puts = list[..upto].iter().filter(|(call, answer)| {
-            matches!(call, Call::Put { lane: to, .. } if *to == lane) && *answer == Answer::Put
+            matches!(call, Call::Put { lane: to, .. } if *to == lane) && matches!(answer, Answer::Put(_))
         });
         let sent =
             list[..upto].iter().filter(|(_, answer)| matches!(answer, Answer::Taken(t) if t.lane == lane));
@@ -73,7 +73,7 @@ fn one_pass_finds_what_every_stretch_finds() {
             let (call, answer) = if rng.once_in(2) || queues[lane].is_empty() {
                 let length = rng.between(1, u64::from(fresh.lanes[lane].plan.longest));
                 queues[lane].push(length);
-                (Call::Put { lane: lane as u8, mark: 0, length }, Answer::Put)
+                (Call::Put { lane: lane as u8, mark: 0, length }, Answer::Put(0))
             } else {
                 (
                     Call::Take,
@@ -94,7 +94,7 @@ fn one_pass_finds_what_every_stretch_finds() {
 fn demand_3_is_lost_when_a_lane_is_shut_out() {
     let fresh = fresh(&[(0, 512, 1500), (1, 256, 1500)]);
     let mut fairness = Fairness::new(&fresh);
-    let put = |lane| (Call::Put { lane, mark: 0, length: 1_000 }, Answer::Put);
+    let put = |lane| (Call::Put { lane, mark: 0, length: 1_000 }, Answer::Put(0));
     let take = |lane| (Call::Take, Answer::Taken(Taken { lane, mark: 0, length: 1_000 }));
     let step = |fairness: &mut Fairness, (call, answer)| fairness.step(call, answer);
     step(&mut fairness, put(0)).unwrap();
@@ -112,17 +112,34 @@ fn records_out_of_order_or_invented() {
     let put = |mark| Call::Put { lane: 0, mark, length: 5 };
     let take = |mark, length| Answer::Taken(Taken { lane: 0, mark, length });
     let mut order = Order::default();
-    order.step(put(1), Answer::Put).unwrap();
-    order.step(put(2), Answer::Put).unwrap();
+    order.step(put(1), Answer::Put(0)).unwrap();
+    order.step(put(2), Answer::Put(1)).unwrap();
     order.step(put(3), Answer::No(13)).unwrap();
     assert!(order.end(&fresh(&[(0, 1, 64)])).is_err(), "two records are lost");
     assert!(order.step(Call::Restart, Answer::Restarted).is_err());
     assert!(order.step(Call::Take, take(2, 5)).is_err());
 
     let mut order = Order::default();
-    order.step(put(1), Answer::Put).unwrap();
+    order.step(put(1), Answer::Put(0)).unwrap();
     assert!(order.step(Call::Take, take(1, 6)).is_err());
     assert!(order.step(Call::Take, take(1, 5)).is_err(), "handed out twice");
+}
+
+#[test]
+fn a_number_ahead_that_is_not_the_lane_s() {
+    let put = |lane| Call::Put { lane, mark: 7, length: 5 };
+    let told = |before: &[u8], told: u64| {
+        let mut order = Order::default();
+        let mut held = [0; 2];
+        for &lane in before {
+            order.step(put(lane), Answer::Put(held[usize::from(lane)])).unwrap();
+            held[usize::from(lane)] += 1;
+        }
+        order.step(put(0), Answer::Put(told)).is_ok()
+    };
+    assert!(told(&[], 0) && !told(&[], 1), "it does not count itself");
+    assert!(told(&[0, 1, 0], 2) && !told(&[0, 1, 0], 3), "it does not count other lanes");
+    assert!(!told(&[0, 1, 0], 1) && !told(&[0, 1, 0], 0));
 }
 
 #[test]

@@ -59,7 +59,7 @@ fn every_line() {
         &lag(0),
         END,
     ];
-    let text = "lanes 2\nput ok\nlook 1 4294967295 1500\nlag 0\nsets 8388608 0 0 0\nno 15\n\
+    let text = "lanes 2\nput ok 0\nlook 1 4294967295 1500\nlag 0\nsets 8388608 0 0 0\nno 15\n\
         take 1 4294967295 1500\nlag -4608000\nrestart ok\nsets 0 0 0 0\nno 16\nlag 0\nend 11\n";
     assert_eq!(requests(fields, 1_000), is(text, 11, Stop::End));
 }
@@ -73,7 +73,8 @@ fn calls_refused_in_a_session_go_on() {
         is("lanes 2\nno 11\nno 11\nno 12\nno 12\nno 12\nend 5\n", 5, Stop::End)
     );
     let full: Vec<u8> = put(0, 1, 1).repeat(17);
-    let text = format!("lanes 2\n{}no 13\nend 17\n", "put ok\n".repeat(16));
+    let puts: String = (0..16).map(|ahead| format!("put ok {ahead}\n")).collect();
+    let text = format!("lanes 2\n{puts}no 13\nend 17\n");
     assert_eq!(requests(&[&full, END], 1_000), is(&text, 17, Stop::End));
 }
 

@@ -66,7 +66,7 @@ class Table:
             self.got_start(lane, max(lane.finish, self.clock))
             if not others and self.clock < lane.rounded():
                 self.clock = lane.rounded()
-        return "put ok"
+        return f"put ok {len(lane.queue) - 1}"
 
     def chosen(self):
         if not self.holding():

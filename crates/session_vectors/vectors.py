@@ -107,7 +107,7 @@ class Unit:
             self.begin(lane, max(lane.finish, self.v), length)
             if not others:
                 self.v = max(self.v, lane.rounded())
-        return 'put ok'
+        return f'put ok {len(lane.queue) - 1}'
 
     def choice(self):
         eligible = [(l.rounded_finish(), l.group, l.since, k) for k, l in self.holding().items() if l.rounded() <= self.v]

@@ -1,4 +1,4 @@
-/* The calls from C: makes a table of two lanes, puts three records, and takes them until nothing is held. */
+/* The calls from C: makes a table of two lanes, puts three records with how many are before each, and takes them until nothing is held. */
 #include <inttypes.h>
 #include <stdio.h>
 #include <string.h>
@@ -18,6 +18,7 @@ static uint64_t word(int index) {
 static int put(uint8_t lane, uint32_t mark, uint64_t length) {
   uint64_t result = zf_put(table, sizeof table, lane, mark, length, out, sizeof out);
   if (result != ZF_DONE) printf("put refused with %" PRIu64 "\n", result);
+  else printf("lane %u: %" PRIu64 " before yours\n", (unsigned)lane, word(0));
   return result == ZF_DONE;
 }
 

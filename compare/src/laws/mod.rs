@@ -2,7 +2,7 @@
 //! run with a sentence where it is broken.
 //!
 //! - [`fairness`] — demand 3, on every stretch of the list and every lane
-//! - [`order`] — accepted records are handed out once, in order, or still held
+//! - [`order`] — accepted records are handed out once, in order, or still held; a put tells how many are ahead of it
 //! - [`groups`] — the four words part the groups, name the chosen lane's group, and are in order of finish
 //! - [`good`] — the clock's range and every other clause of "A good table"
 

@@ -1,5 +1,5 @@
 //! Every accepted record is handed out once, in its lane's order, or still held: for each lane, accepted is handed
-//! out followed by held.
+//! out followed by held. An accepted put tells how many of its lane's records are held before it.
 
 use crate::calls::{Answer, Call};
 use crate::rules::State;
@@ -14,8 +14,13 @@ pub struct Order {
 impl Order {
     pub fn step(&mut self, call: Call, answer: Answer) -> Result<(), String> {
         match (call, answer) {
-            (Call::Put { lane, mark, length }, Answer::Put) => {
-                self.waiting.entry(lane).or_default().push_back((mark, length));
+            (Call::Put { lane, mark, length }, Answer::Put(told)) => {
+                let waiting = self.waiting.entry(lane).or_default();
+                let ahead = waiting.len() as u64;
+                if told != ahead {
+                    return Err(format!("a put to lane {lane} told {told} ahead of it where {ahead} are"));
+                }
+                waiting.push_back((mark, length));
             }
             (Call::Take, Answer::Taken(taken)) => {
                 let first = self.waiting.entry(taken.lane).or_default().pop_front();

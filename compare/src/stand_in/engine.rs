@@ -76,7 +76,8 @@ impl Engine {
         }
     }
 
-    pub fn put(&mut self, lane: u8, mark: u32, mut length: u64) -> Result<(), u8> {
+    /// How many records wait before this one.
+    pub fn put(&mut self, lane: u8, mark: u32, mut length: u64) -> Result<u64, u8> {
         if self.slip == Slip::LengthCut {
             length &= 0xFFFF;
         }
@@ -104,12 +105,19 @@ impl Engine {
             return Err(14);
         }
         flow.queue.push((mark, length));
+        let ahead = match self.slip {
+            Slip::CountsItself => flow.queue.len(),
+            Slip::TellsOnlyWhetherIdle => usize::from(flow.queue.len() > 1),
+            Slip::CountsAllLanes => self.held().map(|(_, flow)| flow.queue.len()).sum::<usize>() - 1,
+            _ => flow.queue.len() - 1,
+        } as u64;
+        let flow = self.flows[lane].as_ref().expect("the lane is in the setup");
         let finish = if self.slip == Slip::ForgetsFinish { 0 } else { flow.finish };
         if flow.queue.len() > 1 {
             if self.slip == Slip::PutRenewsTurn {
                 self.renew(lane);
             }
-            return Ok(());
+            return Ok(ahead);
         }
         self.begin(lane, finish.max(self.clock));
         if self.held().count() == 1 && self.slip != Slip::NoJumpOnPut {
@@ -117,7 +125,7 @@ impl Engine {
             let to = if self.slip == Slip::JumpToExactStart { flow.start } else { flow.round() };
             self.clock = self.clock.max(to);
         }
-        Ok(())
+        Ok(ahead)
     }
 
     fn chosen(&self) -> Option<usize> {

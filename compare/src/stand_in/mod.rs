@@ -53,7 +53,7 @@ impl Unit for StandIn {
         Ok(lanes.len() as u64)
     }
 
-    fn put(&mut self, table: &mut [u8], lane: u8, mark: u32, length: u64) -> Result<(), u8> {
+    fn put(&mut self, table: &mut [u8], lane: u8, mark: u32, length: u64) -> Result<u64, u8> {
         let answer = self.on(table, |engine| engine.put(lane, mark, length));
         if answer.is_ok() || (self.slip == Slip::RefusalWrites && answer != Err(10)) {
             self.shelf.sign(table);

@@ -119,9 +119,13 @@ fn request<'a>(reader: &mut Reader<'a>, slip: Slip) -> Result<Request<'a>, Refus
 
 fn line(engine: &mut Engine, tag: u8, value: &[u8], slip: Slip) -> String {
     let answer = match tag {
-        0x20 => engine
-            .put(value[0], number(&value[1..5]) as u32, number(&value[5..7]))
-            .map(|()| "put ok".to_string()),
+        0x20 => engine.put(value[0], number(&value[1..5]) as u32, number(&value[5..7])).map(|ahead| {
+            if slip == Slip::LineWithoutNumber {
+                "put ok".to_string()
+            } else {
+                format!("put ok {ahead}")
+            }
+        }),
         0x21 => engine.take().map(|r| format!("take {} {} {}", r.lane, r.mark, r.length)),
         0x22 => engine.look().map(|r| format!("look {} {} {}", r.lane, r.mark, r.length)),
         0x23 => Ok(engine.sets()).map(|[a, b, c, d]| format!("sets {a} {b} {c} {d}")),

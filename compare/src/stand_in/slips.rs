@@ -63,6 +63,16 @@ slips! {
     /// A put's length is cut to 16 bits.
     LengthCut,
 
+    // A put's answer.
+    /// The record itself is counted among those ahead of it.
+    CountsItself,
+    /// The records of all lanes are counted.
+    CountsAllLanes,
+    /// 1 for any number above 0.
+    TellsOnlyWhetherIdle,
+    /// The session's line has no number.
+    LineWithoutNumber,
+
     // Refusals and lent bytes.
     /// 12 is told before 11.
     LengthBeforeLane,

@@ -59,9 +59,13 @@ fn lag(z: i64) {
     signed(z);
 }
 
+fn put_ok(n: u64) {
+    number(b"put ok ", n);
+}
+
 fn said(a: Answer) {
     match a {
-        Answer::Accepted => word(b"put ok"),
+        Answer::Accepted(n) => put_ok(n),
         Answer::Taken(r) => record(b"take ", r),
         Answer::Seen(r) => record(b"look ", r),
         Answer::Sets(w) => words(w),

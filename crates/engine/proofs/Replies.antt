@@ -9,7 +9,7 @@ use lib.IntN.{ℤ, subℕ}
 use borrow.Author.Tests.{lt-ltb, le-ltb}
 use Rattle.rules.specs.State.{anyHolds, Rec, State, firstOf, holds, laneAt, setupOf}
 use Rattle.rules.specs.Choice.{Candidate, choose}
-use Rattle.rules.specs.Calls.{restart, fresh, doRestart, Call, put, take, look, lag, lagged, lagOf, doLag, refused, Outcome, no, putRefusal, accept, putOf, doPut, Pick, pickFirst, pickOf, picked, takeOf, doTake, lookOf, doLook, step}
+use Rattle.rules.specs.Calls.{restart, fresh, doRestart, Call, put, take, look, lag, lagged, lagOf, doLag, refused, Outcome, no, putRefusal, accept, accepted, ahead, putOf, doPut, Pick, pickFirst, pickOf, picked, takeOf, doTake, lookOf, doLook, step}
 use Rattle.rules.specs.Reads.{number, placeOf}
 use Rattle.rules.specs.declared.Refusal.{Refusal}
 use Rattle.rules.specs.declared.Answer.the-variants.{Restarted, Accepted, Taken, Seen, Refused}
@@ -47,11 +47,11 @@ put-accepted s j m n e = ap (putOf s j (record { mark = m; len = n })) (sym e)
 pub put-allowed : (s : State) (j n : ℕ) → none ≡ putRefusal s j n → Allowed s j n
 put-allowed s j n e = subst (PutOk s j n) (sym e) (put-ok s j n)
 
-pub put-does : (t u : List ℕ) (j m n : ℕ) → none ≡ putRefusal (meant t) j n → Leaves t u (accept (meant t) j (record { mark = m; len = n })) → Does (put j m n) t Accepted u
+pub put-does : (t u : List ℕ) (j m n a : ℕ) → none ≡ putRefusal (meant t) j n → Leaves t u (accept (meant t) j (record { mark = m; len = n })) → a ≡ ahead (meant t) j → Does (put j m n) t (Accepted a) u
 unfolding putOf
-put-does t u j m n e l =
+put-does t u j m n a e l h =
     let o = put-accepted (meant t) j m n e in
-    record { says = sym (ap (λ (x : Outcome). x .reply) o); leaves = subst (Leaves t u) (sym (ap (λ (x : Outcome). x .state) o)) l; unchanged = tt }
+    record { says = ap accepted h ∙ sym (ap (λ (x : Outcome). x .reply) o); leaves = subst (Leaves t u) (sym (ap (λ (x : Outcome). x .state) o)) l; unchanged = tt }
 
 -- ---- take and look
 

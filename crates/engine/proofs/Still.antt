@@ -29,7 +29,7 @@ unfolding step
 lag-still s j = lag-same s j
 
 same-bytes : (r : Reply) (t : List ℕ) → Unchanged r t t
-same-bytes accepted t = tt
+same-bytes (accepted n) t = tt
 same-bytes (taken j m n) t = tt
 same-bytes (seen j m n) t = tt
 same-bytes (words a b c d) t = tt

@@ -24,7 +24,7 @@ Says c t a = reads a ≡ (step (meant t) c) .reply
 
 -- "A refusal changes no lent table"
 abbrev pub Unchanged : Reply → List ℕ → List ℕ → Type 0
-Unchanged accepted before after = Unit {0}
+Unchanged (accepted n) before after = Unit {0}
 Unchanged (taken j m n) before after = Unit {0}
 Unchanged (seen j m n) before after = Unit {0}
 Unchanged (words a b c d) before after = Unit {0}

@@ -13,7 +13,7 @@ ghost use lib.ListN.{length};
 ghost use Rattle.units.specs.Plain.{if_then_else_, without};
 ghost use Rattle.rules.specs.Choice.{choose};
 ghost use Rattle.rules.specs.Calls as Calls;
-ghost use Rattle.rules.specs.Calls.{accept, putRefusal, settled};
+ghost use Rattle.rules.specs.Calls.{accept, ahead, putRefusal, settled};
 ghost use Rattle.rules.proofs.Keep.{Allowed};
 ghost use Rattle.rules.specs.BySets.{laneOf};
 ghost use Rattle.table.specs.Means.{meant, Sound, Leaves, withClock, withOrder};
@@ -108,10 +108,10 @@ fn put_first(t: &mut [u8], k: usize, e: Entry)
     }
 }
 
-// "Put appends the record."
-fn put_record(t: &mut [u8], k: usize, e: Entry)
+// "Put appends the record." The answer: how many the lane held before.
+fn put_record(t: &mut [u8], k: usize, e: Entry) -> u64
     requires { ⌜ Known (now t) × Allowed (meant (now t)) k (e .length .0) ⌝ }
-    ensures { λ _. ⌜ Leaves (now (t .entry)) (now (t .exit)) (accept (meant (now (t .entry))) k (waiting e)) ⌝ }
+    ensures { λ r. ⌜ Leaves (now (t .entry)) (now (t .exit)) (accept (meant (now (t .entry))) k (waiting e)) × (r ≡ ahead (meant (now (t .entry))) k) ⌝ }
 {
     let l = row(t, k);
     if l.count == 0 {
@@ -119,6 +119,7 @@ fn put_record(t: &mut [u8], k: usize, e: Entry)
     } else {
         append(t, k, e);
     }
+    l.count
 }
 
 // Put: appends the record, or refuses.
@@ -130,8 +131,8 @@ pub fn put(t: &mut [u8], lane: u8, mark: u32, length: Bytes) -> Answer
     match verdict {
         Verdict::Refused(x) => Answer::Refused(x),
         Verdict::Allowed => {
-            put_record(t, lane as usize, Entry { mark, length });
-            Answer::Accepted
+            let n = put_record(t, lane as usize, Entry { mark, length });
+            Answer::Accepted(n)
         }
     }
 }

@@ -61,7 +61,7 @@ so-all calls t₀ t i e s = subst (λ (k : ℕ). Leads t₀ t (worked calls (mea
 -- ---- the restart before them
 
 isRestarted : Reply → Bool
-isRestarted accepted = false
+isRestarted (accepted n) = false
 isRestarted (taken j m n) = false
 isRestarted (seen j m n) = false
 isRestarted (words a b c d) = false
@@ -101,7 +101,7 @@ Other a = OneOf (0 ∷ 1 ∷ 2 ∷ 3 ∷ 4 ∷ 6 ∷ []) (tagOf the-type a)
 -- an answer that is another: 15, and nothing is done
 not-restarted : (a : Answer) → Other a → reads a ≡ restarted → ⊥
 unfolding isRestarted
-not-restarted Accepted o e = false≢true (ap isRestarted e)
+not-restarted (Accepted n) o e = false≢true (ap isRestarted e)
 not-restarted (Taken r) o e = false≢true (ap isRestarted e)
 not-restarted (Seen r) o e = false≢true (ap isRestarted e)
 not-restarted (Sets w) o e = false≢true (ap isRestarted e)

@@ -10,7 +10,7 @@ use Rattle.text.proofs.Widths.{length-decimal, width-le}
 use Rattle.text.proofs.Signed.{signed-most}
 use Rattle.rules.specs.Calls.{Reply, accepted, taken, seen, words, lagged, restarted, refused}
 use Rattle.lines.proofs.Writing.{line-long}
-use Rattle.lines.specs.Line.{spaced, line, takeWord, lookWord, setsWord, noWord, noLine, lineOf, Short}
+use Rattle.lines.specs.Line.{spaced, line, putOk, takeWord, lookWord, setsWord, noWord, noLine, lineOf, Short}
 
 -- a number below 10 ^ k has at most k digits
 written : (n k : ℕ) → 0 < k → n < 10 ^ k → length (decimal n) ≤ k
@@ -51,7 +51,7 @@ no-most n (some p) h =
 -- the line of a reply
 pub line-most : (r : Reply) → Short r → length (lineOf r) ≤ 64
 unfolding spaced
-line-most accepted h = omega arith
+line-most (accepted n) h = one-most putOk n (omega arith) h
 line-most (taken l m n) h = record-most takeWord l m n (omega arith) h
 line-most (seen l m n) h = record-most lookWord l m n (omega arith) h
 line-most (words er ir eb ib) h =

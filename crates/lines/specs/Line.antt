@@ -83,9 +83,9 @@ noLine n (some p) = line noWord (n ∷ p ∷ [])
 abbrev pub lagLine : ℤ → List ℕ
 lagLine z = lagWord ++ (signed z ++ (10 ∷ []))
 
--- "put ok", "take L M N", "look L M N", "sets A B C D", "lag N", "restart ok"
+-- "put ok N", "take L M N", "look L M N", "sets A B C D", "lag N", "restart ok"
 abbrev pub lineOf : Reply → List ℕ
-lineOf accepted = line putOk []
+lineOf (accepted n) = line putOk (n ∷ [])
 lineOf (taken l m n) = line takeWord (l ∷ m ∷ n ∷ [])
 lineOf (seen l m n) = line lookWord (l ∷ m ∷ n ∷ [])
 lineOf (words er ir eb ib) = line setsWord (er ∷ ir ∷ eb ∷ ib ∷ [])
@@ -108,7 +108,7 @@ ShortPlace none = Unit
 ShortPlace (some p) = p < 2 ^ 64
 
 abbrev pub Words32 : Reply → Type 0
-Words32 accepted = Unit
+Words32 (accepted n) = Unit
 Words32 (taken l m n) = Unit
 Words32 (seen l m n) = Unit
 Words32 (words er ir eb ib) = (er < 2 ^ 32) × (ir < 2 ^ 32) × (eb < 2 ^ 32) × (ib < 2 ^ 32)
@@ -117,7 +117,7 @@ Words32 restarted = Unit
 Words32 (refused n p) = Unit
 
 abbrev pub Short : Reply → Type 0
-Short accepted = Unit
+Short (accepted n) = n < 2 ^ 64
 Short (taken l m n) = (l < 2 ^ 8) × (m < 2 ^ 32) × (n < 2 ^ 64)
 Short (seen l m n) = (l < 2 ^ 8) × (m < 2 ^ 32) × (n < 2 ^ 64)
 Short (words er ir eb ib) = Words32 (words er ir eb ib)

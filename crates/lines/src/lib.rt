@@ -175,7 +175,7 @@ pub fn put_answer(a: &mut [u8], at: usize, x: Answer) -> usize
     ensures { λ r. ⌜ Line (now (a .entry)) (now (a .exit)) at (lineOf (reads x)) r ⌝ }
 {
     match x {
-        Answer::Accepted => put_line(a, at, b"put ok", &[]),
+        Answer::Accepted(n) => put_one(a, at, b"put ok", n),
         Answer::Taken(r) => put_record(a, at, b"take", r),
         Answer::Seen(r) => put_record(a, at, b"look", r),
         Answer::Sets(w) => put_sets(a, at, w),

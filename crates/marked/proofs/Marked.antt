@@ -17,7 +17,7 @@ use Rattle.plan.specs.Examples.{twoLanes}
 use Rattle.table.specs.Means.{meant}
 use Rattle.scheduler.specs.Demands.{callsOf, AsRuled}
 use Rattle.scheduler.proofs.Demands.{as-ruled}
-use Rattle.marked.specs.Marked.{setting, alone, Given, toThird, toThirdReplies, full, Marked}
+use Rattle.marked.specs.Marked.{setting, alone, acceptedTo, Given, toThird, toThirdReplies, full, Marked}
 
 abbrev replies : List Event → List Reply
 replies es = map (λ (e : Event). e .reply) es
@@ -36,7 +36,7 @@ given gs calls P h t u es b ch same =
     (subst (λ (xs : List Event). P (replies xs) (s .clock) (s .lanes)) (r .0) ruled))
 
 pub marked : Marked
-unfolding rules readSetup readPlan walk judgedAt itemAt fieldOf laneOutside big
+unfolding rules acceptedTo readSetup readPlan walk judgedAt itemAt fieldOf laneOutside big
 marked =
     record {
       session = refl;
@@ -48,7 +48,7 @@ marked =
           (refl, refl, refl, refl);
       m2 =
           given (twoLanes 512 256 1500) (toThird ++ (put 0 4 100 ∷ lag 0 ∷ []))
-          (λ rs v ls. (rs ≡ toThirdReplies ++ (accepted ∷ lagged (subℕ 0 512000) ∷ [])) × (v ≡ 2560000) × ((getD ls 0 noLane) .start ≡ 3072000) × ((getD ls 0 noLane) .finish ≡ 3276800))
+          (λ rs v ls. (rs ≡ toThirdReplies ++ (accepted 0 ∷ lagged (subℕ 0 512000) ∷ [])) × (v ≡ 2560000) × ((getD ls 0 noLane) .start ≡ 3072000) × ((getD ls 0 noLane) .finish ≡ 3276800))
           (refl, refl, refl, refl);
       m3 = (refl, refl, refl);
       light = refl;
@@ -59,6 +59,6 @@ marked =
       m5 = (refl, refl);
       m6 = refl;
       lone = refl;
-      m7 = given (alone (setting 512 1500)) full (λ rs v ls. rs ≡ replicate 16 accepted ++ (refused 13 none ∷ taken 0 7 1000 ∷ accepted ∷ [])) refl;
+      m7 = given (alone (setting 512 1500)) full (λ rs v ls. rs ≡ acceptedTo 16 ++ (refused 13 none ∷ taken 0 7 1000 ∷ accepted 15 ∷ [])) refl;
       m8 = (refl, refl);
     }

@@ -10,7 +10,7 @@
 -- setup of these settings can be read, so that `make` leaves such a table.
 --
 -- Assumes nothing.
-use Prim.Native.Nat.{ℕ}
+use Prim.Native.Nat.{ℕ, zero, suc}
 use mathlib.Core.Path.{_≡_}
 use mathlib.Core.List.{List, [], _∷_, _++_, map}
 use mathlib.Core.Option.{none, some}
@@ -40,10 +40,15 @@ abbrev pub toThird : List Call
 toThird = put 0 1 1000 ∷ put 1 2 1000 ∷ put 0 3 500 ∷ sets ∷ take ∷ take ∷ take ∷ []
 
 abbrev pub toThirdReplies : List Reply
-toThirdReplies = accepted ∷ accepted ∷ accepted ∷ words 12582912 0 0 0 ∷ taken 0 1 1000 ∷ taken 0 3 500 ∷ taken 1 2 1000 ∷ []
+toThirdReplies = accepted 0 ∷ accepted 0 ∷ accepted 1 ∷ words 12582912 0 0 0 ∷ taken 0 1 1000 ∷ taken 0 3 500 ∷ taken 1 2 1000 ∷ []
 
 abbrev pub full : List Call
 full = replicate 17 (put 0 7 1000) ++ (take ∷ put 0 8 1000 ∷ [])
+
+-- n accepted puts to one lane, one after another: each finds those before it
+unfoldable pub acceptedTo : ℕ → List Reply
+acceptedTo zero = []
+acceptedTo (suc n) = acceptedTo n ++ (accepted n ∷ [])
 
 pub record Marked : Type 0 where
   -- The setup of the session above, read from its bytes. "Lane 0 has c = 2,048, group 22; lane 1 has c = 4,096, group 23."
@@ -55,7 +60,7 @@ pub record Marked : Type 0 where
       (rs ≡ toThirdReplies) × (s .clock ≡ 2560000) × ((laneAt s 0) .finish ≡ 3072000) × ((laneAt s 1) .finish ≡ 4096000))
   -- "M2 then put 0/4/100: S = 3,072,000, F = 3,276,800, V unchanged, lag -512,000."
   pub m2 : Given (twoLanes 512 256 1500) (toThird ++ (put 0 4 100 ∷ lag 0 ∷ [])) (λ rs s.
-      (rs ≡ toThirdReplies ++ (accepted ∷ lagged (subℕ 0 512000) ∷ []))
+      (rs ≡ toThirdReplies ++ (accepted 0 ∷ lagged (subℕ 0 512000) ∷ []))
       × (s .clock ≡ 2560000)
       × ((laneAt s 0) .start ≡ 3072000)
       × ((laneAt s 0) .finish ≡ 3276800))
@@ -73,6 +78,6 @@ pub record Marked : Type 0 where
   -- the setup of M7: 01 0002 0001, 10 0005 00 0200 05DC, 7F 0000
   pub lone : readSetup (formatField ++ (16 ∷ 0 ∷ 5 ∷ 0 ∷ 2 ∷ 0 ∷ 5 ∷ 220 ∷ []) ++ endField) ≡ plan.read (alone (setting 512 1500)) 1 16
   -- "M7 16 puts to one lane accepted, the 17th gives 13; after one take a put is accepted."
-  pub m7 : Given (alone (setting 512 1500)) full (λ rs s. rs ≡ replicate 16 accepted ++ (refused 13 none ∷ taken 0 7 1000 ∷ accepted ∷ []))
+  pub m7 : Given (alone (setting 512 1500)) full (λ rs s. rs ≡ acceptedTo 16 ++ (refused 13 none ∷ taken 0 7 1000 ∷ accepted 15 ∷ []))
   -- "M8 weights summing to 1,024 read; 1,025 gives 6": at the field that goes over
   pub m8 : (readSetup (twoWeights 24) ≡ plan.read (twoLanes 1000 24 1500) 2 22) × (readSetup (twoWeights 25) ≡ plan.refused 6 (some 13))

@@ -14,6 +14,7 @@ pub mod SameSetup
 pub mod Order
 pub mod Track
 pub mod Runs
+pub mod Ahead
 pub mod Figures
 pub mod Fair
 pub mod Range

@@ -14,7 +14,7 @@ use Rattle.units.specs.Plain.{if_then_else_}
 use Rattle.waiting.specs.Waiting.{queueOf}
 use Rattle.waiting.proofs.Laws.{queue-enter, queue-hand, queue-none, queue-nothing, turn-plain}
 use Rattle.rules.specs.State.{Rec, noSetting, Lane, noLane, State, some?, firstOf, holds, laneAt, setupOf, anyHolds}
-use Rattle.rules.specs.Calls.{Call, put, take, look, sets, lag, restart, Reply, accepted, seen, refused, lagged, Outcome, no, putRefusal, entered, appended, woken, accept, putOf, doPut, behind, served, serve, Pick, picked, takeOf, doTake, lookOf, doLook, doSets, lagOf, doLag, idle, fresh, doRestart, step}
+use Rattle.rules.specs.Calls.{Call, put, take, look, sets, lag, restart, Reply, accepted, seen, refused, lagged, Outcome, no, putRefusal, ahead, entered, appended, woken, accept, putOf, doPut, behind, served, serve, Pick, picked, takeOf, doTake, lookOf, doLook, doSets, lagOf, doLag, idle, fresh, doRestart, step}
 use Rattle.rules.specs.Runs.{sentIn, offeredIn, isAccepted, acceptedIn, ofLane}
 use Rattle.rules.proofs.Bools.{if-ind}
 use Rattle.rules.proofs.Lists.{set-cases, getD-map}
@@ -77,7 +77,7 @@ take-passed k s (some p) h =
 module _ (k : ℕ) (s : State) (j : ℕ) (r : Rec) (a : Allowed s j (r .len)) where
   -- any new lane j with the old setting, and r behind the old queue
   added : (l : Lane) (v : ℕ) (order : List ℕ) → l .given ≡ (laneAt s j) .given → (AllSound s → queueOf (l .waiting) 0 ≡ queueAt s j ++ (r ∷ []))
-      → Passed k s (put j (r .mark) (r .len)) (record { reply = accepted; state = record { clock = v; lanes = set (s .lanes) j l; order = order } })
+      → Passed k s (put j (r .mark) (r .len)) (record { reply = accepted (ahead s j); state = record { clock = v; lanes = set (s .lanes) j l; order = order } })
   unfolding isAccepted sentIn offeredIn ofLane
   added l v order g q = record {
     given = set-cases (λ (m : Lane). m .given ≡ (laneAt s k) .given) (s .lanes) j k l noLane (in-range (s .lanes) j (a .has)) (λ e. rw (← e) g) (λ n. refl);
@@ -89,10 +89,10 @@ module _ (k : ℕ) (s : State) (j : ℕ) (r : Rec) (a : Allowed s j (r .len)) wh
   entered-queue : AllSound s → queueOf (entered (laneAt s j) r) 0 ≡ queueAt s j ++ (r ∷ [])
   entered-queue w = sym (queue-enter ((laneAt s j) .given .longest) ((laneAt s j) .waiting) 0 r (w j) (allowed-enters s j r a) 0)
 
-  accept-passed : Passed k s (put j (r .mark) (r .len)) (record { reply = accepted; state = accept s j r })
+  accept-passed : Passed k s (put j (r .mark) (r .len)) (record { reply = accepted (ahead s j); state = accept s j r })
   unfolding accept appended woken
   accept-passed =
-      if-ind (λ (x : State). Passed k s (put j (r .mark) (r .len)) (record { reply = accepted; state = x })) (holds (laneAt s j)) _ _
+      if-ind (λ (x : State). Passed k s (put j (r .mark) (r .len)) (record { reply = accepted (ahead s j); state = x })) (holds (laneAt s j)) _ _
       (λ e. added (appended (laneAt s j) r) _ _ refl entered-queue)
       (λ e. added (woken (s .clock) (laneAt s j) r) _ _ refl entered-queue)
 

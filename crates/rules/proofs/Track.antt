@@ -12,7 +12,7 @@ use borrow.Author.Tests.{ltb-true, eq-eqb, ne-eqb}
 use Rattle.units.specs.Plain.{if_then_else_}
 use Rattle.rules.specs.State.{Rec, Lane, noLane, State, charge, rate, startR, some?, holds, laneAt, setupOf, anyHolds}
 use Rattle.rules.specs.Choice.{leastOf}
-use Rattle.rules.specs.Calls.{Call, put, take, look, sets, lag, restart, Reply, accepted, seen, lagged, refused, Outcome, no, putRefusal, appended, woken, accept, putOf, doPut, served, settledAt, settled, serve, Pick, picked, takeOf, doTake, lookOf, doLook, doSets, lagOf, doLag, doRestart, step}
+use Rattle.rules.specs.Calls.{Call, put, take, look, sets, lag, restart, Reply, accepted, seen, lagged, refused, Outcome, no, putRefusal, ahead, appended, woken, accept, putOf, doPut, served, settledAt, settled, serve, Pick, picked, takeOf, doTake, lookOf, doLook, doSets, lagOf, doLag, doRestart, step}
 use Rattle.rules.specs.Runs.{sentIn}
 use Rattle.rules.specs.Fair.{charged, chargedTo}
 use Rattle.rules.proofs.Bools.{if-ind, and-parts}
@@ -74,7 +74,7 @@ take-moved M k s (some p) inv h =
 module _ (k : ℕ) (s : State) (j : ℕ) (r : Rec) (a : Allowed s j (r .len)) where
   -- lane j is replaced by one that has the old start if it held records, and the clock does not fall
   replaced : (l : Lane) (v : ℕ) (order : List ℕ) → s .clock ≤ v → (holds (laneAt s j) ≡ true → l .start ≡ (laneAt s j) .start)
-      → Moved k s (record { reply = accepted; state = record { clock = v; lanes = set (s .lanes) j l; order = order } })
+      → Moved k s (record { reply = accepted (ahead s j); state = record { clock = v; lanes = set (s .lanes) j l; order = order } })
   unfolding sentIn charged chargedTo
   replaced l v order up same = record {
     clock = λ _. omega arith;
@@ -88,10 +88,10 @@ module _ (k : ℕ) (s : State) (j : ℕ) (r : Rec) (a : Allowed s j (r .len)) wh
       if-ind (λ (v : ℕ). s .clock ≤ v) (b && ltb (s .clock) u) u (s .clock)
       (λ e. omega (arith, ltb-true (s .clock) u (and-parts b (ltb (s .clock) u) e .1))) (λ e. le-refl (s .clock))
 
-  accept-moved : Moved k s (record { reply = accepted; state = accept s j r })
+  accept-moved : Moved k s (record { reply = accepted (ahead s j); state = accept s j r })
   unfolding accept appended
   accept-moved =
-      if-ind (λ (x : State). Moved k s (record { reply = accepted; state = x })) (holds (laneAt s j)) _ _
+      if-ind (λ (x : State). Moved k s (record { reply = accepted (ahead s j); state = x })) (holds (laneAt s j)) _ _
       (λ e. replaced (appended (laneAt s j) r) _ _ (le-refl (s .clock)) (λ t. refl))
       (λ e. replaced (woken (s .clock) (laneAt s j) r) _ _ (jump-up (not (anyHolds (s .lanes))) (startR (woken (s .clock) (laneAt s j) r))) (λ t. absurd (false≢true (sym e ∙ t))))
 

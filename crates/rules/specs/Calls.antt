@@ -12,10 +12,10 @@ use mathlib.Core.List.{List, [], _∷_, _++_, map}
 use mathlib.Core.Option.{Option, none, some}
 use lib.Dec.{leb, ltb}
 use lib.IntN.{ℤ, subℕ}
-use lib.ListN.{set}
+use lib.ListN.{length, set}
 use Rattle.units.specs.Numbers.{lineRate}
 use Rattle.units.specs.Plain.{if_then_else_, without}
-use Rattle.waiting.specs.Waiting.{Waiting, nothing, first, enter, handOut, full}
+use Rattle.waiting.specs.Waiting.{Waiting, nothing, first, enter, handOut, queueOf, full}
 use Rattle.rules.specs.State.{clockSpent, Rec, Setting, Lane, State, charge, rate, startR, firstOf, holds, laneAt, setupOf, anyHolds}
 use Rattle.rules.specs.Choice.{Candidate, choose, leastOf}
 use Rattle.rules.specs.Sets.{ready, ineligibleReady, eligibleBlocked, ineligibleBlocked, setWord}
@@ -26,9 +26,9 @@ pub data Call : Type 0 where
   lag : ℕ → Call
   restart : Call
 
--- lane, mark and length of a record; the four words; a refusal's number, and its place where the list has one
+-- how many records an accepted one found before it; lane, mark and length of a record; the four words; a refusal's number, and its place where the list has one
 pub data Reply : Type 0 where
-  accepted : Reply
+  accepted : ℕ → Reply
   taken seen : ℕ → ℕ → ℕ → Reply
   words : ℕ → ℕ → ℕ → ℕ → Reply
   lagged : ℤ → Reply
@@ -88,9 +88,13 @@ accept s j r =
       order = s .order ++ (j ∷ []);
     })
 
+-- what an accepted put answers: how many records its lane held before it
+abbrev pub ahead : State → ℕ → ℕ
+ahead s j = length (queueOf (laneAt s j .waiting) 0)
+
 unfoldable pub putOf : State → ℕ → Rec → Option ℕ → Outcome
 putOf s j r (some n) = no n s
-putOf s j r none = record { reply = accepted; state = accept s j r }
+putOf s j r none = record { reply = accepted (ahead s j); state = accept s j r }
 
 unfoldable pub doPut : State → ℕ → Rec → Outcome
 doPut s j r = putOf s j r (putRefusal s j (r .len))

@@ -25,7 +25,7 @@ replies es = map (λ (e : Event). e .reply) es
 unfoldable pub Session : Type 0
 Session =
     replies (trace (fresh twoLanes) (put 0 1 1000 ∷ put 1 2 1000 ∷ put 0 3 500 ∷ sets ∷ take ∷ take ∷ take ∷ take ∷ []))
-    ≡ accepted ∷ accepted ∷ accepted ∷ words 12582912 0 0 0 ∷ taken 0 1 1000 ∷ taken 0 3 500 ∷ taken 1 2 1000 ∷ refused 16 none ∷ []
+    ≡ accepted 0 ∷ accepted 0 ∷ accepted 1 ∷ words 12582912 0 0 0 ∷ taken 0 1 1000 ∷ taken 0 3 500 ∷ taken 1 2 1000 ∷ refused 16 none ∷ []
 
 -- "By demand 3 a waiting lane 0 above, with O = 0, sees fewer than 17,884 bytes sent."
 unfoldable pub Waits : Type 0

@@ -38,7 +38,7 @@ abbrev pub placeOf : Refusal → Option ℕ
 placeOf x = (listed x) .1
 
 abbrev pub reads : Answer → Reply
-reads Accepted = accepted
+reads (Accepted n) = accepted n
 reads (Taken r) = taken (r .lane) (r .mark) (r .length .0)
 reads (Seen r) = seen (r .lane) (r .mark) (r .length .0)
 reads (Sets w) = words (w .er) (w .ir) (w .eb) (w .ib)

@@ -15,7 +15,7 @@ use Rattle.rules.specs.Calls.{Call, take, look, Reply, accepted, taken, 
 use Rattle.rules.specs.Good.{Good}
 
 abbrev pub NotTen : Reply → Type 0
-NotTen accepted = Unit {0}
+NotTen (accepted n) = Unit {0}
 NotTen (taken j m n) = Unit {0}
 NotTen (seen j m n) = Unit {0}
 NotTen (words a b c d) = Unit {0}

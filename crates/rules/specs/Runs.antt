@@ -4,17 +4,19 @@
 --   sentIn, acceptedIn   the record that an answer hands out by take; the one that an accepted put brings
 --   sentOf, acceptedOf   those of one lane, in the order of the list
 --   InOrder              demand 2's last sentence
+--   SaysAhead            the number that an accepted put answers
 --
 -- Assumes nothing.
-use Prim.Native.Nat.{ℕ}
+use Prim.Native.Nat.{ℕ, _+_, _<_}
 use mathlib.Core.Path.{_≡_}
 use mathlib.Core.Bool.{Bool, true, false}
 use mathlib.Core.List.{List, [], _∷_, _++_}
 use mathlib.Core.Option.{Option, none, some}
 use lib.Dec.{eqb}
+use lib.ListN.{length}
 use Rattle.units.specs.Plain.{if_then_else_}
 use Rattle.waiting.specs.Waiting.{queueOf}
-use Rattle.rules.specs.State.{Rec, Setting, State, laneAt}
+use Rattle.rules.specs.State.{Rec, Setting, State, laneDepth, laneAt}
 use Rattle.rules.specs.Calls.{Call, put, take, look, sets, lag, restart, Reply, accepted, taken, seen, words, lagged, restarted, refused, fresh, step}
 
 unfoldable pub after : State → List Call → State
@@ -36,7 +38,7 @@ pub record Moving : Type 0 where
 
 -- "Sent means handed out by take." "Refused calls and looks add nothing."
 unfoldable pub sentIn : Reply → Option Moving
-sentIn accepted = none
+sentIn (accepted n) = none
 sentIn (taken j m n) = some (record { lane = j; item = record { mark = m; len = n } })
 sentIn (seen j m n) = none
 sentIn (words a b c d) = none
@@ -54,7 +56,7 @@ offeredIn (lag j) = none
 offeredIn restart = none
 
 unfoldable pub isAccepted : Reply → Bool
-isAccepted accepted = true
+isAccepted (accepted n) = true
 isAccepted (taken j m n) = false
 isAccepted (seen j m n) = false
 isAccepted (words a b c d) = false
@@ -84,3 +86,10 @@ sentOf k (e ∷ es) = ofLane k (sentIn (e .reply)) ++ sentOf k es
 -- the records accepted are those handed out, and then those still queued.
 unfoldable pub InOrder : List Setting → Type 0
 InOrder gs = (calls : List Call) (k : ℕ) → acceptedOf k (trace (fresh gs) calls) ≡ sentOf k (trace (fresh gs) calls) ++ queueOf ((laneAt (after (fresh gs) calls) k) .waiting) 0
+
+-- The number that an accepted put answers, counted from the events alone: of the records that its lane accepted before, those not yet handed out; a lane's room
+-- is above it.
+unfoldable pub SaysAhead : List Setting → Type 0
+SaysAhead gs =
+    (calls : List Call) (past rest : List Event) (j m l n : ℕ) → trace (fresh gs) calls ≡ past ++ record { call = put j m l; reply = accepted n } ∷ rest
+    → (length (acceptedOf j past) ≡ length (sentOf j past) + n) × (n < laneDepth)

@@ -60,7 +60,8 @@ pub enum Refusal {
 
 // What a call answers. specs/Reads.antt gives document 01's number and values for each case.
 pub enum Answer {
-    Accepted,
+    // How many records the lane held before.
+    Accepted(u64),
     Taken(Record),
     Seen(Record),
     Sets(SetWords),

@@ -27,6 +27,7 @@ use Rattle.scheduler.specs.Drained.{HandsOut}
 use Rattle.scheduler.specs.Demands.{FairCalls, NeverTen, OrderKept, SetupKept, RestartHeld, Drains, Demands, EveryList, AfterMake, AfterRestart, AsRuled}
 use Rattle.scheduler.proofs.Chains.{led-good, led-on}
 use Rattle.scheduler.proofs.Begins.{by-make, by-restart}
+use Rattle.scheduler.proofs.Ahead.{ahead-told}
 use Rattle.scheduler.proofs.Drained.{drained-table}
 
 -- no event of a list of the rules' calls is refused by 10
@@ -145,6 +146,7 @@ module _ (gs : List Setting) (es : List Event) (u : List ℕ) (l : Led gs es u) 
     setup-kept = setup-kept-calls;
     restart-held = restart-held;
     drains = drains;
+    ahead = ahead-told gs es u l;
     drained = drained-table gs es u l;
   }
 

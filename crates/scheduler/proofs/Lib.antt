@@ -2,6 +2,7 @@ pub mod Steps
 pub mod Made
 pub mod Chains
 pub mod Begins
+pub mod Ahead
 pub mod Drained
 pub mod Demands
 pub mod One

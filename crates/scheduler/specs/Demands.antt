@@ -32,6 +32,7 @@ use Rattle.table.specs.Encodes.{Encodes}
 use Rattle.good.specs.Table.{GoodTable}
 use Rattle.scheduler.specs.Step.{Step}
 use Rattle.scheduler.specs.Chain.{Chain, Begins, Led, inForce}
+use Rattle.scheduler.specs.Ahead.{AheadTold}
 use Rattle.scheduler.specs.Drained.{HandsOut, Drained}
 pub use Rattle.scheduler.specs.Chain.{callsOf}
 
@@ -77,6 +78,7 @@ pub record Demands (gs : List Setting) (es : List Event) (u : List ℕ) : Type 0
   pub setup-kept : SetupKept gs es u
   pub restart-held : RestartHeld es
   pub drains : Drains es
+  pub ahead : AheadTold es
   pub drained : Drained u
 
 -- ---- the claim, and how a list begins

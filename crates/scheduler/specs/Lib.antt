@@ -1,6 +1,7 @@
 pub mod Step
 pub mod Make
 pub mod Chain
+pub mod Ahead
 pub mod Drained
 pub mod Demands
 pub mod One

@@ -34,7 +34,7 @@ LimitReached = Shows (script session 8) output 8 atLimit
 unfoldable pub ByteAfter : Type 0
 ByteAfter =
     Shows (script (session ++ (0 ∷ [])) 1000)
-    (lanesTwo ++ putOk ++ putOk ++ putOk ++ setsLine ++ takeFirst ++ takeThird ++ takeSecond ++ noSixteen ++ noLine 4 (some 72) ++ endEight) 8 (refusal 4 (some 72))
+    (lanesTwo ++ putOk 0 ++ putOk 0 ++ putOk 1 ++ setsLine ++ takeFirst ++ takeThird ++ takeSecond ++ noSixteen ++ noLine 4 (some 72) ++ endEight) 8 (refusal 4 (some 72))
 
 unfoldable pub EndsEarly : Type 0
 EndsEarly = Shows (script sessionSetup 1000) (lanesTwo ++ noLine 1 (some 24) ++ endNone) 0 (refusal 1 (some 24))

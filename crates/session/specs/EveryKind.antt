@@ -88,7 +88,7 @@ endFifteen = 101 ∷ 110 ∷ 100 ∷ 32 ∷ 49 ∷ 53 ∷ 10 ∷ []
 
 abbrev pub everyOutput : List ℕ
 everyOutput =
-    lanesTwo ++ putOk ++ putOk ++ putOk ++ setsLine ++ lookFirst ++ takeFirst ++ lagAbove ++ takeThird ++ takeSecond ++ putOk ++ lagBelow
+    lanesTwo ++ putOk 0 ++ putOk 0 ++ putOk 1 ++ setsLine ++ lookFirst ++ takeFirst ++ lagAbove ++ takeThird ++ takeSecond ++ putOk 0 ++ lagBelow
     ++ noFifteen ++ takeFourth ++ restartLine ++ lagNought ++ noTwo ++ endFifteen
 
 -- 15 requests are answered; the sixteenth field, at byte 100, is refused by 2

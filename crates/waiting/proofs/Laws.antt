@@ -102,10 +102,20 @@ queue-none L (plain []) g e zero = refl
 queue-none L (plain []) g e (suc t) = refl
 queue-none L (plain (y ∷ ys)) g e t = clash y (sym e)
 
+-- a train that has room holds fewer than the lane may
+pub queue-room : (w : Waiting) (k : ℕ) → known w k ≡ true → full w k ≡ false → length (queueOf w k) < laneDepth
+unfolding queueOf known full
+queue-room (plain q) zero t e = leb-false laneDepth (length q) e
+queue-room (plain q) (suc k) t e = omega arith
+
 -- until lanes are shared
 pub full-plain : (w : Waiting) → full w 0 ≡ leb laneDepth (held w)
 unfolding full held
 full-plain (plain q) = refl
+
+pub queue-plain : (w : Waiting) → length (queueOf w 0) ≡ held w
+unfolding queueOf held
+queue-plain (plain q) = refl
 
 pub turn-plain : (w : Waiting) → turnOf w ≡ 0
 unfolding turnOf

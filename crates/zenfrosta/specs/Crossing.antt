@@ -36,7 +36,7 @@ refusalWords (some p) = four p 1 0 0
 
 -- 0: done. Else document 01's number of the refusal.
 abbrev pub code : Reply → ℕ
-code accepted = 0
+code (accepted n) = 0
 code (taken j m n) = 0
 code (seen j m n) = 0
 code (words a b c d) = 0
@@ -44,9 +44,9 @@ code (lagged z) = 0
 code restarted = 0
 code (refused n p) = n
 
--- A record: lane, mark, length. The sets: their four words. A lag: in two's complement. What is left is 0.
+-- An accepted put: how many its lane held before it. A record: lane, mark, length. The sets: their four words. A lag: in two's complement. What is left is 0.
 abbrev pub values : Reply → Four
-values accepted = four 0 0 0 0
+values (accepted n) = four n 0 0 0
 values (taken j m n) = four j m n 0
 values (seen j m n) = four j m n 0
 values (words a b c d) = four a b c d

@@ -28,7 +28,7 @@ use Rattle.zenfrosta.specs.declared.Four.{Four}
 
 -- a call that gave 0
 abbrev pub heardDone : Call → Four → Reply
-heardDone (put j m n) w = accepted
+heardDone (put j m n) w = accepted (w .a)
 heardDone take w = taken (w .a) (w .b) (w .c)
 heardDone look w = seen (w .a) (w .b) (w .c)
 heardDone sets w = words (w .a) (w .b) (w .c) (w .d)

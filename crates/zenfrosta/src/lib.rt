@@ -89,7 +89,7 @@ fn words_of(x: Answer) -> Four
     ensures { λ r. ⌜ r ≡ values (Reads.reads x) ⌝ }
 {
     match x {
-        Answer::Accepted => one(0),
+        Answer::Accepted(n) => one(n),
         Answer::Taken(r) => record_words(r),
         Answer::Seen(r) => record_words(r),
         Answer::Sets(w) => Four {
@@ -108,7 +108,7 @@ fn code_of(x: Answer) -> u64
     ensures { λ r. ⌜ r ≡ code (Reads.reads x) ⌝ }
 {
     match x {
-        Answer::Accepted => 0,
+        Answer::Accepted(_) => 0,
         Answer::Taken(_) => 0,
         Answer::Seen(_) => 0,
         Answer::Sets(_) => 0,

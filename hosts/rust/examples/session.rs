@@ -1,4 +1,4 @@
-//! The calls from Rust: makes a table of two lanes, puts three records, and takes them until nothing is held.
+//! The calls from Rust: makes a table of two lanes, puts three records with how many are before each, and takes them until nothing is held.
 
 use zenfrosta::{make, put, take, Refusal, TABLE_SIZE};
 
@@ -11,9 +11,9 @@ const NOTHING_HELD: u64 = 16;
 fn main() -> Result<(), Refusal> {
     let mut table = [0; TABLE_SIZE];
     println!("lanes {}", make(SETUP, &mut table)?);
-    put(&mut table, 0, 1, 1000)?;
-    put(&mut table, 1, 2, 1000)?;
-    put(&mut table, 0, 3, 500)?;
+    for (lane, mark, length) in [(0, 1, 1000), (1, 2, 1000), (0, 3, 500)] {
+        println!("lane {lane}: {} before yours", put(&mut table, lane, mark, length)?);
+    }
     loop {
         match take(&mut table) {
             Ok(record) => println!("lane {}: record {}, {} bytes", record.lane, record.mark, record.length),

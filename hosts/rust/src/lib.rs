@@ -107,9 +107,9 @@ pub fn make(setup: &[u8], table: &mut [u8]) -> Result<u64, Refusal> {
     answer(boundary::make(setup, table)).map(|words| words[0])
 }
 
-/// Puts a record into a lane.
-pub fn put(table: &mut [u8], lane: u8, mark: u32, length: u64) -> Result<(), Refusal> {
-    answer(boundary::put(table, lane, mark, length)).map(|_| ())
+/// Puts a record into a lane; how many records the lane held before it, 0 to 15: so many of this lane go out first.
+pub fn put(table: &mut [u8], lane: u8, mark: u32, length: u64) -> Result<u64, Refusal> {
+    answer(boundary::put(table, lane, mark, length)).map(|words| words[0])
 }
 
 /// Takes the next record.

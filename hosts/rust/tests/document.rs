@@ -24,9 +24,9 @@ fn the_size_is_the_library_s() {
 #[test]
 fn the_session_by_calls() {
     let mut t = made();
-    assert_eq!(put(&mut t, 0, 1, 1000), Ok(()));
-    assert_eq!(put(&mut t, 1, 2, 1000), Ok(()));
-    assert_eq!(put(&mut t, 0, 3, 500), Ok(()));
+    assert_eq!(put(&mut t, 0, 1, 1000), Ok(0));
+    assert_eq!(put(&mut t, 1, 2, 1000), Ok(0));
+    assert_eq!(put(&mut t, 0, 3, 500), Ok(1));
     assert_eq!(sets(&t), Ok(Sets { er: 12_582_912, ir: 0, eb: 0, ib: 0 }));
     assert_eq!(look(&t), Ok(Record { lane: 0, mark: 1, length: 1000 }));
     assert_eq!(restart(&mut t), refused(15, None));
@@ -35,7 +35,7 @@ fn the_session_by_calls() {
     assert_eq!(take(&mut t), Ok(Record { lane: 1, mark: 2, length: 1000 }));
     assert_eq!(take(&mut t), refused(16, None));
     // M2
-    assert_eq!(put(&mut t, 0, 4, 100), Ok(()));
+    assert_eq!(put(&mut t, 0, 4, 100), Ok(0));
     assert_eq!(lag(&t, 0), Ok(-512_000));
 }
 
@@ -60,7 +60,7 @@ fn the_session_by_run() {
     let mut t = vec![0; TABLE_SIZE];
     let mut a = vec![0; answer_area(MOST_REQUESTS)];
     let run_ = run(&session, MOST_REQUESTS, &mut t, &mut a);
-    let text = "lanes 2\nput ok\nput ok\nput ok\nsets 12582912 0 0 0\ntake 0 1 1000\ntake 0 3 500\ntake 1 2 1000\nno 16\nend 8\n";
+    let text = "lanes 2\nput ok 0\nput ok 0\nput ok 1\nsets 12582912 0 0 0\ntake 0 1 1000\ntake 0 3 500\ntake 1 2 1000\nno 16\nend 8\n";
     assert_eq!(run_, Run { answered: 8, written: text.len(), stop: Stop::End });
     assert_eq!(&a[..text.len()], text.as_bytes());
     assert_eq!(run(&session, 8, &mut t, &mut a).stop, Stop::Limit);

@@ -42,7 +42,7 @@ same-length-2 c = search needs
 returns-2 : tie.Need-returns-2
 returns-2 c =
     let s = c .before .before .before .before .before .before .before .before .before in
-    put-does (s .args .t .now) _ (s .args .lane) (s .args .mark) (s .args .length .0) (sym (ap verdictIs (c .before .before .before .before .enum-told .given .1)) ∙ c .before .before .before .before .before .before .put-verdict .ensures .0) (c .before .before .put-record .ensures)
+    put-does (s .args .t .now) _ (s .args .lane) (s .args .mark) (s .args .length .0) _ (sym (ap verdictIs (c .before .before .before .before .enum-told .given .1)) ∙ c .before .before .before .before .before .before .put-verdict .ensures .0) (c .before .before .put-record .ensures .0) (c .before .before .put-record .ensures .1)
 
 pub put-spec : {M : Type 1} → statement M
 put-spec =

@@ -1,11 +1,18 @@
 -- `put_record` meets its contract. Assumes nothing.
-use mathlib.Core.Path.{sym, _∙_}
+use Prim.Native.Nat.{ℕ}
+use mathlib.Core.Path.{_≡_, sym, _∙_}
+use mathlib.Core.List.{List}
 use borrow.Author.Tests.{leb-false}
 use Rattle.waiting.specs.Waiting.{held}
-use Rattle.waiting.proofs.Laws.{full-plain}
+use Rattle.waiting.proofs.Laws.{full-plain, queue-plain}
 use native.Mathlib.Nat.{pos-of-ne-zero}
 use Rattle.rules.specs.State.{laneDepth, laneAt}
+use Rattle.rules.specs.Calls.{ahead}
+use Rattle.rules.proofs.Keep.{Allowed}
+use Rattle.table.specs.Layout.{cells, rowAt}
 use Rattle.table.specs.Means.{meant}
+use Rattle.table.specs.declared.LaneRow.{LaneRow}
+use Rattle.choice.specs.Known.{Known}
 use Rattle.queue.specs.Queue.{waiting}
 use Rattle.engine.proofs.RowIs.{RowIs, count-idle, count-holds}
 use Rattle.engine.proofs.Waking.{put-small, put-row, put-length, accept-busy}
@@ -41,8 +48,17 @@ append-requires c κs =
 same-length : tie.Need-same-length
 same-length c = search needs
 
+-- the row's count is the number of records that the lane held
+counted : (t : List ℕ) (known : Known t) (k n : ℕ) → Allowed (meant t) k n → (r : LaneRow) → r ≡ rowAt (cells t) k → r .count ≡ ahead (meant t) k
+counted t known k n a r e =
+    let is : RowIs (laneAt (meant t) k) r = rw e (put-row t known k n a) in
+    sym (is .held) ∙ sym (queue-plain (laneAt (meant t) k .waiting))
+
 returns : tie.Need-returns
-returns c = search needs
+returns c =
+    let s = c .before .before .before .before .before .before .before .before .before in
+    let r = c .before .before .before .before .before .before .row in
+    (c .before .before .put-first .ensures, counted (s .args .t .now) (s .pre .0) (s .args .k) (s .args .e .length .0) (s .pre .1) (r .result) (r .ensures .0))
 
 same-length-2 : tie.Need-same-length-2
 same-length-2 c = search needs
@@ -52,7 +68,10 @@ returns-2 c =
     let s = c .before .before .before .before .before .before .before .before .before in
     let t = s .args .t .now in
     let is : RowIs (laneAt (meant t) (s .args .k)) (c .before .before .before .before .before .before .row .result) = rw (c .before .before .before .before .before .before .row .ensures .0) (put-row t (s .pre .0) (s .args .k) (s .args .e .length .0) (s .pre .1)) in
-    rw (accept-busy (meant t) (s .args .k) (waiting (s .args .e)) (count-holds (laneAt (meant t) (s .args .k)) _ (s .pre .0 .good .waiting (s .args .k)) (is .held) (pos-of-ne-zero (c .before .before .before .before .if1 .left)))) (c .before .before .append .ensures)
+    let r = c .before .before .before .before .before .before .row in (
+      rw (accept-busy (meant t) (s .args .k) (waiting (s .args .e)) (count-holds (laneAt (meant t) (s .args .k)) _ (s .pre .0 .good .waiting (s .args .k)) (is .held) (pos-of-ne-zero (c .before .before .before .before .if1 .left)))) (c .before .before .append .ensures),
+      counted t (s .pre .0) (s .args .k) (s .args .e .length .0) (s .pre .1) (r .result) (r .ensures .0),
+    )
 
 pub put-record-spec : {M : Type 1} → statement M
 put-record-spec =

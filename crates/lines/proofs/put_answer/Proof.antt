@@ -2,11 +2,50 @@
 use native.Mathlib.Omega.{arith}
 use mir.Syntax.{w64}
 use mir.ValLaws.{toZ-ofZ}
-use Rattle.rules.specs.Calls.{accepted, restarted}
+use Rattle.rules.specs.Calls.{restarted}
 use Rattle.lines.proofs.Most.{line-most}
 use borrow.Author.Needs.{needs}
 use Rattle.lines.proofs.put_answer.Statement.{statement}
 use Rattle.lines.proofs.put_answer.Tie as tie
+
+enum-known-x : tie.Need-enum-known-x
+enum-known-x c = search needs
+
+slice-aggregate-put-one : tie.Need-slice-aggregate-put-one
+slice-aggregate-put-one c = search needs
+
+put-one-requires : tie.Need-put-one-requires
+put-one-requires c κs = search needs
+
+enum-known-x-2 : tie.Need-enum-known-x-2
+enum-known-x-2 c = search needs
+
+slice-aggregate-put-record : tie.Need-slice-aggregate-put-record
+slice-aggregate-put-record c = search needs
+
+put-record-requires : tie.Need-put-record-requires
+put-record-requires c κs = search needs
+
+enum-known-x-3 : tie.Need-enum-known-x-3
+enum-known-x-3 c = search needs
+
+slice-aggregate-put-record-2 : tie.Need-slice-aggregate-put-record-2
+slice-aggregate-put-record-2 c = search needs
+
+put-record-requires-2 : tie.Need-put-record-requires-2
+put-record-requires-2 c κs = search needs
+
+enum-known-x-4 : tie.Need-enum-known-x-4
+enum-known-x-4 c = search needs
+
+put-sets-requires : tie.Need-put-sets-requires
+put-sets-requires c κs = rw (c .before .before .x4 .given .1) at (c .before .before .before .before .before .pre)
+
+enum-known-x-5 : tie.Need-enum-known-x-5
+enum-known-x-5 c = search needs
+
+put-lag-requires : tie.Need-put-lag-requires
+put-lag-requires c κs = search needs
 
 enum-told : tie.Need-enum-told
 enum-told c = search needs
@@ -18,52 +57,10 @@ slice-aggregate-put-line-2 : tie.Need-slice-aggregate-put-line-2
 slice-aggregate-put-line-2 c = search needs
 
 put-line-requires : tie.Need-put-line-requires
-put-line-requires c κs = omega (arith, c .before .before .before .before .before .before .pre .1, line-most accepted tt)
+put-line-requires c κs = omega (arith, c .before .before .before .before .before .before .pre .1, line-most restarted tt)
 
-enum-known-x : tie.Need-enum-known-x
-enum-known-x c = search needs
-
-slice-aggregate-put-record : tie.Need-slice-aggregate-put-record
-slice-aggregate-put-record c = search needs
-
-put-record-requires : tie.Need-put-record-requires
-put-record-requires c κs = search needs
-
-enum-known-x-2 : tie.Need-enum-known-x-2
-enum-known-x-2 c = search needs
-
-slice-aggregate-put-record-2 : tie.Need-slice-aggregate-put-record-2
-slice-aggregate-put-record-2 c = search needs
-
-put-record-requires-2 : tie.Need-put-record-requires-2
-put-record-requires-2 c κs = search needs
-
-enum-known-x-3 : tie.Need-enum-known-x-3
-enum-known-x-3 c = search needs
-
-put-sets-requires : tie.Need-put-sets-requires
-put-sets-requires c κs = rw (c .before .before .x3 .given .1) at (c .before .before .before .before .before .pre)
-
-enum-known-x-4 : tie.Need-enum-known-x-4
-enum-known-x-4 c = search needs
-
-put-lag-requires : tie.Need-put-lag-requires
-put-lag-requires c κs = search needs
-
-enum-told-2 : tie.Need-enum-told-2
-enum-told-2 c = search needs
-
-slice-aggregate-put-line-3 : tie.Need-slice-aggregate-put-line-3
-slice-aggregate-put-line-3 c = search needs
-
-slice-aggregate-put-line-4 : tie.Need-slice-aggregate-put-line-4
-slice-aggregate-put-line-4 c = search needs
-
-put-line-requires-2 : tie.Need-put-line-requires-2
-put-line-requires-2 c κs = omega (arith, c .before .before .before .before .before .before .pre .1, line-most restarted tt)
-
-enum-known-x-5 : tie.Need-enum-known-x-5
-enum-known-x-5 c = search needs
+enum-known-x-6 : tie.Need-enum-known-x-6
+enum-known-x-6 c = search needs
 
 put-no-requires : tie.Need-put-no-requires
 put-no-requires c κs = search needs
@@ -72,67 +69,66 @@ same-length : tie.Need-same-length
 same-length c = search needs
 
 returns : tie.Need-returns
-returns c = rw (c .before .before .before .before .before .before .enum-told .given .1) (record { wrote = c .before .before .put-line .ensures; most = line-most accepted tt })
+returns c = rw (c .before .before .before .before .before .before .x .given .1) (c .before .before .put-one .ensures)
 
 same-length-2 : tie.Need-same-length-2
 same-length-2 c = search needs
 
 returns-2 : tie.Need-returns-2
-returns-2 c = rw (c .before .before .before .before .before .before .x .given .1) (c .before .before .put-record .ensures)
+returns-2 c = rw (c .before .before .before .before .before .before .x2 .given .1) (c .before .before .put-record .ensures)
 
 same-length-3 : tie.Need-same-length-3
 same-length-3 c = search needs
 
 returns-3 : tie.Need-returns-3
-returns-3 c = rw (c .before .before .before .before .before .before .x2 .given .1) (c .before .before .put-record2 .ensures)
+returns-3 c = rw (c .before .before .before .before .before .before .x3 .given .1) (c .before .before .put-record2 .ensures)
 
 same-length-4 : tie.Need-same-length-4
 same-length-4 c = search needs
 
 returns-4 : tie.Need-returns-4
-returns-4 c = rw (c .before .before .before .before .before .x3 .given .1) (c .before .before .put-sets .ensures)
+returns-4 c = rw (c .before .before .before .before .before .x4 .given .1) (c .before .before .put-sets .ensures)
 
 same-length-5 : tie.Need-same-length-5
 same-length-5 c = search needs
 
 returns-5 : tie.Need-returns-5
-returns-5 c = rw (c .before .before .before .before .before .x4 .given .1) (rw (toZ-ofZ w64 (c .before .before .before .before .before .x4 .given .0 .0) (record { sfits = c .before .before .before .before .known-told4 .given .0 .1 })) at (c .before .before .put-lag .ensures))
+returns-5 c = rw (c .before .before .before .before .before .x5 .given .1) (rw (toZ-ofZ w64 (c .before .before .before .before .before .x5 .given .0 .0) (record { sfits = c .before .before .before .before .known-told5 .given .0 .1 })) at (c .before .before .put-lag .ensures))
 
 same-length-6 : tie.Need-same-length-6
 same-length-6 c = search needs
 
 returns-6 : tie.Need-returns-6
-returns-6 c = rw (c .before .before .before .before .before .before .enum-told2 .given .1) (record { wrote = c .before .before .put-line2 .ensures; most = line-most restarted tt })
+returns-6 c = rw (c .before .before .before .before .before .before .enum-told .given .1) (record { wrote = c .before .before .put-line .ensures; most = line-most restarted tt })
 
 same-length-7 : tie.Need-same-length-7
 same-length-7 c = search needs
 
 returns-7 : tie.Need-returns-7
-returns-7 c = rw (c .before .before .before .before .before .x5 .given .1) (c .before .before .put-no .ensures)
+returns-7 c = rw (c .before .before .before .before .before .x6 .given .1) (c .before .before .put-no .ensures)
 
 pub put-answer-spec : {M : Type 1} → statement M
 put-answer-spec =
     tie.close
     (tie.spec
+    enum-known-x
+    slice-aggregate-put-one
+    put-one-requires
+    enum-known-x-2
+    slice-aggregate-put-record
+    put-record-requires
+    enum-known-x-3
+    slice-aggregate-put-record-2
+    put-record-requires-2
+    enum-known-x-4
+    put-sets-requires
+    enum-known-x-5
+    put-lag-requires
     enum-told
     slice-aggregate-put-line
     slice-aggregate-put-line-2
     put-line-requires
-    enum-known-x
-    slice-aggregate-put-record
-    put-record-requires
-    enum-known-x-2
-    slice-aggregate-put-record-2
-    put-record-requires-2
-    enum-known-x-3
-    put-sets-requires
-    enum-known-x-4
-    put-lag-requires
-    enum-told-2
-    slice-aggregate-put-line-3
-    slice-aggregate-put-line-4
-    put-line-requires-2
-    enum-known-x-5
+    enum-known-x-6
     put-no-requires
     same-length
     returns
