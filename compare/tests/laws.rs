@@ -4,13 +4,13 @@ mod common;
 use common::*;
 use compare::calls::{Answer, Call, Taken};
 use compare::gen::{caller::Caller, setups};
-use compare::laws::{fairness::Fairness, good, groups, order::Order, Laws};
+use compare::laws::{compared::Compared, fairness::Fairness, good, groups, order::Order, Laws};
 use compare::rng::Rng;
-use compare::rules::State;
+use compare::rules::{Lane, State};
 
 #[test]
 fn random_lists() {
-    let mut checked = 0;
+    let (mut checked, mut compared) = (0, 0);
     let mut blocked = 0;
     for seed in 0..3_000 {
         let mut rng = Rng::new(seed);
@@ -26,68 +26,145 @@ fn random_lists() {
         }
         laws.end(&state).unwrap_or_else(|broken| panic!("seed {seed}: {broken}"));
         checked += laws.fairness.checked;
+        compared += laws.compared.checked;
     }
     assert!(checked > 1_000_000, "demand 3 was checked at {checked} points");
+    assert!(compared > 500_000, "two lanes were compared at {compared} points");
     assert!(blocked > 100, "{blocked} tables had an eligible group that is blocked");
 }
 
-/// Demand 3 by its own words: every stretch, every lane, counted anew.
-fn every_stretch(fresh: &State, list: &[(Call, Answer)]) -> bool {
-    let holds = |lane: u8, upto: usize| {
-        let puts = list[..upto].iter().filter(|(call, answer)| {
-            matches!(call, Call::Put { lane: to, .. } if *to == lane) && matches!(answer, Answer::Put(_))
-        });
-        let sent =
-            list[..upto].iter().filter(|(_, answer)| matches!(answer, Answer::Taken(t) if t.lane == lane));
-        puts.count() > sent.count()
+/// Puts accepted to a lane less its records handed out, at a point of the list.
+fn holds(list: &[(Call, Answer)], lane: u8, upto: usize) -> bool {
+    let put = |(call, answer): &&(Call, Answer)| {
+        matches!(call, Call::Put { lane: to, .. } if *to == lane) && matches!(answer, Answer::Put(_))
     };
-    let longest = fresh.lanes.iter().map(|lane| i128::from(lane.plan.longest)).max().unwrap();
+    let sent = |(_, answer): &&(Call, Answer)| matches!(answer, Answer::Taken(t) if t.lane == lane);
+    list[..upto].iter().filter(put).count() > list[..upto].iter().filter(sent).count()
+}
+
+/// Whether every stretch in which these lanes hold records keeps a law, which is told the bytes sent of each lane in it.
+fn every_stretch(list: &[(Call, Answer)], lanes: &[u8], law: impl Fn(&[i128; 3]) -> bool) -> bool {
+    let busy = |upto: usize| lanes.iter().all(|lane| holds(list, *lane, upto));
+    (0..=list.len()).filter(|begin| busy(*begin)).all(|begin| {
+        let mut sent = [0; 3];
+        (begin..list.len()).take_while(|at| busy(at + 1)).all(|at| {
+            if let Answer::Taken(taken) = list[at].1 {
+                sent[usize::from(taken.lane)] += i128::from(taken.length);
+            }
+            law(&sent)
+        })
+    })
+}
+
+fn longest(fresh: &State) -> i128 {
+    fresh.lanes.iter().map(|lane| i128::from(lane.plan.longest)).max().unwrap()
+}
+
+/// Demand 3 by its own words: every stretch, every lane, counted anew.
+fn demand_3(fresh: &State, list: &[(Call, Answer)]) -> bool {
     fresh.lanes.iter().all(|lane| {
-        let number = lane.plan.number;
-        (0..=list.len()).filter(|begin| holds(number, *begin)).all(|begin| {
-            let (mut total, mut own) = (0, 0);
-            (begin..list.len()).take_while(|at| holds(number, at + 1)).all(|at| {
-                if let Answer::Taken(taken) = list[at].1 {
-                    total += i128::from(taken.length);
-                    own += if taken.lane == number { i128::from(taken.length) } else { 0 };
-                }
-                1_024 * total < lane.units_per_byte * own + 4 * lane.slot() + 1_024 * longest
+        every_stretch(list, &[lane.plan.number], |sent| {
+            let own = lane.units_per_byte * sent[usize::from(lane.plan.number)];
+            1_024 * sent.iter().sum::<i128>() < own + 4 * lane.slot() + 1_024 * longest(fresh)
+        })
+    })
+}
+
+/// Two busy lanes compared, by its own words: every stretch, every two lanes, counted anew.
+fn two_lanes_compared(fresh: &State, list: &[(Call, Answer)]) -> bool {
+    fresh.lanes.iter().all(|a| {
+        fresh.lanes.iter().all(|b| {
+            every_stretch(list, &[a.plan.number, b.plan.number], |sent| {
+                let work = |lane: &Lane| lane.units_per_byte * sent[usize::from(lane.plan.number)];
+                work(a) - work(b) < 4 * a.slot() + 4 * b.slot() + 2 * 1_024 * longest(fresh)
             })
         })
     })
 }
 
+/// An unfair line: takes go to any lane that holds a record, mostly to the last.
+fn unfair(rng: &mut Rng, fresh: &State, calls: usize) -> Vec<(Call, Answer)> {
+    let mut queues: [Vec<u64>; 3] = Default::default();
+    let mut list = vec![];
+    for _ in 0..calls {
+        let lane = if rng.once_in(12) { rng.index(3) } else { 2 };
+        list.push(if rng.once_in(2) || queues[lane].is_empty() {
+            let length = rng.between(1, u64::from(fresh.lanes[lane].plan.longest));
+            queues[lane].push(length);
+            (Call::Put { lane: lane as u8, mark: 0, length }, Answer::Put(0))
+        } else {
+            let taken = Taken { lane: lane as u8, mark: 0, length: queues[lane].remove(0) };
+            (Call::Take, Answer::Taken(taken))
+        });
+    }
+    list
+}
+
 #[test]
 fn one_pass_finds_what_every_stretch_finds() {
-    let (mut kept, mut broken) = (0, 0);
+    let (mut demand, mut compared) = ([0, 0], [0, 0]);
     for seed in 0..400 {
-        // An unfair line: takes go to any lane that holds a record, mostly to the first.
-        let mut rng = Rng::new(seed);
         let fresh = fresh(&[(0, 512, 64), (1, 256, 64), (2, 256, 1_500)]);
-        let mut fairness = Fairness::new(&fresh);
-        let mut queues: [Vec<u64>; 3] = Default::default();
-        let mut list = vec![];
-        let mut one_pass = true;
-        for _ in 0..60 {
-            let lane = if rng.once_in(12) { rng.index(3) } else { 2 };
-            let (call, answer) = if rng.once_in(2) || queues[lane].is_empty() {
-                let length = rng.between(1, u64::from(fresh.lanes[lane].plan.longest));
-                queues[lane].push(length);
-                (Call::Put { lane: lane as u8, mark: 0, length }, Answer::Put(0))
-            } else {
-                (
-                    Call::Take,
-                    Answer::Taken(Taken { lane: lane as u8, mark: 0, length: queues[lane].remove(0) }),
-                )
-            };
-            list.push((call, answer));
-            one_pass = one_pass && fairness.step(call, answer).is_ok();
-        }
-        assert_eq!(one_pass, every_stretch(&fresh, &list), "seed {seed}");
-        kept += u32::from(one_pass);
-        broken += u32::from(!one_pass);
+        let list = unfair(&mut Rng::new(seed), &fresh, 60);
+        let mut law = Fairness::new(&fresh);
+        let kept = list.iter().all(|(call, answer)| law.step(*call, *answer).is_ok());
+        assert_eq!(kept, demand_3(&fresh, &list), "seed {seed}");
+        demand[usize::from(kept)] += 1;
+        let mut law = Compared::new(&fresh);
+        let kept = list.iter().all(|(call, answer)| law.step(*call, *answer).is_ok());
+        assert_eq!(kept, two_lanes_compared(&fresh, &list), "seed {seed}");
+        compared[usize::from(kept)] += 1;
     }
-    assert!(kept > 20 && broken > 20, "{kept} lists keep demand 3, {broken} break it");
+    assert!(demand.iter().all(|count| *count > 20), "{demand:?} break and keep demand 3");
+    assert!(compared.iter().all(|count| *count > 20), "{compared:?} break and keep the other");
+}
+
+/// Takes by turns, one record of each busy lane, whatever its weight: what the law finds.
+fn by_turns(fresh: &State, takes: usize) -> Result<(), String> {
+    let mut compared = Compared::new(fresh);
+    let lanes: Vec<u8> = fresh.lanes.iter().map(|lane| lane.plan.number).collect();
+    let put = |lane| Call::Put { lane, mark: 0, length: 1_000 };
+    for &lane in lanes.iter().chain(&lanes) {
+        compared.step(put(lane), Answer::Put(0))?;
+    }
+    for &lane in lanes.iter().cycle().take(takes) {
+        compared.step(Call::Take, Answer::Taken(Taken { lane, mark: 0, length: 1_000 }))?;
+        compared.step(put(lane), Answer::Put(1))?;
+    }
+    Ok(())
+}
+
+#[test]
+fn the_comparison_of_two_lanes_is_lost_when_weights_are_not_looked_at() {
+    // Equal weights: turns are fair.
+    by_turns(&fresh(&[(0, 256, 1500), (1, 256, 1500)]), 10_000).unwrap();
+    // 512 and 256: a turn costs lane 0 1,000 x 2,048 and lane 1 twice as much. The stretch from behind the first take has lane 1 served k times and lane 0
+    // once less, a difference of (k + 1) x 2,048,000; the bound is 4 (2^22 + 2^23) + 2 x 1,536,000 = 53,403,648.
+    let two = fresh(&[(0, 512, 1500), (1, 256, 1500)]);
+    by_turns(&two, 2 * 25).unwrap();
+    let broken = by_turns(&two, 2 * 26).unwrap_err();
+    assert!(broken.starts_with("lanes 1 and 0 are both busy"), "{broken}");
+}
+
+#[test]
+fn a_lane_that_runs_dry_ends_the_stretch() {
+    let fresh = fresh(&[(0, 512, 1500), (1, 256, 1500)]);
+    let mut compared = Compared::new(&fresh);
+    let put = |lane| (Call::Put { lane, mark: 0, length: 1_500 }, Answer::Put(0));
+    let take = |lane| (Call::Take, Answer::Taken(Taken { lane, mark: 0, length: 1_500 }));
+    let mut step = |(call, answer)| compared.step(call, answer);
+    step(put(0)).unwrap();
+    step(put(1)).unwrap();
+    // Lane 1 alone is served, and runs dry each time: no stretch has both busy.
+    for _ in 0..1_000 {
+        step(take(1)).unwrap();
+        step(put(1)).unwrap();
+    }
+    // From here on it holds a record throughout.
+    step(put(1)).unwrap();
+    let served = (0..1_000).position(|_| step(take(1)).is_err() || step(put(1)).is_err());
+    // 1,500 x 4,096 a record; the bound is 53,403,648: the ninth is too much.
+    assert_eq!(served, Some(8));
 }
 
 #[test]

@@ -29,6 +29,8 @@ pub fn case<U: Unit>(unit: &mut U, rng: &mut Rng, tally: &mut Tally) -> Result<(
     tally.lists += 1;
     tally.stretch_ends += list.laws.fairness.checked;
     tally.closest = tally.closest.max(list.laws.fairness.closest);
+    tally.pair_ends += list.laws.compared.checked;
+    tally.closest_pair = tally.closest_pair.max(list.laws.compared.closest);
     let (mut calls, unit) = (list.calls, list.unit);
     result.map_err(|what| {
         let mut differs = |calls: &[Call]| replay(unit, &bytes, &fresh, calls);

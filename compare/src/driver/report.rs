@@ -38,6 +38,9 @@ pub struct Tally {
     pub stretch_ends: u64,
     /// The greatest part of demand 3's tighter bound that a stretch used, in thousandths.
     pub closest: i128,
+    /// Two lanes and a point at which they were compared for all stretches that end there, and the greatest part of the bound that one used.
+    pub pair_ends: u64,
+    pub closest_pair: i128,
 }
 
 impl Tally {
@@ -114,6 +117,13 @@ impl Tally {
             self.stretch_ends,
             self.closest / 10,
             self.closest % 10
+        )?;
+        write!(
+            f,
+            "\n  two busy lanes compared on all stretches that end at {} points; the closest used {}.{} % of its bound",
+            self.pair_ends,
+            self.closest_pair / 10,
+            self.closest_pair % 10
         )
     }
 

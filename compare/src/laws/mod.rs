@@ -2,10 +2,12 @@
 //! run with a sentence where it is broken.
 //!
 //! - [`fairness`] — demand 3, on every stretch of the list and every lane
+//! - [`compared`] — two busy lanes compared, on every stretch and every two lanes
 //! - [`order`] — accepted records are handed out once, in order, or still held; a put tells how many are ahead of it
 //! - [`groups`] — the four words part the groups, name the chosen lane's group, and are in order of finish
 //! - [`good`] — the clock's range and every other clause of "A good table"
 
+pub mod compared;
 pub mod fairness;
 pub mod good;
 pub mod groups;
@@ -17,18 +19,25 @@ use crate::rules::State;
 /// All laws together.
 pub struct Laws {
     pub fairness: fairness::Fairness,
+    pub compared: compared::Compared,
     pub order: order::Order,
     clock: i128,
 }
 
 impl Laws {
     pub fn new(fresh: &State) -> Laws {
-        Laws { fairness: fairness::Fairness::new(fresh), order: order::Order::default(), clock: fresh.clock }
+        Laws {
+            fairness: fairness::Fairness::new(fresh),
+            compared: compared::Compared::new(fresh),
+            order: order::Order::default(),
+            clock: fresh.clock,
+        }
     }
 
     /// One more call of the list, its answer, and the table's contents after it.
     pub fn step(&mut self, call: Call, answer: Answer, after: &State) -> Result<(), String> {
         self.fairness.step(call, answer)?;
+        self.compared.step(call, answer)?;
         self.order.step(call, answer)?;
         if call.only_reads() || answer.refused() {
             return Ok(());

@@ -7,10 +7,11 @@ use lib.Dec.{lit≤}
 use lib.ListN.{replicate}
 use Rattle.rules.specs.State.{Setting, noSetting, settingAt, rate, slot}
 use Rattle.rules.specs.Setup.{InNumbers, framingOf, Setup}
-use Rattle.rules.specs.Fair.{Fair, Demand3}
-use Rattle.rules.specs.Examples.{twoLanes, Session, Waits}
+use Rattle.rules.specs.Fair.{bytesSentOf, Fair, Demand3, Compared, TwoLanes}
+use Rattle.rules.specs.Examples.{twoLanes, Session, Waits, SideBySide}
 use Rattle.rules.proofs.Computes.{rules}
 use Rattle.rules.proofs.Fair.{demand3}
+use Rattle.rules.proofs.Fair as proved
 
 pub session : Session
 unfolding Session rules
@@ -50,3 +51,29 @@ pub waits : Waits
 unfolding Waits Demand3 Fair
 waits calls past stretch rest e h o =
     omega (arith, demand3 twoLanes two-lanes calls past stretch rest e 0 h, ap (λ (n : ℕ). rate (settingAt twoLanes 0) * n) o, its-slot, its-framing)
+
+slot-0 : slot (settingAt twoLanes 0) ≡ 4194304
+slot-0 = its-slot
+
+slot-1 : slot (settingAt twoLanes 1) ≡ 8388608
+unfolding rules
+slot-1 = refl
+
+rate-0 : rate (settingAt twoLanes 0) ≡ 2048
+unfolding rules
+rate-0 = refl
+
+rate-1 : rate (settingAt twoLanes 1) ≡ 4096
+unfolding rules
+rate-1 = refl
+
+pub side-by-side : SideBySide
+unfolding SideBySide TwoLanes Compared
+side-by-side calls past stretch rest e h₀ h₁ =
+    let x : ℕ = bytesSentOf twoLanes 0 stretch in
+    let y : ℕ = bytesSentOf twoLanes 1 stretch in
+    let a = proved.two-lanes twoLanes two-lanes calls past stretch rest e 0 1 h₀ h₁ in
+    let b = proved.two-lanes twoLanes two-lanes calls past stretch rest e 1 0 h₁ h₀ in
+    let c₀ = ap (λ (n : ℕ). n * x) rate-0 in
+    let c₁ = ap (λ (n : ℕ). n * y) rate-1 in
+    (omega (arith, a, c₀, c₁, slot-0, slot-1, its-framing), omega (arith, b, c₀, c₁, slot-0, slot-1, its-framing))

@@ -15,7 +15,7 @@ use Rattle.rules.specs.State.{Rec, Setting, settingAt, State, rate, slot
 use Rattle.rules.specs.Setup.{Setup, longestCharge, margin, framingOf}
 use Rattle.rules.specs.Calls.{Call, fresh, step}
 use Rattle.rules.specs.Runs.{Event, after, trace, sentOf, InOrder}
-use Rattle.rules.specs.Fair.{bytesSent, bytesSentOf, Holding, Fair, Demand3}
+use Rattle.rules.specs.Fair.{bytesSent, bytesSentOf, Holding, Fair, Demand3, Compared, TwoLanes, ComparedTight}
 use Rattle.rules.proofs.Bounds.{SetupOk, fresh-inv, lower, upper}
 use Rattle.rules.proofs.Keep.{Kept, kept, step-kept}
 pub use Rattle.rules.proofs.Figures.{tight-ok, longest-most, framing-most, setup-ok, longest-at, framing-at, group-at, slot-at}
@@ -25,7 +25,7 @@ use Rattle.rules.proofs.Sound.{fresh-sound, sound-run}
 use Rattle.rules.proofs.Queues.{queueAt}
 use Rattle.rules.proofs.Order.{in-order}
 use Rattle.rules.proofs.Track.{step-moved}
-use Rattle.rules.proofs.Runs.{after-append, trace-append, split}
+use Rattle.rules.proofs.Runs.{after-append, trace-append, Split, split}
 
 -- ---- the stretch
 
@@ -72,12 +72,17 @@ module _ (M : ℕ) (gs : List Setting) (ok : SetupOk M gs) (k : ℕ) where
   unfolding fresh
   fresh-kept = fresh-inv M gs ok
 
-  -- the claim over a list of calls in two parts
-  fair-calls : (pre mid : List Call) → ((p q : List Call) → p ++ q ≡ mid → Holding k (trace (fresh gs) (pre ++ p)))
-      → 1024 * bytesSent gs (trace (after (fresh gs) pre) mid)
-      < rate (settingAt gs k) * bytesSentOf gs k (trace (after (fresh gs) pre) mid) + 4 * slot (settingAt gs k) + M
+  -- Over a stretch in which lane k holds records, c O and the clock's move differ by less than 4 slots and M, both ways.
+  pub record Pace (pre mid : List Call) : Type 0 where
+    pub sent : (after (fresh gs) pre) .clock + 1024 * bytesSent gs (trace (after (fresh gs) pre) mid) ≤ (after (after (fresh gs) pre) mid) .clock
+    pub not-slow : (after (after (fresh gs) pre) mid) .clock
+        < (after (fresh gs) pre) .clock + rate (settingAt gs k) * bytesSentOf gs k (trace (after (fresh gs) pre) mid) + 4 * slot (settingAt gs k) + M
+    pub not-fast : (after (fresh gs) pre) .clock + rate (settingAt gs k) * bytesSentOf gs k (trace (after (fresh gs) pre) mid)
+        < (after (after (fresh gs) pre) mid) .clock + 4 * slot (settingAt gs k) + M
+
+  pub pace : (pre mid : List Call) → ((p q : List Call) → p ++ q ≡ mid → Holding k (trace (fresh gs) (pre ++ p))) → Pace pre mid
   unfolding after
-  fair-calls pre mid holding =
+  pace pre mid holding =
       let s = after (fresh gs) pre in
       let e = after s mid in
       let inv : Kept M s = kept M (fresh gs) pre fresh-kept in
@@ -85,29 +90,59 @@ module _ (M : ℕ) (gs : List Setting) (ok : SetupOk M gs) (k : ℕ) where
       = λ p q h. rw (after-append (fresh gs) pre p) at (holds-of gs k (pre ++ p) (holding p q h)) in
       let moves = stretch-moves M k gs s mid inv (setup-kept (fresh gs) pre ∙ fresh-setup gs) held in
       let same : (laneAt e k) .given ≡ settingAt gs k = ap (λ (x : State). (laneAt x k) .given) (sym (after-append (fresh gs) pre mid)) ∙ given-is (pre ++ mid) in
-      omega (
-        arith,
-        moves .0,
-        moves .1,
-        upper M (s .clock) (s .lanes) inv k (held [] mid refl),
-        lower M (e .clock) (e .lanes) (kept M s mid inv) k (held mid [] (append-nil mid)),
-        round-le (slot ((laneAt e k) .given)) ((laneAt e k) .start),
-        ap slot (given-is pre),
-        ap slot same,
-      )
+      let first : holds (laneAt s k) ≡ true = held [] mid refl in
+      let last : holds (laneAt e k) ≡ true = held mid [] (append-nil mid) in
+      record {
+        sent = moves .0;
+        not-slow = omega (
+          arith,
+          moves .1,
+          upper M (s .clock) (s .lanes) inv k first,
+          lower M (e .clock) (e .lanes) (kept M s mid inv) k last,
+          round-le (slot ((laneAt e k) .given)) ((laneAt e k) .start),
+          ap slot (given-is pre),
+          ap slot same,
+        );
+        not-fast = omega (
+          arith,
+          moves .1,
+          lower M (s .clock) (s .lanes) inv k first,
+          upper M (e .clock) (e .lanes) (kept M s mid inv) k last,
+          round-le (slot ((laneAt s k) .given)) ((laneAt s k) .start),
+          ap slot (given-is pre),
+          ap slot same,
+        );
+      }
 
--- the claim over the events, for any M that no record's charge of the line exceeds
+-- a split of the events is one of the calls, and what is held by the events is held by the calls
+module _ (gs : List Setting) (calls : List Call) (past stretch rest : List Event) (e : trace (fresh gs) calls ≡ past ++ stretch ++ rest) where
+  two : Split (fresh gs) past stretch
+  two = let all = split (fresh gs) calls (past ++ stretch) rest e in split (fresh gs) (all .calls) past stretch (all .past-is)
+
+  holding-calls : (k : ℕ) → ((p q : List Event) → p ++ q ≡ stretch → Holding k (past ++ p))
+      → (p q : List Call) → p ++ q ≡ two .more → Holding k (trace (fresh gs) (two .calls ++ p))
+  holding-calls k holding p q h =
+      let s = after (fresh gs) (two .calls) in
+      subst (Holding k) (sym (trace-append (fresh gs) (two .calls) p ∙ ap (λ (es : List Event). es ++ trace s p) (two .past-is)))
+      (holding (trace s p) (trace (after s p) q) (sym (trace-append s p q) ∙ ap (trace s) h ∙ two .rest-is))
+
+-- the claims over the events, for any M that no record's charge of the line exceeds
 pub fair : (M : ℕ) (gs : List Setting) → SetupOk M gs → Fair M gs
 unfolding Fair
 fair M gs ok calls past stretch rest e k holding =
-    let all = split (fresh gs) calls (past ++ stretch) rest e in
-    let two = split (fresh gs) (all .calls) past stretch (all .past-is) in
-    let s = after (fresh gs) (two .calls) in
-    subst (λ (es : List Event). 1024 * bytesSent gs es < rate (settingAt gs k) * bytesSentOf gs k es + 4 * slot (settingAt gs k) + M) (two .rest-is)
-    (fair-calls M gs ok k (two .calls) (two .more)
-    (λ p q h.
-    subst (Holding k) (sym (trace-append (fresh gs) (two .calls) p ∙ ap (λ (es : List Event). es ++ trace s p) (two .past-is)))
-    (holding (trace s p) (trace (after s p) q) (sym (trace-append s p q) ∙ ap (trace s) h ∙ two .rest-is))))
+    let t = two gs calls past stretch rest e in
+    let x = pace M gs ok k (t .calls) (t .more) (holding-calls gs calls past stretch rest e k holding) in
+    subst (λ (es : List Event). 1024 * bytesSent gs es < rate (settingAt gs k) * bytesSentOf gs k es + 4 * slot (settingAt gs k) + M) (t .rest-is)
+    (omega (arith, x .sent, x .not-slow))
+
+pub compared : (M : ℕ) (gs : List Setting) → SetupOk M gs → Compared M gs
+unfolding Compared
+compared M gs ok calls past stretch rest e a b holdsA holdsB =
+    let t = two gs calls past stretch rest e in
+    let x = pace M gs ok a (t .calls) (t .more) (holding-calls gs calls past stretch rest e a holdsA) in
+    let y = pace M gs ok b (t .calls) (t .more) (holding-calls gs calls past stretch rest e b holdsB) in
+    subst (λ (es : List Event). rate (settingAt gs a) * bytesSentOf gs a es < rate (settingAt gs b) * bytesSentOf gs b es + 4 * slot (settingAt gs a) + 4 * slot (settingAt gs b) + 2 * M) (t .rest-is)
+    (omega (arith, x .not-fast, y .not-slow))
 
 -- ---- the figures
 
@@ -118,3 +153,11 @@ fair-tight gs s = fair (1024 * longestCharge gs) gs (tight-ok gs s)
 pub demand3 : Demand3
 unfolding Demand3
 demand3 gs s = fair (margin (framingOf gs)) gs (setup-ok gs s)
+
+pub compared-tight : ComparedTight
+unfolding ComparedTight
+compared-tight gs s = compared (1024 * longestCharge gs) gs (tight-ok gs s)
+
+pub two-lanes : TwoLanes
+unfolding TwoLanes
+two-lanes gs s = compared (margin (framingOf gs)) gs (setup-ok gs s)

@@ -3,9 +3,10 @@
 --   twoLanes   the session's setup: lane 0 of weight 512, lane 1 of weight 256, longest 1,500
 --   Session    its eight requests and the rules' replies to them
 --   Waits      in any list of calls, while lane 0 holds a record and none of its bytes is sent, fewer than 17,884 bytes are
+--   SideBySide in any list of calls, while both lanes hold records: lane 0's bytes and twice lane 1's differ by less than 26,076
 --
 -- Assumes nothing.
-use Prim.Native.Nat.{ℕ, _<_}
+use Prim.Native.Nat.{ℕ, _+_, _*_, _<_}
 use mathlib.Core.Path.{_≡_}
 use mathlib.Core.List.{List, [], _∷_, _++_, map}
 use mathlib.Core.Option.{none}
@@ -34,3 +35,12 @@ Waits = (calls : List Call) (past stretch rest : List Event)
     → ((p q : List Event) → p ++ q ≡ stretch → Holding 0 (past ++ p))
     → bytesSentOf twoLanes 0 stretch ≡ 0
     → bytesSent twoLanes stretch < 17884
+
+-- c is 2,048 and 4,096, the slots 2^22 and 2^23: 4 slots of each and twice 1,536,000 make 53,403,648, which is 2,048 times 26,076
+unfoldable pub SideBySide : Type 0
+SideBySide = (calls : List Call) (past stretch rest : List Event)
+    → trace (fresh twoLanes) calls ≡ past ++ stretch ++ rest
+    → ((p q : List Event) → p ++ q ≡ stretch → Holding 0 (past ++ p))
+    → ((p q : List Event) → p ++ q ≡ stretch → Holding 1 (past ++ p))
+    → (bytesSentOf twoLanes 0 stretch < 2 * bytesSentOf twoLanes 1 stretch + 26076)
+    × (2 * bytesSentOf twoLanes 1 stretch < bytesSentOf twoLanes 0 stretch + 26076)

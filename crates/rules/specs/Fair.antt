@@ -4,6 +4,8 @@
 --   Holding                  a lane holds a record after these events
 --   Fair M gs                the claim for every list of calls from a fresh table of the setup gs, with M for 1,536,000
 --   Demand3                  the claim as asked
+--   Compared M gs            two busy lanes compared, with M for what a record may cost the line
+--   TwoLanes, ComparedTight  the claim as asked; with the setup's own greatest charge
 --
 -- Assumes nothing.
 use Prim.Native.Nat.{ℕ, _+_, _*_, _<_}
@@ -15,7 +17,7 @@ use lib.Dec.{eqb}
 use Rattle.units.specs.Numbers.{lineRate}
 use Rattle.units.specs.Plain.{if_then_else_, sum}
 use Rattle.rules.specs.State.{Setting, settingAt, charge, rate, slot}
-use Rattle.rules.specs.Setup.{Setup, framingOf, margin}
+use Rattle.rules.specs.Setup.{Setup, framingOf, longestCharge, margin}
 use Rattle.rules.specs.Calls.{Call, fresh}
 use Rattle.rules.specs.Runs.{Event, trace, Moving, sentIn, acceptedOf, sentOf}
 
@@ -51,3 +53,22 @@ Fair M gs =
 -- 1,024 T < c O + 4 slots + 1,024 (1,500 + h), from a fresh table of any setup
 unfoldable pub Demand3 : Type 0
 Demand3 = (gs : List Setting) → Setup gs → Fair (margin (framingOf gs)) gs
+
+-- ---- two busy lanes compared
+
+-- The same lists and stretches, and two lanes a and b that both hold a record before the stretch and after each call in it: c of a times a's bytes, less c of b
+-- times b's, is below four slots of a, four slots of b and 2 M. Whole numbers are compared as sums; bytes are those charged, as in `Fair`.
+unfoldable pub Compared : ℕ → List Setting → Type 0
+Compared M gs =
+    (calls : List Call) (past stretch rest : List Event) → trace (fresh gs) calls ≡ past ++ stretch ++ rest
+    → (a b : ℕ) → ((p q : List Event) → p ++ q ≡ stretch → Holding a (past ++ p)) → ((p q : List Event) → p ++ q ≡ stretch → Holding b (past ++ p))
+    → rate (settingAt gs a) * bytesSentOf gs a stretch
+    < rate (settingAt gs b) * bytesSentOf gs b stretch + 4 * slot (settingAt gs a) + 4 * slot (settingAt gs b) + 2 * M
+
+-- from a fresh table of any setup, M being what a record of 1,500 bytes costs the line
+unfoldable pub TwoLanes : Type 0
+TwoLanes = (gs : List Setting) → Setup gs → Compared (margin (framingOf gs)) gs
+
+-- and with the setup's own greatest charge
+unfoldable pub ComparedTight : Type 0
+ComparedTight = (gs : List Setting) → Setup gs → Compared (lineRate * longestCharge gs) gs

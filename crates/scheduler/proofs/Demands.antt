@@ -28,6 +28,7 @@ use Rattle.scheduler.specs.Demands.{FairCalls, NeverTen, OrderKept, Setu
 use Rattle.scheduler.proofs.Chains.{led-good, led-on}
 use Rattle.scheduler.proofs.Begins.{by-make, by-restart}
 use Rattle.scheduler.proofs.Ahead.{ahead-told}
+use Rattle.scheduler.proofs.Compared.{compared-calls, compared-tight-calls, fair-tight-calls}
 use Rattle.scheduler.proofs.Drained.{drained-table}
 
 -- no event of a list of the rules' calls is refused by 10
@@ -141,6 +142,9 @@ module _ (gs : List Setting) (es : List Event) (u : List ℕ) (l : Led gs es u) 
   demands = record {
     led = l;
     fair = fair-calls;
+    fair-tight = fair-tight-calls gs es u l;
+    compared = compared-calls gs es u l;
+    compared-tight = compared-tight-calls gs es u l;
     never-ten = never-ten;
     order = order-kept;
     setup-kept = setup-kept-calls;

@@ -3,6 +3,7 @@ pub mod Made
 pub mod Chains
 pub mod Begins
 pub mod Ahead
+pub mod Compared
 pub mod Drained
 pub mod Demands
 pub mod One

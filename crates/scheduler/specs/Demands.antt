@@ -33,6 +33,7 @@ use Rattle.good.specs.Table.{GoodTable}
 use Rattle.scheduler.specs.Step.{Step}
 use Rattle.scheduler.specs.Chain.{Chain, Begins, Led, inForce}
 use Rattle.scheduler.specs.Ahead.{AheadTold}
+use Rattle.scheduler.specs.Compared.{ComparedCalls, ComparedTight, FairTight}
 use Rattle.scheduler.specs.Drained.{HandsOut, Drained}
 pub use Rattle.scheduler.specs.Chain.{callsOf}
 
@@ -73,6 +74,9 @@ pub record Demands (gs : List Setting) (es : List Event) (u : List ℕ) : Type 0
   -- demand 2: every answer, and the table after the list, is what the rules give; so the list may go on
   pub led : Led gs es u
   pub fair : FairCalls gs es
+  pub fair-tight : FairTight gs es
+  pub compared : ComparedCalls gs es
+  pub compared-tight : ComparedTight gs es
   pub never-ten : NeverTen es u
   pub order : OrderKept es u
   pub setup-kept : SetupKept gs es u

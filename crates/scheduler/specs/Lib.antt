@@ -2,6 +2,7 @@ pub mod Step
 pub mod Make
 pub mod Chain
 pub mod Ahead
+pub mod Compared
 pub mod Drained
 pub mod Demands
 pub mod One

@@ -12,8 +12,8 @@ use Rattle.rules.specs.State.{State}
 use Rattle.rules.specs.Setup.{Setup}
 use Rattle.rules.specs.Calls.{Call, fresh, step}
 use Rattle.rules.specs.Runs.{after, trace}
-use Rattle.rules.specs.Fair.{Demand3}
-use Rattle.rules.proofs.Fair.{demand3}
+use Rattle.rules.specs.Fair.{Demand3, TwoLanes}
+use Rattle.rules.proofs.Fair.{demand3, two-lanes}
 use Rattle.plan.specs.Read as plan
 use Rattle.plan.proofs.Accepted.{accepted}
 use Rattle.table.specs.Layout.{WORDS}
@@ -54,7 +54,7 @@ walk-lists (suc left) s at n lines σ = go (itemAt s at) (λ q m ls τ. walk-lis
 
 module _ (s : List ℕ) (limit : ℕ) (σ : State) where
   begun-lists : (r : plan.Reply) → plan.readPlan s 0 ≡ r → begun s limit r .state ≡ some σ → Lists s limit (begun s limit r)
-  unfolding Demand3
+  unfolding Demand3 TwoLanes
   begun-lists (plan.refused n p) e h = let z : _≡_ {A = ℕ} 0 1 = cc in absurd (omega arith)
   begun-lists (plan.read gs lanes at) e h =
       let w = walk limit s at 0 [] (fresh gs) in
@@ -71,6 +71,7 @@ module _ (s : List ℕ) (limit : ℕ) (σ : State) where
         text = ap (λ (x : List ℕ). lanesLine lanes ++ (x ++ closing (w .why) (w .count))) (i .text);
         state = ap some (i .state);
         fair = demand3 gs ok;
+        compared = two-lanes gs ok;
       }
 
 pub run-lists : RunLists

@@ -16,7 +16,7 @@ use Rattle.rules.specs.State.{Setting, State}
 use Rattle.rules.specs.Setup.{Setup, framingOf, margin}
 use Rattle.rules.specs.Calls.{Call, fresh}
 use Rattle.rules.specs.Runs.{Event, after, trace}
-use Rattle.rules.specs.Fair.{Fair}
+use Rattle.rules.specs.Fair.{Fair, Compared}
 use Rattle.plan.specs.Read as plan
 use Rattle.lines.specs.Line.{lineOf, lanesLine}
 use Rattle.requests.specs.Request.{Item, request, last, bad, itemAt}
@@ -51,6 +51,8 @@ pub record Lists (s : List ℕ) (limit : ℕ) (x : Script) : Type 0 where
   pub state : x .state ≡ some (after (fresh settings) (requestsOf limit s at))
   -- demand 3, of this list as of every one
   pub fair : Fair (margin (framingOf settings)) settings
+  -- and any two of its busy lanes compared
+  pub compared : Compared (margin (framingOf settings)) settings
 
 unfoldable pub RunLists : Type 0
 RunLists = (s : List ℕ) (limit table area : ℕ) (σ : State) → runOf s limit table area .state ≡ some σ → Lists s limit (runOf s limit table area)
