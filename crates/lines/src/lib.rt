@@ -3,7 +3,7 @@
 // specs/Line.antt has each line as a definition, and proofs/Most.antt the law that none is longer than 64 bytes, from which 17's figure follows. Each
 // function writes its line at a place and answers the place behind it. These are inner functions: each requires 64 bytes there.
 ghost use mathlib.Core.Path.{_≡_};
-ghost use Prim.Native.Nat.{_+_, _≤_};
+ghost use Prim.Native.Nat.{_+_, _≤_, _<_};
 ghost use mathlib.Core.List.{[], _∷_};
 ghost use lib.ListN.{length};
 ghost use Rattle.text.specs.Decimal.{decimal};
@@ -91,9 +91,9 @@ pub enum Place {
     Nowhere,
 }
 
-// A refusal's number.
+// A refusal's number. Each is below 256, so that a line with it is short.
 pub fn number(x: Refusal) -> u64
-    ensures { λ r. ⌜ (r ≡ number x) × (r ≤ 18) ⌝ }
+    ensures { λ r. ⌜ (r ≡ number x) × (r < 256) ⌝ }
 {
     match x {
         Refusal::Cut(_) => 1,
