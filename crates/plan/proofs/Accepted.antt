@@ -11,8 +11,8 @@ use mathlib.Core.Bool.{Bool, true, false}
 use mathlib.Core.List.{List}
 use mathlib.Core.Option.{some}
 use native.Mathlib.Omega.{arith}
-use borrow.Author.Tests.{eqb-true, not-false, ltb-false}
-use lib.Dec.{eqb, ltb}
+use borrow.Author.Tests.{ltb-false}
+use lib.Dec.{ltb}
 use lib.ListN.{length}
 use Rattle.units.specs.Plain.{if_then_else_}
 use Rattle.rules.specs.State.{Setting}
@@ -25,7 +25,7 @@ use Rattle.plan.specs.declared.Reading.{Reading}
 use Rattle.plan.specs.declared.Outcome.the-variants.{Read}
 use Rattle.plan.specs.declared.parse.SetupField.{SetupField}
 use Rattle.plan.specs.declared.parse.SetupField.the-variants.{Format, Lane, End}
-use Rattle.plan.proofs.Inside.{true-false}
+use Rattle.plan.proofs.Inside.{true-false, format-one}
 use Rattle.plan.proofs.Stands.{Taken, is-taken}
 use Rattle.plan.proofs.Sound.{sound-first, sound-after}
 use Rattle.plan.proofs.Rest.{Rest, rest, refused-read}
@@ -35,7 +35,7 @@ module _ (s : List ℕ) (at : ℕ) (gs : List Setting) (n p : ℕ) where
   first-format : (v m : ℕ) → Taken nothingSeen s at (Format v) m → Rest s (after nothingSeen (Format v)) noLanes m gs n p → PlanWithin s at gs n p
   unfolding Laid
   first-format v m k r =
-      let one : v ≡ 1 = eqb-true v 1 (not-false (eqb v 1) (k .inside)) in
+      let one = format-one v (k .inside) in
       let ok = r .sound in
       record {
         rule = record {

@@ -12,19 +12,22 @@ use borrow.Author.Tests.{le-leb, le-ltb, ne-eqb}
 use lib.ListN.{length}
 use Rattle.rules.specs.State.{Setting}
 use Rattle.plan.specs.Fields.{Item, whole, itemAt}
-use Rattle.plan.specs.Judge.{longestOf, lastLane, misplaced, laneOutside, over, judgedAt, after}
+use Rattle.plan.specs.Judge.{longestOf, misplaced, Inside, over, judgedAt, after}
 use Rattle.plan.specs.Read.{Reply, read, nothingSeen, noLanes, placed, next, walk, readPlan}
 use Rattle.plan.specs.Accepted.{Laid, Rising, LaneWithin, LanesWithin, weighed, placedAll, Accepted}
+use Rattle.plan.specs.declared.judge.Fault.the-variants.{NoFault}
 use Rattle.plan.specs.declared.judge.Seen.{Seen}
 use Rattle.plan.specs.declared.parse.LaneField.{LaneField}
 use Rattle.plan.specs.declared.parse.SetupField.{SetupField}
 use Rattle.plan.specs.declared.parse.SetupField.the-variants.{Format, Lane, End}
-use Rattle.plan.proofs.Judged.{judged-whole}
+use Rattle.plan.proofs.Judged.{outside-none, judged-whole}
 use Rattle.plan.proofs.Stands.{Stands, stands}
 
-inside : (l : LaneField) → LaneWithin l → laneOutside l ≡ false
-unfolding laneOutside
-inside l w = simp (le-leb (l .lane) lastLane (omega (arith, w .number)), le-leb 1 (l .weight) (w .numbers .weight-low), le-leb (l .weight) 1024 (w .numbers .weight-high), le-leb 64 (longestOf (l .longest)) (w .numbers .longest-low), le-leb (longestOf (l .longest)) 1500 (w .numbers .longest-high))
+inside : (l : LaneField) → LaneWithin l → Inside (Lane l)
+inside l w =
+    let n = w .numbers in
+    outside-none l (omega (arith, w .number)) (simp (le-leb 1 (l .weight) (n .weight-low), le-leb (l .weight) 1024 (n .weight-high)))
+    (simp (le-leb 64 (longestOf (l .longest)) (n .longest-low), le-leb (longestOf (l .longest)) 1500 (n .longest-high)))
 
 module _ (s : List ℕ) where
   -- a turn at a field that stands and is taken
@@ -47,7 +50,7 @@ module _ (s : List ℕ) where
       turn turns seen gs at End (f .0) _ low (f .1) j (λ less l. ap (λ (n : ℕ). read gs n (f .0)) e ∙ ap (read gs (seen .count + 0)) (f .2))
   lanes-read turns seen gs at (l ∷ ls) p b low f r a w c =
       let placed-right : misplaced seen (Lane l) ≡ false = simp (b, le-ltb (l .lane) (seen .floor) (r .0)) in
-      let under : over seen (Lane l) ≡ false = le-ltb 1024 (seen .total + l .weight) (omega (arith, w)) in
+      let under : over seen (Lane l) ≡ NoFault = rw (le-ltb 1024 (seen .total + l .weight) (omega (arith, w))) in
       let j = judged-whole seen s at (Lane l) (f .0) (f .1) placed-right (inside l (a .0)) under in
       let e : seen .count + 1 + length ls ≡ seen .count + length (l ∷ ls) = omega arith in
       turn turns seen gs at (Lane l) (f .0) _ low (f .1) j (λ less q.

@@ -1,16 +1,20 @@
 -- What a test of specs/Judge.antt that was passed says of the numbers.
 -- Assumes nothing.
 use Prim.Native.Nat.{ℕ, _+_, _≤_}
-use mathlib.Core.Path.{_≡_, refl, sym}
+use mathlib.Core.Path.{_≡_, refl, sym, ap, _∙_}
+use mathlib.Core.Option.{none, some}
 use mathlib.Core.Bool.{Bool, true, false, not, _||_, _&&_}
 use native.Mathlib.Omega.{arith}
-use borrow.Author.Tests.{leb-true, ltb-false, not-false}
-use lib.Dec.{leb, ltb}
+use borrow.Author.Tests.{leb-true, ltb-false, eqb-true}
+use lib.Dec.{leb, ltb, eqb}
+use Rattle.units.specs.Plain.{if_then_else_}
 use Rattle.rules.specs.Setup.{InNumbers}
-use Rattle.plan.specs.Judge.{longestOf, given, lastLane, within, misplaced, laneOutside, over}
+use Rattle.plan.specs.Judge.{longestOf, given, lastLane, within, misplaced, laneOutside, Inside, over, faults}
+use Rattle.plan.specs.declared.judge.Fault.{Fault}
+use Rattle.plan.specs.declared.judge.Fault.the-variants.{NoFault, BadFormat, BadLane, BadWeight, BadLongest, TotalOver}
 use Rattle.plan.specs.declared.judge.Seen.{Seen}
 use Rattle.plan.specs.declared.parse.LaneField.{LaneField}
-use Rattle.plan.specs.declared.parse.SetupField.the-variants.{Lane}
+use Rattle.plan.specs.declared.parse.SetupField.the-variants.{Format, Lane}
 
 pub true-false : {A : Type 0} → true ≡ false → A
 true-false h = absurd (let z : _≡_ {A = ℕ} 0 1 = cc in omega arith)
@@ -26,7 +30,11 @@ or-false false b h = (refl, h)
 within-true : (low high n : ℕ) → within low high n ≡ true → (low ≤ n) × (n ≤ high)
 within-true low high n h = let w = and-true (leb low n) (leb n high) h in (leb-true low n (w .0), leb-true n high (w .1))
 
-module _ (l : LaneField) (h : laneOutside l ≡ false) where
+-- a fault is one, and no other
+pub fault-none : {A : Type 0} {x : Fault} (row : ℕ × ℕ) → faults x ≡ some row → x ≡ NoFault → A
+fault-none row h e = absurd (let z : some row ≡ none = sym h ∙ ap faults e in let y : _≡_ {A = ℕ} 0 1 = cc in omega arith)
+
+module _ (l : LaneField) (h : laneOutside l ≡ NoFault) where
   abbrev number : Bool
   number = leb (l .lane) lastLane
 
@@ -36,11 +44,15 @@ module _ (l : LaneField) (h : laneOutside l ≡ false) where
   abbrev longest : Bool
   longest = within 64 1500 (longestOf (l .longest))
 
+  by-tests : (a b c : Bool) → (if not a then BadLane else (if not b then BadWeight else (if not c then BadLongest else NoFault))) ≡ NoFault → (a ≡ true) × ((b ≡ true) × (c ≡ true))
+  by-tests false b c e = fault-none _ refl e
+  by-tests true false c e = fault-none _ refl e
+  by-tests true true false e = fault-none _ refl e
+  by-tests true true true e = (refl, (refl, refl))
+
   tests : (number ≡ true) × ((weight ≡ true) × (longest ≡ true))
   unfolding laneOutside
-  tests =
-      let t = and-true number (weight && longest) (not-false (number && (weight && longest)) h) in
-      (t .0, and-true weight longest (t .1))
+  tests = by-tests number weight longest h
 
   pub lane-number : l .lane ≤ 63
   lane-number = let n : l .lane ≤ lastLane = leb-true (l .lane) lastLane (tests .0) in omega arith
@@ -55,5 +67,17 @@ module _ (seen : Seen) (l : LaneField) where
   pub is-rising : misplaced seen (Lane l) ≡ false → seen .floor ≤ l .lane
   is-rising h = ltb-false (l .lane) (seen .floor) (or-false (not (seen .begun)) (ltb (l .lane) (seen .floor)) h .1)
 
-  pub is-under : over seen (Lane l) ≡ false → seen .total + l .weight ≤ 1024
-  is-under h = ltb-false 1024 (seen .total + l .weight) h
+  by-test : (b : Bool) → (if b then TotalOver else NoFault) ≡ NoFault → b ≡ false
+  by-test true e = fault-none _ refl e
+  by-test false e = refl
+
+  pub is-under : over seen (Lane l) ≡ NoFault → seen .total + l .weight ≤ 1024
+  is-under h = ltb-false 1024 (seen .total + l .weight) (by-test (ltb 1024 (seen .total + l .weight)) h)
+
+-- a format is 1
+format-test : (b : Bool) → (if b then NoFault else BadFormat) ≡ NoFault → b ≡ true
+format-test true e = refl
+format-test false e = fault-none _ refl e
+
+pub format-one : (v : ℕ) → Inside (Format v) → v ≡ 1
+format-one v h = eqb-true v 1 (format-test (eqb v 1) h)

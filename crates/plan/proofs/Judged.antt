@@ -2,13 +2,15 @@
 -- Assumes nothing.
 use Prim.Native.Nat.{ℕ, _≤_, _<_}
 use mathlib.Core.Path.{_≡_, ap, _∙_}
-use mathlib.Core.Bool.{true, false, not}
+use mathlib.Core.Bool.{true, false}
 use mathlib.Core.List.{List}
 use mathlib.Core.Option.{Option, some}
 use borrow.Author.Tests.{le-leb, lt-leb}
 use lib.Dec.{leb}
 use Rattle.plan.specs.Fields.{whole, bad, itemAt}
-use Rattle.plan.specs.Judge.{longestOf, lastLane, within, misplaced, laneOutside, outside, over, judged, judgedAt}
+use Rattle.plan.specs.Judge.{longestOf, lastLane, within, misplaced, laneOutside, outside, Inside, over, faulted, judged, judgedAt}
+use Rattle.plan.specs.declared.judge.Fault.{Fault}
+use Rattle.plan.specs.declared.judge.Fault.the-variants.{NoFault, BadLane, BadWeight, BadLongest}
 use Rattle.plan.specs.declared.judge.Seen.{Seen}
 use Rattle.plan.specs.declared.parse.LaneField.{LaneField}
 use Rattle.plan.specs.declared.parse.SetupField.{SetupField}
@@ -21,17 +23,22 @@ module _ (low high n : ℕ) where
   within-below h = rw (lt-leb low n h)
 
 module _ (l : LaneField) where
-  pub outside-number : lastLane < l .lane → laneOutside l ≡ true
+  pub outside-number : lastLane < l .lane → laneOutside l ≡ BadLane
   unfolding laneOutside
   outside-number h = rw (lt-leb (l .lane) lastLane h)
 
-  pub outside-weight : l .lane ≤ lastLane → within 1 1024 (l .weight) ≡ false → laneOutside l ≡ true
-  unfolding laneOutside
-  outside-weight h w = simp (le-leb (l .lane) lastLane h, w)
+  module _ (h : l .lane ≤ lastLane) where
+    pub outside-weight : within 1 1024 (l .weight) ≡ false → laneOutside l ≡ BadWeight
+    unfolding laneOutside
+    outside-weight w = simp (le-leb (l .lane) lastLane h, w)
 
-  pub outside-longest : l .lane ≤ lastLane → within 1 1024 (l .weight) ≡ true → laneOutside l ≡ not (within 64 1500 (longestOf (l .longest)))
-  unfolding laneOutside
-  outside-longest h w = simp (le-leb (l .lane) lastLane h, w)
+    pub outside-longest : within 1 1024 (l .weight) ≡ true → within 64 1500 (longestOf (l .longest)) ≡ false → laneOutside l ≡ BadLongest
+    unfolding laneOutside
+    outside-longest w g = simp (le-leb (l .lane) lastLane h, w, g)
+
+    pub outside-none : within 1 1024 (l .weight) ≡ true → within 64 1500 (longestOf (l .longest)) ≡ true → laneOutside l ≡ NoFault
+    unfolding laneOutside
+    outside-none w g = simp (le-leb (l .lane) lastLane h, w, g)
 
 module _ (seen : Seen) (s : List ℕ) (at : ℕ) where
   pub judged-no : (n : ℕ) (p : Option ℕ) → itemAt s at ≡ bad n p → judgedAt seen s at ≡ bad n p
@@ -43,14 +50,12 @@ module _ (seen : Seen) (s : List ℕ) (at : ℕ) where
     unfolding judgedAt
     judged-misplaced m = ap (judged seen at) h ∙ simp m
 
-    pub judged-outside : misplaced seen f ≡ false → outside f ≡ true → judgedAt seen s at ≡ bad 5 (some at)
+    pub judged-faults : misplaced seen f ≡ false → judgedAt seen s at ≡ faulted at (outside f) (faulted at (over seen f) (whole f next))
     unfolding judgedAt
-    judged-outside m o = ap (judged seen at) h ∙ simp (m, o)
+    judged-faults m = ap (judged seen at) h ∙ simp m
 
-    pub judged-over : misplaced seen f ≡ false → outside f ≡ false → over seen f ≡ true → judgedAt seen s at ≡ bad 6 (some at)
-    unfolding judgedAt
-    judged-over m o w = ap (judged seen at) h ∙ simp (m, o, w)
-
-    pub judged-whole : misplaced seen f ≡ false → outside f ≡ false → over seen f ≡ false → judgedAt seen s at ≡ whole f next
-    unfolding judgedAt
-    judged-whole m o w = ap (judged seen at) h ∙ simp (m, o, w)
+    pub judged-whole : misplaced seen f ≡ false → Inside f → over seen f ≡ NoFault → judgedAt seen s at ≡ whole f next
+    judged-whole m o w =
+        judged-faults m
+        ∙ ap (λ (x : Fault). faulted at x (faulted at (over seen f) (whole f next))) o
+        ∙ ap (λ (x : Fault). faulted at x (whole f next)) w

@@ -18,9 +18,11 @@ use Rattle.fields.specs.declared.Field.the-variants.{Nothing, Cut, Header}
 use Rattle.units.specs.Plain.{if_then_else_}
 use Rattle.rules.specs.State.{Setting}
 use Rattle.plan.specs.Fields.{Item, whole, bad, known, fitting, fieldOf, taken, itemAt}
-use Rattle.plan.specs.Judge.{misplaced, outside, over, judged, judgedAt, after}
+use Rattle.plan.specs.Judge.{misplaced, outside, over, faulted, judged, judgedAt, after}
 use Rattle.plan.specs.Read.{read, refused, nothingSeen, noLanes, placed, next, walk, readPlan}
 use Rattle.plan.specs.Accepted.{Refused}
+use Rattle.plan.specs.declared.judge.Fault.{Fault}
+use Rattle.plan.specs.declared.judge.Fault.the-variants.{NoFault, BadFormat, BadLane, BadWeight, BadLongest, TotalOver}
 use Rattle.plan.specs.declared.judge.Seen.{Seen}
 use Rattle.plan.specs.declared.parse.SetupField.{SetupField}
 use Rattle.plan.specs.declared.parse.SetupField.the-variants.{Format, Lane, End}
@@ -63,17 +65,23 @@ module _ (s : List ℕ) (at n : ℕ) (q : Option ℕ) where
   unfolding itemAt
   item-bad h = header-bad (leb (at + 3) (length s)) (ltb at (length s)) refl refl h
 
-  field-bad : (a b c : Bool) (f : SetupField) (m : ℕ) → at < length s
-      → (if a then bad 4 (some at) else (if b then bad 5 (some at) else (if c then bad 6 (some at) else whole f m))) ≡ bad n q → Refused s at n q
-  field-bad true b c f m l h = at-tag 4 (omega arith) (omega arith) l h
-  field-bad false true c f m l h = at-tag 5 (omega arith) (omega arith) l h
-  field-bad false false true f m l h = at-tag 6 (omega arith) (omega arith) l h
-  field-bad false false false f m l h = whole-bad h
+  -- a fault's number and place
+  row-bad : (x : Fault) → at < length s → (rest : Item) → (rest ≡ bad n q → Refused s at n q) → faulted at x rest ≡ bad n q → Refused s at n q
+  row-bad NoFault l rest go h = go h
+  row-bad BadFormat l rest go h = at-place 5 (at + 0) (omega arith) (omega arith) (λ r. omega arith) (omega arith) h
+  row-bad BadLane l rest go h = at-place 5 (at + 0) (omega arith) (omega arith) (λ r. omega arith) (omega arith) h
+  row-bad BadWeight l rest go h = at-place 5 (at + 0) (omega arith) (omega arith) (λ r. omega arith) (omega arith) h
+  row-bad BadLongest l rest go h = at-place 5 (at + 0) (omega arith) (omega arith) (λ r. omega arith) (omega arith) h
+  row-bad TotalOver l rest go h = at-place 6 (at + 0) (omega arith) (omega arith) (λ r. omega arith) (omega arith) h
+
+  field-bad : (seen : Seen) (a : Bool) (f : SetupField) (m : ℕ) → at < length s
+      → (if a then bad 4 (some at) else faulted at (outside f) (faulted at (over seen f) (whole f m))) ≡ bad n q → Refused s at n q
+  field-bad seen true f m l h = at-tag 4 (omega arith) (omega arith) l h
+  field-bad seen false f m l h = row-bad (outside f) l (faulted at (over seen f) (whole f m)) (λ g. row-bad (over seen f) l (whole f m) (λ b. whole-bad b) g) h
 
   judge-bad : (seen : Seen) (i : Item) → itemAt s at ≡ i → judged seen at i ≡ bad n q → Refused s at n q
   judge-bad seen (bad k p) e h = item-bad (e ∙ h)
-  judge-bad seen (whole f m) e h =
-      field-bad (misplaced seen f) (outside f) (over seen f) f m (omega (arith, stands s at f m e .fits)) h
+  judge-bad seen (whole f m) e h = field-bad seen (misplaced seen f) f m (omega (arith, stands s at f m e .fits)) h
 
   judged-bad : (seen : Seen) → judgedAt seen s at ≡ bad n q → Refused s at n q
   unfolding judgedAt

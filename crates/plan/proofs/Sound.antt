@@ -11,9 +11,10 @@ use lib.ListN.{length, set, length-set}
 use Rattle.units.specs.Plain.{sum}
 use Rattle.rules.specs.State.{Setting, noSetting, settingAt}
 use Rattle.rules.specs.Setup.{InNumbers, weights}
-use Rattle.plan.specs.Judge.{given, misplaced, outside, over, after}
+use Rattle.plan.specs.Judge.{given, misplaced, Inside, over, after}
 use Rattle.plan.specs.Read.{nothingSeen, noLanes, placed}
 use Rattle.plan.specs.Accepted.{there, present}
+use Rattle.plan.specs.declared.judge.Fault.the-variants.{NoFault}
 use Rattle.plan.specs.declared.judge.Seen.{Seen}
 use Rattle.plan.specs.declared.parse.LaneField.{LaneField}
 use Rattle.plan.specs.declared.parse.SetupField.{SetupField}
@@ -47,7 +48,7 @@ sound-first = record {
   floor = omega arith;
 }
 
-module _ (seen : Seen) (gs : List Setting) (ok : Sound seen gs) (l : LaneField) (m : misplaced seen (Lane l) ≡ false) (o : outside (Lane l) ≡ false) (w : over seen (Lane l) ≡ false) where
+module _ (seen : Seen) (gs : List Setting) (ok : Sound seen gs) (l : LaneField) (m : misplaced seen (Lane l) ≡ false) (o : Inside (Lane l)) (w : over seen (Lane l) ≡ NoFault) where
   low : l .lane ≤ 63
   low = lane-number l o
 
@@ -75,7 +76,7 @@ module _ (seen : Seen) (gs : List Setting) (ok : Sound seen gs) (l : LaneField) 
     floor = omega (arith, low);
   }
 
-pub sound-after : (seen : Seen) (gs : List Setting) (f : SetupField) → Sound seen gs → misplaced seen f ≡ false → outside f ≡ false → over seen f ≡ false
+pub sound-after : (seen : Seen) (gs : List Setting) (f : SetupField) → Sound seen gs → misplaced seen f ≡ false → Inside f → over seen f ≡ NoFault
     → Sound (after seen f) (placed gs f)
 sound-after seen gs (Format v) ok m o w = record {
   size = ok .size;

@@ -9,7 +9,7 @@ use Prim.Native.Nat.{ℕ, _+_, _≤_}
 use mathlib.Core.Path.{_≡_, refl, sym, ap, _∙_}
 use mathlib.Core.Bool.{Bool, true, false, not}
 use mathlib.Core.List.{List}
-use mathlib.Core.Option.{Option, some}
+use mathlib.Core.Option.{Option, none, some}
 use native.Mathlib.Omega.{arith}
 use borrow.Author.Tests.{leb-true, le-leb}
 use lib.Dec.{leb, ltb}
@@ -20,12 +20,17 @@ use Rattle.fields.specs.declared.Field.the-variants.{Nothing, Cut, Header}
 use Rattle.fields.proofs.Header.{header-whole, behind-whole}
 use Rattle.units.specs.Plain.{if_then_else_}
 use Rattle.plan.specs.Fields.{Item, whole, bad, known, fitting, fieldOf, taken, itemAt}
-use Rattle.plan.specs.Judge.{misplaced, outside, over, judged, judgedAt}
+use Rattle.plan.specs.Judge.{misplaced, outside, Inside, over, faults, tabled, faulted, judged, judgedAt}
+use Rattle.plan.specs.declared.judge.Fault.{Fault}
+use Rattle.plan.specs.declared.judge.Fault.the-variants.{NoFault, BadFormat, BadLane, BadWeight, BadLongest, TotalOver}
 use Rattle.plan.specs.declared.judge.Seen.{Seen}
 use Rattle.plan.specs.declared.parse.SetupField.{SetupField}
 
 pub bad-whole : {A : Type 0} {n : ℕ} {p : Option ℕ} {f : SetupField} {m : ℕ} → bad n p ≡ whole f m → A
 bad-whole h = absurd (let z : _≡_ {A = ℕ} 0 1 = cc in omega arith)
+
+some-none : {A : Type 0} {row : ℕ × ℕ} → some row ≡ none → A
+some-none h = absurd (let z : _≡_ {A = ℕ} 0 1 = cc in omega arith)
 
 pub record Stands (s : List ℕ) (at : ℕ) (f : SetupField) (m : ℕ) : Type 0 where
   pub tag : known (byteAt s at) ≡ true
@@ -69,29 +74,45 @@ pub record Taken (seen : Seen) (s : List ℕ) (at : ℕ) (f : SetupField) (m : �
   pub item : itemAt s at ≡ whole f m
   pub stand : Stands s at f m
   pub in-place : misplaced seen f ≡ false
-  pub inside : outside f ≡ false
-  pub under : over seen f ≡ false
+  pub inside : Inside f
+  pub under : over seen f ≡ NoFault
+
+-- a whole field after a fault was looked for: there is none
+row-none : (at : ℕ) (o : Option (ℕ × ℕ)) (rest : Item) (f : SetupField) (m : ℕ) → tabled at o rest ≡ whole f m → (o ≡ none) × (rest ≡ whole f m)
+row-none at none rest f m h = (refl, h)
+row-none at (some row) rest f m h = bad-whole h
+
+only-none : (x : Fault) → faults x ≡ none → x ≡ NoFault
+only-none NoFault h = refl
+only-none BadFormat h = some-none h
+only-none BadLane h = some-none h
+only-none BadWeight h = some-none h
+only-none BadLongest h = some-none h
+only-none TotalOver h = some-none h
+
+no-fault : (at : ℕ) (x : Fault) (rest : Item) (f : SetupField) (m : ℕ) → faulted at x rest ≡ whole f m → (x ≡ NoFault) × (rest ≡ whole f m)
+no-fault at x rest f m h = let r = row-none at (faults x) rest f m h in (only-none x (r .0), r .1)
 
 module _ (seen : Seen) (s : List ℕ) (at : ℕ) (f : SetupField) (m : ℕ) where
-  judge-field : (g : SetupField) (k : ℕ) (a b c : Bool) → itemAt s at ≡ whole g k → misplaced seen g ≡ a → outside g ≡ b → over seen g ≡ c
-      → (if a then bad 4 (some at) else (if b then bad 5 (some at) else (if c then bad 6 (some at) else whole g k))) ≡ whole f m
+  judge-field : (g : SetupField) (k : ℕ) (a : Bool) → itemAt s at ≡ whole g k → misplaced seen g ≡ a
+      → (if a then bad 4 (some at) else faulted at (outside g) (faulted at (over seen g) (whole g k))) ≡ whole f m
       → Taken seen s at f m
-  judge-field g k true b c i p q r h = bad-whole h
-  judge-field g k false true c i p q r h = bad-whole h
-  judge-field g k false false true i p q r h = bad-whole h
-  judge-field g k false false false i p q r h =
-      let e : g ≡ f = cc in
+  judge-field g k true i p h = bad-whole h
+  judge-field g k false i p h =
+      let o = no-fault at (outside g) (faulted at (over seen g) (whole g k)) f m h in
+      let u = no-fault at (over seen g) (whole g k) f m (o .1) in
+      let e : g ≡ f = let w = u .1 in cc in
       record {
-        item = i ∙ h;
-        stand = stands s at f m (i ∙ h);
+        item = i ∙ u .1;
+        stand = stands s at f m (i ∙ u .1);
         in-place = sym (ap (misplaced seen) e) ∙ p;
-        inside = sym (ap outside e) ∙ q;
-        under = sym (ap (over seen) e) ∙ r;
+        inside = sym (ap outside e) ∙ o .0;
+        under = sym (ap (over seen) e) ∙ u .0;
       }
 
   judge-item : (i : Item) → itemAt s at ≡ i → judged seen at i ≡ whole f m → Taken seen s at f m
   judge-item (bad n p) e h = bad-whole h
-  judge-item (whole g k) e h = judge-field g k (misplaced seen g) (outside g) (over seen g) e refl refl refl h
+  judge-item (whole g k) e h = judge-field g k (misplaced seen g) e refl h
 
   pub is-taken : judgedAt seen s at ≡ whole f m → Taken seen s at f m
   unfolding judgedAt

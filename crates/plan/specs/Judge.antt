@@ -4,8 +4,10 @@
 --   given       the setting that a lane field gives its lane
 --   lastLane    the last lane number
 --   misplaced   refusal 4
---   outside     refusal 5
---   over        refusal 6
+--   outside     what is wrong with a field's own numbers: refusal 5; Inside: nothing
+--   over        what is wrong with the weights so far: refusal 6
+--   faults      the table: fault, number, place
+--   faulted     a fault's refusal, or what the rest decides
 --   judgedAt    the field at a place, or its first refusal in the order 1, 2, 3, 1, 4, 5, 6
 --   after       what the fields so far fix for the next one, after one more
 --
@@ -13,11 +15,14 @@
 use Prim.Native.Nat.{ℕ, _+_}
 use mathlib.Core.Bool.{Bool, true, false, not, _||_, _&&_}
 use mathlib.Core.List.{List}
-use mathlib.Core.Option.{some}
+use mathlib.Core.Path.{_≡_}
+use mathlib.Core.Option.{Option, none, some}
 use lib.Dec.{ltb, leb, eqb}
 use Rattle.units.specs.Plain.{if_then_else_}
 use Rattle.rules.specs.State.{Setting}
 use Rattle.plan.specs.Fields.{Item, whole, bad, itemAt}
+use Rattle.plan.specs.declared.judge.Fault.{Fault}
+use Rattle.plan.specs.declared.judge.Fault.the-variants.{NoFault, BadFormat, BadLane, BadWeight, BadLongest, TotalOver}
 use Rattle.plan.specs.declared.judge.Seen.{Seen}
 use Rattle.plan.specs.declared.parse.Longest.{Longest}
 use Rattle.plan.specs.declared.parse.Longest.the-variants.{Given, Default}
@@ -49,27 +54,50 @@ abbrev pub lastLane : ℕ
 lastLane = 63
 
 -- "Lanes 1 to 64, numbered 0 to 63. Weight w: 1 to 1,024 .. Longest record of a lane: 64 to 1,500 bytes."
-unfoldable pub laneOutside : LaneField → Bool
-laneOutside l = not (leb (l .lane) lastLane && (within 1 1024 (l .weight) && within 64 1500 (longestOf (l .longest))))
+unfoldable pub laneOutside : LaneField → Fault
+laneOutside l =
+    if not (leb (l .lane) lastLane) then BadLane
+    else (if not (within 1 1024 (l .weight)) then BadWeight
+    else (if not (within 64 1500 (longestOf (l .longest))) then BadLongest else NoFault))
 
 -- "5: format not 1, lane over 63, weight or longest outside its numbers."
-abbrev pub outside : SetupField → Bool
-outside (Format v) = not (eqb v 1)
+abbrev pub outside : SetupField → Fault
+outside (Format v) = if eqb v 1 then NoFault else BadFormat
 outside (Lane l) = laneOutside l
-outside End = false
+outside End = NoFault
+
+-- A field whose numbers are all inside.
+abbrev pub Inside : SetupField → Type 0
+Inside f = outside f ≡ NoFault
 
 -- "6: weights so far over 1,024", this field's weight among them.
-abbrev pub over : Seen → SetupField → Bool
-over seen (Format v) = false
-over seen (Lane l) = ltb 1024 (seen .total + l .weight)
-over seen End = false
+abbrev pub over : Seen → SetupField → Fault
+over seen (Format v) = NoFault
+over seen (Lane l) = if ltb 1024 (seen .total + l .weight) then TotalOver else NoFault
+over seen End = NoFault
+
+-- The table of faults: the refusal's number, and its place, counted from the field's tag.
+abbrev pub faults : Fault → Option (ℕ × ℕ)
+faults NoFault = none
+faults BadFormat = some (5, 0)
+faults BadLane = some (5, 0)
+faults BadWeight = some (5, 0)
+faults BadLongest = some (5, 0)
+faults TotalOver = some (6, 0)
+
+-- A fault of the field at a place refuses it; else the rest decides.
+abbrev pub tabled : ℕ → Option (ℕ × ℕ) → Item → Item
+tabled at none rest = rest
+tabled at (some row) rest = bad (row .0) (some (at + row .1))
+
+abbrev pub faulted : ℕ → Fault → Item → Item
+faulted at x rest = tabled at (faults x) rest
 
 -- "In a field 1 (header), 2, 3, 1 (value), 4, 5, 6."
 abbrev pub judged : Seen → ℕ → Item → Item
 judged seen at (bad n p) = bad n p
 judged seen at (whole f next) =
-    if misplaced seen f then bad 4 (some at)
-    else (if outside f then bad 5 (some at) else (if over seen f then bad 6 (some at) else whole f next))
+    if misplaced seen f then bad 4 (some at) else faulted at (outside f) (faulted at (over seen f) (whole f next))
 
 -- The field at a place, judged by the fields before it.
 unfoldable pub judgedAt : Seen → List ℕ → ℕ → Item

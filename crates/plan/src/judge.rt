@@ -2,7 +2,7 @@
 ghost use mathlib.Core.Path.{_≡_};
 ghost use Prim.Native.Nat.{_≤_};
 ghost use Rattle.plan.specs.Fields.{itemOf};
-ghost use Rattle.plan.specs.Judge.{longestOf, within, misplaced, laneOutside, outside, over, after, judgedAt};
+ghost use Rattle.plan.specs.Judge.{longestOf, within, misplaced, laneOutside, outside, over, faulted, after, judgedAt};
 use crate::parse::LaneField;
 use crate::parse::Longest;
 use crate::parse::Parsed;
@@ -39,6 +39,17 @@ pub struct Seen {
     pub count: usize,
 }
 
+// What is wrong with the numbers of a field. specs/Judge.antt has a table of the number and the place of each.
+pub enum Fault {
+    NoFault,
+    BadFormat,
+    BadLane,
+    BadWeight,
+    BadLongest,
+    // The weights so far are over 1,024.
+    TotalOver,
+}
+
 // "A lane field of length 3 has no longest and means 1,500."
 pub fn longest_of(longest: Longest) -> u16
     ensures { λ r. ⌜ r ≡ longestOf longest ⌝ }
@@ -72,39 +83,68 @@ fn misplaced(seen: Seen, field: SetupField) -> bool
     }
 }
 
-fn lane_outside(l: LaneField) -> bool
+fn lane_outside(l: LaneField) -> Fault
     ensures { λ r. ⌜ r ≡ laneOutside l ⌝ }
 {
     let longest = l.longest;
     if l.lane > LAST_LANE {
-        return true;
+        return Fault::BadLane;
     }
-    if within(LEAST_WEIGHT, MOST_WEIGHT, l.weight) {
-        return !within(LEAST_LONGEST, MOST_LONGEST, longest_of(longest));
+    if !within(LEAST_WEIGHT, MOST_WEIGHT, l.weight) {
+        return Fault::BadWeight;
     }
-    true
+    if !within(LEAST_LONGEST, MOST_LONGEST, longest_of(longest)) {
+        return Fault::BadLongest;
+    }
+    Fault::NoFault
 }
 
 // Refusal 5: "format not 1, lane over 63, weight or longest outside its numbers".
-fn outside(field: SetupField) -> bool
+fn outside(field: SetupField) -> Fault
     ensures { λ r. ⌜ r ≡ outside field ⌝ }
 {
     match field {
-        SetupField::Format(n) => n != FORMAT_NUMBER,
+        SetupField::Format(n) => {
+            if n == FORMAT_NUMBER {
+                Fault::NoFault
+            } else {
+                Fault::BadFormat
+            }
+        }
         SetupField::Lane(l) => lane_outside(l),
-        SetupField::End => false,
+        SetupField::End => Fault::NoFault,
     }
 }
 
 // Refusal 6: "weights so far over 1,024", this field's weight among them.
-fn over(seen: Seen, field: SetupField) -> bool
+fn over(seen: Seen, field: SetupField) -> Fault
     requires { ⌜ seen .total ≤ 1024 ⌝ }
     ensures { λ r. ⌜ r ≡ over seen field ⌝ }
 {
     match field {
-        SetupField::Lane(l) => seen.total + (l.weight as u64) > MOST_TOTAL,
-        SetupField::Format(_) => false,
-        SetupField::End => false,
+        SetupField::Lane(l) => {
+            if seen.total + (l.weight as u64) > MOST_TOTAL {
+                Fault::TotalOver
+            } else {
+                Fault::NoFault
+            }
+        }
+        SetupField::Format(_) => Fault::NoFault,
+        SetupField::End => Fault::NoFault,
+    }
+}
+
+// What a fault makes of the field at a place: its refusal; where there is none, the rest decides.
+fn faulted(at: usize, fault: Fault, rest: Parsed) -> Parsed
+    ensures { λ r. ⌜ itemOf r ≡ faulted at fault (itemOf rest) ⌝ }
+{
+    match fault {
+        Fault::NoFault => rest,
+        Fault::BadFormat => Parsed::Refused(Refusal::OutsideNumbers(at)),
+        Fault::BadLane => Parsed::Refused(Refusal::OutsideNumbers(at)),
+        Fault::BadWeight => Parsed::Refused(Refusal::OutsideNumbers(at)),
+        Fault::BadLongest => Parsed::Refused(Refusal::OutsideNumbers(at)),
+        Fault::TotalOver => Parsed::Refused(Refusal::WeightsOver(at)),
     }
 }
 
@@ -120,13 +160,8 @@ pub fn judged_field(s: &[u8], at: usize, seen: Seen) -> Parsed
     if misplaced(seen, field) {
         return Parsed::Refused(Refusal::OutOfOrder(at));
     }
-    if outside(field) {
-        return Parsed::Refused(Refusal::OutsideNumbers(at));
-    }
-    if over(seen, field) {
-        return Parsed::Refused(Refusal::WeightsOver(at));
-    }
-    parsed
+    let weighed = faulted(at, over(seen, field), parsed);
+    faulted(at, outside(field), weighed)
 }
 
 // What a field that was taken adds.

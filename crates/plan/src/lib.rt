@@ -10,9 +10,8 @@
 //
 // Units: a place is a number of bytes from the first byte of the input, a length a number of bytes, a longest is in `Bytes`; weights are plain numbers.
 ghost use mathlib.Core.Path.{_≡_};
-ghost use mathlib.Core.Bool.{false};
 ghost use mathlib.Core.List.{map};
-ghost use Rattle.plan.specs.Judge.{given, outside};
+ghost use Rattle.plan.specs.Judge.{given, Inside};
 ghost use Rattle.plan.specs.Read.{noLanes, placed, settingOf, came, reads, readPlan, readSetup};
 
 pub mod judge;
@@ -75,7 +74,7 @@ fn no_lanes() -> [Lane; LANES]
 
 // The lanes, with the one that a field describes.
 fn placed(mut lanes: [Lane; LANES], field: SetupField) -> [Lane; LANES]
-    requires { ⌜ outside field ≡ false ⌝ }
+    requires { ⌜ Inside field ⌝ }
     ensures { λ r. ⌜ map settingOf r ≡ placed (map settingOf lanes) field ⌝ }
 {
     match field {

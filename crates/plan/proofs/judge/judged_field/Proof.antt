@@ -1,22 +1,22 @@
 -- `plan::judge::judged_field` meets its contract. Assumes nothing.
-use borrow.Author.Needs.{needs}
-use mathlib.Core.Bool.{false}
+use Prim.Native.Nat.{ℕ}
 use mathlib.Core.Path.{_≡_, sym, ap, _∙_}
-use Rattle.plan.proofs.Judged.{judged-no, judged-misplaced, judged-outside, judged-over, judged-whole}
+use Rattle.plan.proofs.Judged.{judged-no, judged-misplaced, judged-faults}
+use Rattle.plan.specs.Fields.{Item, itemOf, whole, itemAt}
+use Rattle.plan.specs.Judge.{outside, over, faulted}
+use Rattle.plan.specs.declared.judge.Fault.{Fault}
+use borrow.Author.Needs.{needs}
 use Rattle.plan.proofs.judge.judged_field.Statement.{statement}
 use Rattle.plan.proofs.judge.judged_field.Tie as tie
-use Rattle.plan.specs.Fields.{itemOf, whole, itemAt}
-use Rattle.plan.specs.Judge.{misplaced, outside}
+
+-- the two tests, one after the other
+both : (at : ℕ) (x y x₁ y₁ : Fault) (r w i : Item) → r ≡ faulted at x w → x ≡ x₁ → w ≡ faulted at y i → y ≡ y₁ → r ≡ faulted at x₁ (faulted at y₁ i)
+both at x y x₁ y₁ r w i a b d e =
+    a ∙ ap (λ (z : Fault). faulted at z w) b ∙ ap (faulted at x₁) (d ∙ ap (λ (z : Fault). faulted at z i) e)
 
 -- what each place of the code knows
 item-is : (c : tie.After-parsed) → itemAt (c .before .before .before .before .args .s .now) (c .before .before .before .before .args .at) ≡ whole (c .parsed .given .0 .0) (c .parsed .given .0 .1 .0)
 item-is c = sym (c .before .before .field-at .ensures) ∙ ap itemOf (c .parsed .given .1)
-
-in-place : (c : tie.Else1) → misplaced (c .before .before .before .before .before .before .before .args .seen) (c .before .before .before .parsed .given .0 .0) ≡ false
-in-place c = sym (c .before .misplaced .ensures) ∙ c .if1 .left
-
-inside : (c : tie.Else2) → outside (c .before .before .before .before .before .parsed .given .0 .0) ≡ false
-inside c = sym (c .before .outside .ensures) ∙ c .if2 .left
 
 field-at-requires : tie.Need-field-at-requires
 field-at-requires c κs = search needs
@@ -36,20 +36,26 @@ misplaced-requires c κs = search needs
 returns-2 : tie.Need-returns-2
 returns-2 c = sym (judged-misplaced _ _ _ _ _ (item-is (c .before .before .before)) (sym (c .before .misplaced .ensures) ∙ c .if1 .taken))
 
-outside-requires : tie.Need-outside-requires
-outside-requires c κs = search needs
-
-returns-3 : tie.Need-returns-3
-returns-3 c = sym (judged-outside _ _ _ _ _ (item-is (c .before .before .before .before .before)) (in-place (c .before .before)) (sym (c .before .outside .ensures) ∙ c .if2 .taken))
-
 over-requires : tie.Need-over-requires
 over-requires c κs = search needs
 
-returns-4 : tie.Need-returns-4
-returns-4 c = sym (judged-over _ _ _ _ _ (item-is (c .before .before .before .before .before .before .before)) (in-place (c .before .before .before .before)) (inside (c .before .before)) (sym (c .before .over .ensures) ∙ c .if3 .taken))
+faulted-requires : tie.Need-faulted-requires
+faulted-requires c κs = search needs
 
-returns-5 : tie.Need-returns-5
-returns-5 c = sym (judged-whole _ _ _ _ _ (item-is (c .before .before .before .before .before .before .before)) (in-place (c .before .before .before .before)) (inside (c .before .before)) (sym (c .before .over .ensures) ∙ c .if3 .left))
+outside-requires : tie.Need-outside-requires
+outside-requires c κs = search needs
+
+faulted-requires-2 : tie.Need-faulted-requires-2
+faulted-requires-2 c κs = search needs
+
+returns-3 : tie.Need-returns-3
+returns-3 c =
+    let o = c .before .before .before .before in
+    let k = o .before .before .before in
+    let a = k .before .before .before .before .args in
+    both (a .at) (c .before .outside .result) (c .before .before .before .over .result) (outside (k .parsed .given .0 .0)) (over (a .seen) (k .parsed .given .0 .0)) (itemOf (c .faulted2 .result)) (itemOf (c .before .before .faulted .result))
+    (whole (k .parsed .given .0 .0) (k .parsed .given .0 .1 .0)) (c .faulted2 .ensures) (c .before .outside .ensures) (c .before .before .faulted .ensures) (c .before .before .before .over .ensures)
+    ∙ sym (judged-faults _ _ _ _ _ (item-is k) (sym (o .before .misplaced .ensures) ∙ o .if1 .left))
 
 pub judged-field-spec : {M : Type 1} → statement M
 judged-field-spec =
@@ -61,8 +67,8 @@ judged-field-spec =
     returns
     misplaced-requires
     returns-2
-    outside-requires
-    returns-3
     over-requires
-    returns-4
-    returns-5)
+    faulted-requires
+    outside-requires
+    faulted-requires-2
+    returns-3)

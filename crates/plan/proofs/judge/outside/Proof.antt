@@ -1,9 +1,10 @@
 -- `plan::judge::outside` meets its contract. Assumes nothing.
-use borrow.Author.Needs.{needs}
+use borrow.Author.Tests.{ne-eqb}
 use mathlib.Core.Path.{sym, ap, _∙_}
+use Rattle.plan.specs.Judge.{outside}
+use borrow.Author.Needs.{needs}
 use Rattle.plan.proofs.judge.outside.Statement.{statement}
 use Rattle.plan.proofs.judge.outside.Tie as tie
-use Rattle.plan.specs.Judge.{outside}
 
 enum-known-field : tie.Need-enum-known-field
 enum-known-field c = search needs
@@ -18,13 +19,16 @@ enum-told : tie.Need-enum-told
 enum-told c = search needs
 
 returns : tie.Need-returns
-returns c = sym (ap outside (c .before .field .given .1))
+returns c = search needs
 
 returns-2 : tie.Need-returns-2
-returns-2 c = c .lane-outside .ensures ∙ sym (ap outside (c .before .before .field2 .given .1))
+returns-2 c = sym (ap outside (c .before .before .field .given .1) ∙ rw (ne-eqb _ 1 (c .if1 .left)))
 
 returns-3 : tie.Need-returns-3
-returns-3 c = search needs
+returns-3 c = c .lane-outside .ensures ∙ sym (ap outside (c .before .before .field2 .given .1))
+
+returns-4 : tie.Need-returns-4
+returns-4 c = search needs
 
 pub outside-spec : {M : Type 1} → statement M
 outside-spec =
@@ -36,4 +40,5 @@ outside-spec =
     enum-told
     returns
     returns-2
-    returns-3)
+    returns-3
+    returns-4)
