@@ -1,3 +1,4 @@
+pub mod Rest
 pub mod Times
 pub mod Lanes
 pub mod Sums

@@ -19,7 +19,6 @@ use table::SIZE;
 use table::cell;
 use table::clock;
 use table::holding;
-use table::next_present;
 use table::row;
 use units::Clock;
 use units::not_after;
@@ -78,21 +77,22 @@ fn lanes_good(t: &[u8], v: Clock) -> Pass
     requires { ⌜ Room (now t) × (v .0 < 2 ^ 63) ⌝ }
     ensures { λ r. ⌜ PassSays (v .0) (cells (now (t .entry))) r ⌝ }
 {
-    let lanes = cell(t, PRESENT);
+    let mut rest = cell(t, PRESENT);
     let mut found = Found {
         weights: 0,
         held: 0,
         eligible: false,
     };
-    let mut k = next_present(lanes, 0);
-    while k < LANES {
+    while rest != 0 {
+        let k = u64::trailing_zeros(rest) as usize;
         let l = row(t, k);
         let good = lane_good(t, k, l, v);
         if !good {
             return Pass::Bad;
         }
         found = note(found, k, l, v);
-        k = next_present(lanes, k + 1);
+        // the lowest set bit is done
+        rest = rest & (rest - 1);
     }
     Pass::Fine(found)
 }

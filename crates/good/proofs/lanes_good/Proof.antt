@@ -1,94 +1,99 @@
-use Rattle.good.proofs.Lanes.{found-none, found-next, found-noted, note-weight, note-group}
-use Rattle.table.proofs.Next.{bit-present}
-use Rattle.rules.proofs.Word.{word-lt}
-use Rattle.words.specs.Bits.{bit}
-use Rattle.good.specs.Pass.{FoundSays, PassSays}
-use Rattle.lane_test.proofs.Setting.{says-yes, says-no}
-use Rattle.table.specs.Layout.{cells}
-use borrow.Author.Needs.{needs}
-use Prim.Native.Nat.{ℕ, _-_, _*_, _≤_, _<_}
-use mathlib.Core.Path.{_≡_, subst}
+-- `lanes_good` meets its contract. The loop's invariant: the lanes below some number are passed, and what is left of the word are its bits from there on.
+-- Assumes nothing.
+use Prim.Native.Nat.{_-_}
+use mathlib.Core.Path.{refl}
+use native.Mathlib.Nat.{pos-of-ne-zero}
 use native.Mathlib.Omega.{arith}
+use lib.Bits.{and-le-r}
+use lib.Count.{trailingZeros, trailing-le}
+use Rattle.rules.proofs.Word.{word-lt}
+use Rattle.table.specs.Layout.{cells}
+use Rattle.lane_test.proofs.Setting.{says-yes, says-no}
+use Rattle.good.specs.Pass.{PassSays}
+use Rattle.good.proofs.Lanes.{found-none, found-next, found-noted, note-weight, note-group}
+use Rattle.good.proofs.Rest.{Walked, rest-all, rest-none, lane-small, lane-here, lane-found, lane-weights, walked-on}
+use borrow.Author.Needs.{needs}
 use Rattle.good.proofs.lanes_good.Statement.{statement}
 use Rattle.good.proofs.lanes_good.Tie as tie
 
 abbrev Inv-loop : tie.InvT-loop
-Inv-loop t v lanes found₀ k₀ found k =
-    FoundSays (v .0) (cells t) k found × (k ≤ 64) × (k < 64 → bit k lanes ≡ 1) × (found .weights ≤ 1024 * k)
+Inv-loop t v rest₀ found₀ rest found = Walked (v .0) (cells t) rest found
 
 abbrev μ-loop : tie.MeasureT-loop
-μ-loop t v lanes found₀ k₀ found k = 64 - k
+μ-loop t v rest₀ found₀ rest found = rest
 
 cell-requires : tie.Need-cell-requires Inv-loop μ-loop
 cell-requires c κs = search needs
 
-next-present-requires : tie.Need-next-present-requires Inv-loop μ-loop
-next-present-requires c κs = search needs
-
 loop-holds : tie.Need-loop-holds Inv-loop μ-loop
-loop-holds c =
-    let x = c .next-present .ensures in
-    (found-next _ _ _ 0 _ _ (c .before .cell .ensures) x (found-none _ _), x .ends, x .present, omega arith)
+loop-holds c = record {
+  n = 0;
+  left = rw (c .cell .ensures) (rest-all _ (omega (arith, c .cell .ok, c .cell .ensures)));
+  found = found-none _ _;
+  weights = omega arith;
+}
+
+cast-k : tie.Need-cast-k Inv-loop μ-loop
+cast-k c = omega (arith, trailing-le 64 (c .before .loop .rest))
 
 row-requires : tie.Need-row-requires Inv-loop μ-loop
-row-requires c κs = search needs
+row-requires c κs =
+    let s = c .before .before .before .before in
+    let l = c .before .loop in
+    (s .pre .0, lane-small _ _ (l .rest) (l .found) (l .inv) (pos-of-ne-zero (c .loop-test .taken)))
 
 lane-good-requires : tie.Need-lane-good-requires Inv-loop μ-loop
 lane-good-requires c κs =
-    let s = c .before .before .before .before .before .before in
-    let w = cells (s .args .t .now) in
+    let s = c .before .before .before .before .before in
     let l = c .before .before .loop in
-    let here = bit-present w (l .k) (subst (λ (x : ℕ). bit (l .k) x ≡ 1) (c .before .before .before .before .cell .ensures) (l .inv .2 (c .before .loop-test .taken))) in
-    (s .pre .0, c .before .loop-test .taken, here, c .row .ensures .0, c .row .ensures .1, c .row .ensures .2, s .pre .1)
+    let some = pos-of-ne-zero (c .before .loop-test .taken) in
+    (s .pre .0, lane-small _ _ (l .rest) (l .found) (l .inv) some, lane-here _ _ (l .rest) (l .found) (l .inv) some, c .row .ensures .0, c .row .ensures .1, c .row .ensures .2, s .pre .1)
 
 returns : tie.Need-returns Inv-loop μ-loop
 unfolding PassSays
 returns c =
-    let s = c .before .before .before .before .before .before .before .before in
-    let w = cells (s .args .t .now) in
     let l = c .before .before .before .before .loop in
-    let here = bit-present w (l .k) (subst (λ (x : ℕ). bit (l .k) x ≡ 1) (c .before .before .before .before .before .before .cell .ensures) (l .inv .2 (c .before .before .before .loop-test .taken))) in
-    λ all. says-no (c .before .lane-good .result) (c .before .lane-good .ensures) (c .if1 .taken) (all (l .k) (c .before .before .before .loop-test .taken) here)
+    let some = pos-of-ne-zero (c .before .before .before .loop-test .taken) in
+    λ all. says-no (c .before .lane-good .result) (c .before .lane-good .ensures) (c .if1 .taken) (all (trailingZeros 64 (l .rest)) (lane-small _ _ (l .rest) (l .found) (l .inv) some) (lane-here _ _ (l .rest) (l .found) (l .inv) some))
 
 note-requires : tie.Need-note-requires Inv-loop μ-loop
 note-requires c κs =
-    let s = c .before .before .before .before .before .before .before .before in
+    let s = c .before .before .before .before .before .before .before in
     let w = cells (s .args .t .now) in
     let l = c .before .before .before .before .loop in
-    let here = bit-present w (l .k) (subst (λ (x : ℕ). bit (l .k) x ≡ 1) (c .before .before .before .before .before .before .cell .ensures) (l .inv .2 (c .before .before .before .loop-test .taken))) in
+    let k = trailingZeros 64 (l .rest) in
+    let some = pos-of-ne-zero (c .before .before .before .loop-test .taken) in
     let good = says-yes (c .before .lane-good .result) (c .before .lane-good .ensures) (c .if1 .left) in
     let r = c .before .before .row in
-    let weight = note-weight _ w (l .k) (r .result) (r .ensures .0) good in
-    (c .before .before .before .loop-test .taken, omega (arith, weight, l .inv .3, l .inv .1), rw (l .inv .0 .held) (word-lt _ (l .k)), note-group _ w (l .k) (r .result) (r .ensures .0) good)
+    let small = lane-small _ _ (l .rest) (l .found) (l .inv) some in
+    let weight = note-weight _ w k (r .result) (r .ensures .0) good in
+    (small, omega (arith, weight, small, lane-weights _ _ (l .rest) (l .found) (l .inv) some), rw (lane-found _ _ (l .rest) (l .found) (l .inv) some .held) (word-lt _ k), note-group _ w k (r .result) (r .ensures .0) good)
 
-add-next-present : tie.Need-add-next-present Inv-loop μ-loop
-add-next-present c = search needs
-
-next-present-requires-2 : tie.Need-next-present-requires-2 Inv-loop μ-loop
-next-present-requires-2 c κs = search needs
+sub-rest : tie.Need-sub-rest Inv-loop μ-loop
+sub-rest c = search needs
 
 loop-less : tie.Need-loop-less Inv-loop μ-loop
-loop-less c = omega (arith, c .next-present2 .ensures .on, c .before .before .before .before .before .loop-test .taken)
+loop-less c = let l = c .before .before .before .before .before .loop in omega (arith, and-le-r (l .rest) (l .rest - 1), pos-of-ne-zero (c .before .before .before .before .loop-test .taken))
 
 loop-again : tie.Need-loop-again Inv-loop μ-loop
 loop-again c =
-    let s = c .before .before .before .before .before .before .before .before .before .before in
+    let s = c .before .before .before .before .before .before .before .before in
     let w = cells (s .args .t .now) in
-    let l = c .before .before .before .before .before .before .loop in
-    let here = bit-present w (l .k) (subst (λ (x : ℕ). bit (l .k) x ≡ 1) (c .before .before .before .before .before .before .before .before .cell .ensures) (l .inv .2 (c .before .before .before .before .before .loop-test .taken))) in
-    let good = says-yes (c .before .before .before .lane-good .result) (c .before .before .before .lane-good .ensures) (c .before .before .if1 .left) in
-    let r = c .before .before .before .before .row in
-    let x = c .next-present2 .ensures in
-    let weight = note-weight _ w (l .k) (r .result) (r .ensures .0) good in
-    (found-next _ w _ _ _ _ (c .before .before .before .before .before .before .before .before .cell .ensures) x (found-noted _ w (l .k) (r .result) (r .ensures .0) good _ _ here (l .inv .0) (c .before .note .ensures)), x .ends, x .present, omega (arith, weight, l .inv .3, x .on, c .before .note .ensures .weights))
+    let l = c .before .before .before .before .before .loop in
+    let k = trailingZeros 64 (l .rest) in
+    let some = pos-of-ne-zero (c .before .before .before .before .loop-test .taken) in
+    let good = says-yes (c .before .before .lane-good .result) (c .before .before .lane-good .ensures) (c .before .if1 .left) in
+    let r = c .before .before .before .row in
+    let weight = note-weight _ w k (r .result) (r .ensures .0) good in
+    walked-on _ w (l .rest) (l .found) (l .inv) some (c .note .result)
+    (found-noted _ w k (r .result) (r .ensures .0) good _ _ (lane-here _ w (l .rest) (l .found) (l .inv) some) (lane-found _ w (l .rest) (l .found) (l .inv) some) (c .note .ensures))
+    (omega (arith, weight, c .note .ensures .weights))
 
 returns-2 : tie.Need-returns-2 Inv-loop μ-loop
 unfolding PassSays
 returns-2 c =
-    let s = c .before .before .before .before .before in
     let l = c .before .loop in
-    let e : l .k ≡ 64 = omega (arith, l .inv .1, c .loop-test .left) in
-    subst (λ (n : ℕ). FoundSays (s .args .v .0) (cells (s .args .t .now)) n (l .found)) e (l .inv .0)
+    found-next _ _ _ (l .inv .n) 64 (l .found) refl (rest-none _ (l .rest) (l .inv .n) (l .inv .left) (c .loop-test .left)) (l .inv .found)
 
 pub lanes-good-spec : {M : Type 1} → statement M
 lanes-good-spec =
@@ -97,14 +102,13 @@ lanes-good-spec =
     Inv-loop
     μ-loop
     cell-requires
-    next-present-requires
     loop-holds
+    cast-k
     row-requires
     lane-good-requires
     returns
     note-requires
-    add-next-present
-    next-present-requires-2
+    sub-rest
     loop-less
     loop-again
     returns-2)
