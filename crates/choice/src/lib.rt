@@ -206,13 +206,7 @@ fn first_set(w: u64) -> u32
     requires { ⌜ 0 < w ⌝ }
     ensures { λ r. ⌜ r ≡ trailingZeros 64 w ⌝ }
 {
-    let mut left = w;
-    let mut i: u32 = 0;
-    while left % 2 == 0 {
-        left /= 2;
-        i += 1;
-    }
-    i
+    u64::trailing_zeros(w)
 }
 
 // Whether a lane stands there.
