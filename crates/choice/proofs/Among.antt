@@ -1,19 +1,20 @@
 -- The least start among the lanes that the tie order's first n entries name; once all are passed, it is the least of all lanes. Assumes nothing.
-use Prim.Native.Nat.{ℕ, suc, _^_, _≤_, _<_, min}
+use Prim.Native.Nat.{ℕ, suc, _+_, _^_, _≤_, _<_, min}
 use native.Mathlib.Nat.{le-antisymm, eq-or-lt-of-le, le-of-suc-le-suc, not-suc-le-zero}
 use native.Mathlib.Decide.{decLe}
 use native.Mathlib.Omega.{arith}
 use mathlib.Core.Path.{_≡_, refl, sym, ap, subst, _∙_}
 use mathlib.Core.Bool.{Bool, true, false, false≢true}
 use mathlib.Core.Logic.{⊎-elim}
+use mathlib.Core.List.{List}
 use mathlib.Core.Option.{Option, none, some}
 use lib.Dec.{eqb}
 use lib.ListN.{length, getD, set, replicate, getD-replicate}
 use borrow.Author.Tests.{eqb-true, eq-eqb, ne-eqb}
-use Rattle.units.specs.Plain.{if_then_else_}
+use Rattle.units.specs.Plain.{if_then_else_, wordOf}
 use Rattle.rules.specs.State.{Lane, noLane, State, group, startR, holds, laneAt}
 use Rattle.rules.specs.Choice.{leastOf}
-use Rattle.rules.specs.Sets.{groups, inGroup, groupStart}
+use Rattle.rules.specs.Sets.{groups, inGroup, groupStart, heldStart, groupHolds}
 use Rattle.rules.specs.Good.{Good}
 use Rattle.rules.proofs.Bools.{and-parts}
 use Rattle.rules.proofs.Lowest.{LowOf, lowest-of}
@@ -25,6 +26,7 @@ use Rattle.choice.specs.Starts.{never, noClock, readStart, startIn}
 use Rattle.choice.specs.declared.Placed.{Placed}
 use Rattle.choice.specs.declared.Starts.{Starts}
 use Rattle.choice.proofs.Held.{Named, held-named}
+use Rattle.choice.proofs.Walk.{word-same, word-more}
 
 module _ (s : State) (p : Lane → Bool) where
   -- the lane at index j of the tie order
@@ -110,7 +112,15 @@ among-some s n x h pos e = go (eqb x never) h
 
 -- ---- the starts of all groups at once
 
-pub none-yet : (s : State) (g : ℕ) → g < groups → Among s (inGroup g) 0 (startIn (record { at = replicate 32 (record { 0 = never }) }) g)
+-- the groups that have a start so far
+abbrev pub begun : Starts → ℕ → Bool
+begun r g = heldStart (startIn r g)
+
+pub none-begun : 0 ≡ wordOf (begun (record { at = replicate 32 (record { 0 = never }); held = 0 })) groups
+unfolding wordOf heldStart
+none-begun = refl
+
+pub none-yet : (s : State) (g : ℕ) → g < groups → Among s (inGroup g) 0 (startIn (record { at = replicate 32 (record { 0 = never }); held = 0 }) g)
 none-yet s g h = rw (getD-replicate 32 g (record { 0 = never }) noClock h) (λ j q. absurd (not-suc-le-zero q))
 
 module _ (s : State) (n : ℕ) (found : Starts) (p : Placed) (least : Clock)
@@ -118,10 +128,11 @@ module _ (s : State) (n : ℕ) (found : Starts) (p : Placed) (least : Clock)
     (so-far : (g : ℕ) → g < groups → Among s (inGroup g) n (startIn found g))
     (held : holds (at s holds n) ≡ true)
     (st : Stands (at s holds n) p)
+    (w : ℕ)
     (min-is : least .0 ≡ min (p .start .0) (getD (found .at) (p .group) noClock .0))
   where
     -- one more lane: its group's start is the lesser, the others stay
-    pub starts-more : (g : ℕ) → g < groups → Among s (inGroup g) (suc n) (startIn (record { at = set (found .at) (p .group) least }) g)
+    pub starts-more : (g : ℕ) → g < groups → Among s (inGroup g) (suc n) (startIn (record { at = set (found .at) (p .group) least; held = w }) g)
     unfolding inGroup
     starts-more g h = ⊎-elim
         (λ (e : p .group ≡ g).
@@ -134,6 +145,31 @@ module _ (s : State) (n : ℕ) (found : Starts) (p : Placed) (least : Clock)
         (among-skip s (inGroup g) n (startIn found g) (so-far g h) (simp (held, ne-eqb (group (at s holds n .given)) g (λ q. e (st .group ∙ q))))))
         (eq-or-ne (p .group) g)
 
+    -- and the word has its group's bit
+    pub begun-more : found .held ≡ wordOf (begun found) groups
+        → found .held + (if eqb (getD (found .at) (p .group) noClock .0) never then 2 ^ p .group else 0) ≡ wordOf (begun (record { at = set (found .at) (p .group) least; held = w })) groups
+    unfolding heldStart
+    begun-more h = go (eqb (getD (found .at) (p .group) noClock .0) never) refl
+      where
+        next : Starts
+        next = record { at = set (found .at) (p .group) least; held = w }
+
+        there : begun next (p .group) ≡ true
+        there = rw (getD-set-same (found .at) (p .group) least noClock (omega (arith, st .high, full)), read-some (least .0) (omega (arith, min-is, st .early)))
+
+        other : (k : ℕ) → (k ≡ p .group → ⊥) → begun found k ≡ begun next k
+        other k ne = ap (λ (x : Clock). heldStart (readStart (x .0))) (sym (getD-set-other (found .at) (p .group) k least noClock ne))
+
+        go : (b : Bool) → eqb (getD (found .at) (p .group) noClock .0) never ≡ b → found .held + (if b then 2 ^ p .group else 0) ≡ wordOf (begun next) groups
+        go true e = omega (arith, h, word-more (begun found) (begun next) groups (p .group) (omega (arith, st .high)) (simp e) there other)
+        go false e =
+            omega (arith, h, word-same (begun found) (begun next) groups (λ k q. ⊎-elim (λ (z : k ≡ p .group). rw z (simp e (sym there))) (λ (z : k ≡ p .group → ⊥). other k z) (eq-or-ne k (p .group))))
+
 pub starts-all : (s : State) → Good s → (g : ℕ) (o : Option ℕ) → Among s (inGroup g) (length (s .order)) o → o ≡ groupStart (s .lanes) g
 unfolding groupStart inGroup
 starts-all s good g o h = among-all s (inGroup g) (good .order) (λ l e. and-parts (holds l) (eqb (group (l .given)) g) e .0) refl o h
+
+-- once all are passed: the word of the groups that hold records
+pub begun-all : (ls : List Lane) (r : Starts) → ((g : ℕ) → g < groups → startIn r g ≡ groupStart ls g) → wordOf (begun r) groups ≡ wordOf (groupHolds ls) groups
+unfolding groupHolds
+begun-all ls r f = word-same (begun r) (groupHolds ls) groups (λ g h. ap heldStart (f g h))

@@ -167,14 +167,3 @@ start-early s g i r e = go (groupStart (s .lanes) i) (group-low (s .lanes) i) e
     go : (o : Option ℕ) → LowOf (inGroup i) (s .lanes) o → o ≡ some r → r < 2 ^ 63
     go none h q = let z : _≡_ {A = ℕ} 0 1 = cc in absurd (omega arith)
     go (some x) h q = let same : x ≡ r = cc in omega (arith, h .start, held-early s g (h .at) (in-group i (laneAt s (h .at)) (h .is) .0))
-
--- no group below 16 holds records
-pub no-low-start : (t : List ℕ) → Steady t → (i : ℕ) → i < 16 → groupStart (meant t .lanes) i ≡ none
-no-low-start t steady i small = go (groupStart (meant t .lanes) i) (group-low (meant t .lanes) i)
-  where
-    go : (o : Option ℕ) → LowOf (inGroup i) (meant t .lanes) o → o ≡ none
-    go none h = refl
-    go (some x) h =
-        let there = in-group i (laneAt (meant t) (h .at)) (h .is) in
-        let g = row-group t steady (h .at) (there .0) in
-        absurd (omega (arith, g .0, g .1, there .1))

@@ -8,10 +8,9 @@ use mathlib.Core.Path.{_≡_, refl, sym, ap, subst, _∙_}
 use mathlib.Core.Bool.{Bool, true, false, not, _&&_, _||_, false≢true, or-true}
 use mathlib.Core.Logic.{_⊎_, inl, inr, ⊎-elim}
 use mathlib.Core.List.{List}
-use mathlib.Core.Option.{none, some}
+use mathlib.Core.Option.{Option, none, some}
 use lib.Dec.{leb, ltb}
-use lib.ListN.{getD}
-use borrow.Author.Tests.{ltb-true, ltb-false, lt-ltb, eq-eqb, ne-eqb}
+use borrow.Author.Tests.{ltb-true, ltb-false, lt-ltb}
 use Rattle.units.specs.Plain.{if_then_else_, anyBelow, wordOf}
 use Rattle.rules.specs.State.{Lane, State}
 use Rattle.rules.specs.Sets.{groups, groupStart, heldStart, reached, finishFrom, groupHolds, groupEligible, groupFinish, blocks, blocked, ready, ineligibleReady, eligibleBlocked, ineligibleBlocked}
@@ -19,8 +18,7 @@ use Rattle.units.specs.declared.Clock.{Clock}
 use Rattle.rules.specs.declared.SetWords.{SetWords}
 use Rattle.rules.proofs.Bools.{and-parts, not-passed}
 use Rattle.rules.proofs.Word.{word-lt}
-use Rattle.choice.specs.Starts.{never, noClock, AreStarts, sortedInto, swept, Fits, AreWords}
-use Rattle.choice.specs.declared.Starts.{Starts}
+use Rattle.choice.specs.Starts.{never, sortedInto, swept, Fits, AreWords}
 use Rattle.choice.specs.declared.Sweep.{Sweep}
 
 some-below : (p : ℕ → Bool) (n k : ℕ) → k < n → p k ≡ true → anyBelow p n ≡ true
@@ -107,9 +105,6 @@ module _ (v : ℕ) (ls : List Lane) where
         ib = omega (arith, h .ib, word-lt (ineligibleBlocked v ls) groups);
       }
 
-  pub swept-at : {i : ℕ} (a : Sweep) → 0 < i → Swept i a → Swept (suc (i - 1)) a
-  swept-at {i} a pos h = subst (λ (n : ℕ). Swept n a) (omega arith) h
-
   below-or : (i k : ℕ) → i ≤ k → (i ≡ k) ⊎ (suc i ≤ k)
   below-or i k h = eq-or-lt-of-le h
 
@@ -136,11 +131,6 @@ module _ (v : ℕ) (ls : List Lane) where
     lower = λ k p q t. ⊎-elim (λ (z : i ≡ k). absurd (false≢true (ap (reached v) (sym e) ∙ ap (λ (x : ℕ). reached v (groupStart ls x)) z ∙ t))) (λ (z : suc i ≤ k). h .lower k z q t) (below-or i k p);
     met = λ p. let m = h .met p in (m .0, omega (arith, m .1), m .2, m .3, m .4);
   }
-
-  -- the rest, where no group is left that holds records
-  pub swept-rest : (i : ℕ) (a : Sweep) → ((k : ℕ) → k < i → groupStart ls k ≡ none) → Swept i a → Swept 0 a
-  swept-rest zero a e h = h
-  swept-rest (suc i) a e h = swept-rest i a (λ k q. e k (omega arith)) (swept-skip i a (e i (omega arith)) h)
 
   -- ---- a group that holds records, with the start r
 
@@ -199,12 +189,3 @@ module _ (v : ℕ) (ls : List Lane) where
           | yes q ↦ (i, le-refl i, small, eligible-is ∙ e, omega (arith, finish-is))
           | no q ↦ (let m = h .met (omega arith) in (m .0, omega (arith, m .1), m .2, m .3, omega (arith, m .4)))
         ]
-
--- ---- from the array of starts
-
-module _ (ls : List Lane) (s : Starts) (i : ℕ) (are : AreStarts ls s) (small : i < groups) where
-  pub start-there : (getD (s .at) i noClock .0 ≡ never → ⊥) → groupStart ls i ≡ some (getD (s .at) i noClock .0)
-  start-there h = sym (are .start i small) ∙ simp (ne-eqb (getD (s .at) i noClock .0) never h)
-
-  pub start-not-there : getD (s .at) i noClock .0 ≡ never → groupStart ls i ≡ none
-  start-not-there h = sym (are .start i small) ∙ simp (eq-eqb (getD (s .at) i noClock .0) never h)

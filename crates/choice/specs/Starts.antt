@@ -1,5 +1,5 @@
--- The groups' starts as the code keeps them: an array by group index, with the greatest number where a group holds no records.
--- Assumes nothing.
+-- The groups' starts as the code keeps them: an array by group index, with the greatest number where a group holds no records, and the word of the groups
+-- that hold some. Assumes nothing.
 use Prim.Native.Nat.{ℕ, _+_, _*_, _^_, _<_, min}
 use mathlib.Core.Path.{_≡_}
 use mathlib.Core.Bool.{Bool, not, _&&_}
@@ -7,9 +7,9 @@ use mathlib.Core.List.{List}
 use mathlib.Core.Option.{Option, none, some}
 use lib.Dec.{eqb, leb, ltb}
 use lib.ListN.{getD}
-use Rattle.units.specs.Plain.{if_then_else_}
+use Rattle.units.specs.Plain.{if_then_else_, wordOf}
 use Rattle.rules.specs.State.{Lane, State}
-use Rattle.rules.specs.Sets.{groups, groupStart, setWord, ready, ineligibleReady, eligibleBlocked, ineligibleBlocked}
+use Rattle.rules.specs.Sets.{groups, groupStart, groupHolds, setWord, ready, ineligibleReady, eligibleBlocked, ineligibleBlocked}
 use Rattle.units.specs.declared.Clock.{Clock}
 use Rattle.rules.specs.declared.SetWords.{SetWords}
 use Rattle.choice.specs.declared.Starts.{Starts}
@@ -28,9 +28,10 @@ readStart x = if eqb x never then none else some x
 abbrev pub startIn : Starts → ℕ → Option ℕ
 startIn r i = readStart (getD (r .at) i noClock .0)
 
--- "A group's start .. the least R .. of its lanes that hold records"
+-- "A group's start .. the least R .. of its lanes that hold records"; held has the bits of the groups that have one
 pub record AreStarts (ls : List Lane) (r : Starts) : Type 0 where
   pub start : (i : ℕ) → i < groups → startIn r i ≡ groupStart ls i
+  pub held : r .held ≡ wordOf (groupHolds ls) groups
 
 -- ---- the four words, group by group from the highest down
 

@@ -10,12 +10,13 @@ ghost use mathlib.Core.Option.{some};
 ghost use Prim.Native.Nat.{_+_, _≤_, _<_, _^_};
 ghost use lib.Dec.{eqb};
 ghost use lib.Count.{trailingZeros};
+ghost use Rattle.units.specs.Plain.{if_then_else_};
 ghost use Rattle.rules.specs.State.{laneAt, holds};
 ghost use Rattle.rules.specs.Choice.{choose, leastOf};
 ghost use Rattle.rules.specs.BySets.{laneOf, laneOfGroup};
 ghost use Rattle.table.specs.Means.{meant};
 ghost use Rattle.choice.specs.Known.{Known, Steady, Stands, leastIs, choiceIs};
-ghost use Rattle.choice.specs.Starts.{AreStarts, sortedInto, swept, Fits, AreWords};
+ghost use Rattle.choice.specs.Starts.{never, AreStarts, sortedInto, swept, Fits, AreWords};
 use rules::SetWords;
 use table::clock;
 use table::holding;
@@ -35,9 +36,10 @@ pub struct Placed {
     pub start: Clock,
 }
 
-// The starts of the groups, by index; `NEVER` where a group holds no records.
+// The starts of the groups, by index; `NEVER` where a group holds no records. And the word of the groups that hold some.
 pub struct Starts {
     pub at: [Clock; 32],
+    pub held: u64,
 }
 
 // The four words so far, and the least finish of the eligible groups met; `NEVER` where there is none.
@@ -56,9 +58,6 @@ pub enum Choice {
     Serve(usize),
     Idle,
 }
-
-// The lowest group: "It lies in 16 to 31".
-const LOWEST: u32 = 16;
 
 // Later than any start.
 const NEVER: u64 = 18446744073709551615;
@@ -95,6 +94,26 @@ pub fn least_start(t: &[u8]) -> Least
     Least::At(least)
 }
 
+// A group's bit in a set word.
+fn group_bit(i: u32) -> u64
+    requires { ⌜ i ≤ 31 ⌝ }
+    ensures { λ r. ⌜ r ≡ 2 ^ i ⌝ }
+{
+    1u64 << i
+}
+
+// The bit that a lane of group `i` adds to the word of the groups that hold, where `start` is the group's start so far: none once it has one.
+fn new_bit(start: Clock, i: u32) -> u64
+    requires { ⌜ i ≤ 31 ⌝ }
+    ensures { λ r. ⌜ r ≡ (if eqb (start .0) never then 2 ^ i else 0) ⌝ }
+{
+    if same_time(start, Clock(NEVER)) {
+        group_bit(i)
+    } else {
+        0
+    }
+}
+
 // The starts of the groups.
 pub fn group_starts(t: &[u8]) -> Starts
     requires { ⌜ Known (now t) ⌝ }
@@ -103,6 +122,7 @@ pub fn group_starts(t: &[u8]) -> Starts
     let n = holding(t);
     let mut found = Starts {
         at: [Clock(NEVER); 32],
+        held: 0,
     };
     let mut i = 0;
     while i < n {
@@ -111,18 +131,11 @@ pub fn group_starts(t: &[u8]) -> Starts
         let start = p.start;
         let so_far = found.at[g];
         let least = earlier(start, so_far);
+        found.held += new_bit(so_far, p.group);
         found.at[g] = least;
         i += 1;
     }
     found
-}
-
-// A group's bit in a set word.
-fn group_bit(i: u32) -> u64
-    requires { ⌜ i ≤ 31 ⌝ }
-    ensures { λ r. ⌜ r ≡ 2 ^ i ⌝ }
-{
-    1u64 << i
 }
 
 // Puts a group's bit into one of the four words.
@@ -166,7 +179,7 @@ fn sweep_group(start: Clock, v: Clock, i: u32, a: Sweep) -> Sweep
     }
 }
 
-// The four words from the groups' starts, from the highest group down.
+// The four words from the groups' starts: the groups that hold records, from the highest down, by the set bits of their word.
 fn sweep_down(t: &[u8], s: Starts) -> SetWords
     requires { ⌜ Known (now t) × AreStarts (meant (now t) .lanes) s ⌝ }
     ensures { λ r. ⌜ AreWords (meant (now (t .entry))) r ⌝ }
@@ -181,14 +194,12 @@ fn sweep_down(t: &[u8], s: Starts) -> SetWords
         },
         least: Clock(NEVER),
     };
-    let mut i: u32 = 32;
-    while LOWEST < i {
-        i -= 1;
-        let g = i as usize;
-        let start = s.at[g];
-        if !same_time(start, Clock(NEVER)) {
-            a = sweep_group(start, v, i, a);
-        }
+    let mut left = s.held;
+    while left != 0 {
+        let i = 63 - u64::leading_zeros(left);
+        let start = s.at[i as usize];
+        a = sweep_group(start, v, i, a);
+        left -= group_bit(i);
     }
     a.words
 }
@@ -206,13 +217,7 @@ fn first_set(w: u64) -> u32
     requires { ⌜ 0 < w ⌝ }
     ensures { λ r. ⌜ r ≡ trailingZeros 64 w ⌝ }
 {
-    let mut left = w;
-    let mut i: u32 = 0;
-    while left % 2 == 0 {
-        left /= 2;
-        i += 1;
-    }
-    i
+    u64::trailing_zeros(w)
 }
 
 // Whether a lane stands there.

@@ -1,12 +1,13 @@
 -- Laws of the group index, once over the index: the definition by search is the least; longest times c is at most the slot; a setting within
 -- the numbers has a group of 16 to 31. Assumes nothing.
-use Prim.Native.Nat.{ℕ, zero, suc, _+_, _*_, _^_, _≤_, _<_}
+use Prim.Native.Nat.{ℕ, zero, suc, _+_, _-_, _*_, _^_, _≤_, _<_}
 use native.Mathlib.Nat.{le-trans, zero-add, add-zero, two-pow-succ, mul-le-mul, not-le-of-lt, lt-of-lt-of-le, le-antisymm}
 use native.Mathlib.Omega.{arith}
 use native.Mathlib.Decide.{decLe}
 use mathlib.Core.Path.{_≡_, refl, sym, subst}
 use mathlib.Core.Bool.{Bool, true, false}
 use lib.Dec.{leb}
+use lib.Count.{leadingZeros, leading-length}
 use lib.Pow.{pow-mono, pow-lt}
 use borrow.Author.Tests.{leb-true, leb-false}
 use Rattle.units.specs.Numbers.{perByte, powerFrom, leastPower, Least}
@@ -57,6 +58,16 @@ least-unique n i l =
 pub power-rule : PowerRule
 unfolding PowerRule
 power-rule n = (power-least n, least-unique n)
+
+-- the least exponent for n is the number of digits of n - 1
+pub least-leading : (n : ℕ) → 0 < n → n - 1 < 2 ^ 64 → Least n (64 - leadingZeros 64 (n - 1))
+least-leading n p h =
+    let t = leading-length 64 (n - 1) h in
+    let m : 64 - leadingZeros 64 (n - 1) ≡ t .0 = omega (arith, t .1) in
+    subst (Least n) (sym m) (record {
+      enough = omega (arith, t .2);
+      none-below = λ j q. elim (decLe (t .0) j) [ yes k ↦ k | no k ↦ absurd (omega (arith, t .3, two-pow-succ j, pow-mono {i = suc j} {j = t .0} (omega arith))) ];
+    })
 
 -- longest times c is at most the slot
 pub span-le-slot : (n : ℕ) → n ≤ 2 ^ leastPower n

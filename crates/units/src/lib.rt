@@ -51,19 +51,16 @@ pub fn line_charge(length: Bytes) -> Clock
     Clock(LINE_RATE * length.0)
 }
 
-// The group index of a lane whose longest record costs it `span`: the least i with 2^i at least `span`.
+// The group index of a lane whose longest record costs it `span`: the least i with 2^i at least `span`. So many bits has `span` less one: a power of two is its own.
 pub fn group_index(span: Clock) -> u32
     requires { ⌜ span .0 ≤ 2 ^ 63 ⌝ }
     ensures { λ r. ⌜ Least (span .0) r × (r ≤ 63) ⌝ }
 {
     let n = span.0;
-    let mut i: u32 = 0;
-    let mut power: u64 = 1;
-    while power < n {
-        power *= 2;
-        i += 1;
+    if n == 0 {
+        return 0;
     }
-    i
+    64 - u64::leading_zeros(n - 1)
 }
 
 // The slot of group `index`.
