@@ -10,7 +10,7 @@ use Rattle.words.specs.Runs.{reads}
 use Rattle.rules.specs.State.{Setting, State, laneAt, setupOf, settingAt, noSetting}
 use Rattle.rules.specs.Setup.{InNumbers, Setup}
 use Rattle.rules.specs.Calls.{idle, fresh}
-use Rattle.table.specs.Layout.{Room, Now, cells, holdingWord, orderWord}
+use Rattle.table.specs.Layout.{Room, Now, cells, holdingWord, framingWord, orderWord}
 use Rattle.table.specs.Means.{meant, Sound, Leaves, withLane, withOrder, withClock}
 use Rattle.table.proofs.Stores.{length-cells}
 use Rattle.table.proofs.Leave.{leave-order, leaves-then}
@@ -69,7 +69,7 @@ pub no-order : (t t′ : List ℕ) → Now t t′ (set (cells t) holdingWord 0) 
 no-order t t′ n =
     let w = cells t in
     let other : (i : ℕ) → (i ≡ holdingWord → ⊥) → getD (set w holdingWord 0) i 0 ≡ getD w i 0 = λ i ne. getD-set-other w holdingWord i 0 0 ne in
-    leave-order t t′ (set w holdingWord 0) [] n (record { clock = other 0 (omega arith); present = other 1 (omega arith); above = λ i h. other i (omega arith) }) (ap (reads (set w holdingWord 0) orderWord) (getD-set-same w holdingWord 0 0 (omega (arith, length-cells t))))
+    leave-order t t′ (set w holdingWord 0) [] n (record { clock = other 0 (omega arith); present = other 1 (omega arith); framing = other framingWord (omega arith); above = λ i h. other i (omega arith) }) (ap (reads (set w holdingWord 0) orderWord) (getD-set-same w holdingWord 0 0 (omega (arith, length-cells t))))
 
 pub renew-leaves : (t t₁ t₂ t′ : List ℕ) → Leaves t t₁ (restedTo 64 (meant t)) → Leaves t₁ t₂ (withClock (meant t₁) 0) → Now t₂ t′ (set (cells t₂) holdingWord 0) → Leaves t t′ (fresh (setupOf (meant t)))
 unfolding fresh

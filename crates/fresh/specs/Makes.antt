@@ -40,7 +40,7 @@ upTo k gs = mixed k (settingAt gs) (λ i. noSetting)
 abbrev pub restedTo : ℕ → State → State
 restedTo k s = record { clock = s .clock; lanes = mixed k (λ i. idle (laneAt s i .given)) (laneAt s); order = s .order }
 
--- whatever the clock and the ring hold
+-- beside the line's framing bytes, and whatever the clock and the ring hold
 pub record SettingWord (g : Setting) (word : ℕ) : Type 0 where
-  pub given : (time ring : ℕ) → givenOf (rowOf word time ring) ≡ g
-  pub agrees : (time ring : ℕ) → RowAgrees (rowOf word time ring)
+  pub given : (time ring : ℕ) → givenOf (rowOf (g .framing) word time ring) ≡ g
+  pub agrees : (time ring : ℕ) → RowAgrees (rowOf (g .framing) word time ring)
