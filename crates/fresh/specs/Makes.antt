@@ -2,6 +2,7 @@
 --
 --   Makes        the bytes are the fresh table of a list of settings, and those past the table are as they were
 --   settings     the settings of a list of given lanes
+--   FramedBy     each of the lanes has so many framing bytes
 --   mixed        64 elements: by one rule below k, by another from k on
 --   upTo         the settings of the lanes below k, and none of the others
 --   restedTo     a state whose lanes below k are idle with F = 0
@@ -9,7 +10,7 @@
 --
 -- Assumes nothing.
 use mathlib.Core.Path.{_≡_}
-use Prim.Native.Nat.{ℕ, _*_}
+use Prim.Native.Nat.{ℕ, _*_, _<_}
 use mathlib.Core.List.{List, map}
 use lib.Dec.{ltb}
 use lib.ListN.{drop}
@@ -30,6 +31,10 @@ pub record Makes (before after : List ℕ) (gs : List Setting) : Type 0 where
 
 abbrev pub settings : List Lane → List Setting
 settings gs = map settingOf gs
+
+-- the line's framing bytes: every lane of the setup has them
+abbrev pub FramedBy : ℕ → List Setting → Type 0
+FramedBy h gs = (k : ℕ) → 0 < settingAt gs k .weight → settingAt gs k .framing ≡ h
 
 unfoldable pub mixed : {A : Type 0} → ℕ → (ℕ → A) → (ℕ → A) → List A
 mixed k f g = tab 64 (λ i. if ltb i k then f i else g i)

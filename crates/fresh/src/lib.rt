@@ -11,7 +11,7 @@ ghost use Rattle.rules.specs.Setup.{InNumbers, Setup};
 ghost use Rattle.rules.specs.Calls.{idle, fresh};
 ghost use Rattle.table.specs.Layout.{Room, cells, framingWord};
 ghost use Rattle.table.specs.Means.{meant, Sound, Leaves, withLane};
-ghost use Rattle.fresh.specs.Makes.{Makes, SettingWord, settings, upTo, restedTo};
+ghost use Rattle.fresh.specs.Makes.{Makes, SettingWord, settings, FramedBy, upTo, restedTo};
 use plan::Lane;
 use table::CLOCK;
 use table::FRAMING;
@@ -81,12 +81,28 @@ pub fn add_lane(t: &mut [u8], k: usize, h: Bytes, weight: u64, longest: Bytes)
     set_cell(t, PRESENT, (1u64 << (k as u32)) + lanes);
 }
 
+// The line's framing bytes, from the first lane that is in the setup: all lanes have the same.
+fn line_framing(lanes: [Lane; LANES]) -> Bytes
+    requires { ⌜ Setup (settings lanes) ⌝ }
+    ensures { λ r. ⌜ FramedBy (r .0) (settings lanes) ⌝ }
+{
+    let mut k = 0;
+    while k < LANES {
+        let g = lanes[k];
+        if g.weight != 0 {
+            return g.framing;
+        }
+        k += 1;
+    }
+    Bytes(0)
+}
+
 // Writes the fresh table of a setup.
 pub fn write(t: &mut [u8], lanes: [Lane; LANES])
     requires { ⌜ Room (now t) × Setup (settings lanes) ⌝ }
     ensures { λ _. ⌜ Makes (now (t .entry)) (now (t .exit)) (settings lanes) ⌝ }
 {
-    let h = Bytes(0);
+    let h = line_framing(lanes);
     begin(t, h);
     let mut k = 0;
     while k < LANES {
