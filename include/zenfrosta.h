@@ -41,12 +41,12 @@ extern "C" {
 #define ZF_UNKNOWN_TAG 2     /* tag unknown in this part; place: the field's tag */
 #define ZF_WRONG_LENGTH 3    /* length wrong for the tag; place: the field's tag */
 #define ZF_OUT_OF_ORDER 4    /* a field out of its order, or a byte after the last 0x7F; place: the field's tag, or that byte */
-#define ZF_OUTSIDE_NUMBERS 5 /* format, lane, weight or longest outside its numbers; place: the field's tag */
+#define ZF_OUTSIDE_NUMBERS 5 /* format, lane, weight, longest or framing outside its numbers; place: the field's tag */
 #define ZF_WEIGHTS_OVER 6    /* weights so far over 1,024; place: the field's tag */
 #define ZF_TABLE_SHORT 7     /* table shorter than ZF_TABLE_SIZE, on making one; place: 0 */
 #define ZF_NOT_GOOD 10       /* the table is not good; never on one that zf_make or zf_run made and these calls alone changed */
 #define ZF_NO_LANE 11        /* lane not in the setup */
-#define ZF_BAD_LENGTH 12     /* length 0, or over the lane's longest */
+#define ZF_BAD_LENGTH 12     /* length 0, or over the lane's longest; framing bytes are not counted */
 #define ZF_LANE_FULL 13      /* the lane holds 16 records */
 #define ZF_CLOCK_SPENT 14    /* the clock is spent: take what is held, then restart */
 #define ZF_STILL_HOLDS 15    /* restart while a record is held */

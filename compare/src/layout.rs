@@ -14,6 +14,7 @@ pub const TABLE_SIZE: usize = 8 * WORDS;
 pub const CLOCK: usize = 0;
 pub const PRESENT: usize = 1;
 pub const HOLDING: usize = 2;
+pub const FRAMING_WORD: usize = 4;
 pub const ORDER: usize = 16;
 
 pub fn setting(lane: u8) -> usize {
@@ -42,6 +43,8 @@ pub fn setting_of(longest: u64, weight: u64, group: u64, units_per_byte: u64) ->
 pub enum Clause {
     /// "it is long enough"
     Long,
+    /// h: 0 to 64, and no other bit of its word.
+    Framing,
     /// "Lanes 1 to 64"
     Lanes,
     /// "Weight w: 1 to 1,024"
@@ -64,7 +67,7 @@ pub enum Clause {
     Clock,
     /// "S below V + 2s"
     StartAhead,
-    /// "R above V - 2s - 1,536,000"
+    /// R above V - 2s - 1,024 (1,500 + h)
     StartBehind,
     /// "for an idle lane F below V + 2s"
     FinishAhead,
@@ -74,6 +77,7 @@ pub enum Clause {
 
 pub const CLAUSES: &[Clause] = &[
     Clause::Long,
+    Clause::Framing,
     Clause::Lanes,
     Clause::Weight,
     Clause::WeightSum,
@@ -140,9 +144,12 @@ pub fn read(bytes: &[u8]) -> Reading {
         reading.breaks(Clause::Long, true);
         return reading;
     }
+    // Where the number is none that h can be, the other clauses go by the nearest to its low bits.
+    let framing = (word(bytes, FRAMING_WORD) % 128).min(u64::from(*FRAMING.end())) as u8;
+    reading.breaks(Clause::Framing, word(bytes, FRAMING_WORD) > u64::from(*FRAMING.end()));
     let order: Option<Vec<u8>> = order(bytes);
     let lanes: Option<Vec<Lane>> =
-        present(bytes).map(|lane| read_lane(bytes, lane, order.as_deref(), &mut reading)).collect();
+        present(bytes).map(|lane| read_lane(bytes, lane, framing, order.as_deref(), &mut reading)).collect();
     reading.breaks(Clause::TieOrder, order.is_none());
     let Some(lanes) = lanes else { return reading };
     let clock = i128::from(word(bytes, CLOCK));
@@ -154,7 +161,7 @@ pub fn read(bytes: &[u8]) -> Reading {
         let ahead = clock + 2 * lane.slot();
         if lane.holds() {
             reading.breaks(Clause::StartAhead, lane.start >= ahead);
-            let behind = clock - 2 * lane.slot() - LONGEST_IN_UNITS;
+            let behind = clock - 2 * lane.slot() - margin(framing);
             reading.breaks(Clause::StartBehind, lane.rounded_start <= behind);
         } else {
             reading.breaks(Clause::FinishAhead, lane.finish >= ahead);
@@ -167,7 +174,7 @@ pub fn read(bytes: &[u8]) -> Reading {
     let mut sorted = order.clone().unwrap_or_default();
     sorted.sort_unstable();
     reading.breaks(Clause::TieOrder, sorted != holding);
-    reading.state = order.map(|_| State::of(clock, lanes));
+    reading.state = order.map(|_| State::of(clock, framing, lanes));
     reading
 }
 
@@ -182,7 +189,13 @@ fn order(bytes: &[u8]) -> Option<Vec<u8>> {
 }
 
 /// A present lane, or nothing if its words are no lane's at all.
-fn read_lane(bytes: &[u8], number: u8, order: Option<&[u8]>, reading: &mut Reading) -> Option<Lane> {
+fn read_lane(
+    bytes: &[u8],
+    number: u8,
+    framing: u8,
+    order: Option<&[u8]>,
+    reading: &mut Reading,
+) -> Option<Lane> {
     let setting = word(bytes, setting(number));
     let plan = LanePlan { number, weight: (setting >> 16) as u16, longest: setting as u16 };
     reading.breaks(Clause::Weight, !WEIGHT.contains(&plan.weight));
@@ -200,8 +213,8 @@ fn read_lane(bytes: &[u8], number: u8, order: Option<&[u8]>, reading: &mut Readi
     let lengths = 1..=u64::from(plan.longest);
     reading.breaks(Clause::Length, queue.iter().any(|record| !lengths.contains(&record.length)));
     let turn = order.and_then(|order| order.iter().position(|lane| *lane == number));
-    let lane =
-        Lane::of(plan, queue, i128::from(word(bytes, clock_word(number))), turn.map_or(0, |at| at as u64));
+    let (time, since) = (i128::from(word(bytes, clock_word(number))), turn.map_or(0, |at| at as u64));
+    let lane = Lane::of(plan, framing, queue, time, since);
     reading.breaks(Clause::UnitsPerByte, i128::from(setting >> 40) != lane.units_per_byte);
     reading.breaks(Clause::Group, setting >> 32 & 0xFF != u64::from(lane.group));
     Some(lane)
@@ -211,6 +224,7 @@ fn read_lane(bytes: &[u8], number: u8, order: Option<&[u8]>, reading: &mut Readi
 pub fn write(state: &State, bytes: &mut [u8]) {
     let number = |value: i128| u64::try_from(value).expect("a clock word");
     set_word(bytes, CLOCK, number(state.clock));
+    set_word(bytes, FRAMING_WORD, state.framing.into());
     set_word(bytes, PRESENT, state.lanes.iter().map(|lane| 1 << lane.plan.number).sum());
     let mut order: Vec<&Lane> = state.holding().collect();
     order.sort_by_key(|lane| lane.since);

@@ -1,4 +1,4 @@
-//! Document 01's numbers, each named once.
+//! The numbers of documents 01 and 02, each named once.
 
 use std::ops::RangeInclusive;
 
@@ -23,8 +23,18 @@ pub const UNITS_PER_BYTE_SENT: i128 = 1_024;
 pub const CLOCK_EDGE: i128 = 1 << 62;
 /// "V below 2^62 + 2^42" in a good table.
 pub const CLOCK_END: i128 = (1 << 62) + (1 << 42);
-/// Demand 3 and the good table: 1,024 times the longest record that any setup allows.
-pub const LONGEST_IN_UNITS: i128 = 1_536_000;
+/// h, the framing bytes that the line charges for each record: "u8, 0 to 64".
+pub const FRAMING: RangeInclusive<u8> = 0..=64;
+
+/// "Charged length is record length plus this number h": what F and V go by, and what T and O count.
+pub fn charged(length: u64, framing: u8) -> i128 {
+    i128::from(length) + i128::from(framing)
+}
+
+/// Demand 3 and the good table: 1,024 times what the longest record that any setup allows is charged; 1,536,000 where h is 0.
+pub fn margin(framing: u8) -> i128 {
+    UNITS_PER_BYTE_SENT * charged(u64::from(*LONGEST.end()), framing)
+}
 
 /// "The run gets a limit of 0 to 1,000 requests"; the program's limit is the greatest.
 pub const LIMIT: u64 = 1_000;

@@ -4,7 +4,7 @@
 use crate::calls::Taken;
 use crate::fields::Fault;
 use crate::layout::{self, Clause, CLAUSES, TABLE_SIZE};
-use crate::numbers::{refusal, CLOCK_END, LONGEST_IN_UNITS};
+use crate::numbers::{margin, refusal, CLOCK_END};
 use crate::rules::State;
 use crate::session::{self, Run};
 use crate::setup;
@@ -21,8 +21,12 @@ pub enum Lapse {
     ClockStrict,
     /// S must be below V + 2s - 1.
     StartStrict,
-    /// R must be above V - 2s - 1,536,000 + 1.
+    /// R must be above V - 2s - 1,024 (1,500 + h) + 1.
     BehindStrict,
+    /// R must be above V - 2s - 1,536,000, whatever h is.
+    BehindBare,
+    /// h must be below 64.
+    FramingStrict,
     /// F of an idle lane must be below V + 2s - 1.
     FinishStrict,
     /// An eligible lane must have R below V.
@@ -47,6 +51,8 @@ pub fn lapses() -> Vec<Lapse> {
         ClockStrict,
         StartStrict,
         BehindStrict,
+        BehindBare,
+        FramingStrict,
         FinishStrict,
         EligibleStrict,
         RecordsStrict,
@@ -74,7 +80,11 @@ impl OnWords {
             Lapse::StartStrict => state.holding().any(|lane| lane.start >= state.clock + 2 * lane.slot() - 1),
             Lapse::BehindStrict => state
                 .holding()
-                .any(|lane| lane.rounded_start <= state.clock - 2 * lane.slot() - LONGEST_IN_UNITS + 1),
+                .any(|lane| lane.rounded_start <= state.clock - 2 * lane.slot() - margin(state.framing) + 1),
+            Lapse::BehindBare => {
+                state.holding().any(|lane| lane.rounded_start <= state.clock - 2 * lane.slot() - margin(0))
+            }
+            Lapse::FramingStrict => state.framing == 64,
             Lapse::FinishStrict => {
                 let mut idle = state.lanes.iter().filter(|lane| !lane.holds());
                 idle.any(|lane| lane.finish >= state.clock + 2 * lane.slot() - 1)

@@ -19,7 +19,7 @@ pub struct Lane {
     pub plan: LanePlan,
     /// c: clock units per byte of this lane.
     pub units_per_byte: i128,
-    /// i: the least i with 2^i at least longest times c.
+    /// i: the least i with 2^i at least longest plus h, times c.
     pub group: u32,
     pub queue: VecDeque<Record>,
     /// S and R, of no meaning while the lane is idle.
@@ -32,20 +32,20 @@ pub struct Lane {
 }
 
 impl Lane {
-    fn fresh(plan: LanePlan) -> Lane {
+    fn fresh(plan: LanePlan, framing: u8) -> Lane {
         let weight = i128::from(plan.weight);
         let units_per_byte = (UNITS_OF_A_FULL_LINE + weight - 1) / weight;
-        let most = i128::from(plan.longest) * units_per_byte;
+        let most = charged(plan.longest.into(), framing) * units_per_byte;
         let group = (0..).find(|i| (1_i128 << i) >= most).expect("some power of two is large enough");
         let queue = VecDeque::new();
         Lane { plan, units_per_byte, group, queue, start: 0, rounded_start: 0, finish: 0, since: 0 }
     }
 
     /// A lane of any origin; `word` is its S while it holds records, and its F while it is idle.
-    pub fn of(plan: LanePlan, queue: VecDeque<Record>, word: i128, since: u64) -> Lane {
-        let mut lane = Lane { queue, ..Lane::fresh(plan) };
+    pub fn of(plan: LanePlan, framing: u8, queue: VecDeque<Record>, word: i128, since: u64) -> Lane {
+        let mut lane = Lane { queue, ..Lane::fresh(plan, framing) };
         if lane.holds() {
-            lane.begin(word, since);
+            lane.begin(word, since, framing);
         } else {
             lane.finish = word;
         }
@@ -70,19 +70,20 @@ impl Lane {
     }
 
     /// A new S for the lane's first record, and the R and F that follow from it.
-    fn begin(&mut self, start: i128, event: u64) {
+    fn begin(&mut self, start: i128, event: u64, framing: u8) {
         let first = self.queue.front().expect("a lane that gets an S holds a record");
         self.start = start;
         self.rounded_start = start - start % self.slot();
-        self.finish = start + i128::from(first.length) * self.units_per_byte;
+        self.finish = start + charged(first.length, framing) * self.units_per_byte;
         self.since = event;
     }
 }
 
-/// A table's contents: the setup's lanes by rising number, and the clock V.
+/// A table's contents: the setup's framing number and lanes by rising number, and the clock V.
 #[derive(Clone, Debug, PartialEq, Eq)]
 pub struct State {
     pub clock: i128,
+    pub framing: u8,
     pub lanes: Vec<Lane>,
     events: u64,
 }
@@ -90,13 +91,14 @@ pub struct State {
 impl State {
     /// "Fresh: V = 0, each lane idle with F = 0."
     pub fn fresh(setup: &Setup) -> State {
-        State { clock: 0, lanes: setup.lanes.iter().copied().map(Lane::fresh).collect(), events: 0 }
+        let lanes = setup.lanes.iter().map(|plan| Lane::fresh(*plan, setup.framing)).collect();
+        State { clock: 0, framing: setup.framing, lanes, events: 0 }
     }
 
     /// Contents of any origin.
-    pub fn of(clock: i128, lanes: Vec<Lane>) -> State {
+    pub fn of(clock: i128, framing: u8, lanes: Vec<Lane>) -> State {
         let events = lanes.iter().map(|lane| lane.since).max().unwrap_or(0);
-        State { clock, lanes, events }
+        State { clock, framing, lanes, events }
     }
 
     /// The same contents, but for the turns of lanes that no call compares: a tie is between lanes of one group with the same R.
@@ -113,7 +115,7 @@ impl State {
             turns.sort_unstable();
             turns.into_iter().map(|(.., number)| number).collect::<Vec<u8>>()
         };
-        self.clock == other.clock
+        (self.clock, self.framing) == (other.clock, other.framing)
             && self.lanes.iter().map(lane).eq(other.lanes.iter().map(lane))
             && turns(self) == turns(other)
     }
@@ -149,11 +151,11 @@ impl State {
             return Err(refusal::CLOCK_SPENT);
         }
         let (was_idle, ahead) = (!lane.holds(), lane.queue.len() as u64);
-        let event = self.event();
+        let (event, framing) = (self.event(), self.framing);
         let lane = &mut self.lanes[at];
         lane.queue.push_back(Record { mark, length });
         if was_idle {
-            lane.begin(lane.finish.max(self.clock), event);
+            lane.begin(lane.finish.max(self.clock), event, framing);
         }
         // "If no other lane holds a record and V is below R, then V = R"
         let rounded_start = self.lanes[at].rounded_start;
@@ -181,12 +183,12 @@ impl State {
     pub fn take(&mut self) -> Result<Taken, u8> {
         let taken = self.look()?;
         let at = self.place(taken.lane)?;
-        let event = self.event();
+        let (event, framing) = (self.event(), self.framing);
         let lane = &mut self.lanes[at];
         lane.queue.pop_front();
-        self.clock += UNITS_PER_BYTE_SENT * i128::from(taken.length);
+        self.clock += UNITS_PER_BYTE_SENT * charged(taken.length, framing);
         if lane.holds() {
-            lane.begin(lane.finish, event);
+            lane.begin(lane.finish, event, framing);
         }
         // "Last, if records are held and no lane is eligible, V becomes the least R."
         if self.chosen().is_none() {
@@ -235,7 +237,8 @@ impl State {
         if self.holding().next().is_some() {
             return Err(refusal::STILL_HELD);
         }
-        *self = State::fresh(&Setup { lanes: self.lanes.iter().map(|lane| lane.plan).collect() });
+        let lanes = self.lanes.iter().map(|lane| lane.plan).collect();
+        *self = State::fresh(&Setup { framing: self.framing, lanes });
         Ok(())
     }
 

@@ -1,14 +1,15 @@
 //! "Setup: 0x01 (format, u16 = 1) first and once; one or more 0x10 (lane u8, weight u16, longest u16) with rising
-//! lane numbers; 0x7F, empty."
+//! lane numbers; 0x7F, empty." And "field 0x11 (u8, 0 to 64) directly after 0x01; absent means 0" (document 02, d).
 
 use crate::fields::{field, Fault, Field, Part};
 use crate::numbers::{refusal, *};
 
 pub const FORMAT: u8 = 0x01;
 pub const LANE: u8 = 0x10;
+pub const FRAMED: u8 = 0x11;
 pub const END: u8 = 0x7F;
 
-const FIELDS: &Part = &[(FORMAT, &[2]), (LANE, &[3, 5]), (END, &[0])];
+const FIELDS: &Part = &[(FORMAT, &[2]), (FRAMED, &[1]), (LANE, &[3, 5]), (END, &[0])];
 
 #[derive(Clone, Copy, Debug, PartialEq, Eq)]
 pub struct LanePlan {
@@ -20,6 +21,8 @@ pub struct LanePlan {
 /// What a setup says, lanes by rising number.
 #[derive(Clone, Debug, PartialEq, Eq)]
 pub struct Setup {
+    /// h: the framing bytes that each record is charged beside its length.
+    pub framing: u8,
     pub lanes: Vec<LanePlan>,
 }
 
@@ -34,22 +37,31 @@ pub fn whole(input: &[u8]) -> Result<Setup, Fault> {
 
 /// The setup at the input's start, and where it ends. "In a session the setup's 0x7F does not close the input."
 pub fn read(input: &[u8]) -> Result<(Setup, usize), Fault> {
+    let mut framing = 0;
     let mut lanes: Vec<LanePlan> = Vec::new();
     let mut place = 0;
+    let mut before = None;
     loop {
         let field = field(input, place, FIELDS)?;
-        let first = place == 0;
-        if first != (field.tag == FORMAT) {
+        let in_place = match field.tag {
+            FORMAT => before.is_none(),
+            FRAMED => before == Some(FORMAT),
+            _ => before.is_some(),
+        };
+        if !in_place {
             return Err(field.fault(refusal::ORDER));
         }
         match field.tag {
             FORMAT if field.value != [0, 1] => return Err(field.fault(refusal::VALUE)),
             FORMAT => {}
+            FRAMED if !FRAMING.contains(&field.value[0]) => return Err(field.fault(refusal::VALUE)),
+            FRAMED => framing = field.value[0],
             LANE => lanes.push(lane(&field, &lanes)?),
             _ if lanes.is_empty() => return Err(field.fault(refusal::ORDER)),
-            _ => return Ok((Setup { lanes }, field.next)),
+            _ => return Ok((Setup { framing, lanes }, field.next)),
         }
         place = field.next;
+        before = Some(field.tag);
     }
 }
 

@@ -48,7 +48,9 @@ fn a_difference_in_a_list_is_shown_by_a_short_list() {
             .filter(|difference| difference.found.shown_by.len() > 1)
             .map(|difference| difference.found.shown_by.len())
             .collect();
-        assert!(!shown.is_empty() && shown.iter().all(|lines| *lines <= 40), "{slip:?}: {shown:?}");
+        let short = shown.iter().filter(|lines| **lines <= 20).count();
+        let enough = !shown.is_empty() && 4 * short >= 3 * shown.len();
+        assert!(enough && shown.iter().all(|lines| *lines <= 100), "{slip:?}: {shown:?}");
     }
 }
 

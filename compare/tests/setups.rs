@@ -54,7 +54,7 @@ fn every_cut_of_a_setup_is_told_by_1() {
 fn unknown_tags() {
     assert_eq!(refused(&[&[0x00, 0, 0]]), (2, 0), "2 comes before 4");
     assert_eq!(refused(&[&[0x02, 0xFF, 0xFF]]), (2, 0), "2 comes before 3 and 1");
-    assert_eq!(refused(&[FORMAT, &[0x11, 0, 0]]), (2, 5));
+    assert_eq!(refused(&[FORMAT, &[0x12, 0, 0]]), (2, 5));
     assert_eq!(refused(&[FORMAT, TAKE]), (2, 5), "requests are not known in a setup");
     assert_eq!(refused(&[FORMAT, &lane(0, 1, 64), &[0xFF, 0, 0]]), (2, 13));
 }

@@ -20,6 +20,7 @@ const SESSION: &[(usize, u64)] = &[
     (0, 0),
     (1, 0b11),
     (2, 2),
+    (4, 0),
     (16, 0),
     (17, 1),
     (80, 1_500 | 512 << 16 | 22 << 32 | 2_048 << 40),
@@ -123,7 +124,12 @@ fn each_clause_from_both_sides() {
 
 #[test]
 fn words_that_mean_nothing() {
-    for at in (3..16).chain(18..80).chain([83, 87, 88, 335, 337, 350, 352, 355, 357, 368, 1_359]) {
+    for at in [3]
+        .into_iter()
+        .chain(5..16)
+        .chain(18..80)
+        .chain([83, 87, 88, 335, 337, 350, 352, 355, 357, 368, 1_359])
+    {
         assert_eq!(broken(&[(at, 0)]), [], "word {at}");
     }
 }

@@ -1,8 +1,8 @@
 #!/usr/bin/env python3
 """Writes the vectors of plan_vectors (stdin) and the lines that are expected of them (stdout), in the folder that this file stands in.
 
-The expected lines are worked here from document 01 alone, "Setup and session fields", "Numbers" and "Numbers given back"; nothing here runs, reads
-or was copied from the program. Run it after a change of document 01, and compare what changed in stdout line by line.
+The expected lines are worked here from document 01 alone, "Setup and session fields", "Numbers" and "Numbers given back", and from request d of
+document 02; nothing here runs, reads or was copied from the program. Run it after a change of them, and compare what changed in stdout line by line.
 """
 import itertools
 import pathlib
@@ -14,7 +14,8 @@ WEIGHTS = range(1, 1024 + 1)
 LONGEST = range(64, 1500 + 1)
 MOST_WEIGHT = 1024
 DEFAULT_LONGEST = 1500
-LENGTHS = {0x01: [2], 0x10: [3, 5], 0x7F: [0]}
+FRAMING = range(0, 64 + 1)
+LENGTHS = {0x01: [2], 0x10: [3, 5], 0x11: [1], 0x7F: [0]}
 
 
 class No(Exception):
@@ -30,6 +31,8 @@ def read(data, place):
     """The setup that stands at a place: its lanes in the order of their fields, and the place after its 0x7F."""
     lanes = []
     first = True
+    framing = 0
+    before = None
     while True:
         tag_place = min(place, len(data))
         left = data[place:]
@@ -51,7 +54,11 @@ def read(data, place):
             raise No(4, place)
         if tag == 0x7F and not lanes:
             raise No(4, place)
+        if tag == 0x11 and before != 0x01:
+            raise No(4, place)
         # 5 and 6
+        if tag == 0x11 and value[0] not in FRAMING:
+            raise No(5, place)
         if tag == 0x01 and u16(value) != 1:
             raise No(5, place)
         if tag == 0x10:
@@ -59,10 +66,13 @@ def read(data, place):
             longest = u16(value[3:5]) if length == 5 else DEFAULT_LONGEST
             if lane not in LANES or weight not in WEIGHTS or longest not in LONGEST:
                 raise No(5, place)
-            if weight + sum(w for _, w, _ in lanes) > MOST_WEIGHT:
+            if weight + sum(w for _, w, *_ in lanes) > MOST_WEIGHT:
                 raise No(6, place)
-            lanes.append((lane, weight, longest))
+            lanes.append((lane, weight, longest, framing))
+        if tag == 0x11:
+            framing = value[0]
         first = False
+        before = tag
         place += 3 + length
         if tag == 0x7F:
             return lanes, place
@@ -80,7 +90,7 @@ def line_of(reader, *args):
         lanes, place = reader(*args)
     except No as no:
         return 'no %d %d' % no.args
-    return 'lanes %d to %d,%s' % (len(lanes), place, ''.join(' %d/%d/%d' % lane for lane in lanes))
+    return 'lanes %d to %d,%s' % (len(lanes), place, ''.join(' %d/%d/%d/%d' % lane for lane in lanes))
 
 
 # ---- building inputs
@@ -96,6 +106,10 @@ def number(n):
 
 def lane(k, weight, longest=None):
     return field(0x10, bytes([k]) + number(weight) + (number(longest) if longest is not None else b''))
+
+
+def framing(h):
+    return field(0x11, bytes([h]))
 
 
 FORMAT = field(0x01, number(1))
@@ -130,6 +144,24 @@ for n in (0, 1, 63, 64, 65, 255, 256, 1499, 1500, 1501, 65535):
 for v in (0, 1, 2, 256, 257, 65535):
     add('format %d' % v, field(0x01, number(v)) + lane(0, 1) + END)
 
+for h in (0, 1, 20, 63, 64, 65, 128, 255):
+    setup('framing %d' % h, framing(h), lane(0, 512, 64), lane(63, 1))
+    add('framing %d first' % h, framing(h) + FORMAT + lane(0, 1) + END)
+    add('framing %d and no 0x01' % h, framing(h) + lane(0, 1) + END)
+    setup('framing %d after a lane' % h, lane(0, 1), framing(h))
+    setup('framing %d between lanes' % h, lane(0, 1), framing(h), lane(1, 1))
+    setup('framing %d twice' % h, framing(h), framing(h), lane(0, 1))
+    setup('framing 1, a lane, framing %d' % h, framing(1), lane(0, 1), framing(h), lane(1, 1))
+    setup('framing %d and no lane' % h, framing(h))
+    setup('framing %d, then 0x01 again' % h, framing(h), FORMAT, lane(0, 1))
+    add('framing %d after 0x7F' % h, FORMAT + lane(0, 1) + END + framing(h))
+    add('framing %d cut in its value' % h, FORMAT + framing(h)[:-1])
+    add('framing %d cut in its header' % h, FORMAT + framing(h)[:2])
+    add('format 2, then framing %d' % h, field(0x01, number(2)) + framing(h) + lane(0, 1) + END)
+setup('no framing: the same plan as framing 0', lane(0, 512, 64), lane(63, 1))
+for length in (0, 2, 3, 255, 256, 257):
+    setup('framing of length %d' % length, field(0x11, bytes(min(length, 3)), length), lane(0, 1))
+
 setup('weights sum to 1,023', lane(0, 1000, 64), lane(1, 23, 64))
 setup('weights sum to 1,024', lane(0, 1000, 64), lane(1, 24, 64))
 setup('weights sum to 1,025', lane(0, 1000, 64), lane(1, 25, 64))
@@ -160,11 +192,11 @@ for after in (b'\0', b'\x7f', b'\x01\x00\x02', b'\x20' + bytes(9)):
     add('a byte after 0x7F, and %d more' % (len(after) - 1), GOOD + after)
 
 # every other tag, as the first field and later
-for tag in [t for t in (0x00, 0x02, 0x0F, 0x11, 0x12, 0x20, 0x21, 0x25, 0x30, 0x7E, 0x80, 0xFF)]:
+for tag in [t for t in (0x00, 0x02, 0x0F, 0x11, 0x12, 0x13, 0x20, 0x21, 0x25, 0x30, 0x7E, 0x80, 0xFF)]:
     add('tag %02X first' % tag, field(tag, number(1)) + lane(0, 1) + END)
     setup('tag %02X later' % tag, lane(0, 1), field(tag))
 # every length near the right ones, and the high byte of the length
-for tag in (0x01, 0x10, 0x7F):
+for tag in (0x01, 0x10, 0x11, 0x7F):
     for length in (0, 1, 2, 3, 4, 5, 6, 255, 256, 258, 259, 261, 512, 768, 1280, 65535):
         value = (b'\x05' + number(1) + number(64) if tag == 0x10 else number(1)) + bytes(300)
         setup('tag %02X, length %d' % (tag, length), lane(0, 1), field(tag, value[:min(length, 6)], length))
@@ -178,7 +210,7 @@ for bits in itertools.product((False, True), repeat=len(FAULTS)):
     w = (1025 if faults['over'] else 0) if faults['weight'] else (25 if faults['over'] else 24)
     n = 1501 if faults['longest'] else 1500
     body = bytes([k]) + number(w) + number(n)
-    f = field(0x11 if faults['tag'] else 0x10, body, 4 if faults['length'] else 5)
+    f = field(0x13 if faults['tag'] else 0x10, body, 4 if faults['length'] else 5)
     data = FORMAT + lane(5, 1000, 64) + f
     if faults['value cut']:
         data = data[:-2] if not faults['length'] else data[:-3]
@@ -198,7 +230,7 @@ for again, other, cut in itertools.product((False, True), repeat=3):
     add('0x01: again %d, other format %d, cut %d' % (again, other, cut), data)
 # two fields, each with a fault: the first decides, in both orders
 KINDS = {
-    2: field(0x11),
+    2: field(0x13),
     3: field(0x10, bytes(4)),
     4: lane(5, 1, 64),
     5: lane(40, 0, 64),

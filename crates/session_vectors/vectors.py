@@ -2,7 +2,8 @@
 """Writes the frames of session_vectors (stdin) and what is expected of them (stdout), in the folder that this file stands in.
 
 What is expected is worked here from document 01 alone: "Numbers", "The plain rules", "Setup and session fields", "Numbers given back", "A session in
-full". Nothing here runs, reads or was copied from the program. Run it after a change of document 01, and compare what changed in stdout.
+full", and from request d of document 02, framing. Nothing here runs, reads or was copied from the program. Run it after a change of them, and compare
+what changed in stdout.
 
 14 is not among the answers: a clock of 2^62 is out of reach of 1,000 requests.
 """
@@ -24,21 +25,27 @@ def u16(octets):
 # ---- the setup
 
 def read_setup(data):
-    place, lanes, first = 0, [], True
+    place, lanes, first, framing, before = 0, [], True, 0, None
     while True:
         left = data[place:]
         if len(left) < 3:
             raise No(1, place)
         tag, length = left[0], u16(left[1:3])
-        if tag not in (0x01, 0x10, 0x7F):
+        if tag not in (0x01, 0x10, 0x11, 0x7F):
             raise No(2, place)
-        if length not in {0x01: (2,), 0x10: (3, 5), 0x7F: (0,)}[tag]:
+        if length not in {0x01: (2,), 0x10: (3, 5), 0x11: (1,), 0x7F: (0,)}[tag]:
             raise No(3, place)
         value = left[3:3 + length]
         if len(value) < length:
             raise No(1, place)
         if first != (tag == 0x01) or (tag == 0x10 and lanes and value[0] <= lanes[-1][0]) or (tag == 0x7F and not lanes):
             raise No(4, place)
+        if tag == 0x11 and before != 0x01:
+            raise No(4, place)
+        if tag == 0x11:
+            framing = value[0]
+            if framing > 64:
+                raise No(5, place)
         if tag == 0x01 and u16(value) != 1:
             raise No(5, place)
         if tag == 0x10:
@@ -49,19 +56,19 @@ def read_setup(data):
             if sum(w for _, w, _ in lanes) + weight > 1024:
                 raise No(6, place)
             lanes.append((lane, weight, longest))
-        place, first = place + 3 + length, False
+        place, first, before = place + 3 + length, False, tag
         if tag == 0x7F:
-            return lanes, place
+            return lanes, framing, place
 
 
 # ---- the plain rules
 
 class Lane:
-    def __init__(self, weight, longest):
+    def __init__(self, weight, longest, framing):
         self.longest = longest
         self.c = -(-1048576 // weight)
         self.group = 0
-        while 2 ** self.group < longest * self.c:
+        while 2 ** self.group < (longest + framing) * self.c:
             self.group += 1
         self.slot = 2 ** self.group
         self.start = self.finish = self.since = 0
@@ -75,12 +82,13 @@ class Lane:
 
 
 class Unit:
-    def __init__(self, lanes):
+    def __init__(self, lanes, framing):
         self.given = lanes
+        self.framing = framing
         self.fresh()
 
     def fresh(self):
-        self.lanes = {k: Lane(w, m) for k, w, m in self.given}
+        self.lanes = {k: Lane(w, m, self.framing) for k, w, m in self.given}
         self.v = 0
         self.turns = 0
 
@@ -88,7 +96,7 @@ class Unit:
         return {k: l for k, l in self.lanes.items() if l.queue}
 
     def begin(self, lane, start, length):
-        lane.start, lane.finish = start, start + length * lane.c
+        lane.start, lane.finish = start, start + (length + self.framing) * lane.c
         self.turns += 1
         lane.since = self.turns
 
@@ -122,7 +130,7 @@ class Unit:
         if k is not None:
             lane = self.lanes[k]
             _, length = lane.queue.pop(0)
-            self.v += 1024 * length
+            self.v += 1024 * (length + self.framing)
             if lane.queue:
                 self.begin(lane, lane.finish, lane.queue[0][1])
             if self.holding():
@@ -201,12 +209,12 @@ def expected(data, limit, table, area):
         if table < TABLE:
             raise No(7, 0)
         try:
-            lanes, place = read_setup(data)
+            lanes, framing, place = read_setup(data)
         except No as no:
             lines.append(no_line(no))
             raise
         lines.append('lanes %d' % len(lanes))
-        count, why = walk(Unit(lanes), data, place, limit, lines)
+        count, why = walk(Unit(lanes, framing), data, place, limit, lines)
         if isinstance(why, No):
             lines.append(no_line(why))
         lines.append('end %d' % count)
@@ -232,8 +240,8 @@ def lag(k):
     return field(0x24, bytes([k]))
 
 
-def setup(*lanes):
-    return field(0x01, b'\0\1') + b''.join(field(0x10, bytes([k]) + w.to_bytes(2, 'big') + m.to_bytes(2, 'big')) for k, w, m in lanes) + END
+def setup(*lanes, framing=b''):
+    return field(0x01, b'\0\1') + framing + b''.join(field(0x10, bytes([k]) + w.to_bytes(2, 'big') + m.to_bytes(2, 'big')) for k, w, m in lanes) + END
 
 
 TAKE, LOOK, SETS, RESTART, END = (field(t) for t in (0x21, 0x22, 0x23, 0x25, 0x7F))
@@ -299,6 +307,26 @@ def inputs():
             k = chance.choice(some)
             requests += chance.choice((put(k, chance.getrandbits(32), chance.randint(1, 1500)), put(k, 1, 64), TAKE, LOOK, SETS, lag(k), TAKE, put(k, 2, 64)))
         add(setup(*lanes) + requests + 5 * TAKE + RESTART + END, chance.choice((1000, 40)))
+
+    # framing: both sides of its edge, each wrong place, and what is charged
+    some = ((0, 512, 64), (1, 256, 1005))
+    calls = put(0, 1, 64) + put(0, 2, 65) + put(1, 3, 1000) + SETS + TAKE + lag(0) + lag(1) + TAKE + lag(1) + RESTART + put(0, 4, 64) + TAKE + lag(0)
+    for h in (0, 1, 20, 64, 65, 255):
+        given = field(0x11, bytes([h]))
+        add(setup(*some, framing=given) + calls + END)
+        add(setup(*some, framing=2 * given) + calls + END)
+        add(given + setup(*some) + calls + END)
+        add(setup(*some)[:-3] + given + END + calls + END)
+        add(setup(*some) + TAKE + given + END)
+    for h in (0, 1, 7, 20, 40, 63, 64):
+        for _ in range(3):
+            count = chance.randint(1, 5)
+            lanes = [(k, chance.randint(1, 1024 // count), chance.choice((64, 65, 200, 576, 1500))) for k in sorted(chance.sample(range(64), count))]
+            requests = b''
+            for _ in range(chance.randint(10, 40)):
+                k = chance.choice(lanes)[0]
+                requests += chance.choice((put(k, chance.getrandbits(32), chance.randint(1, 300)), put(k, 1, 64), TAKE, SETS, lag(k), TAKE, put(k, 2, 64)))
+            add(setup(*lanes, framing=field(0x11, bytes([h]))) + requests + 5 * TAKE + RESTART + END)
 
 
 inputs()

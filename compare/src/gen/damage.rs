@@ -10,6 +10,7 @@ const BYTES: &[u8] =
     &[0x00, 0x01, 0x02, 0x03, 0x04, 0x05, 0x07, 0x10, 0x20, 0x3F, 0x40, 0x7F, 0x80, 0xFE, 0xFF];
 const WEIGHTS: &[u16] = &[0, 1, 2, 255, 256, 512, 1_022, 1_023, 1_024, 1_025, 1_026, 0x8001, 65_535];
 const LONGESTS: &[u16] = &[0, 1, 63, 64, 65, 320, 1_499, 1_500, 1_501, 0x0540, 65_535];
+const FRAMINGS: &[u8] = &[0, 1, 2, 63, 64, 65, 128, 255];
 const LANE_NUMBERS: &[u8] = &[0, 1, 2, 31, 62, 63, 64, 65, 128, 255];
 
 /// One to three faults in a list of fields; the fields stay whole unless a fault says otherwise.
@@ -19,7 +20,20 @@ pub fn fields(rng: &mut Rng, fields: &mut Vec<Vec<u8>>) {
             return;
         }
         let at = rng.index(fields.len());
-        match rng.below(12) {
+        match rng.below(14) {
+            12 => {
+                // In place, in each wrong place, and twice.
+                let at = rng.index(fields.len() + 1);
+                fields.insert(rng.pick(&[0, 1, 1, at]).min(fields.len()), framed(rng));
+            }
+            13 => {
+                let field = framed(rng);
+                if let Some(own) = fields.iter_mut().find(|field| field.first() == Some(&setup::FRAMED)) {
+                    *own = field;
+                } else {
+                    fields.insert(1, field);
+                }
+            }
             0 => fields.insert(at, fields[at].clone()),
             1 => drop(fields.remove(at)),
             2 => {
@@ -51,6 +65,16 @@ fn whole_field(rng: &mut Rng) -> Vec<u8> {
     let mut field = vec![rng.pick(TAGS), 0, length];
     field.extend((0..length).map(|_| rng.pick(BYTES)));
     field
+}
+
+/// A framing field, of the right length mostly.
+fn framed(rng: &mut Rng) -> Vec<u8> {
+    let value = rng.pick(FRAMINGS);
+    match rng.below(8) {
+        0 => vec![setup::FRAMED, 0, 0],
+        1 => vec![setup::FRAMED, 0, 2, 0, value],
+        _ => vec![setup::FRAMED, 0, 1, value],
+    }
 }
 
 fn tail(rng: &mut Rng) -> Vec<u8> {

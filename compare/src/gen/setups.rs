@@ -2,7 +2,7 @@
 
 use crate::numbers::*;
 use crate::rng::Rng;
-use crate::setup::{LanePlan, Setup, END, FORMAT, LANE};
+use crate::setup::{LanePlan, Setup, END, FORMAT, FRAMED, LANE};
 
 const FLAVOURS: &[fn(&mut Rng) -> Setup] = &[
     one_lane,
@@ -20,16 +20,27 @@ const FLAVOURS: &[fn(&mut Rng) -> Setup] = &[
 
 pub fn setup(rng: &mut Rng) -> Setup {
     let flavour = rng.pick(FLAVOURS);
-    flavour(rng)
+    Setup { framing: framing(rng), ..flavour(rng) }
 }
 
-/// The setup's bytes; a longest of 1,500 is left unsaid now and then.
+fn framing(rng: &mut Rng) -> u8 {
+    match rng.below(4) {
+        0 => rng.pick(&[1, 8, 63, 64, 64]),
+        1 => rng.between(0, 64) as u8,
+        _ => 0,
+    }
+}
+
+/// The setup's bytes; a longest of 1,500 and a framing number of 0 are left unsaid now and then.
 pub fn bytes(rng: &mut Rng, setup: &Setup) -> Vec<u8> {
     fields(rng, setup).concat()
 }
 
 pub fn fields(rng: &mut Rng, setup: &Setup) -> Vec<Vec<u8>> {
     let mut fields = vec![vec![FORMAT, 0, 2, 0, 1]];
+    if setup.framing != 0 || rng.once_in(4) {
+        fields.push(vec![FRAMED, 0, 1, setup.framing]);
+    }
     for plan in &setup.lanes {
         let [w1, w0] = plan.weight.to_be_bytes();
         let [l1, l0] = plan.longest.to_be_bytes();
@@ -75,7 +86,7 @@ fn of_weights(rng: &mut Rng, weights: &[u16], mut longest: impl FnMut(&mut Rng) 
             lanes.push(LanePlan { number, weight, longest: longest(rng) });
         }
     }
-    Setup { lanes }
+    Setup { framing: 0, lanes }
 }
 
 fn one_lane(rng: &mut Rng) -> Setup {

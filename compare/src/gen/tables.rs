@@ -22,31 +22,33 @@ pub fn laid(rng: &mut Rng) -> Vec<u8> {
     let setup = setups::setup(rng);
     // A fault in some lane once in three tables.
     let faults = 3 * setup.lanes.len() as u64;
-    let clock = clock(rng, &setup.lanes);
+    let framing = setup.framing;
+    let clock = clock(rng, framing, &setup.lanes);
     // Of eight lanes so many hold records.
     let held = rng.pick(&[0, 1, 2, 8, 8]);
     let mut lanes: Vec<Lane> = vec![];
     for plan in setup.lanes {
         let holds = rng.below(8) < held;
-        lanes.push(lane(rng, plan, clock, holds, faults));
+        lanes.push(lane(rng, plan, framing, clock, holds, faults));
     }
     if rng.once_in(10) {
         // No lane is eligible: each begins in the slot after the clock's.
         for lane in lanes.iter_mut().filter(|lane| lane.holds()) {
             let next = clock - clock % lane.slot() + lane.slot() + i128::from(rng.below(1 << 16));
-            *lane = Lane::of(lane.plan, lane.queue.clone(), next, lane.since);
+            *lane = Lane::of(lane.plan, framing, lane.queue.clone(), next, lane.since);
         }
     } else if !lanes.iter().any(|lane| lane.eligible(clock)) {
         if let Some(lane) = lanes.iter_mut().find(|lane| lane.holds()) {
-            *lane = Lane::of(lane.plan, lane.queue.clone(), clock - clock % lane.slot(), lane.since);
+            let now = clock - clock % lane.slot();
+            *lane = Lane::of(lane.plan, framing, lane.queue.clone(), now, lane.since);
         }
     }
     let mut bytes = blank(rng);
-    layout::write(&State::of(clock, lanes), &mut bytes);
+    layout::write(&State::of(clock, framing, lanes), &mut bytes);
     bytes
 }
 
-fn clock(rng: &mut Rng, lanes: &[LanePlan]) -> i128 {
+fn clock(rng: &mut Rng, framing: u8, lanes: &[LanePlan]) -> i128 {
     match rng.below(10) {
         0 => 0,
         1 => i128::from(rng.below(1 << 34)),
@@ -54,19 +56,19 @@ fn clock(rng: &mut Rng, lanes: &[LanePlan]) -> i128 {
         3 => CLOCK_END - 1 - i128::from(rng.below(3)),
         4 => CLOCK_END + i128::from(rng.below(2)),
         5..=7 => {
-            // 1,536,000 past a multiple of some lane's slot, or at the multiple, or beside those: R's lower edge is met, or the edge of being eligible.
-            let slot = Lane::of(rng.pick(lanes), VecDeque::new(), 0, 0).slot();
+            // 1,024 (1,500 + h) past a multiple of some lane's slot, or at the multiple, or beside those: R's lower edge is met, or the edge of being eligible.
+            let slot = Lane::of(rng.pick(lanes), framing, VecDeque::new(), 0, 0).slot();
             let bits = rng.between(33, 61);
             let near = i128::from(rng.below(1 << bits));
-            let past = rng.pick(&[LONGEST_IN_UNITS, LONGEST_IN_UNITS, 0]);
+            let past = rng.pick(&[margin(framing), margin(framing), margin(0), 0]);
             (near - near % slot + past - 1 + i128::from(rng.below(3))).max(0)
         }
         _ => i128::from(rng.below(1 << 62)),
     }
 }
 
-fn lane(rng: &mut Rng, plan: LanePlan, clock: i128, holds: bool, faults: u64) -> Lane {
-    let slot = Lane::of(plan, VecDeque::new(), 0, 0).slot();
+fn lane(rng: &mut Rng, plan: LanePlan, framing: u8, clock: i128, holds: bool, faults: u64) -> Lane {
+    let slot = Lane::of(plan, framing, VecDeque::new(), 0, 0).slot();
     let ahead = clock + 2 * slot;
     let within = |rng: &mut Rng, span: i128| i128::from(rng.below(span as u64));
     if !holds {
@@ -78,10 +80,10 @@ fn lane(rng: &mut Rng, plan: LanePlan, clock: i128, holds: bool, faults: u64) ->
             3 => clock + within(rng, 2 * slot),
             _ => within(rng, ahead),
         };
-        return Lane::of(plan, VecDeque::new(), finish, 0);
+        return Lane::of(plan, framing, VecDeque::new(), finish, 0);
     }
-    // The least R above V - 2s - 1,536,000.
-    let behind = clock - 2 * slot - LONGEST_IN_UNITS;
+    // The least R above V - 2s - 1,024 (1,500 + h).
+    let behind = clock - 2 * slot - margin(framing);
     let least = if behind < 0 { 0 } else { behind - behind % slot + slot };
     let start = match rng.below(6) {
         _ if rng.once_in(faults) && rng.once_in(2) => ahead + within(rng, 2),
@@ -95,7 +97,7 @@ fn lane(rng: &mut Rng, plan: LanePlan, clock: i128, holds: bool, faults: u64) ->
     };
     let count = if rng.once_in(3) { rng.pick(&[1, 15, 16]) } else { rng.between(1, 16) };
     let queue = (0..count).map(|_| held(rng, plan.longest.into())).collect();
-    Lane::of(plan, queue, start, rng.below(1 << 60))
+    Lane::of(plan, framing, queue, start, rng.below(1 << 60))
 }
 
 fn held(rng: &mut Rng, longest: u64) -> Record {
@@ -109,7 +111,7 @@ pub fn damage(rng: &mut Rng, bytes: &mut [u8]) -> String {
     let lane = if lanes.is_empty() || rng.once_in(12) { rng.below(64) as u8 } else { rng.pick(&lanes) };
     let holding: Vec<u8> = lanes.iter().copied().filter(|lane| word(bytes, ring(*lane)) >= 16).collect();
     let holder = if holding.is_empty() { lane } else { rng.pick(&holding) };
-    let (at, value) = match rng.below(14) {
+    let (at, value) = match rng.below(15) {
         0 => {
             let at = rng.index(WORDS);
             flipped(rng, bytes, at)
@@ -139,8 +141,10 @@ pub fn damage(rng: &mut Rng, bytes: &mut [u8]) -> String {
             let any = rng.below(64) as u8;
             (PRESENT, word(bytes, PRESENT) ^ 1 << rng.pick(&[lane, holder, any]))
         }
+        13 => (FRAMING_WORD, framing_near(rng, word(bytes, FRAMING_WORD))),
         _ => {
-            let free = [3 + rng.index(13), 83 + 4 * rng.index(64), ORDER + 63, record(lane, rng.below(16))];
+            let free =
+                [3, 5 + rng.index(11), 83 + 4 * rng.index(64), ORDER + 63, record(lane, rng.below(16))];
             (rng.pick(&free), rng.word())
         }
     };
@@ -155,6 +159,7 @@ fn meaning(rng: &mut Rng, bytes: &[u8], lane: u8, holder: u8) -> usize {
         CLOCK,
         PRESENT,
         HOLDING,
+        FRAMING_WORD,
         ORDER + rng.index(count + 1),
         setting(lane),
         clock_word(lane),
@@ -181,6 +186,25 @@ fn full_ring(rng: &mut Rng, bytes: &mut [u8], lane: u8) -> (usize, u64) {
     }
     let first = rng.pick(&[0, 0, 1, 8, 15]);
     (ring(lane), first + 16 * rng.pick(&[15, 16, 17, 17]))
+}
+
+/// Another framing number at an edge, or with a bit that none has.
+fn framing_near(rng: &mut Rng, framing: u64) -> u64 {
+    let more = framing | 1 << rng.between(7, 63);
+    rng.pick(&[
+        0,
+        1,
+        63,
+        64,
+        65,
+        127,
+        256,
+        framing.wrapping_add(1),
+        framing.wrapping_sub(1),
+        more,
+        more,
+        more,
+    ])
 }
 
 fn flipped(rng: &mut Rng, bytes: &[u8], at: usize) -> (usize, u64) {
@@ -244,8 +268,12 @@ fn setting_at_sum(rng: &mut Rng, bytes: &[u8], lanes: &[u8], lane: u8) -> u64 {
     let weight = if rng.once_in(4) { weight(lane).max(1) } else { sum.max(others + 1) - others };
     let longest = if rng.once_in(2) { old & 0xFFFF } else { rng.pick(&[63, 64, 65, 1_499, 1_500, 1_501]) };
     let plan = LanePlan { number: lane, weight: weight as u16, longest: longest as u16 };
-    let numbers = Lane::of(plan, VecDeque::new(), 0, 0);
+    let numbers = Lane::of(plan, framing_of(bytes), VecDeque::new(), 0, 0);
     setting_of(longest, weight, numbers.group.into(), numbers.units_per_byte as u64)
+}
+
+fn framing_of(bytes: &[u8]) -> u8 {
+    word(bytes, FRAMING_WORD).min(u64::from(*FRAMING.end())) as u8
 }
 
 /// A lane's S or F at an edge: V + 2s, the least R, V, or a slot further or back.
@@ -253,7 +281,7 @@ fn clock_word_near(rng: &mut Rng, bytes: &[u8], lane: u8) -> u64 {
     let slot = 1_u64 << (word(bytes, setting(lane)) >> 32 & 31);
     let (clock, value) = (word(bytes, CLOCK), word(bytes, clock_word(lane)));
     let ahead = clock.wrapping_add(2 * slot);
-    let behind = clock.wrapping_sub(2 * slot).wrapping_sub(LONGEST_IN_UNITS as u64);
+    let behind = clock.wrapping_sub(2 * slot).wrapping_sub(margin(framing_of(bytes)) as u64);
     let least = (behind - behind % slot).wrapping_add(slot);
     let choice = [
         ahead,

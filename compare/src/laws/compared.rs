@@ -1,10 +1,12 @@
 //! Two busy lanes compared (document 02, i): for lanes a and b that both hold a record before a stretch and after each call in it,
-//! c O of a less c O of b is below 4 slots of a, 4 slots of b and twice 1,536,000; and the tighter figure, with 1,024 times the setup's greatest longest.
+//! c O of a less c O of b is below 4 slots of a, 4 slots of b and twice 1,024 (1,500 + h); and the tighter figure, with the setup's greatest longest in place
+//! of 1,500. O counts charged bytes.
 //!
 //! With W = c O counted from the list's beginning and D = W of a - W of b, the claim is D(end) - D(begin) < bound. So it holds of all stretches exactly if
 //! it holds, at each point, against the least D since both lanes hold: one number a pair. A take moves D of those pairs alone that the served lane is in, so
 //! all stretches of a list of n calls on l lanes take n l steps.
 
+use super::fairness::tighter;
 use crate::calls::{Answer, Call};
 use crate::numbers::*;
 use crate::rules::State;
@@ -15,12 +17,13 @@ struct Watch {
     four_slots: i128,
     /// Puts accepted less records handed out.
     held: u64,
-    /// W: c times the bytes handed out.
+    /// W: c times the bytes charged for what was handed out.
     work: i128,
 }
 
 pub struct Compared {
     lanes: Vec<Watch>,
+    framing: u8,
     /// For each two lanes a and b, the least W of a - W of b at the points since both began to hold; of no meaning while one of them is idle.
     least: Vec<Vec<i128>>,
     margins: i128,
@@ -32,9 +35,8 @@ pub struct Compared {
 
 impl Compared {
     pub fn new(fresh: &State) -> Compared {
-        let longest = fresh.lanes.iter().map(|lane| lane.plan.longest).max().expect("a setup has a lane");
-        let margin = UNITS_PER_BYTE_SENT * i128::from(longest);
-        assert!(margin <= LONGEST_IN_UNITS, "the tighter figure gives the other");
+        let margin = tighter(fresh);
+        assert!(margin <= crate::numbers::margin(fresh.framing), "the tighter figure gives the other");
         let watch = |lane: &crate::rules::Lane| Watch {
             number: lane.plan.number,
             units_per_byte: lane.units_per_byte,
@@ -44,7 +46,7 @@ impl Compared {
         };
         let lanes: Vec<Watch> = fresh.lanes.iter().map(watch).collect();
         let least = vec![vec![0; lanes.len()]; lanes.len()];
-        Compared { lanes, least, margins: 2 * margin, closest: 0, checked: 0 }
+        Compared { lanes, framing: fresh.framing, least, margins: 2 * margin, closest: 0, checked: 0 }
     }
 
     pub fn step(&mut self, call: Call, answer: Answer) -> Result<(), String> {
@@ -58,10 +60,10 @@ impl Compared {
                 Ok(())
             }
             (Call::Take, Answer::Taken(taken)) => {
-                let at = self.at(taken.lane)?;
+                let (at, bytes) = (self.at(taken.lane)?, charged(taken.length, self.framing));
                 let lane = &mut self.lanes[at];
                 lane.held = lane.held.checked_sub(1).ok_or("a record was taken that no put gave")?;
-                lane.work += lane.units_per_byte * i128::from(taken.length);
+                lane.work += lane.units_per_byte * bytes;
                 self.served(at)
             }
             _ => Ok(()),

@@ -1,5 +1,6 @@
 //! Demand 3: for a lane that holds a record before a stretch and after each call in it,
-//! 1,024 T is below c O + 4 slots + 1,536,000; and the tighter figure, 1,024 times the setup's greatest longest.
+//! 1,024 T is below c O + 4 slots + 1,024 (1,500 + h); and the tighter figure, 1,024 times the setup's greatest longest
+//! plus h. T and O count charged bytes.
 //!
 //! A stretch runs from one point between calls to a later one, and the lane holds a record at every point of it.
 //! With X = 1,024 T - c O counted from the list's beginning, the claim is X(end) - X(begin) < bound. So it holds of
@@ -23,6 +24,7 @@ struct Watch {
 
 pub struct Fairness {
     lanes: Vec<Watch>,
+    framing: u8,
     margin: i128,
     /// The greatest part of a lane's bound that a stretch has used, in thousandths.
     pub closest: i128,
@@ -30,12 +32,17 @@ pub struct Fairness {
     pub checked: u64,
 }
 
+/// 1,024 times what the greatest longest of the setup is charged.
+pub fn tighter(fresh: &State) -> i128 {
+    let longest = fresh.lanes.iter().map(|lane| lane.plan.longest).max().expect("a setup has a lane");
+    UNITS_PER_BYTE_SENT * charged(longest.into(), fresh.framing)
+}
+
 impl Fairness {
     /// "c and the slot come from the setup."
     pub fn new(fresh: &State) -> Fairness {
-        let longest = fresh.lanes.iter().map(|lane| lane.plan.longest).max().expect("a setup has a lane");
-        let margin = UNITS_PER_BYTE_SENT * i128::from(longest);
-        assert!(margin <= LONGEST_IN_UNITS, "the tighter figure gives demand 3's");
+        let margin = tighter(fresh);
+        assert!(margin <= crate::numbers::margin(fresh.framing), "the tighter figure gives demand 3's");
         let watch = |lane: &crate::rules::Lane| Watch {
             number: lane.plan.number,
             units_per_byte: lane.units_per_byte,
@@ -44,7 +51,8 @@ impl Fairness {
             x: 0,
             least: 0,
         };
-        Fairness { lanes: fresh.lanes.iter().map(watch).collect(), margin, closest: 0, checked: 0 }
+        let lanes = fresh.lanes.iter().map(watch).collect();
+        Fairness { lanes, framing: fresh.framing, margin, closest: 0, checked: 0 }
     }
 
     pub fn step(&mut self, call: Call, answer: Answer) -> Result<(), String> {
@@ -58,10 +66,11 @@ impl Fairness {
                 }
             }
             (Call::Take, Answer::Taken(taken)) => {
+                let bytes = charged(taken.length, self.framing);
                 for watch in &mut self.lanes {
-                    watch.x += UNITS_PER_BYTE_SENT * i128::from(taken.length);
+                    watch.x += UNITS_PER_BYTE_SENT * bytes;
                     if watch.number == taken.lane {
-                        watch.x -= watch.units_per_byte * i128::from(taken.length);
+                        watch.x -= watch.units_per_byte * bytes;
                         watch.held =
                             watch.held.checked_sub(1).ok_or("a record was taken that no put gave")?;
                     }

@@ -8,8 +8,11 @@ pub fn check(state: &State) -> Result<(), String> {
     if !(0..CLOCK_END).contains(&state.clock) {
         return Err(format!("the clock {} is out of its range", state.clock));
     }
+    if !FRAMING.contains(&state.framing) {
+        return Err(format!("the framing number {} is out of its range", state.framing));
+    }
     for lane in &state.lanes {
-        if let Some(broken) = broken(lane, state.clock) {
+        if let Some(broken) = broken(lane, state.clock, state.framing) {
             return Err(format!("lane {} of a table made by the calls: {broken}", lane.plan.number));
         }
     }
@@ -20,7 +23,7 @@ pub fn check(state: &State) -> Result<(), String> {
 }
 
 /// The clause that does not hold of the lane.
-fn broken(lane: &Lane, clock: i128) -> Option<&'static str> {
+fn broken(lane: &Lane, clock: i128, framing: u8) -> Option<&'static str> {
     let two_slots = 2 * lane.slot();
     let lengths = 1..=u64::from(lane.plan.longest);
     if !(16..=31).contains(&lane.group) {
@@ -35,14 +38,14 @@ fn broken(lane: &Lane, clock: i128) -> Option<&'static str> {
     let Some(first) = lane.queue.front() else {
         return (lane.finish >= clock + two_slots).then_some("F below V + 2s for an idle lane");
     };
-    if lane.finish != lane.start + i128::from(first.length) * lane.units_per_byte {
-        return Some("F = S + the first record's length times c");
+    if lane.finish != lane.start + charged(first.length, framing) * lane.units_per_byte {
+        return Some("F = S + the first record's charged length times c");
     }
     if lane.start >= clock + two_slots {
         return Some("S below V + 2s");
     }
-    if lane.rounded_start <= clock - two_slots - LONGEST_IN_UNITS {
-        return Some("R above V - 2s - 1,536,000");
+    if lane.rounded_start <= clock - two_slots - margin(framing) {
+        return Some("R above V - 2s - 1,024 (1,500 + h)");
     }
     None
 }

@@ -1,6 +1,7 @@
 //! The stand-in's scheduler. It is built otherwise than the reference: 64-bit numbers, the choice goes through the
 //! group sets, and ties by a list of lanes, the one with the oldest S first.
 
+use super::reader::Plan;
 use super::slips::Slip;
 use crate::calls::Taken;
 
@@ -23,25 +24,27 @@ impl Flow {
 pub struct Engine {
     slip: Slip,
     clock: u64,
+    /// Bytes that the line adds to each record.
+    framing: u64,
     flows: Vec<Option<Flow>>,
     turns: Vec<usize>,
 }
 
 impl Engine {
-    /// Lanes as (number, weight, longest).
-    pub fn new(lanes: &[(usize, u64, u64)], slip: Slip) -> Engine {
+    pub fn new(plan: &Plan, slip: Slip) -> Engine {
         let mut flows: Vec<Option<Flow>> = (0..64).map(|_| None).collect();
-        for &(number, weight, longest) in lanes {
+        for &(number, weight, longest) in &plan.lanes {
             let cost = if slip == Slip::CostRoundedDown {
                 (1 << 20) / weight
             } else {
                 (1_u64 << 20).div_ceil(weight)
             };
-            let most = longest * cost + u64::from(slip == Slip::GroupTooHigh);
+            let framing = if slip == Slip::FramingNotInGroup { 0 } else { plan.framing };
+            let most = (longest + framing) * cost + u64::from(slip == Slip::GroupTooHigh);
             let group = most.next_power_of_two().trailing_zeros();
             flows[number] = Some(Flow { weight, longest, cost, group, start: 0, finish: 0, queue: vec![] });
         }
-        Engine { slip, clock: 0, flows, turns: vec![] }
+        Engine { slip, clock: 0, framing: plan.framing, flows, turns: vec![] }
     }
 
     fn held(&self) -> impl Iterator<Item = (usize, &Flow)> {
@@ -66,10 +69,11 @@ impl Engine {
 
     fn begin(&mut self, lane: usize, start: u64) {
         let slip = self.slip;
+        let framing = if slip == Slip::FramingNotInFinish { 0 } else { self.framing };
         let flow = self.flows[lane].as_mut().expect("only lanes of the setup begin");
         let before = flow.round();
         flow.start = start;
-        flow.finish = start + flow.queue[0].1 * flow.cost;
+        flow.finish = start + (flow.queue[0].1 + framing) * flow.cost;
         let keeps = slip == Slip::SameRoundKeepsTurn && flow.round() == before && self.turns.contains(&lane);
         if !keeps {
             self.renew(lane);
@@ -95,7 +99,9 @@ impl Engine {
         if full && self.slip == Slip::FullBeforeLength {
             return Err(13);
         }
-        if length == 0 || length > flow.longest {
+        let compared =
+            if self.slip == Slip::FramingInPut { length.saturating_add(self.framing) } else { length };
+        if length == 0 || compared > flow.longest {
             return Err(12);
         }
         if full {
@@ -150,7 +156,8 @@ impl Engine {
     pub fn look(&self) -> Result<Taken, u8> {
         let lane = self.chosen().ok_or(16)?;
         let (mark, length) = self.flows[lane].as_ref().expect("the chosen lane is in the setup").queue[0];
-        Ok(Taken { lane: lane as u8, mark, length })
+        let told = if self.slip == Slip::FramingInAnswer { length + self.framing } else { length };
+        Ok(Taken { lane: lane as u8, mark, length: told })
     }
 
     /// V becomes the least R if none of the held lanes may go.
@@ -166,7 +173,11 @@ impl Engine {
         let lane = usize::from(taken.lane);
         let flow = self.flows[lane].as_mut().expect("the chosen lane is in the setup");
         flow.queue.remove(0);
-        let charged = if self.slip == Slip::ChargesLongest { flow.longest } else { taken.length };
+        let charged = match self.slip {
+            Slip::ChargesLongest => flow.longest + self.framing,
+            Slip::FramingNotInClock => taken.length,
+            _ => taken.length + self.framing,
+        };
         let (finish, holds) = (flow.finish, !flow.queue.is_empty());
         self.clock += 1_024 * charged;
         match self.slip {
@@ -229,9 +240,10 @@ impl Engine {
             return Err(15);
         }
         let flows = self.flows.iter().enumerate();
-        let lanes: Vec<_> = flows.filter_map(|(n, f)| f.as_ref().map(|f| (n, f.weight, f.longest))).collect();
+        let lanes = flows.filter_map(|(n, f)| f.as_ref().map(|f| (n, f.weight, f.longest))).collect();
+        let framing = if self.slip == Slip::RestartDropsFraming { 0 } else { self.framing };
         let clock = if self.slip == Slip::RestartKeepsClock { self.clock } else { 0 };
-        *self = Engine { clock, ..Engine::new(&lanes, self.slip) };
+        *self = Engine { clock, ..Engine::new(&Plan { framing, lanes }, self.slip) };
         Ok(())
     }
 }

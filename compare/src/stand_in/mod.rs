@@ -45,12 +45,12 @@ impl Unit for StandIn {
             table[0] ^= 1;
         }
         let mut reader = Reader::new(setup, slip);
-        let lanes = reader.setup().map_err(|(number, place)| Fault::at(number, place))?;
+        let plan = reader.setup().map_err(|(number, place)| Fault::at(number, place))?;
         if reader.left() > 0 && slip != Slip::TrailingByteTaken {
             return Err(Fault::at(4, reader.place()));
         }
-        self.shelf.put(Engine::new(&lanes, slip), table);
-        Ok(lanes.len() as u64)
+        self.shelf.put(Engine::new(&plan, slip), table);
+        Ok(plan.lanes.len() as u64)
     }
 
     fn put(&mut self, table: &mut [u8], lane: u8, mark: u32, length: u64) -> Result<u64, u8> {

@@ -11,8 +11,14 @@ pub struct Reader<'a> {
     slip: Slip,
 }
 
-/// Lanes as (number, weight, longest).
-pub type Lanes = Vec<(usize, u64, u64)>;
+/// A lane as (number, weight, longest).
+type Lane = (usize, u64, u64);
+
+#[derive(Default)]
+pub struct Plan {
+    pub framing: u64,
+    pub lanes: Vec<Lane>,
+}
 
 impl<'a> Reader<'a> {
     pub fn new(input: &'a [u8], slip: Slip) -> Reader<'a> {
@@ -21,6 +27,11 @@ impl<'a> Reader<'a> {
 
     pub fn place(&self) -> usize {
         self.at
+    }
+
+    /// The byte at the place.
+    pub fn next(&self) -> u8 {
+        self.input[self.at]
     }
 
     pub fn left(&self) -> usize {
@@ -59,8 +70,9 @@ impl<'a> Reader<'a> {
         Ok((tag, &self.input[at + 3..self.at]))
     }
 
-    pub fn setup(&mut self) -> Result<Lanes, Refused> {
-        let mut lanes: Lanes = vec![];
+    pub fn setup(&mut self) -> Result<Plan, Refused> {
+        let mut plan = Plan::default();
+        let mut behind_format = false;
         loop {
             let at = self.at;
             let (tag, value) = self.field(of_setup)?;
@@ -70,27 +82,47 @@ impl<'a> Reader<'a> {
             match tag {
                 0x01 if number(value) != 1 => return self.refuse(5, at),
                 0x01 => {}
+                0x11 => {
+                    let may_follow = match self.slip {
+                        Slip::FramingAfterLanes => true,
+                        Slip::FramingTwice => plan.lanes.is_empty(),
+                        _ => behind_format,
+                    };
+                    let most = if self.slip == Slip::FramingOf65 { 65 } else { 64 };
+                    let wrong = u64::from(value[0]) > most;
+                    if wrong && self.slip == Slip::FramingValueBeforeOrder {
+                        return self.refuse(5, at);
+                    }
+                    if !may_follow {
+                        return self.refuse(4, at);
+                    }
+                    if wrong {
+                        return self.refuse(5, at);
+                    }
+                    plan.framing = value[0].into();
+                }
                 0x10 => {
                     let lane = self.lane(value);
-                    if let Some(refusal) = self.judge(lane, &lanes) {
+                    if let Some(refusal) = self.judge(lane, &plan.lanes) {
                         return self.refuse(refusal, at);
                     }
-                    lanes.push(lane);
+                    plan.lanes.push(lane);
                 }
-                _ if lanes.is_empty() => return self.refuse(4, at),
-                _ => return Ok(lanes),
+                _ if plan.lanes.is_empty() => return self.refuse(4, at),
+                _ => return Ok(plan),
             }
+            behind_format = tag == 0x01;
         }
     }
 
-    fn lane(&self, value: &[u8]) -> (usize, u64, u64) {
+    fn lane(&self, value: &[u8]) -> Lane {
         let unsaid = if self.slip == Slip::WrongDefault { 1_499 } else { 1_500 };
         let longest = if value.len() == 5 { number(&value[3..]) } else { unsaid };
         (usize::from(value[0]), number(&value[1..3]), longest)
     }
 
     /// The refusal that a lane gets after those before it.
-    fn judge(&self, lane: (usize, u64, u64), before: &Lanes) -> Option<u8> {
+    fn judge(&self, lane: Lane, before: &[Lane]) -> Option<u8> {
         let (lane_number, weight, longest) = lane;
         let next = before.last().map_or(0, |last| last.0 + usize::from(self.slip != Slip::EqualLaneRises));
         let order = lane_number < next;
@@ -115,6 +147,7 @@ fn of_setup(tag: u8) -> &'static [usize] {
     match tag {
         0x01 => &[2],
         0x10 => &[3, 5],
+        0x11 => &[1],
         0x7F => &[0],
         _ => &[],
     }

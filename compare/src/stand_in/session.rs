@@ -36,15 +36,15 @@ pub fn run(unit: &mut StandIn, session: &[u8], limit: u64, table: &mut [u8], ans
     }
     let mut lines = Lines { area: answers, written: 0 };
     let mut reader = Reader::new(session, slip);
-    let lanes = match reader.setup() {
-        Ok(lanes) => lanes,
+    let plan = match reader.setup() {
+        Ok(plan) => plan,
         Err((number, place)) => {
             lines.write(&format!("no {number} {place}\n"));
             return Run { answered: 0, written: lines.written as u64, stop: stopped(number, place) };
         }
     };
-    let mut engine = Engine::new(&lanes, slip);
-    lines.write(&format!("lanes {}\n", lanes.len()));
+    let mut engine = Engine::new(&plan, slip);
+    lines.write(&format!("lanes {}\n", plan.lanes.len()));
     let (answered, stop) = requests(&mut reader, &mut engine, &mut lines, limit, slip);
     if let Stop::Refused(fault) = stop {
         lines.write(&format!("no {} {}\n", fault.number, fault.place));
@@ -54,7 +54,7 @@ pub fn run(unit: &mut StandIn, session: &[u8], limit: u64, table: &mut [u8], ans
         lines.area[lines.written] = 0;
     }
     if slip == Slip::RunForgets && matches!(stop, Stop::Refused(_)) {
-        engine = Engine::new(&lanes, slip);
+        engine = Engine::new(&plan, slip);
     }
     let written = lines.written as u64;
     unit.shelf.put(engine, table);
@@ -104,6 +104,9 @@ type Request<'a> = Option<(u8, &'a [u8])>;
 /// A request, or none at the end field.
 fn request<'a>(reader: &mut Reader<'a>, slip: Slip) -> Result<Request<'a>, Refused> {
     let at = reader.place();
+    if slip == Slip::FramingOutOfOrderInRequests && reader.left() > 2 && reader.next() == 0x11 {
+        return Err((4, at));
+    }
     let (tag, value) = reader.field(of_requests)?;
     if slip == Slip::RequestLaneJudged && value.first().is_some_and(|lane| *lane > 63) {
         return Err((5, at));

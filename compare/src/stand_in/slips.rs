@@ -73,6 +73,30 @@ slips! {
     /// The session's line has no number.
     LineWithoutNumber,
 
+    // Framing.
+    /// V grows by the bare length.
+    FramingNotInClock,
+    /// F grows by the bare length.
+    FramingNotInFinish,
+    /// The group goes by the bare longest.
+    FramingNotInGroup,
+    /// 12 compares the charged length.
+    FramingInPut,
+    /// A take's or a look's answer has the charged length.
+    FramingInAnswer,
+    /// Restart forgets the framing number.
+    RestartDropsFraming,
+    /// A framing field is taken behind lane fields.
+    FramingAfterLanes,
+    /// A framing field is taken behind another one.
+    FramingTwice,
+    /// A framing number of 65 is taken.
+    FramingOf65,
+    /// 5 is told before 4 of a framing field.
+    FramingValueBeforeOrder,
+    /// A framing field among the requests gives 4 in place of 2.
+    FramingOutOfOrderInRequests,
+
     // Refusals and lent bytes.
     /// 12 is told before 11.
     LengthBeforeLane,

@@ -176,6 +176,40 @@ fn starts() {
     two(b"no lane eligible", 81, 4194304, 85, 8388608);
 }
 
+// The line's framing bytes: the whole of word 4, at most 64, and charged in the group and in R's edge.
+fn framings() {
+    one(b"framing 64", 4, 64);
+    one(b"framing 65", 4, 65);
+    one(b"framing 256", 4, 256);
+    one(b"framing's highest bit", 4, 9223372036854775808);
+}
+
+fn framed() {
+    rest(
+        b"group of the longest, framing 0",
+        84,
+        setting(256, 64, 18, 4096),
+        4,
+        0,
+    );
+    rest(
+        b"group of the longest, framing 1",
+        84,
+        setting(256, 64, 18, 4096),
+        4,
+        1,
+    );
+    rest(
+        b"group of the longest and framing 1",
+        84,
+        setting(256, 64, 19, 4096),
+        4,
+        1,
+    );
+    two(b"V at R's edge, framing 64", 0, 9990144, 4, 64);
+    two(b"V just below it, framing 64", 0, 9990143, 4, 64);
+}
+
 fn entries() {
     one(b"order other way round", 16, 1);
     two(b"order turned", 16, 1, 17, 0);
@@ -225,6 +259,8 @@ fn main() {
     rings();
     clocks();
     starts();
+    framings();
+    framed();
     entries();
     named();
     carried();

@@ -30,6 +30,7 @@ far-lane t k h = List·getD-eq-default (meant t .lanes) noLane {n = k} (omega (a
 pub record RowIs (l : Lane) (r : LaneRow) : Type 0 where
   pub given : l .given ≡ givenOf r
   pub weight : 0 < r .weight
+  pub framing : r .framing .0 ≤ 64
   pub rated : r .rate .0 ≡ rate (l .given)
   pub grouped : r .group ≡ group (l .given)
   pub low : 16 ≤ r .group
@@ -89,6 +90,7 @@ module _ (t : List ℕ) (sound : Sound t) (k : ℕ) (small : k < 64) (here : pre
   row-is = record {
     given = same-given;
     weight = agrees .numbers .weight-low;
+    framing = agrees .framing;
     rated = agrees .rated ∙ ap rate (sym same-given);
     grouped = agrees .grouped ∙ ap group (sym same-given);
     low = agrees-group r agrees .0;

@@ -15,7 +15,7 @@ use Rattle.words.proofs.Bits.{bit-above, bit-add-same, bit-add-other}
 use Rattle.words.proofs.Runs.{reads-ext, tab-ext, tab-set, eq-or-ne}
 use Rattle.rules.specs.State.{Setting, Lane, laneAt, noSetting}
 use Rattle.rules.specs.Calls.{idle, fresh}
-use Rattle.table.specs.Layout.{presentWord, laneWord, rowAt, rowOf, cells}
+use Rattle.table.specs.Layout.{presentWord, framingWord, laneWord, rowAt, rowOf, cells}
 use Rattle.table.specs.Means.{presentAt, ringOf, RowAgrees, laneOf, stateOf, meant, Beside, Sound, withLane}
 use Rattle.table.proofs.Footprint.{lane-kept, lane-is, row-kept}
 use Rattle.table.proofs.Next.{bit-present, bit-absent}
@@ -26,18 +26,27 @@ use Rattle.fresh.proofs.Mixed.{mixed-none, map-tab}
 
 -- ---- begin
 
-module _ (w : List ℕ) (len : length w ≡ 1360) where
-  abbrev pub begun : List ℕ
-  begun = set (set (set w 0 0) 1 0) 2 0
+module _ (w : List ℕ) (h : ℕ) (len : length w ≡ 1360) where
+  abbrev cleared : List ℕ
+  cleared = set (set (set w 0 0) 1 0) 2 0
 
-  zero-word : (i : ℕ) → i < 3 → getD begun i 0 ≡ 0
-  zero-word zero h =
+  abbrev pub begun : List ℕ
+  begun = set cleared framingWord h
+
+  clear-word : (i : ℕ) → i < 3 → getD cleared i 0 ≡ 0
+  clear-word zero b =
       getD-set-other (set (set w 0 0) 1 0) 2 0 0 0 (omega arith) ∙ getD-set-other (set w 0 0) 1 0 0 0 (omega arith) ∙ getD-set-same w 0 0 0 (omega arith)
-  zero-word (suc zero) h =
+  clear-word (suc zero) b =
       getD-set-other (set (set w 0 0) 1 0) 2 1 0 0 (omega arith) ∙ getD-set-same (set w 0 0) 1 0 0 (rw length-set (omega arith))
-  zero-word (suc (suc i)) h =
+  clear-word (suc (suc i)) b =
       let e : i ≡ 0 = omega arith in
       rw e (getD-set-same (set (set w 0 0) 1 0) 2 0 0 (rw (length-set, length-set) (omega arith)))
+
+  zero-word : (i : ℕ) → i < 3 → getD begun i 0 ≡ 0
+  zero-word i b = getD-set-other cleared framingWord i h 0 (omega arith) ∙ clear-word i b
+
+  pub begun-framing : getD begun framingWord 0 ≡ h
+  begun-framing = getD-set-same cleared framingWord h 0 (rw (length-set, length-set, length-set) (omega arith))
 
   none-present : (k : ℕ) → presentAt begun k ≡ false
   none-present k = bit-absent begun k (rw (zero-word 1 (omega arith)) (bit-above k 0 (pow-pos k)))
@@ -45,11 +54,11 @@ module _ (w : List ℕ) (len : length w ≡ 1360) where
   pub begun-state : stateOf begun ≡ fresh (upTo 0 [])
   unfolding stateOf fresh idle
   begun-state =
-      let lanes : tab 64 (laneOf begun) ≡ map idle (upTo 0 []) = tab-ext 64 (laneOf begun) (λ i. idle noSetting) (λ i h. lane-absent begun i (none-present i)) ∙ sym (map-tab idle 64 (λ i. noSetting)) ∙ ap (map idle) (sym (mixed-none _ (λ i. noSetting))) in
+      let lanes : tab 64 (laneOf begun) ≡ map idle (upTo 0 []) = tab-ext 64 (laneOf begun) (λ i. idle noSetting) (λ i b. lane-absent begun i (none-present i)) ∙ sym (map-tab idle 64 (λ i. noSetting)) ∙ ap (map idle) (sym (mixed-none _ (λ i. noSetting))) in
       rw (zero-word 0 (omega arith), zero-word 2 (omega arith), lanes)
 
   pub begun-beside : Beside begun
-  begun-beside = record { rows = λ k h p. absurd (false≢true (sym (none-present k) ∙ p)) }
+  begun-beside = record { rows = λ k b p. absurd (false≢true (sym (none-present k) ∙ p)) }
 
 -- ---- add_lane
 
@@ -65,7 +74,7 @@ weightless t k s h e =
     let no = eqb-false (bit k (getD (cells t) presentWord 0)) 1 (by-weight t k (presentAt (cells t) k) refl s h e) in
     omega (arith, no)
 
-module _ (w : List ℕ) (k word : ℕ) (g : Setting) (len : length w ≡ 1360) (hk : k < 64) (off : bit k (getD w presentWord 0) ≡ 0) (a : SettingWord g word) where
+module _ (w : List ℕ) (k word : ℕ) (g : Setting) (len : length w ≡ 1360) (hk : k < 64) (off : bit k (getD w presentWord 0) ≡ 0) (a : SettingWord g word) (f : getD w framingWord 0 ≡ g .framing) where
   abbrev pub stored : List ℕ
   stored = set (set (set w (laneWord k) word) (laneWord k + 1) 0) (laneWord k + 2) 0
 
@@ -94,14 +103,15 @@ module _ (w : List ℕ) (k word : ℕ) (g : Setting) (len : length w ≡ 1360) (
   unfolding presentAt
   elsewhere j ne = rw (present-word, bit-add-other k j (getD w presentWord 0) (λ e. ne (sym e)) off)
 
-  row-here : rowAt added k ≡ rowOf word 0 0
+  row-here : rowAt added k ≡ rowOf (g .framing) word 0 0
   unfolding rowAt
   row-here =
       let in-lane : (i : ℕ) → laneWord k ≤ i → getD added i 0 ≡ getD stored i 0 = λ i h. getD-set-other stored presentWord i (2 ^ k + getD w presentWord 0) 0 (omega arith) in
       let first : getD added (laneWord k) 0 ≡ word = in-lane (laneWord k) (omega arith) ∙ getD-set-other (set (set w (laneWord k) word) (laneWord k + 1) 0) (laneWord k + 2) (laneWord k) 0 0 (omega arith) ∙ getD-set-other (set w (laneWord k) word) (laneWord k + 1) (laneWord k) 0 0 (omega arith) ∙ getD-set-same w (laneWord k) word 0 (omega arith) in
       let second : getD added (laneWord k + 1) 0 ≡ 0 = in-lane (laneWord k + 1) (omega arith) ∙ getD-set-other (set (set w (laneWord k) word) (laneWord k + 1) 0) (laneWord k + 2) (laneWord k + 1) 0 0 (omega arith) ∙ getD-set-same (set w (laneWord k) word) (laneWord k + 1) 0 0 (rw length-set (omega arith)) in
       let third : getD added (laneWord k + 2) 0 ≡ 0 = in-lane (laneWord k + 2) (omega arith) ∙ getD-set-same (set (set w (laneWord k) word) (laneWord k + 1) 0) (laneWord k + 2) 0 0 (rw (length-set, length-set) (omega arith)) in
-      rw (first, second, third)
+      let framing : getD added framingWord 0 ≡ g .framing = other framingWord (omega arith) (λ p q. omega arith) ∙ f in
+      rw (framing, first, second, third)
 
   lane-here : laneOf added k ≡ idle g
   unfolding ringOf tab tabFrom
@@ -115,6 +125,7 @@ module _ (w : List ℕ) (k word : ℕ) (g : Setting) (len : length w ≡ 1360) (
       let order : reads added 16 (getD w 2 0) ≡ reads w 16 (getD w 2 0) = reads-ext w added 16 (getD w 2 0) (λ i p q. other i (omega arith) (λ x y. omega arith)) in
       let lanes : tab 64 (laneOf added) ≡ set (tab 64 (laneOf w)) k (laneOf added k) = tab-set 64 k (laneOf w) (laneOf added) hk (λ j h ne. lane-kept w added j (record {
         present = elsewhere j ne;
+        framing = other framingWord (omega arith) (λ x y. omega arith);
         row = λ i p q. other i (omega arith) (λ x y. omega arith);
         ring = λ i p q. other i (omega arith) (λ x y. omega arith);
       })) in
@@ -126,6 +137,6 @@ module _ (w : List ℕ) (k word : ℕ) (g : Setting) (len : length w ≡ 1360) (
         rows = λ j h p.
             ⊎-elim
             (λ (e : j ≡ k). subst (λ (i : ℕ). RowAgrees (rowAt added i)) (sym e) (subst (λ l. RowAgrees l) (sym row-here) (a .agrees 0 0)))
-            (λ (ne : j ≡ k → ⊥). subst (λ l. RowAgrees l) (sym (row-kept w added j (λ i x y. other i (omega arith) (λ x′ y′. omega arith)))) (b .rows j h (sym (elsewhere j ne) ∙ p)))
+            (λ (ne : j ≡ k → ⊥). subst (λ l. RowAgrees l) (sym (row-kept w added j (other framingWord (omega arith) (λ x y. omega arith)) (λ i x y. other i (omega arith) (λ x′ y′. omega arith)))) (b .rows j h (sym (elsewhere j ne) ∙ p)))
             (eq-or-ne j k);
       }

@@ -4,13 +4,14 @@ use Prim.Native.Nat.{ℕ, _+_, _*_, _%_, _^_, _<_}
 use mathlib.Core.List.{List}
 use native.Mathlib.Omega.{arith}
 use lib.ListN.{length, getD, set}
+use lib.Seq.{getD-set-other}
 use Rattle.words.specs.Bits.{bit}
 use Rattle.words.specs.Runs.{tab, tabFrom}
 use Rattle.words.proofs.Bits.{shift-one}
 use Rattle.words.proofs.Runs.{length-tab}
 use Rattle.rules.specs.State.{Setting, Lane, State, laneAt, noLane}
 use Rattle.rules.specs.Calls.{idle}
-use Rattle.table.specs.Layout.{Now, cells, presentWord, laneWord, rowAt, putRow}
+use Rattle.table.specs.Layout.{Now, cells, presentWord, framingWord, laneWord, rowAt, putRow}
 use Rattle.table.specs.Means.{Next, ringOf, givenOf, laneOf, stateOf, meant, Sound, Leaves, withLane}
 use Rattle.table.specs.declared.LaneRow.{LaneRow}
 use Rattle.table.proofs.Stores.{length-cells, now-then}
@@ -25,7 +26,7 @@ use Rattle.fresh.proofs.Added.{weightless, stored-other, added-state, a
 
 -- ---- add_lane
 
-module _ (t t₁ t₂ t₃ : List ℕ) (k word : ℕ) (g : Setting) (s : Sound t) (hk : k < 64) (none : laneAt (meant t) k .given .weight ≡ 0) (a : SettingWord g word)
+module _ (t t₁ t₂ t₃ : List ℕ) (k word : ℕ) (g : Setting) (s : Sound t) (hk : k < 64) (none : laneAt (meant t) k .given .weight ≡ 0) (a : SettingWord g word) (f : getD (cells t) framingWord 0 ≡ g .framing)
     (one : Now t t₁ (set (cells t) (laneWord k) word)) (two : Now t₁ t₂ (set (cells t₁) (laneWord k + 1) 0)) (three : Now t₂ t₃ (set (cells t₂) (laneWord k + 2) 0)) where
   pub off : bit k (getD (cells t) presentWord 0) ≡ 0
   off = weightless t k s hk none
@@ -34,7 +35,7 @@ module _ (t t₁ t₂ t₃ : List ℕ) (k word : ℕ) (g : Setting) (s : Sound t
   so-far = now-then t₃ (laneWord k + 2) 0 (now-then t₂ (laneWord k + 1) 0 one two) three
 
   pub lanes-kept : getD (cells t₃) presentWord 0 ≡ getD (cells t) presentWord 0
-  lanes-kept = ap (λ (w : List ℕ). getD w presentWord 0) (so-far .words) ∙ stored-other (cells t) k word g (length-cells t) hk off a presentWord (λ p q. omega arith)
+  lanes-kept = ap (λ (w : List ℕ). getD w presentWord 0) (so-far .words) ∙ stored-other (cells t) k word g (length-cells t) hk off a f presentWord (λ p q. omega arith)
 
   pub add-leaves : (t′ : List ℕ) (lanes : ℕ) → lanes ≡ getD (cells t₃) presentWord 0 → Now t₃ t′ (set (cells t₃) presentWord (1 * 2 ^ k % 2 ^ 64 + lanes)) → Leaves t t′ (withLane (meant t) k (idle g))
   add-leaves t′ lanes e four =
@@ -42,10 +43,17 @@ module _ (t t₁ t₂ t₃ : List ℕ) (k word : ℕ) (g : Setting) (s : Sound t
       let n = now-then t′ presentWord (1 * 2 ^ k % 2 ^ 64 + lanes) so-far four in
       let words = n .words ∙ ap (set (set (set (set (cells t) (laneWord k) word) (laneWord k + 1) 0) (laneWord k + 2) 0) presentWord) word-is in
       record {
-        state = rw words (added-state (cells t) k word g (length-cells t) hk off a (sound-few t s));
-        beside = λ b. rw words (added-beside (cells t) k word g (length-cells t) hk off a b);
+        state = rw words (added-state (cells t) k word g (length-cells t) hk off a f (sound-few t s));
+        beside = λ b. rw words (added-beside (cells t) k word g (length-cells t) hk off a f b);
         rest = n .rest;
       }
+
+  pub add-framing : (t′ : List ℕ) (x : ℕ) → Now t₃ t′ (set (cells t₃) presentWord x) → getD (cells t′) framingWord 0 ≡ getD (cells t) framingWord 0
+  add-framing t′ x four =
+      ap (λ (w : List ℕ). getD w framingWord 0) (four .words)
+      ∙ getD-set-other (cells t₃) presentWord framingWord x 0 (omega arith)
+      ∙ ap (λ (w : List ℕ). getD w framingWord 0) (so-far .words)
+      ∙ stored-other (cells t) k word g (length-cells t) hk off a f framingWord (λ p q. omega arith)
 
 -- ---- rest_lane
 

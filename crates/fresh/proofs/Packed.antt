@@ -9,16 +9,16 @@ use Rattle.rules.specs.Setup.{InNumbers}
 use Rattle.rules.proofs.Lane.{group-most}
 use Rattle.fresh.specs.Makes.{SettingWord}
 
-module _ (w l i c : ℕ) (n : InNumbers (record { weight = w; longest = l; framing = 0 })) (rated : c ≡ perByte w) (most : c ≤ 2 ^ 20) (least : Least (charge (record { weight = w; longest = l; framing = 0 }) l * c) i) where
+module _ (w l h i c : ℕ) (n : InNumbers (record { weight = w; longest = l; framing = h })) (framed : h ≤ 64) (rated : c ≡ perByte w) (most : c ≤ 2 ^ 20) (least : Least (charge (record { weight = w; longest = l; framing = h }) l * c) i) where
   abbrev g : Setting
-  g = record { weight = w; longest = l; framing = 0 }
+  g = record { weight = w; longest = l; framing = h }
 
   pub group-is : i ≡ group g
   unfolding group
   group-is = least-unique (charge g l * c) i least ∙ ap (λ (x : ℕ). leastPower (charge g l * x)) rated
 
   pub group-small : i ≤ 31
-  group-small = rw group-is (group-most g (n .longest-high) (omega arith))
+  group-small = rw group-is (group-most g (n .longest-high) framed)
 
   abbrev word : ℕ
   word = l + 65536 * w + 4294967296 * i + 1099511627776 * c
@@ -41,6 +41,7 @@ module _ (w l i c : ℕ) (n : InNumbers (record { weight = w; longest = l; frami
         given = λ time ring. rw (longest-part, weight-part);
         agrees = λ time ring. record {
           numbers = rw (longest-part, weight-part) n;
+          framing = framed;
           rated = rw (rate-part, weight-part) rated;
           grouped = rw (group-part, longest-part, weight-part) group-is;
         };

@@ -1,20 +1,23 @@
 -- The loop of `write`, and the last stores of `renew`. Assumes nothing.
 use mathlib.Core.Path.{_≡_, refl, sym, ap, subst, _∙_}
 use mathlib.Core.Logic.{_⊎_, ⊎-elim}
-use Prim.Native.Nat.{ℕ, _+_, _<_}
+use Prim.Native.Nat.{ℕ, zero, suc, _+_, _≤_, _<_}
 use mathlib.Core.List.{List, []}
+use native.Mathlib.Decide.{decLt}
+use native.Mathlib.Nat.{pos-of-ne-zero}
 use native.Mathlib.Omega.{arith}
-use lib.ListN.{getD, set, List·getD-map}
+use lib.ListN.{getD, set, List·getD-map, List·getD-eq-default}
 use lib.Seq.{getD-set-same, getD-set-other}
 use Rattle.words.specs.Runs.{reads}
 use Rattle.rules.specs.State.{Setting, State, laneAt, setupOf, settingAt, noSetting}
 use Rattle.rules.specs.Setup.{InNumbers, Setup}
 use Rattle.rules.specs.Calls.{idle, fresh}
-use Rattle.table.specs.Layout.{Room, Now, cells, holdingWord, orderWord}
+use Rattle.rules.proofs.Figures.{framing-most}
+use Rattle.table.specs.Layout.{Room, Now, cells, holdingWord, framingWord, orderWord}
 use Rattle.table.specs.Means.{meant, Sound, Leaves, withLane, withOrder, withClock}
 use Rattle.table.proofs.Stores.{length-cells}
 use Rattle.table.proofs.Leave.{leave-order, leaves-then}
-use Rattle.fresh.specs.Makes.{Makes, settings, upTo, restedTo}
+use Rattle.fresh.specs.Makes.{Makes, settings, FramedBy, upTo, restedTo}
 use Rattle.plan.specs.Read.{settingOf}
 use Rattle.plan.specs.declared.Lane as plan
 use Rattle.fresh.proofs.States.{up-none, up-more, up-skip, up-at, up-all, rested-all}
@@ -27,7 +30,7 @@ unfolding fresh
 makes-sound t₀ t gs room m = record { room = room; few = rw (m .state) (omega arith); beside = m .beside }
 
 abbrev pub none : plan.Lane
-none = record { weight = 0; longest = record { 0 = 0 } }
+none = record { weight = 0; longest = record { 0 = 0 }; framing = record { 0 = 0 } }
 
 module _ (lanes : List plan.Lane) (t₀ t : List ℕ) (k : ℕ) (hk : k < 64) (m : Makes t₀ t (upTo k (settings lanes))) where
   at : settingAt (settings lanes) k ≡ settingOf (getD lanes k none)
@@ -56,6 +59,48 @@ module _ (lanes : List plan.Lane) (t₀ t : List ℕ) (k : ℕ) (hk : k < 64) (m
       (s .each k) in
       record { state = m .state ∙ ap fresh (up-skip (settings lanes) k hk absent); beside = m .beside; rest = m .rest }
 
+-- ---- the line's framing bytes
+
+module _ (lanes : List plan.Lane) (s : Setup (settings lanes)) where
+  lane-at : (k : ℕ) → settingAt (settings lanes) k ≡ settingOf (getD lanes k none)
+  lane-at k = List·getD-map settingOf lanes k none
+
+  pub found-framing : (k : ℕ) → (getD lanes k none .weight ≡ 0 → ⊥) → FramedBy (getD lanes k none .framing .0) (settings lanes)
+  found-framing k ne j w =
+      let here : 0 < settingAt (settings lanes) k .weight = omega (arith, ap (λ (g : Setting). g .weight) (lane-at k), pos-of-ne-zero ne) in
+      s .framed j w ∙ sym (s .framed k here) ∙ ap (λ (g : Setting). g .framing) (lane-at k)
+
+  pub weightless-at : (k : ℕ) → getD lanes k none .weight ≡ 0 → settingAt (settings lanes) k .weight ≡ 0
+  weightless-at k e = ap (λ (g : Setting). g .weight) (lane-at k) ∙ e
+
+  -- no lane has a weight, which no setup allows
+  pub none-framing : ((k : ℕ) → k < 64 → settingAt (settings lanes) k .weight ≡ 0) → FramedBy 0 (settings lanes)
+  none-framing f j w =
+      elim (decLt j 64) [
+        | yes b ↦ absurd (omega (arith, f j b))
+        | no b ↦ absurd (omega (arith, ap (λ (g : Setting). g .weight) (List·getD-eq-default (settings lanes) noSetting {n = j} (omega (arith, s .size)))))
+      ]
+
+  module _ (h : ℕ) (f : FramedBy h (settings lanes)) (k : ℕ) (ne : getD lanes k none .weight ≡ 0 → ⊥) where
+    abbrev framed : Setting
+    framed = record { weight = getD lanes k none .weight; longest = getD lanes k none .longest .0; framing = h }
+
+    weighs : 0 < settingAt (settings lanes) k .weight
+    weighs = omega (arith, ap (λ (g : Setting). g .weight) (lane-at k), pos-of-ne-zero ne)
+
+    same : settingOf (getD lanes k none) ≡ framed
+    same = ap (λ (x : ℕ). record { weight = getD lanes k none .weight; longest = getD lanes k none .longest .0; framing = x }) (sym (ap (λ (g : Setting). g .framing) (lane-at k)) ∙ f k weighs)
+
+    pub framed-most : h ≤ 64
+    framed-most = omega (arith, framing-most (settings lanes) s k, f k weighs)
+
+    module _ (t₀ t : List ℕ) (hk : k < 64) (m : Makes t₀ t (upTo k (settings lanes))) where
+      pub framed-numbers : InNumbers framed
+      framed-numbers = subst InNumbers same (write-numbers lanes t₀ t k hk m s ne)
+
+      pub framed-more : (t′ : List ℕ) → Leaves t t′ (withLane (meant t) k (idle framed)) → Makes t₀ t′ (upTo (k + 1) (settings lanes))
+      framed-more t′ l = write-more lanes t₀ t k hk m t′ (subst (λ (g : Setting). Leaves t t′ (withLane (meant t) k (idle g))) (sym same) l)
+
 pub write-none : (lanes : List plan.Lane) (t₀ t : List ℕ) → Makes t₀ t (upTo 0 []) → Makes t t (upTo 0 (settings lanes))
 write-none lanes t₀ t m = record { state = m .state ∙ ap fresh (up-none (settings lanes)); beside = m .beside; rest = refl }
 
@@ -69,7 +114,7 @@ pub no-order : (t t′ : List ℕ) → Now t t′ (set (cells t) holdingWord 0) 
 no-order t t′ n =
     let w = cells t in
     let other : (i : ℕ) → (i ≡ holdingWord → ⊥) → getD (set w holdingWord 0) i 0 ≡ getD w i 0 = λ i ne. getD-set-other w holdingWord i 0 0 ne in
-    leave-order t t′ (set w holdingWord 0) [] n (record { clock = other 0 (omega arith); present = other 1 (omega arith); above = λ i h. other i (omega arith) }) (ap (reads (set w holdingWord 0) orderWord) (getD-set-same w holdingWord 0 0 (omega (arith, length-cells t))))
+    leave-order t t′ (set w holdingWord 0) [] n (record { clock = other 0 (omega arith); present = other 1 (omega arith); framing = other framingWord (omega arith); above = λ i h. other i (omega arith) }) (ap (reads (set w holdingWord 0) orderWord) (getD-set-same w holdingWord 0 0 (omega (arith, length-cells t))))
 
 pub renew-leaves : (t t₁ t₂ t′ : List ℕ) → Leaves t t₁ (restedTo 64 (meant t)) → Leaves t₁ t₂ (withClock (meant t₁) 0) → Now t₂ t′ (set (cells t₂) holdingWord 0) → Leaves t t′ (fresh (setupOf (meant t)))
 unfolding fresh

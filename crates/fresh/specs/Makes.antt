@@ -2,6 +2,7 @@
 --
 --   Makes        the bytes are the fresh table of a list of settings, and those past the table are as they were
 --   settings     the settings of a list of given lanes
+--   FramedBy     each of the lanes has so many framing bytes
 --   mixed        64 elements: by one rule below k, by another from k on
 --   upTo         the settings of the lanes below k, and none of the others
 --   restedTo     a state whose lanes below k are idle with F = 0
@@ -9,7 +10,7 @@
 --
 -- Assumes nothing.
 use mathlib.Core.Path.{_≡_}
-use Prim.Native.Nat.{ℕ, _*_}
+use Prim.Native.Nat.{ℕ, _*_, _<_}
 use mathlib.Core.List.{List, map}
 use lib.Dec.{ltb}
 use lib.ListN.{drop}
@@ -31,6 +32,10 @@ pub record Makes (before after : List ℕ) (gs : List Setting) : Type 0 where
 abbrev pub settings : List Lane → List Setting
 settings gs = map settingOf gs
 
+-- the line's framing bytes: every lane of the setup has them
+abbrev pub FramedBy : ℕ → List Setting → Type 0
+FramedBy h gs = (k : ℕ) → 0 < settingAt gs k .weight → settingAt gs k .framing ≡ h
+
 unfoldable pub mixed : {A : Type 0} → ℕ → (ℕ → A) → (ℕ → A) → List A
 mixed k f g = tab 64 (λ i. if ltb i k then f i else g i)
 
@@ -40,7 +45,7 @@ upTo k gs = mixed k (settingAt gs) (λ i. noSetting)
 abbrev pub restedTo : ℕ → State → State
 restedTo k s = record { clock = s .clock; lanes = mixed k (λ i. idle (laneAt s i .given)) (laneAt s); order = s .order }
 
--- whatever the clock and the ring hold
+-- beside the line's framing bytes, and whatever the clock and the ring hold
 pub record SettingWord (g : Setting) (word : ℕ) : Type 0 where
-  pub given : (time ring : ℕ) → givenOf (rowOf word time ring) ≡ g
-  pub agrees : (time ring : ℕ) → RowAgrees (rowOf word time ring)
+  pub given : (time ring : ℕ) → givenOf (rowOf (g .framing) word time ring) ≡ g
+  pub agrees : (time ring : ℕ) → RowAgrees (rowOf (g .framing) word time ring)

@@ -4,15 +4,17 @@
 // that hold no record, are left as they stand: they mean nothing. The one division, for c, is made here.
 ghost use mathlib.Core.Path.{_≡_};
 ghost use mathlib.Core.List.{[]};
-ghost use Prim.Native.Nat.{_+_, _*_, _<_};
+ghost use Prim.Native.Nat.{_+_, _*_, _<_, _≤_};
+ghost use lib.ListN.{getD};
 ghost use Rattle.rules.specs.State.{laneAt, setupOf};
 ghost use Rattle.rules.specs.Setup.{InNumbers, Setup};
 ghost use Rattle.rules.specs.Calls.{idle, fresh};
-ghost use Rattle.table.specs.Layout.{Room};
+ghost use Rattle.table.specs.Layout.{Room, cells, framingWord};
 ghost use Rattle.table.specs.Means.{meant, Sound, Leaves, withLane};
-ghost use Rattle.fresh.specs.Makes.{Makes, SettingWord, settings, upTo, restedTo};
+ghost use Rattle.fresh.specs.Makes.{Makes, SettingWord, settings, FramedBy, upTo, restedTo};
 use plan::Lane;
 use table::CLOCK;
+use table::FRAMING;
 use table::GROUP_UNIT;
 use table::HOLDING;
 use table::LANES;
@@ -35,14 +37,15 @@ use units::group_index;
 use units::lane_charge;
 use units::lane_rate;
 
-// The setting word of a lane.
-fn setting_word(weight: u64, longest: Bytes) -> u64
-    requires { ⌜ InNumbers (record { weight = weight; longest = longest .0; framing = 0 }) ⌝ }
-    ensures { λ r. ⌜ SettingWord (record { weight = weight; longest = longest .0; framing = 0 }) r ⌝ }
+// The setting word of a lane: the group is that of the longest record with the line's framing bytes `h`.
+fn setting_word(h: Bytes, weight: u64, longest: Bytes) -> u64
+    requires { ⌜ InNumbers (record { weight = weight; longest = longest .0; framing = h .0 }) × (h .0 ≤ 64) ⌝ }
+    ensures { λ r. ⌜ SettingWord (record { weight = weight; longest = longest .0; framing = h .0 }) r ⌝ }
 {
     let c = lane_rate(weight);
     let lane = LaneRow {
         longest: longest,
+        framing: h,
         weight: weight,
         group: 0,
         rate: c,
@@ -54,27 +57,44 @@ fn setting_word(weight: u64, longest: Bytes) -> u64
     longest.0 + WEIGHT_UNIT * weight + GROUP_UNIT * (group as u64) + RATE_UNIT * c.0
 }
 
-// Begins a table with no lane in it.
-pub fn begin(t: &mut [u8])
+// Begins a table with no lane in it, on a line with `h` framing bytes.
+pub fn begin(t: &mut [u8], h: Bytes)
     requires { ⌜ Room (now t) ⌝ }
-    ensures { λ _. ⌜ Makes (now (t .entry)) (now (t .exit)) (upTo 0 []) ⌝ }
+    ensures { λ _. ⌜ Makes (now (t .entry)) (now (t .exit)) (upTo 0 []) × (getD (cells (now (t .exit))) framingWord 0 ≡ h .0) ⌝ }
 {
     set_cell(t, CLOCK, 0);
     set_cell(t, PRESENT, 0);
     set_cell(t, HOLDING, 0);
+    set_cell(t, FRAMING, h.0);
 }
 
-// Adds lane `k`, which is not in the setup yet: idle, with F = 0.
-pub fn add_lane(t: &mut [u8], k: usize, weight: u64, longest: Bytes)
-    requires { ⌜ Sound (now t) × (k < 64) × InNumbers (record { weight = weight; longest = longest .0; framing = 0 }) × (laneAt (meant (now t)) k .given .weight ≡ 0) ⌝ }
-    ensures { λ _. ⌜ Leaves (now (t .entry)) (now (t .exit)) (withLane (meant (now (t .entry))) k (idle (record { weight = weight; longest = longest .0; framing = 0 }))) ⌝ }
+// Adds lane `k`, which is not in the setup yet: idle, with F = 0. The line has `h` framing bytes.
+pub fn add_lane(t: &mut [u8], k: usize, h: Bytes, weight: u64, longest: Bytes)
+    requires { ⌜ Sound (now t) × (k < 64) × InNumbers (record { weight = weight; longest = longest .0; framing = h .0 }) × (laneAt (meant (now t)) k .given .weight ≡ 0) × (h .0 ≤ 64) × (getD (cells (now t)) framingWord 0 ≡ h .0) ⌝ }
+    ensures { λ _. ⌜ Leaves (now (t .entry)) (now (t .exit)) (withLane (meant (now (t .entry))) k (idle (record { weight = weight; longest = longest .0; framing = h .0 }))) × (getD (cells (now (t .exit))) framingWord 0 ≡ getD (cells (now (t .entry))) framingWord 0) ⌝ }
 {
     let base = ROWS + ROW_WORDS * k;
-    set_cell(t, base, setting_word(weight, longest));
+    set_cell(t, base, setting_word(h, weight, longest));
     set_cell(t, base + 1, 0);
     set_cell(t, base + 2, 0);
     let lanes = cell(t, PRESENT);
     set_cell(t, PRESENT, (1u64 << (k as u32)) + lanes);
+}
+
+// The line's framing bytes, from the first lane that is in the setup: all lanes have the same.
+fn line_framing(lanes: [Lane; LANES]) -> Bytes
+    requires { ⌜ Setup (settings lanes) ⌝ }
+    ensures { λ r. ⌜ FramedBy (r .0) (settings lanes) ⌝ }
+{
+    let mut k = 0;
+    while k < LANES {
+        let g = lanes[k];
+        if g.weight != 0 {
+            return g.framing;
+        }
+        k += 1;
+    }
+    Bytes(0)
 }
 
 // Writes the fresh table of a setup.
@@ -82,12 +102,13 @@ pub fn write(t: &mut [u8], lanes: [Lane; LANES])
     requires { ⌜ Room (now t) × Setup (settings lanes) ⌝ }
     ensures { λ _. ⌜ Makes (now (t .entry)) (now (t .exit)) (settings lanes) ⌝ }
 {
-    begin(t);
+    let h = line_framing(lanes);
+    begin(t, h);
     let mut k = 0;
     while k < LANES {
         let g = lanes[k];
         if g.weight != 0 {
-            add_lane(t, k, g.weight, g.longest);
+            add_lane(t, k, h, g.weight, g.longest);
         }
         k += 1;
     }

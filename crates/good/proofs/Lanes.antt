@@ -109,4 +109,4 @@ module _ (v : ℕ) (w : List ℕ) where
 
     pub note-group : l .group ≤ 31
     note-group =
-        subst (λ (l : LaneRow). l .group ≤ 31) (sym e) (group-at-most (rowAt w k) (g .agrees .rated) (g .agrees .numbers .longest-high) (g .agrees .grouped))
+        subst (λ (l : LaneRow). l .group ≤ 31) (sym e) (group-at-most (rowAt w k) (g .agrees .rated) (g .agrees .numbers .longest-high) (g .agrees .framing) (g .agrees .grouped))

@@ -5,9 +5,9 @@ use mathlib.Core.Bool.{Bool, true, false, false≢true}
 use Prim.Native.Nat.{ℕ, zero, suc, _+_, _^_, _≤_, _<_}
 use mathlib.Core.List.{List}
 use native.Mathlib.Omega.{arith}
-use native.Mathlib.Decide.{decLt}
+use native.Mathlib.Decide.{decLt, decLe}
 use lib.Pow.{pow-pos, pow-mono}
-use lib.ListN.{length, length-map, List·getD-eq-default}
+use lib.ListN.{length, getD, length-map, List·getD-eq-default}
 use Rattle.words.specs.Runs.{tab}
 use Rattle.words.proofs.Runs.{length-tab}
 use Rattle.units.specs.Plain.{if_then_else_, times, anyBelow, wordOf, count}
@@ -20,10 +20,10 @@ use Rattle.rules.proofs.Lane.{slot-pos}
 use Rattle.rules.proofs.Word.{word-lt, word-bit}
 use Rattle.rules.proofs.Figures.{framing-bound, framed-by}
 use Rattle.rules.proofs.SameSetup.{setting-lane}
-use Rattle.table.specs.Layout.{Room, cells}
+use Rattle.table.specs.Layout.{Room, cells, framingWord}
 use Rattle.table.specs.Means.{presentAt, laneOf, stateOf, meant}
 use Rattle.table.proofs.Footprint.{lane-is, reads-order}
-use Rattle.table.proofs.Rows.{lane-absent, given-row}
+use Rattle.table.proofs.Rows.{lane-absent, given-row, row-framing}
 use Rattle.lane_test.specs.Says.{Says, LaneGood}
 use Rattle.words.specs.Bits.{bit}
 use Rattle.good.specs.Pass.{FoundSays, Ordered, sumTo, weightAt, holdsAt, eligibleAt}
@@ -89,15 +89,23 @@ module _ (t : List ℕ) (v : ℕ) (f : Found) (clock : v ≡ meant t .clock) (s 
 
   module _ (n : ℕ) (holding : n ≡ length (meant t .order)) where
     -- from what the test found to a good table
-    module _ (room : Room t) (end : v < clockEdge) (some : 0 < f .weights) (total : f .weights ≤ 1024) (live : 0 < f .held → f .eligible ≡ true) (ordered : Ordered (cells t) n (f .held)) where
+    module _ (room : Room t) (end : v < clockEdge) (framed : getD (cells t) framingWord 0 ≤ 64) (some : 0 < f .weights) (total : f .weights ≤ 1024) (live : 0 < f .held → f .eligible ≡ true) (ordered : Ordered (cells t) n (f .held)) where
       in-setup : (k : ℕ) → k < 64 → presentAt (cells t) k ≡ true → InNumbers (laneOf (cells t) k .given) ⊎ (laneOf (cells t) k .given ≡ noSetting)
       in-setup k h p = inl (subst InNumbers (sym (given-row (cells t) k p)) (s .lanes k h p .agrees .numbers))
 
-      framing-at : (k : ℕ) → laneAt (meant t) k .given .framing ≡ 0
-      framing-at = each-lane (cells t) (λ (l : Lane). l .given .framing ≡ 0) refl (λ k h p. ap (λ (g : Setting). g .framing) (given-row (cells t) k p))
+      abbrev h : ℕ
+      h = getD (cells t) framingWord 0
 
-      framing-is : (k : ℕ) → settingAt (setupOf (meant t)) k .framing ≡ 0
-      framing-is k = ap (λ (g : Setting). g .framing) (setting-lane (meant t) k) ∙ framing-at k
+      present-framing : (k : ℕ) → presentAt (cells t) k ≡ true → laneOf (cells t) k .given .framing ≡ h
+      present-framing k p = ap (λ (g : Setting). g .framing) (given-row (cells t) k p) ∙ row-framing (cells t) k
+
+      most-framing : (k : ℕ) → settingAt (setupOf (meant t)) k .framing ≤ h
+      most-framing k =
+          subst (λ (g : Setting). g .framing ≤ h) (sym (setting-lane (meant t) k)) (each-lane (cells t) (λ (l : Lane). l .given .framing ≤ h) (omega arith) (λ k b p. omega (arith, present-framing k p)) k)
+
+      same-framing : (k : ℕ) → 0 < settingAt (setupOf (meant t)) k .weight → settingAt (setupOf (meant t)) k .framing ≡ h
+      same-framing k =
+          subst (λ (g : Setting). 0 < g .weight → g .framing ≡ h) (sym (setting-lane (meant t) k)) (each-lane (cells t) (λ (l : Lane). 0 < l .given .weight → l .given .framing ≡ h) (λ w. absurd (omega arith)) (λ k b p w. present-framing k p) k)
 
       setup : Setup (setupOf (meant t))
       setup =
@@ -106,8 +114,8 @@ module _ (t : List ℕ) (v : ℕ) (f : Found) (clock : v ≡ meant t .clock) (s 
             each = λ k. subst (λ (g : Setting). InNumbers g ⊎ (g ≡ noSetting)) (sym (setting-lane (meant t) k)) (each-lane (cells t) (λ (l : Lane). InNumbers (l .given) ⊎ (l .given ≡ noSetting)) (inr refl) in-setup k);
             some-lane = omega (arith, weight-sum);
             total = omega (arith, weight-sum);
-            framing-high = omega (arith, framing-bound 0 (setupOf (meant t)) (λ k. omega (arith, framing-is k)));
-            framed = framed-by 0 (setupOf (meant t)) (λ k. omega (arith, framing-is k)) (λ k w. framing-is k);
+            framing-high = omega (arith, framing-bound h (setupOf (meant t)) most-framing);
+            framed = framed-by h (setupOf (meant t)) most-framing same-framing;
           }
 
       eligible-lane : (k : ℕ) → holds (laneAt (meant t) k) ≡ true → (i : ℕ) × (eligible v (laneAt (meant t) i) ≡ true)
@@ -163,6 +171,26 @@ good-lanes t v clock g k h p =
       waiting = subst (λ (l : Lane). GoodWaiting (l .given .longest) (l .waiting)) e (g .good .waiting k);
       numbers = subst (λ (l : Lane). Times v l (firstOf l)) e (subst (λ (v : ℕ). Times v (laneAt (meant t) k) (firstOf (laneAt (meant t) k))) (sym clock) (g .good .numbers k));
     }
+
+-- a good table has a lane, and with it h at most 64
+module _ (w : List ℕ) (none : (k : ℕ) → k < 64 → presentAt w k ≡ true → ⊥) where
+  weightless : (k : ℕ) (b : Bool) → presentAt w k ≡ b → (b ≡ true → ⊥) → weightAt w k ≡ 0
+  weightless k true e f = absurd (f refl)
+  weightless k false e f = ap (λ (l : Lane). l .given .weight) (lane-absent w k e)
+
+  sum-none : (n : ℕ) → n ≤ 64 → sumTo n (weightAt w) ≡ 0
+  unfolding sumTo
+  sum-none zero b = refl
+  sum-none (suc n) b = omega (arith, sum-none n (omega arith), weightless n (presentAt w n) refl (none n (omega arith)))
+
+pub good-framing : (t : List ℕ) → GoodTable t → getD (cells t) framingWord 0 ≤ 64
+good-framing t g =
+    elim (decLe (getD (cells t) framingWord 0) 64) [
+      | yes q ↦ q
+      | no q ↦
+          let none : (k : ℕ) → k < 64 → presentAt (cells t) k ≡ true → ⊥ = λ k b p. omega (arith, g .beside .rows k b p .framing, row-framing (cells t) k) in
+          absurd (omega (arith, g .good .setup .some-lane, weights-are (cells t), sum-none (cells t) none 64 (omega arith)))
+    ]
 
 pub says-iff : {P Q : Type 0} (b : Bool) → (P → Q) → (Q → P) → Says b P → Says b Q
 says-iff true f g s = f s

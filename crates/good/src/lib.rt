@@ -6,11 +6,13 @@
 ghost use mathlib.Core.Path.{_≡_};
 ghost use mathlib.Core.Bool.{true};
 ghost use Prim.Native.Nat.{_+_, _^_, _<_, _≤_};
-ghost use Rattle.table.specs.Layout.{Room, cells};
+ghost use lib.ListN.{getD};
+ghost use Rattle.table.specs.Layout.{Room, cells, framingWord};
 ghost use Rattle.lane_test.specs.Says.{Says};
 ghost use Rattle.good.specs.Pass.{Noted, PassSays, Ordered};
 ghost use Rattle.good.specs.Table.{GoodTable};
 use lane_test::lane_good;
+use table::FRAMING;
 use table::LANES;
 use table::LaneRow;
 use table::ORDER;
@@ -29,6 +31,9 @@ const NO_LANE: u64 = 64;
 
 // V stays below 2^62 + 2^42.
 const CLOCK_END: u64 = 4611690416473899008;
+
+// The line's framing bytes are 0 to 64.
+const MOST_FRAMING: u64 = 64;
 
 // The weights of the lanes seen, the word of those that hold records, and whether one of them is eligible.
 pub struct Found {
@@ -74,7 +79,7 @@ fn note(f: Found, k: usize, l: LaneRow, v: Clock) -> Found
 
 // The pass over the lanes of the setup.
 fn lanes_good(t: &[u8], v: Clock) -> Pass
-    requires { ⌜ Room (now t) × (v .0 < 2 ^ 63) ⌝ }
+    requires { ⌜ Room (now t) × (v .0 < 2 ^ 63) × (getD (cells (now t)) framingWord 0 ≤ 64) ⌝ }
     ensures { λ r. ⌜ PassSays (v .0) (cells (now (t .entry))) r ⌝ }
 {
     let mut rest = cell(t, PRESENT);
@@ -166,6 +171,10 @@ pub fn good(t: &[u8]) -> bool
     }
     let n = holding(t);
     if n > LANES {
+        return false;
+    }
+    // One number for the whole table, so it is tested once, before the lanes.
+    if cell(t, FRAMING) > MOST_FRAMING {
         return false;
     }
     match lanes_good(t, v) {

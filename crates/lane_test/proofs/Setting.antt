@@ -70,9 +70,9 @@ module _ (l : LaneRow) (rated : l .rate .0 ≡ perByte (l .weight)) where
     pub group-not-large : 2 * span l ≤ 2 ^ (l .group) → ⊥
     group-not-large h = omega (arith, half-less (span l) (l .group) low least-is)
 
-  pub group-at-most : l .longest .0 ≤ 1500 → l .group ≡ group (givenOf l) → l .group ≤ 31
+  pub group-at-most : l .longest .0 ≤ 1500 → l .framing .0 ≤ 64 → l .group ≡ group (givenOf l) → l .group ≤ 31
   unfolding charge
-  group-at-most h same = rw (same ∙ least-group, rated) (group-le (l .weight) (charge (givenOf l) (l .longest .0)) (omega arith))
+  group-at-most h f same = rw (same ∙ least-group, rated) (group-le (l .weight) (charge (givenOf l) (l .longest .0)) (omega arith))
 
   pub span-pos : 64 ≤ l .longest .0 → 1 ≤ l .weight → l .weight ≤ 1024 → 1 ≤ span l
   unfolding charge

@@ -54,9 +54,9 @@ fn rate_good(l: LaneRow) -> bool
     true
 }
 
-// Whether the group is the least i with 2^i at least longest times c.
+// Whether the group is the least i with 2^i at least c times what the longest record is charged for.
 fn group_good(l: LaneRow) -> bool
-    requires { ⌜ (64 ≤ l .longest .0) × (l .longest .0 ≤ 1500) × (l .rate .0 ≡ perByte (l .weight)) × (1 ≤ l .weight) × (l .weight ≤ 1024) ⌝ }
+    requires { ⌜ (64 ≤ l .longest .0) × (l .longest .0 ≤ 1500) × (l .rate .0 ≡ perByte (l .weight)) × (1 ≤ l .weight) × (l .weight ≤ 1024) × (l .framing .0 ≤ 64) ⌝ }
     ensures { λ r. ⌜ Says r (l .group ≡ group (givenOf l)) ⌝ }
 {
     let index = l.group;
@@ -76,7 +76,7 @@ fn group_good(l: LaneRow) -> bool
 
 // Whether a lane's setting is within the numbers, and its c and group are those of its setting.
 fn setting_good(l: LaneRow) -> bool
-    requires { ⌜ l .rate .0 < 2 ^ 24 ⌝ }
+    requires { ⌜ (l .rate .0 < 2 ^ 24) × (l .framing .0 ≤ 64) ⌝ }
     ensures { λ r. ⌜ Says r (RowAgrees l) ⌝ }
 {
     if l.weight < LEAST_WEIGHT {
@@ -104,7 +104,7 @@ fn setting_good(l: LaneRow) -> bool
 
 // Whether a lane's clock word is near enough to V.
 fn time_good(l: LaneRow, v: Clock) -> bool
-    requires { ⌜ (l .group ≤ 31) × (v .0 < 2 ^ 63) ⌝ }
+    requires { ⌜ (l .group ≤ 31) × (v .0 < 2 ^ 63) × (l .framing .0 ≤ 64) ⌝ }
     ensures { λ r. ⌜ Says r (TimeGood (v .0) l) ⌝ }
 {
     let window = two_slots(l.group);
@@ -116,7 +116,7 @@ fn time_good(l: LaneRow, v: Clock) -> bool
     }
     let rounded = rounded_start(l.time, l.group);
     // How far the clock may run ahead in one take: what the longest record of any lane costs the line.
-    let reach = line_charge(Bytes(MOST_LONGEST));
+    let reach = line_charge(charged(l, Bytes(MOST_LONGEST)));
     if not_after(plus(plus(rounded, window), reach), v) {
         return false;
     }
@@ -145,9 +145,9 @@ fn lengths_good(t: &[u8], k: usize, l: LaneRow) -> bool
     true
 }
 
-// Whether lane `k`, which is in the setup and has the row `l`, is good.
+// Whether lane `k`, which is in the setup and has the row `l`, is good. The line's framing bytes are the whole table's, tested before its lanes.
 pub fn lane_good(t: &[u8], k: usize, l: LaneRow, v: Clock) -> bool
-    requires { ⌜ Room (now t) × (k < 64) × (presentAt (cells (now t)) k ≡ true) × (l ≡ rowAt (cells (now t)) k) × (l .head < 16) × (l .rate .0 < 2 ^ 24) × (v .0 < 2 ^ 63) ⌝ }
+    requires { ⌜ Room (now t) × (k < 64) × (presentAt (cells (now t)) k ≡ true) × (l ≡ rowAt (cells (now t)) k) × (l .head < 16) × (l .rate .0 < 2 ^ 24) × (v .0 < 2 ^ 63) × (l .framing .0 ≤ 64) ⌝ }
     ensures { λ r. ⌜ Says r (LaneGood (v .0) (cells (now (t .entry))) k) ⌝ }
 {
     let agrees = setting_good(l);

@@ -11,7 +11,7 @@ use lib.Seq.{getD-set-same, getD-set-other}
 use Rattle.words.specs.Runs.{reads}
 use Rattle.words.proofs.Runs.{reads-ext, reads-snoc}
 use Rattle.units.specs.Plain.{if_then_else_, without}
-use Rattle.table.specs.Layout.{holdingWord, orderWord}
+use Rattle.table.specs.Layout.{holdingWord, orderWord, framingWord}
 use Rattle.table.proofs.Footprint.{OutsideOrder}
 
 if-append : (b : Bool) (x : ℕ) (xs ys : List ℕ) → (if b then xs else x ∷ xs) ++ ys ≡ (if b then xs ++ ys else x ∷ (xs ++ ys))
@@ -70,6 +70,7 @@ module _ (w₀ w : List ℕ) (k n j : ℕ) (few : n ≤ 64) (len : length w ≡ 
       record {
         clock = getD-set-other w holdingWord 0 j 0 (omega arith) ∙ t .below 0 (omega arith);
         present = getD-set-other w holdingWord 1 j 0 (omega arith) ∙ t .below 1 (omega arith);
+        framing = getD-set-other w holdingWord framingWord j 0 (omega arith) ∙ t .below framingWord (omega arith);
         above = λ i h. getD-set-other w holdingWord i j 0 (omega arith) ∙ t .tail i (omega arith);
       }
 
@@ -90,7 +91,7 @@ module _ (w : List ℕ) (k n : ℕ) (room : n < 64) (len : length w ≡ 1360) wh
 
   pub join-outside : OutsideOrder w joined
   join-outside =
-      record { clock = other 0 (omega arith) (omega arith); present = other 1 (omega arith) (omega arith); above = λ i h. other i (omega arith) (omega arith) }
+      record { clock = other 0 (omega arith) (omega arith); present = other 1 (omega arith) (omega arith); framing = other framingWord (omega arith) (omega arith); above = λ i h. other i (omega arith) (omega arith) }
 
   pub join-done : reads joined orderWord (getD joined holdingWord 0) ≡ reads w orderWord n ++ k ∷ []
   join-done =

@@ -5,11 +5,11 @@
 --   accepted-plan, accepted-setup   what they say of the code's answer
 --
 -- Assumes nothing.
-use Prim.Native.Nat.{ℕ, zero, suc, _-_}
+use Prim.Native.Nat.{ℕ, zero, suc, _-_, _≤_}
 use mathlib.Core.Path.{_≡_, refl, sym, ap, _∙_}
 use mathlib.Core.Bool.{Bool, true, false}
-use mathlib.Core.List.{List}
-use mathlib.Core.Option.{some}
+use mathlib.Core.List.{List, [], _∷_, _++_, map}
+use mathlib.Core.Option.{Option, some, none}
 use native.Mathlib.Omega.{arith}
 use borrow.Author.Tests.{ltb-false}
 use lib.Dec.{ltb}
@@ -19,58 +19,95 @@ use Rattle.rules.specs.State.{Setting}
 use Rattle.rules.proofs.Figures.{framing-bound, framed-by}
 use Rattle.plan.specs.Fields.{Item, whole, bad}
 use Rattle.plan.specs.Judge.{judgedAt, after}
-use Rattle.plan.specs.Read.{Reply, read, refused, nothingSeen, noLanes, next, walk, readPlan, closed, readSetup, settings, came, reads}
-use Rattle.plan.specs.Accepted.{Laid, PlanWithin}
+use Rattle.plan.specs.Read.{Reply, read, refused, nothingSeen, noLanes, placed, next, walk, readPlan, closed, readSetup, settings, came, reads}
+use Rattle.plan.specs.Accepted.{Laid, framed, framedBy, PlanWithin}
+use Rattle.plan.specs.declared.judge.Seen.{Seen}
 use Rattle.plan.specs.declared.Reading.{Reading}
 use Rattle.plan.specs.declared.Outcome.the-variants.{Read}
 use Rattle.plan.specs.declared.parse.SetupField.{SetupField}
-use Rattle.plan.specs.declared.parse.SetupField.the-variants.{Format, Lane, End}
-use Rattle.plan.proofs.Inside.{true-false, format-one}
+use Rattle.plan.specs.declared.parse.SetupField.the-variants.{Format, Lane, Framing, End}
+use Rattle.plan.proofs.Inside.{true-false, format-one, framing-small}
 use Rattle.plan.proofs.Stands.{Taken, is-taken}
-use Rattle.plan.proofs.Sound.{sound-first, sound-after}
-use Rattle.plan.proofs.Rest.{Rest, rest, refused-read}
+use Rattle.plan.proofs.Sound.{Sound, sound-first, sound-after}
+use Rattle.plan.proofs.Rest.{Rest, rest, rest-lane, refused-read}
+
+-- what the fields before the lanes fix
+abbrev opened : Bool → ℕ → Seen
+opened o h = record { begun = true; opening = o; framing = h; floor = 0; total = 0; count = 0 }
 
 module _ (s : List ℕ) (at : ℕ) (gs : List Setting) (n p : ℕ) where
   -- the first field is 0x01 with format 1
-  first-format : (v m : ℕ) → Taken nothingSeen s at (Format v) m → Rest s (after nothingSeen (Format v)) noLanes m gs n p → PlanWithin s at gs n p
-  unfolding Laid
-  first-format v m k r =
-      let one = format-one v (k .inside) in
-      let ok = r .sound in
-      record {
-        rule = record {
-          lanes = r .lanes;
-          laid = (m, k .item ∙ ap (λ (x : ℕ). whole (Format x) m) one, r .laid);
-          rising = r .rising;
-          each = r .each;
-          total = omega (arith, r .weigh, ok .total);
-          some-lane = omega (arith, r .number, r .some-lane);
-          given = r .given;
-          number = omega (arith, r .number);
-        };
-        setup = record {
-          size = ok .size;
-          each = ok .each;
-          some-lane = omega (arith, ok .sum-is, ok .few, r .counted, r .some-lane);
-          total = omega (arith, ok .sum-is, ok .total);
-          framing-high = omega (arith, framing-bound 0 gs (λ k. omega (arith, ok .framed k)));
-          framed = framed-by 0 gs (λ k. omega (arith, ok .framed k)) (λ k w. ok .framed k);
-        };
-        are-there = ok .there-are ∙ r .counted;
-        some-lane = r .some-lane;
-        few = omega (arith, ok .count, ok .floor, r .counted);
-        weigh = omega (arith, ok .sum-is, r .weigh);
-        past = omega (arith, r .past, k .stand .after);
-        within = r .within;
-      }
+  module _ (v m : ℕ) (k : Taken nothingSeen s at (Format v) m) where
+    one : v ≡ 1
+    one = format-one v (k .inside)
+
+    -- then 0x11, or none; then the lanes
+    planned : (f : Option ℕ) (o : Bool) (m₁ : ℕ) → framedBy f ≤ 64 → m ≤ m₁ → (r : Rest s (opened o (framedBy f)) noLanes m₁ gs n p)
+        → Laid s m (framed f ++ (map Lane (r .lanes) ++ (End ∷ []))) p → PlanWithin s at gs n p
+    unfolding Laid
+    planned f o m₁ most on r laid =
+        let ok = r .sound in
+        record {
+          rule = record {
+            framing = f;
+            lanes = r .lanes;
+            laid = (m, k .item ∙ ap (λ (x : ℕ). whole (Format x) m) one, laid);
+            framing-high = most;
+            rising = r .rising;
+            each = r .each;
+            total = omega (arith, r .weigh, ok .total);
+            some-lane = omega (arith, r .number, r .some-lane);
+            given = r .given;
+            number = omega (arith, r .number);
+          };
+          setup = record {
+            size = ok .size;
+            each = ok .each;
+            some-lane = omega (arith, ok .sum-is, ok .few, r .counted, r .some-lane);
+            total = omega (arith, ok .sum-is, ok .total);
+            framing-high = omega (arith, framing-bound (r .last .framing) gs (ok .most), ok .bytes);
+            framed = framed-by (r .last .framing) gs (ok .most) (ok .framed);
+          };
+          are-there = ok .there-are ∙ r .counted;
+          some-lane = r .some-lane;
+          few = omega (arith, ok .count, ok .floor, r .counted);
+          weigh = omega (arith, ok .sum-is, r .weigh);
+          past = omega (arith, r .past, k .stand .after, on);
+          within = r .within;
+        }
+
+    abbrev begun : Seen
+    begun = after nothingSeen (Format v)
+
+    ok : Sound begun noLanes
+    ok = sound-after nothingSeen noLanes (Format v) sound-first (k .in-place) (k .inside) (k .under)
+
+    second-field : (turns : ℕ) (f : SetupField) (m₁ : ℕ) → Taken begun s m f m₁ → next begun noLanes (whole f m₁) (walk turns s) ≡ read gs n p → PlanWithin s at gs n p
+    unfolding Laid
+    second-field turns (Format w) m₁ q h = true-false (q .in-place)
+    second-field turns (Lane l) m₁ q h =
+        let more = rest turns s (after begun (Lane l)) (placed 0 noLanes (Lane l)) m₁ gs n p refl refl (sound-after begun noLanes (Lane l) ok (q .in-place) (q .inside) (q .under)) h in
+        let r = rest-lane turns s begun noLanes m gs n p refl ok l m₁ q more in
+        planned none true m (omega arith) (omega arith) r (r .laid)
+    second-field turns (Framing h) m₁ q e =
+        let r = rest turns s (after begun (Framing h)) noLanes m₁ gs n p refl refl (sound-after begun noLanes (Framing h) ok (q .in-place) (q .inside) (q .under)) e in
+        planned (some h) false m₁ (framing-small h (q .inside)) (omega (arith, q .stand .after)) r (m₁, q .item, r .laid)
+    second-field turns End m₁ q h = true-false (q .in-place)
+
+    second-item : (turns : ℕ) (i : Item) → judgedAt begun s m ≡ i → next begun noLanes i (walk turns s) ≡ read gs n p → PlanWithin s at gs n p
+    second-item turns (bad a b) j h = refused-read h
+    second-item turns (whole f m₁) j h = second-field turns f m₁ (is-taken begun s m f m₁ j) h
+
+    second-turn : (turns : ℕ) → walk turns s begun noLanes m ≡ read gs n p → PlanWithin s at gs n p
+    unfolding walk
+    second-turn zero h = refused-read h
+    second-turn (suc turns) h = second-item turns (judgedAt begun s m) refl h
 
   first-field : (turns : ℕ) (f : SetupField) (m : ℕ) → Taken nothingSeen s at f m → next nothingSeen noLanes (whole f m) (walk turns s) ≡ read gs n p
       → PlanWithin s at gs n p
-  first-field turns (Format v) m k h =
-      first-format v m k
-      (rest turns s (after nothingSeen (Format v)) noLanes m gs n p refl
-      (sound-after nothingSeen noLanes (Format v) sound-first (k .in-place) (k .inside) (k .under)) h)
+  first-field turns (Format v) m k h = second-turn v m k turns h
   first-field turns (Lane l) m k h = true-false (k .in-place)
+  first-field turns (Framing v) m k h = true-false (k .in-place)
   first-field turns End m k h = true-false (k .in-place)
 
   first-item : (turns : ℕ) (i : Item) → judgedAt nothingSeen s at ≡ i → next nothingSeen noLanes i (walk turns s) ≡ read gs n p

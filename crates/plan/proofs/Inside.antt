@@ -9,12 +9,12 @@ use borrow.Author.Tests.{leb-true, ltb-false, eqb-true}
 use lib.Dec.{leb, ltb, eqb}
 use Rattle.units.specs.Plain.{if_then_else_}
 use Rattle.rules.specs.Setup.{InNumbers}
-use Rattle.plan.specs.Judge.{longestOf, given, lastLane, within, misplaced, laneOutside, Inside, over, faults}
+use Rattle.plan.specs.Judge.{longestOf, given, lastLane, mostFraming, within, misplaced, laneOutside, Inside, over, faults}
 use Rattle.plan.specs.declared.judge.Fault.{Fault}
-use Rattle.plan.specs.declared.judge.Fault.the-variants.{NoFault, BadFormat, BadLane, BadWeight, BadLongest, TotalOver}
+use Rattle.plan.specs.declared.judge.Fault.the-variants.{NoFault, BadFormat, BadLane, BadWeight, BadLongest, BadFraming, TotalOver}
 use Rattle.plan.specs.declared.judge.Seen.{Seen}
 use Rattle.plan.specs.declared.parse.LaneField.{LaneField}
-use Rattle.plan.specs.declared.parse.SetupField.the-variants.{Format, Lane}
+use Rattle.plan.specs.declared.parse.SetupField.the-variants.{Format, Lane, Framing}
 
 pub true-false : {A : Type 0} → true ≡ false → A
 true-false h = absurd (let z : _≡_ {A = ℕ} 0 1 = cc in omega arith)
@@ -57,8 +57,8 @@ module _ (l : LaneField) (h : laneOutside l ≡ NoFault) where
   pub lane-number : l .lane ≤ 63
   lane-number = let n : l .lane ≤ lastLane = leb-true (l .lane) lastLane (tests .0) in omega arith
 
-  pub in-numbers : InNumbers (given l)
-  in-numbers =
+  pub in-numbers : (h : ℕ) → InNumbers (given h l)
+  in-numbers h =
       let w = within-true 1 1024 (l .weight) (tests .1 .0) in
       let g = within-true 64 1500 (longestOf (l .longest)) (tests .1 .1) in
       record { weight-low = w .0; weight-high = w .1; longest-low = g .0; longest-high = g .1 }
@@ -81,3 +81,11 @@ format-test false e = fault-none _ refl e
 
 pub format-one : (v : ℕ) → Inside (Format v) → v ≡ 1
 format-one v h = eqb-true v 1 (format-test (eqb v 1) h)
+
+-- and the framing bytes are at most 64
+framing-test : (b : Bool) → (if b then BadFraming else NoFault) ≡ NoFault → b ≡ false
+framing-test true e = fault-none _ refl e
+framing-test false e = refl
+
+pub framing-small : (h : ℕ) → Inside (Framing h) → h ≤ 64
+framing-small h e = ltb-false mostFraming h (framing-test (ltb mostFraming h) e)

@@ -22,10 +22,10 @@ use Rattle.plan.specs.Judge.{misplaced, outside, over, faulted, judged, 
 use Rattle.plan.specs.Read.{read, refused, nothingSeen, noLanes, placed, next, walk, readPlan}
 use Rattle.plan.specs.Accepted.{Refused}
 use Rattle.plan.specs.declared.judge.Fault.{Fault}
-use Rattle.plan.specs.declared.judge.Fault.the-variants.{NoFault, BadFormat, BadLane, BadWeight, BadLongest, TotalOver}
+use Rattle.plan.specs.declared.judge.Fault.the-variants.{NoFault, BadFormat, BadLane, BadWeight, BadLongest, BadFraming, TotalOver}
 use Rattle.plan.specs.declared.judge.Seen.{Seen}
 use Rattle.plan.specs.declared.parse.SetupField.{SetupField}
-use Rattle.plan.specs.declared.parse.SetupField.the-variants.{Format, Lane, End}
+use Rattle.plan.specs.declared.parse.SetupField.the-variants.{Format, Lane, Framing, End}
 use Rattle.plan.proofs.Stands.{stands, is-taken}
 
 whole-bad : {A : Type 0} {n : ℕ} {p : Option ℕ} {f : SetupField} {m : ℕ} → whole f m ≡ bad n p → A
@@ -72,6 +72,7 @@ module _ (s : List ℕ) (at n : ℕ) (q : Option ℕ) where
   row-bad BadLane l rest go h = at-place 5 (at + 0) (omega arith) (omega arith) (λ r. omega arith) (omega arith) h
   row-bad BadWeight l rest go h = at-place 5 (at + 0) (omega arith) (omega arith) (λ r. omega arith) (omega arith) h
   row-bad BadLongest l rest go h = at-place 5 (at + 0) (omega arith) (omega arith) (λ r. omega arith) (omega arith) h
+  row-bad BadFraming l rest go h = at-place 5 (at + 0) (omega arith) (omega arith) (λ r. omega arith) (omega arith) h
   row-bad TotalOver l rest go h = at-place 6 (at + 0) (omega arith) (omega arith) (λ r. omega arith) (omega arith) h
 
   field-bad : (seen : Seen) (a : Bool) (f : SetupField) (m : ℕ) → at < length s
@@ -110,10 +111,13 @@ module _ (s : List ℕ) (n : ℕ) (q : Option ℕ) where
       judged-bad s at n q seen (e ∙ a)
   turn-refused turns seen gs at more (whole (Format v) m) e h =
       let k = is-taken seen s at (Format v) m e .stand in
-      earlier s at m n q (omega (arith, k .after)) (omega (arith, k .after, k .fits)) (more (after seen (Format v)) (placed gs (Format v)) m h)
+      earlier s at m n q (omega (arith, k .after)) (omega (arith, k .after, k .fits)) (more (after seen (Format v)) (placed (seen .framing) gs (Format v)) m h)
   turn-refused turns seen gs at more (whole (Lane l) m) e h =
       let k = is-taken seen s at (Lane l) m e .stand in
-      earlier s at m n q (omega (arith, k .after)) (omega (arith, k .after, k .fits)) (more (after seen (Lane l)) (placed gs (Lane l)) m h)
+      earlier s at m n q (omega (arith, k .after)) (omega (arith, k .after, k .fits)) (more (after seen (Lane l)) (placed (seen .framing) gs (Lane l)) m h)
+  turn-refused turns seen gs at more (whole (Framing l) m) e h =
+      let k = is-taken seen s at (Framing l) m e .stand in
+      earlier s at m n q (omega (arith, k .after)) (omega (arith, k .after, k .fits)) (more (after seen (Framing l)) (placed (seen .framing) gs (Framing l)) m h)
   turn-refused turns seen gs at more (whole End m) e h = read-refused h
 
   walk-refused : (turns : ℕ) (seen : Seen) (gs : List Setting) (at : ℕ) → walk turns s seen gs at ≡ refused n q → Refused s at n q

@@ -5,8 +5,8 @@
 --
 -- Assumes nothing.
 use Prim.Native.Nat.{ℕ, zero, suc, _+_, _≤_, _<_}
-use mathlib.Core.Path.{_≡_, refl, sym, subst, _∙_}
-use mathlib.Core.Bool.{true}
+use mathlib.Core.Path.{_≡_, refl, sym, ap, subst, _∙_}
+use mathlib.Core.Bool.{true, false, not}
 use mathlib.Core.List.{List, [], _∷_, _++_, map}
 use mathlib.Core.Option.{Option}
 use native.Mathlib.Omega.{arith}
@@ -20,7 +20,7 @@ use Rattle.plan.specs.Accepted.{Laid, Rising, LanesWithin, weighed, plac
 use Rattle.plan.specs.declared.judge.Seen.{Seen}
 use Rattle.plan.specs.declared.parse.LaneField.{LaneField}
 use Rattle.plan.specs.declared.parse.SetupField.{SetupField}
-use Rattle.plan.specs.declared.parse.SetupField.the-variants.{Format, Lane, End}
+use Rattle.plan.specs.declared.parse.SetupField.the-variants.{Format, Lane, Framing, End}
 use Rattle.plan.proofs.Inside.{true-false, lane-number, in-numbers, is-rising}
 use Rattle.plan.proofs.Stands.{Taken, is-taken}
 use Rattle.plan.proofs.Sound.{Sound, sound-after}
@@ -34,7 +34,7 @@ pub record Rest (s : List ℕ) (seen : Seen) (gs : List Setting) (at : ℕ) (gs�
   pub laid : Laid s at (map Lane lanes ++ (End ∷ [])) p
   pub rising : Rising (seen .floor) lanes
   pub each : LanesWithin lanes
-  pub given : gs′ ≡ placedAll gs lanes
+  pub given : gs′ ≡ placedAll (seen .framing) gs lanes
   pub number : seen .count + length lanes ≡ n
   pub last : Seen
   pub sound : Sound last gs′
@@ -45,7 +45,7 @@ pub record Rest (s : List ℕ) (seen : Seen) (gs : List Setting) (at : ℕ) (gs�
   pub within : p ≤ length s
 
 module _ (turns : ℕ) (s : List ℕ) (seen : Seen) (gs : List Setting) (at : ℕ) (gs′ : List Setting) (n p : ℕ) (begun : seen .begun ≡ true) (ok : Sound seen gs) where
-  rest-end : (m : ℕ) → Taken seen s at End m → read gs (seen .count) m ≡ read gs′ n p → Rest s seen gs at gs′ n p
+  pub rest-end : (m : ℕ) → Taken seen s at End m → read gs (seen .count) m ≡ read gs′ n p → Rest s seen gs at gs′ n p
   unfolding Laid Rising LanesWithin placedAll
   rest-end m k h =
       let g : gs ≡ gs′ = cc in
@@ -67,7 +67,7 @@ module _ (turns : ℕ) (s : List ℕ) (seen : Seen) (gs : List Setting) (at : �
         within = omega (arith, k .stand .after, k .stand .fits);
       }
 
-  rest-lane : (l : LaneField) (m : ℕ) → Taken seen s at (Lane l) m → Rest s (after seen (Lane l)) (placed gs (Lane l)) m gs′ n p
+  pub rest-lane : (l : LaneField) (m : ℕ) → Taken seen s at (Lane l) m → Rest s (after seen (Lane l)) (placed (seen .framing) gs (Lane l)) m gs′ n p
       → Rest s seen gs at gs′ n p
   unfolding Laid Rising LanesWithin placedAll
   rest-lane l m k r = record {
@@ -86,20 +86,21 @@ module _ (turns : ℕ) (s : List ℕ) (seen : Seen) (gs : List Setting) (at : �
     within = r .within;
   }
 
-  module _ (more : (seen₁ : Seen) (gs₁ : List Setting) (m : ℕ) → seen₁ .begun ≡ true → Sound seen₁ gs₁ → walk turns s seen₁ gs₁ m ≡ read gs′ n p → Rest s seen₁ gs₁ m gs′ n p) where
+  module _ (shut : seen .opening ≡ false) (more : (seen₁ : Seen) (gs₁ : List Setting) (m : ℕ) → seen₁ .begun ≡ true → seen₁ .opening ≡ false → Sound seen₁ gs₁ → walk turns s seen₁ gs₁ m ≡ read gs′ n p → Rest s seen₁ gs₁ m gs′ n p) where
     rest-field : (f : SetupField) (m : ℕ) → Taken seen s at f m → next seen gs (whole f m) (walk turns s) ≡ read gs′ n p → Rest s seen gs at gs′ n p
     rest-field (Format v) m k h = true-false (sym begun ∙ k .in-place)
     rest-field (Lane l) m k h =
-        rest-lane l m k (more (after seen (Lane l)) (placed gs (Lane l)) m refl (sound-after seen gs (Lane l) ok (k .in-place) (k .inside) (k .under)) h)
+        rest-lane l m k (more (after seen (Lane l)) (placed (seen .framing) gs (Lane l)) m refl refl (sound-after seen gs (Lane l) ok (k .in-place) (k .inside) (k .under)) h)
+    rest-field (Framing v) m k h = true-false (sym (ap not shut) ∙ k .in-place)
     rest-field End m k h = rest-end m k h
 
     rest-item : (i : Item) → judgedAt seen s at ≡ i → next seen gs i (walk turns s) ≡ read gs′ n p → Rest s seen gs at gs′ n p
     rest-item (bad a b) e h = refused-read h
     rest-item (whole f m) e h = rest-field f m (is-taken seen s at f m e) h
 
-pub rest : (turns : ℕ) (s : List ℕ) (seen : Seen) (gs : List Setting) (at : ℕ) (gs′ : List Setting) (n p : ℕ) → seen .begun ≡ true → Sound seen gs
+pub rest : (turns : ℕ) (s : List ℕ) (seen : Seen) (gs : List Setting) (at : ℕ) (gs′ : List Setting) (n p : ℕ) → seen .begun ≡ true → seen .opening ≡ false → Sound seen gs
     → walk turns s seen gs at ≡ read gs′ n p → Rest s seen gs at gs′ n p
 unfolding walk
-rest zero s seen gs at gs′ n p b ok h = refused-read h
-rest (suc turns) s seen gs at gs′ n p b ok h =
-    rest-item turns s seen gs at gs′ n p b ok (λ seen₁ gs₁ m b₁ ok₁ h₁. rest turns s seen₁ gs₁ m gs′ n p b₁ ok₁ h₁) (judgedAt seen s at) refl h
+rest zero s seen gs at gs′ n p b c ok h = refused-read h
+rest (suc turns) s seen gs at gs′ n p b c ok h =
+    rest-item turns s seen gs at gs′ n p b ok c (λ seen₁ gs₁ m b₁ c₁ ok₁ h₁. rest turns s seen₁ gs₁ m gs′ n p b₁ c₁ ok₁ h₁) (judgedAt seen s at) refl h

@@ -1,12 +1,12 @@
 -- The fields so far are a setup within the numbers, and each field that is taken keeps it so.
 -- Assumes nothing.
-use Prim.Native.Nat.{ℕ, _+_, _≤_}
-use mathlib.Core.Path.{_≡_, refl, ap, _∙_}
-use mathlib.Core.Bool.{false}
+use Prim.Native.Nat.{ℕ, _+_, _≤_, _<_}
+use mathlib.Core.Path.{_≡_, refl, sym, ap, _∙_}
+use mathlib.Core.Bool.{true, false}
 use mathlib.Core.List.{List}
 use mathlib.Core.Logic.{_⊎_, inl, inr}
 use native.Mathlib.Omega.{arith}
-use borrow.Author.Tests.{lt-ltb}
+use borrow.Author.Tests.{lt-ltb, not-false}
 use lib.ListN.{length, set, length-set}
 use Rattle.units.specs.Plain.{sum}
 use Rattle.rules.specs.State.{Setting, noSetting, settingAt}
@@ -18,14 +18,18 @@ use Rattle.plan.specs.declared.judge.Fault.the-variants.{NoFault}
 use Rattle.plan.specs.declared.judge.Seen.{Seen}
 use Rattle.plan.specs.declared.parse.LaneField.{LaneField}
 use Rattle.plan.specs.declared.parse.SetupField.{SetupField}
-use Rattle.plan.specs.declared.parse.SetupField.the-variants.{Format, Lane, End}
+use Rattle.plan.specs.declared.parse.SetupField.the-variants.{Format, Lane, Framing, End}
 use Rattle.plan.proofs.Lists.{sum-set, set-cases, replicate-at}
-use Rattle.plan.proofs.Inside.{lane-number, in-numbers, is-rising, is-under}
+use Rattle.plan.proofs.Inside.{true-false, framing-small, lane-number, in-numbers, is-rising, is-under}
 
 pub record Sound (seen : Seen) (gs : List Setting) : Type 0 where
   pub size : length gs ≡ 64
   pub each : (k : ℕ) → InNumbers (settingAt gs k) ⊎ (settingAt gs k ≡ noSetting)
-  pub framed : (k : ℕ) → (settingAt gs k) .framing ≡ 0
+  pub framed : (k : ℕ) → 0 < (settingAt gs k) .weight → (settingAt gs k) .framing ≡ seen .framing
+  pub most : (k : ℕ) → (settingAt gs k) .framing ≤ seen .framing
+  pub bytes : seen .framing ≤ 64
+  pub none-yet : seen .opening ≡ true → seen .floor ≡ 0
+  pub begin : seen .begun ≡ false → seen .floor ≡ 0
   pub above : (k : ℕ) → seen .floor ≤ k → settingAt gs k ≡ noSetting
   pub sum-is : weights gs ≡ seen .total
   pub there-are : present gs ≡ seen .count
@@ -38,7 +42,11 @@ pub sound-first : Sound nothingSeen noLanes
 sound-first = record {
   size = refl;
   each = λ k. inr (replicate-at 64 k noSetting);
-  framed = λ k. ap (λ (g : Setting). g .framing) (replicate-at 64 k noSetting);
+  framed = λ k w. ap (λ (g : Setting). g .framing) (replicate-at 64 k noSetting);
+  most = λ k. omega (arith, ap (λ (g : Setting). g .framing) (replicate-at 64 k noSetting));
+  bytes = omega arith;
+  none-yet = λ o. refl;
+  begin = λ o. refl;
   above = λ k h. replicate-at 64 k noSetting;
   sum-is = refl;
   there-are = refl;
@@ -49,6 +57,9 @@ sound-first = record {
 }
 
 module _ (seen : Seen) (gs : List Setting) (ok : Sound seen gs) (l : LaneField) (m : misplaced seen (Lane l) ≡ false) (o : Inside (Lane l)) (w : over seen (Lane l) ≡ NoFault) where
+  abbrev h : ℕ
+  h = seen .framing
+
   low : l .lane ≤ 63
   low = lane-number l o
 
@@ -56,32 +67,40 @@ module _ (seen : Seen) (gs : List Setting) (ok : Sound seen gs) (l : LaneField) 
   free = ok .above (l .lane) (is-rising seen l m)
 
   -- a figure of the settings grows by the lane's own
-  grown : (f : Setting → ℕ) → f noSetting ≡ 0 → sum f (set gs (l .lane) (given l)) ≡ sum f gs + f (given l)
-  grown f z = omega (arith, sum-set f gs (l .lane) (given l) noSetting (omega (arith, low, ok .size)), ap f free, z)
+  grown : (f : Setting → ℕ) → f noSetting ≡ 0 → sum f (set gs (l .lane) (given h l)) ≡ sum f gs + f (given h l)
+  grown f z = omega (arith, sum-set f gs (l .lane) (given h l) noSetting (omega (arith, low, ok .size)), ap f free, z)
 
-  one : there (given l) ≡ 1
-  one = rw (lt-ltb 0 (l .weight) (in-numbers l o .weight-low))
+  one : there (given h l) ≡ 1
+  one = rw (lt-ltb 0 (l .weight) (in-numbers l o h .weight-low))
 
-  lane-kept : Sound (after seen (Lane l)) (placed gs (Lane l))
+  lane-kept : Sound (after seen (Lane l)) (placed h gs (Lane l))
   lane-kept = record {
-    size = length-set gs (l .lane) (given l) ∙ ok .size;
-    each = λ k. set-cases (λ (g : Setting). InNumbers g ⊎ (g ≡ noSetting)) gs (l .lane) k (given l) noSetting (λ e. inl (in-numbers l o)) (λ e. ok .each k) (inr refl);
-    framed = λ k. set-cases (λ (g : Setting). g .framing ≡ 0) gs (l .lane) k (given l) noSetting (λ e. refl) (λ e. ok .framed k) refl;
-    above = λ k h. set-cases (λ (g : Setting). g ≡ noSetting) gs (l .lane) k (given l) noSetting (λ e. absurd (omega (arith, e, h))) (λ e. ok .above k (omega (arith, is-rising seen l m, h))) refl;
+    size = length-set gs (l .lane) (given h l) ∙ ok .size;
+    each = λ k. set-cases (λ (g : Setting). InNumbers g ⊎ (g ≡ noSetting)) gs (l .lane) k (given h l) noSetting (λ e. inl (in-numbers l o h)) (λ e. ok .each k) (inr refl);
+    framed = λ k. set-cases (λ (g : Setting). 0 < g .weight → g .framing ≡ seen .framing) gs (l .lane) k (given h l) noSetting (λ e w. refl) (λ e. ok .framed k) (λ w. absurd (omega arith));
+    most = λ k. set-cases (λ (g : Setting). g .framing ≤ seen .framing) gs (l .lane) k (given h l) noSetting (λ e. omega arith) (λ e. ok .most k) (omega arith);
+    bytes = ok .bytes;
+    none-yet = λ o. true-false (sym o);
+    begin = λ o. true-false o;
+    above = λ k b. set-cases (λ (g : Setting). g ≡ noSetting) gs (l .lane) k (given h l) noSetting (λ e. absurd (omega (arith, e, b))) (λ e. ok .above k (omega (arith, is-rising seen l m, b))) refl;
     sum-is = omega (arith, grown (λ (g : Setting). g .weight) refl, ok .sum-is);
     there-are = omega (arith, grown there refl, ok .there-are, one);
     total = is-under seen l w;
-    few = omega (arith, ok .few, in-numbers l o .weight-low);
+    few = omega (arith, ok .few, in-numbers l o h .weight-low);
     count = omega (arith, ok .count, is-rising seen l m);
     floor = omega (arith, low);
   }
 
 pub sound-after : (seen : Seen) (gs : List Setting) (f : SetupField) → Sound seen gs → misplaced seen f ≡ false → Inside f → over seen f ≡ NoFault
-    → Sound (after seen f) (placed gs f)
+    → Sound (after seen f) (placed (seen .framing) gs f)
 sound-after seen gs (Format v) ok m o w = record {
   size = ok .size;
   each = ok .each;
   framed = ok .framed;
+  most = ok .most;
+  bytes = ok .bytes;
+  none-yet = λ e. ok .begin m;
+  begin = λ e. true-false e;
   above = ok .above;
   sum-is = ok .sum-is;
   there-are = ok .there-are;
@@ -91,4 +110,22 @@ sound-after seen gs (Format v) ok m o w = record {
   floor = ok .floor;
 }
 sound-after seen gs (Lane l) ok m o w = lane-kept seen gs ok l m o w
+sound-after seen gs (Framing v) ok m o w =
+    let none : (k : ℕ) → settingAt gs k ≡ noSetting = λ k. ok .above k (omega (arith, ok .none-yet (not-false (seen .opening) m))) in
+    record {
+      size = ok .size;
+      each = ok .each;
+      framed = λ k b. absurd (omega (arith, ap (λ (g : Setting). g .weight) (none k)));
+      most = λ k. omega (arith, ap (λ (g : Setting). g .framing) (none k));
+      bytes = framing-small v o;
+      none-yet = λ e. true-false (sym e);
+      above = ok .above;
+      sum-is = ok .sum-is;
+      there-are = ok .there-are;
+      total = ok .total;
+      few = ok .few;
+      count = ok .count;
+      floor = ok .floor;
+      begin = λ e. true-false e;
+    }
 sound-after seen gs End ok m o w = ok

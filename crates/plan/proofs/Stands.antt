@@ -22,7 +22,7 @@ use Rattle.units.specs.Plain.{if_then_else_}
 use Rattle.plan.specs.Fields.{Item, whole, bad, known, fitting, fieldOf, taken, itemAt}
 use Rattle.plan.specs.Judge.{misplaced, outside, Inside, over, faults, tabled, faulted, judged, judgedAt}
 use Rattle.plan.specs.declared.judge.Fault.{Fault}
-use Rattle.plan.specs.declared.judge.Fault.the-variants.{NoFault, BadFormat, BadLane, BadWeight, BadLongest, TotalOver}
+use Rattle.plan.specs.declared.judge.Fault.the-variants.{NoFault, BadFormat, BadLane, BadWeight, BadLongest, BadFraming, TotalOver}
 use Rattle.plan.specs.declared.judge.Seen.{Seen}
 use Rattle.plan.specs.declared.parse.SetupField.{SetupField}
 
@@ -88,6 +88,7 @@ only-none BadFormat h = some-none h
 only-none BadLane h = some-none h
 only-none BadWeight h = some-none h
 only-none BadLongest h = some-none h
+only-none BadFraming h = some-none h
 only-none TotalOver h = some-none h
 
 no-fault : (at : ℕ) (x : Fault) (rest : Item) (f : SetupField) (m : ℕ) → faulted at x rest ≡ whole f m → (x ≡ NoFault) × (rest ≡ whole f m)

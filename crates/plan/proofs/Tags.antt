@@ -1,23 +1,39 @@
 -- Laws of `known`, `fitting` and `fieldOf` of specs/Fields.antt: what they are at each tag.
 -- Assumes nothing.
-use Prim.Native.Nat.{ℕ, _+_, _≤_}
+use Prim.Native.Nat.{ℕ, _+_, _≤_, _<_}
 use mathlib.Core.Path.{_≡_, refl}
 use mathlib.Core.Bool.{Bool, true, false, _||_}
 use mathlib.Core.List.{List}
 use mathlib.Core.Logic.{_⊎_, inl, inr, ⊎-elim}
+use native.Mathlib.Decide.{decLe}
 use native.Mathlib.Omega.{arith}
 use borrow.Author.Tests.{ne-eqb, eqb-true}
 use lib.Dec.{eqb}
-use Rattle.fields.specs.Bytes.{big}
+use Rattle.fields.specs.Bytes.{byteAt, big}
 use Rattle.plan.specs.Fields.{known, fitting, longestAt, laneAt, fieldOf}
 use Rattle.plan.specs.declared.parse.Longest.the-variants.{Given, Default}
-use Rattle.plan.specs.declared.parse.SetupField.the-variants.{Format, Lane, End}
+use Rattle.plan.specs.declared.parse.SetupField.the-variants.{Format, Lane, Framing, End}
 
-pub known-is : (t : ℕ) → (t ≡ 1) ⊎ ((t ≡ 16) ⊎ (t ≡ 127)) → known t ≡ true
-known-is t h = ⊎-elim (λ e. rw e) (λ h. ⊎-elim (λ e. rw e) (λ e. rw e) h) h
+pub known-is : (t : ℕ) → (t ≡ 1) ⊎ ((t ≡ 16) ⊎ ((t ≡ 17) ⊎ (t ≡ 127))) → known t ≡ true
+known-is t h = ⊎-elim (λ e. rw e) (λ h. ⊎-elim (λ e. rw e) (λ h. ⊎-elim (λ e. rw e) (λ e. rw e) h) h) h
 
-pub known-not : (t : ℕ) → ((t ≡ 1) ⊎ ((t ≡ 16) ⊎ (t ≡ 127)) → ⊥) → known t ≡ false
-known-not t h = simp (ne-eqb t 1 (λ e. h (inl e)), ne-eqb t 16 (λ e. h (inr (inl e))), ne-eqb t 127 (λ e. h (inr (inr e))))
+pub known-not : (t : ℕ) → ((t ≡ 1) ⊎ ((t ≡ 16) ⊎ ((t ≡ 17) ⊎ (t ≡ 127))) → ⊥) → known t ≡ false
+known-not t h =
+    simp (ne-eqb t 1 (λ e. h (inl e)), ne-eqb t 16 (λ e. h (inr (inl e))), ne-eqb t 17 (λ e. h (inr (inr (inl e)))), ne-eqb t 127 (λ e. h (inr (inr (inr e)))))
+
+-- 0x10 and 0x11 stand side by side
+pub known-ends : (t : ℕ) → (t ≡ 1) ⊎ (t ≡ 127) → known t ≡ true
+known-ends t h = ⊎-elim (λ e. rw e) (λ e. rw e) h
+
+pub known-between : (t : ℕ) → 16 ≤ t → t < 18 → known t ≡ true
+known-between t low high =
+    elim (decLe t 16) [
+      | yes q ↦ let e : t ≡ 16 = omega arith in known-is t (inr (inl e))
+      | no q ↦ let e : t ≡ 17 = omega arith in known-is t (inr (inr (inl e)))
+    ]
+
+pub known-out : (t : ℕ) → ((t ≡ 1) ⊎ (t ≡ 127) → ⊥) → (t ≡ 16 → ⊥) → (t ≡ 17 → ⊥) → known t ≡ false
+known-out t n a b = known-not t (λ h. ⊎-elim (λ e. n (inl e)) (λ h. ⊎-elim a (λ h. ⊎-elim b (λ e. n (inr e)) h) h) h)
 
 module _ (t n : ℕ) where
   pub fitting-format : t ≡ 1 → fitting t n ≡ eqb n 2
@@ -29,8 +45,11 @@ module _ (t n : ℕ) where
   pub fitting-long : t ≡ 16 → (n ≡ 3 → ⊥) → fitting t n ≡ eqb n 5
   fitting-long e f = rw (e, ne-eqb n 3 f)
 
-  pub fitting-end : (t ≡ 1 → ⊥) → (t ≡ 16 → ⊥) → fitting t n ≡ eqb n 0
-  fitting-end e f = rw (ne-eqb t 1 e, ne-eqb t 16 f)
+  pub fitting-framing : t ≡ 17 → fitting t n ≡ eqb n 1
+  fitting-framing e = rw e
+
+  pub fitting-end : (t ≡ 1 → ⊥) → (t ≡ 16 → ⊥) → (t ≡ 17 → ⊥) → fitting t n ≡ eqb n 0
+  fitting-end e f g = rw (ne-eqb t 1 e, ne-eqb t 16 f, ne-eqb t 17 g)
 
 -- a lane field has 3 bytes, or else 5
 either : (n : ℕ) (b : Bool) → eqb n 3 ≡ b → (b || eqb n 5) ≡ true → (n ≡ 3) ⊎ (n ≡ 5)
@@ -62,6 +81,10 @@ module _ (s : List ℕ) (t at n : ℕ) where
   unfolding fieldOf
   field-lane e = rw e
 
-  pub field-end : (t ≡ 1 → ⊥) → (t ≡ 16 → ⊥) → fieldOf s t at n ≡ End
+  pub field-framing : t ≡ 17 → fieldOf s t at n ≡ Framing (byteAt s at)
   unfolding fieldOf
-  field-end e f = rw (ne-eqb t 1 e, ne-eqb t 16 f)
+  field-framing e = rw e
+
+  pub field-end : (t ≡ 1 → ⊥) → (t ≡ 16 → ⊥) → (t ≡ 17 → ⊥) → fieldOf s t at n ≡ End
+  unfolding fieldOf
+  field-end e f g = rw (ne-eqb t 1 e, ne-eqb t 16 f, ne-eqb t 17 g)

@@ -5,6 +5,7 @@
 --   LaneWithin    a lane field within the numbers; LanesWithin: each of some
 --   weighed       the weights of lane fields together
 --   placedAll     the lanes, with those that some fields describe
+--   framed        field 0x11, where there is one; framedBy: the line's framing bytes
 --   Accepted      the rule for a setup that is read
 --   present       how many lanes are there
 --   PlanWithin    what follows of the plan of an accepted setup
@@ -14,7 +15,7 @@
 use Prim.Native.Nat.{ℕ, _+_, _≤_, _<_}
 use mathlib.Core.Path.{_≡_}
 use mathlib.Core.List.{List, [], _∷_, _++_, map}
-use mathlib.Core.Option.{Option, some}
+use mathlib.Core.Option.{Option, some, none}
 use lib.Dec.{ltb}
 use lib.ListN.{length}
 use Rattle.units.specs.Plain.{if_then_else_, sum}
@@ -25,7 +26,7 @@ use Rattle.plan.specs.Judge.{given}
 use Rattle.plan.specs.Read.{noLanes, placed}
 use Rattle.plan.specs.declared.parse.LaneField.{LaneField}
 use Rattle.plan.specs.declared.parse.SetupField.{SetupField}
-use Rattle.plan.specs.declared.parse.SetupField.the-variants.{Format, Lane, End}
+use Rattle.plan.specs.declared.parse.SetupField.the-variants.{Format, Lane, Framing, End}
 
 -- Each field stands whole where the one before it ends, the first at `at`, and the last ends at `next`.
 unfoldable pub Laid : List ℕ → ℕ → List SetupField → ℕ → Type 0
@@ -37,10 +38,10 @@ unfoldable pub Rising : ℕ → List LaneField → Type 0
 Rising low [] = Unit
 Rising low (l ∷ ls) = (low ≤ l .lane) × Rising (l .lane + 1) ls
 
--- Lanes are numbered 0 to 63; a weight is 1 to 1,024 and a longest 64 to 1,500, given or not.
+-- Lanes are numbered 0 to 63; a weight is 1 to 1,024 and a longest 64 to 1,500, given or not, whatever the line's framing.
 pub record LaneWithin (l : LaneField) : Type 0 where
   pub number : l .lane ≤ 63
-  pub numbers : InNumbers (given l)
+  pub numbers : (h : ℕ) → InNumbers (given h l)
 
 unfoldable pub LanesWithin : List LaneField → Type 0
 LanesWithin [] = Unit
@@ -50,20 +51,32 @@ abbrev pub weighed : List LaneField → ℕ
 weighed ls = sum (λ (l : LaneField). l .weight) ls
 
 -- Each lane field, in order, gives its lane a setting.
-unfoldable pub placedAll : List Setting → List LaneField → List Setting
-placedAll gs [] = gs
-placedAll gs (l ∷ ls) = placedAll (placed gs (Lane l)) ls
+unfoldable pub placedAll : ℕ → List Setting → List LaneField → List Setting
+placedAll h gs [] = gs
+placedAll h gs (l ∷ ls) = placedAll h (placed h gs (Lane l)) ls
 
--- The fields from `at` to `next` are 0x01 with format 1, one or more lane fields with rising numbers, and 0x7F; each lane field is within the numbers, and
--- the weights sum to at most 1,024. The plan's lanes are those of the fields, each with its field's setting, and n is how many they are.
+-- 0x11 stands once or not at all ..
+abbrev pub framed : Option ℕ → List SetupField
+framed none = []
+framed (some h) = Framing h ∷ []
+
+-- .. and where it does not, the line has no framing bytes.
+abbrev pub framedBy : Option ℕ → ℕ
+framedBy none = 0
+framedBy (some h) = h
+
+-- The fields from `at` to `next` are 0x01 with format 1, 0x11 with at most 64 or none, one or more lane fields with rising numbers, and 0x7F; each lane
+-- field is within the numbers, and the weights sum to at most 1,024. The plan's lanes are those of the fields, each with its field's setting, and n is how many they are.
 pub record Accepted (s : List ℕ) (at : ℕ) (gs : List Setting) (n next : ℕ) : Type 0 where
+  pub framing : Option ℕ
   pub lanes : List LaneField
-  pub laid : Laid s at (Format 1 ∷ (map Lane lanes ++ (End ∷ []))) next
+  pub laid : Laid s at (Format 1 ∷ (framed framing ++ (map Lane lanes ++ (End ∷ [])))) next
+  pub framing-high : framedBy framing ≤ 64
   pub rising : Rising 0 lanes
   pub each : LanesWithin lanes
   pub total : weighed lanes ≤ 1024
   pub some-lane : 1 ≤ length lanes
-  pub given : gs ≡ placedAll noLanes lanes
+  pub given : gs ≡ placedAll (framedBy framing) noLanes lanes
   pub number : n ≡ length lanes
 
 -- A lane that is not in the setup has weight 0.

@@ -25,7 +25,7 @@ use Rattle.plan.specs.declared.parse.Longest.{Longest}
 use Rattle.plan.specs.declared.parse.Longest.the-variants.{Given, Default}
 use Rattle.plan.specs.declared.parse.LaneField.{LaneField}
 use Rattle.plan.specs.declared.parse.SetupField.{SetupField}
-use Rattle.plan.specs.declared.parse.SetupField.the-variants.{Format, Lane, End}
+use Rattle.plan.specs.declared.parse.SetupField.the-variants.{Format, Lane, Framing, End}
 use Rattle.plan.specs.declared.parse.Parsed.{Parsed}
 use Rattle.plan.specs.declared.parse.Parsed.the-variants.{Whole, Refused}
 
@@ -34,13 +34,14 @@ pub data Item : Type 0 where
   whole : SetupField → ℕ → Item
   bad : ℕ → Option ℕ → Item
 
--- "Setup: 0x01 .. 0x10 .. 0x7F": the tags that this part knows.
+-- The tags that this part knows: 0x01, 0x10, 0x11 and 0x7F.
 abbrev pub known : ℕ → Bool
-known tag = eqb tag 1 || (eqb tag 16 || eqb tag 127)
+known tag = eqb tag 1 || (eqb tag 16 || (eqb tag 17 || eqb tag 127))
 
--- "0x01 (format, u16 = 1) .. 0x10 (lane u8, weight u16, longest u16) .. 0x7F, empty. A lane field of length 3 has no longest."
+-- "0x01 (format, u16 = 1) .. 0x10 (lane u8, weight u16, longest u16) .. 0x7F, empty. A lane field of length 3 has no longest." And 0x11,
+-- the line's framing bytes, is one byte.
 abbrev pub fitting : ℕ → ℕ → Bool
-fitting tag n = if eqb tag 1 then eqb n 2 else (if eqb tag 16 then eqb n 3 || eqb n 5 else eqb n 0)
+fitting tag n = if eqb tag 1 then eqb n 2 else (if eqb tag 16 then eqb n 3 || eqb n 5 else (if eqb tag 17 then eqb n 1 else eqb n 0))
 
 -- "A lane field of length 3 has no longest." Else the longest stands after the lane and the weight.
 abbrev pub longestAt : List ℕ → ℕ → ℕ → Longest
@@ -50,15 +51,16 @@ longestAt s at n = if eqb n 3 then Default else Given (big s (at + 3) 2)
 abbrev pub laneAt : List ℕ → ℕ → ℕ → LaneField
 laneAt s at n = record { lane = byteAt s at; weight = big s (at + 1) 2; longest = longestAt s at n }
 
--- The value of n bytes at a place, by the tag before it: a format, a lane, or nothing.
+-- The value of n bytes at a place, by the tag before it: a format, a lane, the framing bytes, or nothing.
 unfoldable pub fieldOf : List ℕ → ℕ → ℕ → ℕ → SetupField
 fieldOf s tag at n =
-    if eqb tag 1 then Format (big s at 2) else (if eqb tag 16 then Lane (laneAt s at n) else End)
+    if eqb tag 1 then Format (big s at 2) else (if eqb tag 16 then Lane (laneAt s at n) else (if eqb tag 17 then Framing (byteAt s at) else End))
 
 -- 0x7F ends a setup.
 abbrev pub ends : SetupField → Bool
 ends (Format v) = false
 ends (Lane l) = false
+ends (Framing h) = false
 ends End = true
 
 -- "In a field 1 (header), 2, 3, 1 (value)": a header that was read, judged in this order.

@@ -1,7 +1,7 @@
 -- A field of a setup, judged by the fields before it (document 01, "Numbers given back"): the refusals 4, 5 and 6.
 --
 --   longestOf   a lane field's longest, given or not
---   given       the setting that a lane field gives its lane
+--   given       the setting that a lane field gives its lane, on a line with h framing bytes
 --   lastLane    the last lane number
 --   misplaced   refusal 4
 --   outside     what is wrong with a field's own numbers: refusal 5; Inside: nothing
@@ -22,27 +22,29 @@ use Rattle.units.specs.Plain.{if_then_else_}
 use Rattle.rules.specs.State.{Setting}
 use Rattle.plan.specs.Fields.{Item, whole, bad, itemAt}
 use Rattle.plan.specs.declared.judge.Fault.{Fault}
-use Rattle.plan.specs.declared.judge.Fault.the-variants.{NoFault, BadFormat, BadLane, BadWeight, BadLongest, TotalOver}
+use Rattle.plan.specs.declared.judge.Fault.the-variants.{NoFault, BadFormat, BadLane, BadWeight, BadLongest, BadFraming, TotalOver}
 use Rattle.plan.specs.declared.judge.Seen.{Seen}
 use Rattle.plan.specs.declared.parse.Longest.{Longest}
 use Rattle.plan.specs.declared.parse.Longest.the-variants.{Given, Default}
 use Rattle.plan.specs.declared.parse.LaneField.{LaneField}
 use Rattle.plan.specs.declared.parse.SetupField.{SetupField}
-use Rattle.plan.specs.declared.parse.SetupField.the-variants.{Format, Lane, End}
+use Rattle.plan.specs.declared.parse.SetupField.the-variants.{Format, Lane, Framing, End}
 
 -- "A lane field of length 3 has no longest and means 1,500."
 abbrev pub longestOf : Longest → ℕ
 longestOf (Given n) = n
 longestOf Default = 1500
 
--- A lane field gives its lane a weight and a longest.
-abbrev pub given : LaneField → Setting
-given l = record { weight = l .weight; longest = longestOf (l .longest); framing = 0 }
+-- A lane field gives its lane a weight and a longest; the framing bytes are the line's.
+abbrev pub given : ℕ → LaneField → Setting
+given h l = record { weight = l .weight; longest = longestOf (l .longest); framing = h }
 
--- "4: first field not 0x01, 0x01 again, lane not rising, 0x7F with no lane." (A first 0x7F comes with no lane.)
+-- "4: first field not 0x01, 0x01 again, lane not rising, 0x7F with no lane." (A first 0x7F comes with no lane.) And 0x11 anywhere but directly
+-- after 0x01.
 abbrev pub misplaced : Seen → SetupField → Bool
 misplaced seen (Format v) = seen .begun
 misplaced seen (Lane l) = not (seen .begun) || ltb (l .lane) (seen .floor)
+misplaced seen (Framing h) = not (seen .opening)
 misplaced seen End = eqb (seen .count) 0
 
 -- From the least to the most, both among them.
@@ -60,10 +62,15 @@ laneOutside l =
     else (if not (within 1 1024 (l .weight)) then BadWeight
     else (if not (within 64 1500 (longestOf (l .longest))) then BadLongest else NoFault))
 
--- "5: format not 1, lane over 63, weight or longest outside its numbers."
+-- The line's framing bytes are 0 to 64.
+abbrev pub mostFraming : ℕ
+mostFraming = 64
+
+-- "5: format not 1, lane over 63, weight or longest outside its numbers", or framing over 64.
 abbrev pub outside : SetupField → Fault
 outside (Format v) = if eqb v 1 then NoFault else BadFormat
 outside (Lane l) = laneOutside l
+outside (Framing h) = if ltb mostFraming h then BadFraming else NoFault
 outside End = NoFault
 
 -- A field whose numbers are all inside.
@@ -74,6 +81,7 @@ Inside f = outside f ≡ NoFault
 abbrev pub over : Seen → SetupField → Fault
 over seen (Format v) = NoFault
 over seen (Lane l) = if ltb 1024 (seen .total + l .weight) then TotalOver else NoFault
+over seen (Framing h) = NoFault
 over seen End = NoFault
 
 -- The table of faults: the refusal's number, and its place, counted from the field's tag.
@@ -83,6 +91,7 @@ faults BadFormat = some (5, 0)
 faults BadLane = some (5, 0)
 faults BadWeight = some (5, 0)
 faults BadLongest = some (5, 0)
+faults BadFraming = some (5, 0)
 faults TotalOver = some (6, 0)
 
 -- A fault of the field at a place refuses it; else the rest decides.
@@ -103,8 +112,10 @@ judged seen at (whole f next) =
 unfoldable pub judgedAt : Seen → List ℕ → ℕ → Item
 judgedAt seen s at = judged seen at (itemAt s at)
 
--- A field that is taken: the format begins the setup; a lane field raises the least number that may follow, and adds its weight and itself.
+-- A field that is taken: the format begins the setup, and 0x11 may follow; 0x11 gives the line's framing bytes; a lane field raises the least number that
+-- may follow, and adds its weight and itself.
 abbrev pub after : Seen → SetupField → Seen
-after seen (Format v) = record { begun = true; floor = seen .floor; total = seen .total; count = seen .count }
-after seen (Lane l) = record { begun = true; floor = l .lane + 1; total = seen .total + l .weight; count = seen .count + 1 }
+after seen (Format v) = record { begun = true; opening = true; framing = seen .framing; floor = seen .floor; total = seen .total; count = seen .count }
+after seen (Lane l) = record { begun = true; opening = false; framing = seen .framing; floor = l .lane + 1; total = seen .total + l .weight; count = seen .count + 1 }
+after seen (Framing h) = record { begun = true; opening = false; framing = h; floor = seen .floor; total = seen .total; count = seen .count }
 after seen End = seen

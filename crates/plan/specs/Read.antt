@@ -24,7 +24,7 @@ use Rattle.plan.specs.declared.Outcome.{Outcome}
 use Rattle.plan.specs.declared.Outcome.the-variants.{Read, Refused}
 use Rattle.plan.specs.declared.judge.Seen.{Seen}
 use Rattle.plan.specs.declared.parse.SetupField.{SetupField}
-use Rattle.plan.specs.declared.parse.SetupField.the-variants.{Format, Lane, End}
+use Rattle.plan.specs.declared.parse.SetupField.the-variants.{Format, Lane, Framing, End}
 
 -- A setup that was read: its settings by lane number, how many lanes it has, and the place after its 0x7F. Or a refusal: its number and its place.
 pub data Reply : Type 0 where
@@ -33,29 +33,30 @@ pub data Reply : Type 0 where
 
 -- Before the first field nothing is fixed ..
 abbrev pub nothingSeen : Seen
-nothingSeen = record { begun = false; floor = 0; total = 0; count = 0 }
+nothingSeen = record { begun = false; opening = false; framing = 0; floor = 0; total = 0; count = 0 }
 
 -- .. and no lane is there.
 abbrev pub noLanes : List Setting
 noLanes = replicate 64 noSetting
 
--- A lane field gives its lane a setting.
-abbrev pub placed : List Setting → SetupField → List Setting
-placed gs (Format v) = gs
-placed gs (Lane l) = set gs (l .lane) (given l)
-placed gs End = gs
+-- A lane field gives its lane a setting, on a line with h framing bytes.
+abbrev pub placed : ℕ → List Setting → SetupField → List Setting
+placed h gs (Format v) = gs
+placed h gs (Lane l) = set gs (l .lane) (given h l)
+placed h gs (Framing v) = gs
+placed h gs End = gs
 
 -- A field that was taken: 0x7F ends the setup, and after any other one the walk goes on.
 abbrev pub next : Seen → List Setting → Item → (Seen → List Setting → ℕ → Reply) → Reply
 next seen gs (bad n p) go = refused n p
-next seen gs (whole f at) go = if ends f then read gs (seen .count) at else go (after seen f) (placed gs f) at
+next seen gs (whole f at) go = if ends f then read gs (seen .count) at else go (after seen f) (placed (seen .framing) gs f) at
 
 -- Fields in order, from a place on. A field has three bytes or more, so there is a turn for each byte left, and after them no byte is left.
 unfoldable pub walk : ℕ → List ℕ → Seen → List Setting → ℕ → Reply
 walk zero s seen gs at = refused 1 (some (length s))
 walk (suc turns) s seen gs at = next seen gs (judgedAt seen s at) (walk turns s)
 
--- "Setup: 0x01 (format, u16 = 1) first and once; one or more 0x10 .. with rising lane numbers; 0x7F, empty."
+-- "Setup: 0x01 (format, u16 = 1) first and once; one or more 0x10 .. with rising lane numbers; 0x7F, empty." Between 0x01 and the lanes 0x11 may stand.
 -- A place past the end is one with no byte left.
 unfoldable pub readPlan : List ℕ → ℕ → Reply
 readPlan s at = walk (length s - at) s nothingSeen noLanes at
@@ -73,7 +74,7 @@ readSetup s = closed s (readPlan s 0)
 
 -- A lane of a plan, as the rules have it.
 abbrev pub settingOf : lane.Lane → Setting
-settingOf l = record { weight = l .weight; longest = l .longest .0; framing = 0 }
+settingOf l = record { weight = l .weight; longest = l .longest .0; framing = l .framing .0 }
 
 -- A plan's lanes, by number.
 abbrev pub settings : Plan → List Setting

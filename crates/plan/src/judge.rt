@@ -22,6 +22,9 @@ pub const MOST_LONGEST: u16 = 1500;
 
 pub const MOST_TOTAL: u64 = 1024;
 
+// The line's framing bytes are 0 to 64.
+pub const MOST_FRAMING: u8 = 64;
+
 // The one format, and the longest of a lane field that has none.
 pub const FORMAT_NUMBER: u16 = 1;
 
@@ -31,6 +34,10 @@ pub const DEFAULT_LONGEST: u16 = 1500;
 pub struct Seen {
     // The format was read.
     pub begun: bool,
+    // The field before was the format: 0x11 may stand here, and nowhere else.
+    pub opening: bool,
+    // The line's framing bytes.
+    pub framing: u8,
     // The least lane number that rises above those before it.
     pub floor: usize,
     // "weights so far"
@@ -46,6 +53,7 @@ pub enum Fault {
     BadLane,
     BadWeight,
     BadLongest,
+    BadFraming,
     // The weights so far are over 1,024.
     TotalOver,
 }
@@ -66,7 +74,7 @@ fn within(low: u16, high: u16, n: u16) -> bool
     if low <= n { n <= high } else { false }
 }
 
-// Refusal 4: "first field not 0x01, 0x01 again, lane not rising, 0x7F with no lane".
+// Refusal 4: "first field not 0x01, 0x01 again, lane not rising, 0x7F with no lane"; and 0x11 anywhere but directly after 0x01.
 fn misplaced(seen: Seen, field: SetupField) -> bool
     ensures { λ r. ⌜ r ≡ misplaced seen field ⌝ }
 {
@@ -79,6 +87,7 @@ fn misplaced(seen: Seen, field: SetupField) -> bool
                 true
             }
         }
+        SetupField::Framing(_) => !seen.opening,
         SetupField::End => seen.count == 0,
     }
 }
@@ -99,7 +108,7 @@ fn lane_outside(l: LaneField) -> Fault
     Fault::NoFault
 }
 
-// Refusal 5: "format not 1, lane over 63, weight or longest outside its numbers".
+// Refusal 5: "format not 1, lane over 63, weight or longest outside its numbers", or framing over 64.
 fn outside(field: SetupField) -> Fault
     ensures { λ r. ⌜ r ≡ outside field ⌝ }
 {
@@ -112,6 +121,13 @@ fn outside(field: SetupField) -> Fault
             }
         }
         SetupField::Lane(l) => lane_outside(l),
+        SetupField::Framing(n) => {
+            if n > MOST_FRAMING {
+                Fault::BadFraming
+            } else {
+                Fault::NoFault
+            }
+        }
         SetupField::End => Fault::NoFault,
     }
 }
@@ -130,6 +146,7 @@ fn over(seen: Seen, field: SetupField) -> Fault
             }
         }
         SetupField::Format(_) => Fault::NoFault,
+        SetupField::Framing(_) => Fault::NoFault,
         SetupField::End => Fault::NoFault,
     }
 }
@@ -144,6 +161,7 @@ fn faulted(at: usize, fault: Fault, rest: Parsed) -> Parsed
         Fault::BadLane => Parsed::Refused(Refusal::OutsideNumbers(at)),
         Fault::BadWeight => Parsed::Refused(Refusal::OutsideNumbers(at)),
         Fault::BadLongest => Parsed::Refused(Refusal::OutsideNumbers(at)),
+        Fault::BadFraming => Parsed::Refused(Refusal::OutsideNumbers(at)),
         Fault::TotalOver => Parsed::Refused(Refusal::WeightsOver(at)),
     }
 }
@@ -172,15 +190,27 @@ pub fn after(seen: Seen, field: SetupField) -> Seen
     match field {
         SetupField::Format(_) => Seen {
             begun: true,
+            opening: true,
+            framing: seen.framing,
             floor: seen.floor,
             total: seen.total,
             count: seen.count,
         },
         SetupField::Lane(l) => Seen {
             begun: true,
+            opening: false,
+            framing: seen.framing,
             floor: l.lane as usize + 1,
             total: seen.total + l.weight as u64,
             count: seen.count + 1,
+        },
+        SetupField::Framing(n) => Seen {
+            begun: true,
+            opening: false,
+            framing: n,
+            floor: seen.floor,
+            total: seen.total,
+            count: seen.count,
         },
         SetupField::End => seen,
     }

@@ -28,10 +28,11 @@ use units::Bytes;
 // "Lanes 1 to 64, numbered 0 to 63."
 pub const LANES: usize = 64;
 
-// What a setup gives a lane. Weight 0: the lane is not in the setup.
+// What a setup gives a lane, the line's framing bytes among it. Weight 0: the lane is not in the setup, and has none.
 pub struct Lane {
     pub weight: u64,
     pub longest: Bytes,
+    pub framing: Bytes,
 }
 
 // A setup by value: a lane for each number, and how many of them are there.
@@ -53,13 +54,14 @@ pub struct Reading {
 }
 
 // The lane that a field of a setup describes. "A lane field of length 3 has no longest and means 1,500."
-fn lane_of(l: LaneField) -> Lane
-    ensures { λ r. ⌜ settingOf r ≡ given l ⌝ }
+fn lane_of(l: LaneField, framing: u8) -> Lane
+    ensures { λ r. ⌜ settingOf r ≡ given framing l ⌝ }
 {
     let longest = l.longest;
     Lane {
         weight: l.weight as u64,
         longest: Bytes(judge::longest_of(longest) as u64),
+        framing: Bytes(framing as u64),
     }
 }
 
@@ -69,21 +71,23 @@ fn no_lanes() -> [Lane; LANES]
     [Lane {
         weight: 0,
         longest: Bytes(0),
+        framing: Bytes(0),
     }; LANES]
 }
 
-// The lanes, with the one that a field describes.
-fn placed(mut lanes: [Lane; LANES], field: SetupField) -> [Lane; LANES]
+// The lanes, with the one that a field describes, on a line with so many framing bytes.
+fn placed(mut lanes: [Lane; LANES], framing: u8, field: SetupField) -> [Lane; LANES]
     requires { ⌜ Inside field ⌝ }
-    ensures { λ r. ⌜ map settingOf r ≡ placed (map settingOf lanes) field ⌝ }
+    ensures { λ r. ⌜ map settingOf r ≡ placed framing (map settingOf lanes) field ⌝ }
 {
     match field {
         SetupField::Format(_) => lanes,
         SetupField::Lane(l) => {
             let k = l.lane as usize;
-            lanes[k] = lane_of(l);
+            lanes[k] = lane_of(l, framing);
             lanes
         }
+        SetupField::Framing(_) => lanes,
         SetupField::End => lanes,
     }
 }
@@ -104,6 +108,8 @@ pub fn read_plan(s: &[u8], at: usize) -> Reading
     let mut lanes = no_lanes();
     let mut seen = Seen {
         begun: false,
+        opening: false,
+        framing: 0,
         floor: 0,
         total: 0,
         count: 0,
@@ -119,7 +125,7 @@ pub fn read_plan(s: &[u8], at: usize) -> Reading
                 if parse::ends(field) {
                     return answered(lanes, seen.count, Outcome::Read(next));
                 }
-                let more = placed(lanes, field);
+                let more = placed(lanes, seen.framing, field);
                 lanes = more;
                 seen = judge::after(seen, field);
                 p = next;

@@ -11,6 +11,8 @@ pub const FORMAT: u8 = 0x01;
 
 pub const LANE: u8 = 0x10;
 
+pub const FRAMING: u8 = 0x11;
+
 pub const END: u8 = 0x7F;
 
 // The longest of a lane field: given, or left out in a field of length 3.
@@ -28,6 +30,8 @@ pub struct LaneField {
 pub enum SetupField {
     Format(u16),
     Lane(LaneField),
+    // The line's framing bytes.
+    Framing(u8),
     End,
 }
 
@@ -37,12 +41,12 @@ pub enum Parsed {
     Refused(Refusal),
 }
 
-// "Tag unknown in this part": a setup knows three.
+// "Tag unknown in this part": a setup knows four.
 pub fn known(tag: u8) -> bool
     ensures { λ r. ⌜ r ≡ known tag ⌝ }
 {
     match tag {
-        FORMAT | LANE | END => true,
+        FORMAT | LANE | FRAMING | END => true,
         _ => false,
     }
 }
@@ -54,6 +58,7 @@ pub fn fitting(tag: u8, n: usize) -> bool
     match tag {
         FORMAT => n == 2,
         LANE => { if n == 3 { true } else { n == 5 } }
+        FRAMING => n == 1,
         _ => n == 0,
     }
 }
@@ -87,6 +92,7 @@ fn field_of(s: &[u8], tag: u8, at: usize, n: usize) -> SetupField
     match tag {
         FORMAT => SetupField::Format(fields::u16_at(s, at)),
         LANE => SetupField::Lane(lane_at(s, at, n)),
+        FRAMING => SetupField::Framing(s[at]),
         _ => SetupField::End,
     }
 }
@@ -97,6 +103,7 @@ pub fn ends(field: SetupField) -> bool
     match field {
         SetupField::Format(_) => false,
         SetupField::Lane(_) => false,
+        SetupField::Framing(_) => false,
         SetupField::End => true,
     }
 }

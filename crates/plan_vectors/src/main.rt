@@ -160,6 +160,7 @@ fn print_lane(k: usize, l: Lane) {
         print_number(b" ", k as u64);
         print_number(b"/", l.weight);
         print_number(b"/", l.longest.0);
+        print_number(b"/", l.framing.0);
     }
 }
 

@@ -189,3 +189,7 @@ some-row t k l q hk held = subst (λ (l : LaneRow). 0 < l .count) (sym q) (holds
 pub rate-row : (t : List ℕ) (k : ℕ) (l : LaneRow) → l ≡ rowAt (cells t) k → Sound t → k < 64 → holds (laneAt (meant t) k) ≡ true → l .rate .0 ≤ 2 ^ 20
 rate-row t k l q s hk held =
     subst (λ (l : LaneRow). l .rate .0 ≤ 2 ^ 20) (sym q) (omega (arith, s .beside .rows k hk (holds-present (cells t) k hk held) .rated, rate-le (rowAt (cells t) k .weight)))
+
+pub framing-row : (t : List ℕ) (k : ℕ) (l : LaneRow) → l ≡ rowAt (cells t) k → Sound t → k < 64 → holds (laneAt (meant t) k) ≡ true → l .framing .0 ≤ 64
+framing-row t k l q s hk held =
+    subst (λ (l : LaneRow). l .framing .0 ≤ 64) (sym q) (s .beside .rows k hk (holds-present (cells t) k hk held) .framing)

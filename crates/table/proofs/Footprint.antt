@@ -8,13 +8,14 @@ use lib.Seq.{getD-set-same, getD-set-other}
 use Rattle.words.specs.Runs.{reads, tab}
 use Rattle.words.proofs.Runs.{reads-ext, length-reads, tab-ext, tab-set, getD-tab}
 use Rattle.rules.specs.State.{noLane, laneAt}
-use Rattle.table.specs.Layout.{presentWord, holdingWord, orderWord, laneWord, placeWord, rowAt, rowOf}
+use Rattle.table.specs.Layout.{presentWord, holdingWord, framingWord, orderWord, laneWord, placeWord, rowAt, rowOf}
 use Rattle.table.specs.Means.{presentAt, recOf, ringOf, rowLane, laneOf, stateOf, RowAgrees, Beside, withClock, withLane, withOrder}
 use Rattle.table.proofs.Stores.{rowOf-eq}
 
 -- words that agree on lane k
 pub record SameLane (w u : List ℕ) (k : ℕ) : Type 0 where
   pub present : presentAt u k ≡ presentAt w k
+  pub framing : getD u framingWord 0 ≡ getD w framingWord 0
   pub row : (i : ℕ) → laneWord k ≤ i → i < laneWord k + 3 → getD u i 0 ≡ getD w i 0
   pub ring : (i : ℕ) → 336 + 16 * k ≤ i → i < 336 + 16 * k + 16 → getD u i 0 ≡ getD w i 0
 
@@ -22,10 +23,10 @@ pub present-kept : (w u : List ℕ) (k : ℕ) → getD u presentWord 0 ≡ getD 
 unfolding presentAt
 present-kept w u k e = rw e
 
-pub row-kept : (w u : List ℕ) (k : ℕ) → ((i : ℕ) → laneWord k ≤ i → i < laneWord k + 3 → getD u i 0 ≡ getD w i 0) → rowAt u k ≡ rowAt w k
+pub row-kept : (w u : List ℕ) (k : ℕ) → getD u framingWord 0 ≡ getD w framingWord 0 → ((i : ℕ) → laneWord k ≤ i → i < laneWord k + 3 → getD u i 0 ≡ getD w i 0) → rowAt u k ≡ rowAt w k
 unfolding rowAt
-row-kept w u k s =
-    rowOf-eq _ _ _ _ _ _ (s (laneWord k) (omega arith) (omega arith)) (s (laneWord k + 1) (omega arith) (omega arith)) (s (laneWord k + 2) (omega arith) (omega arith))
+row-kept w u k h s =
+    rowOf-eq _ _ _ _ _ _ _ _ h (s (laneWord k) (omega arith) (omega arith)) (s (laneWord k + 1) (omega arith) (omega arith)) (s (laneWord k + 2) (omega arith) (omega arith))
 
 pub ring-kept : (w u : List ℕ) (k h n : ℕ) → ((i : ℕ) → 336 + 16 * k ≤ i → i < 336 + 16 * k + 16 → getD u i 0 ≡ getD w i 0) → ringOf u k h n ≡ ringOf w k h n
 unfolding ringOf
@@ -34,7 +35,7 @@ ring-kept w u k h n s =
 
 pub lane-kept : (w u : List ℕ) (k : ℕ) → SameLane w u k → laneOf u k ≡ laneOf w k
 unfolding laneOf rowLane
-lane-kept w u k s = rw (s .present, row-kept w u k (s .row), ring-kept w u k _ _ (s .ring))
+lane-kept w u k s = rw (s .present, row-kept w u k (s .framing) (s .row), ring-kept w u k _ _ (s .ring))
 
 pub lane-is : (w : List ℕ) (k : ℕ) → k < 64 → laneAt (stateOf w) k ≡ laneOf w k
 unfolding stateOf
@@ -63,6 +64,7 @@ module _ (w u : List ℕ) (k : ℕ) (hk : k < 64) (o : Outside w u k) where
       let order : reads u 16 (getD w 2 0) ≡ reads w 16 (getD w 2 0) = reads-ext w u 16 (getD w 2 0) (λ i p q. o .kept i (λ x y. omega arith) (λ x y. omega arith)) in
       let lanes : tab 64 (laneOf u) ≡ set (tab 64 (laneOf w)) k (laneOf u k) = tab-set 64 k (laneOf w) (laneOf u) hk (λ j h ne. lane-kept w u j (record {
         present = present-kept w u j (o .kept 1 (λ p q. omega arith) (λ p q. omega arith));
+        framing = o .kept framingWord (λ p q. omega arith) (λ p q. omega arith);
         row = λ i p q. o .kept i (λ x y. omega arith) (λ x y. omega arith);
         ring = λ i p q. o .kept i (λ x y. omega arith) (λ x y. omega arith);
       })) in
@@ -73,22 +75,24 @@ module _ (w u : List ℕ) (k : ℕ) (hk : k < 64) (o : Outside w u k) where
 -- words that agree on the settings keep what is stored beside the state
 pub record SameSettings (w u : List ℕ) : Type 0 where
   pub present : getD u presentWord 0 ≡ getD w presentWord 0
+  pub framing : getD u framingWord 0 ≡ getD w framingWord 0
   pub setting : (k : ℕ) → k < 64 → getD u (laneWord k) 0 ≡ getD w (laneWord k) 0
 
-row-agrees : (s x y x′ y′ : ℕ) → RowAgrees (rowOf s x y) → RowAgrees (rowOf s x′ y′)
-row-agrees s x y x′ y′ a = record { numbers = a .numbers; rated = a .rated; grouped = a .grouped }
+row-agrees : (h s x y x′ y′ : ℕ) → RowAgrees (rowOf h s x y) → RowAgrees (rowOf h s x′ y′)
+row-agrees h s x y x′ y′ a = record { numbers = a .numbers; framing = a .framing; rated = a .rated; grouped = a .grouped }
 
 pub beside-kept : (w u : List ℕ) → SameSettings w u → Beside w → Beside u
 unfolding rowAt
 beside-kept w u s b =
     record {
-      rows = λ k h p. rw (s .setting k h) (row-agrees (getD w (laneWord k) 0) (getD w (laneWord k + 1) 0) (getD w (laneWord k + 2) 0) (getD u (laneWord k + 1) 0) (getD u (laneWord k + 2) 0) (b .rows k h (sym (present-kept w u k (s .present)) ∙ p)));
+      rows = λ k h p. rw (s .framing, s .setting k h) (row-agrees (getD w framingWord 0) (getD w (laneWord k) 0) (getD w (laneWord k + 1) 0) (getD w (laneWord k + 2) 0) (getD u (laneWord k + 1) 0) (getD u (laneWord k + 2) 0) (b .rows k h (sym (present-kept w u k (s .present)) ∙ p)));
     }
 
 pub outside-settings : (w u : List ℕ) (k : ℕ) → Outside w u k → SameSettings w u
 outside-settings w u k o =
     record {
       present = o .kept 1 (λ p q. omega arith) (λ p q. omega arith);
+      framing = o .kept framingWord (λ p q. omega arith) (λ p q. omega arith);
       setting = λ j h. o .kept (laneWord j) (λ p q. omega arith) (λ p q. omega arith);
     }
 
@@ -97,24 +101,25 @@ outside-settings w u k o =
 pub record OutsideOrder (w u : List ℕ) : Type 0 where
   pub clock : getD u 0 0 ≡ getD w 0 0
   pub present : getD u 1 0 ≡ getD w 1 0
+  pub framing : getD u framingWord 0 ≡ getD w framingWord 0
   pub above : (i : ℕ) → 80 ≤ i → getD u i 0 ≡ getD w i 0
 
-lanes-kept : (w u : List ℕ) → getD u 1 0 ≡ getD w 1 0 → ((i : ℕ) → 80 ≤ i → getD u i 0 ≡ getD w i 0) → tab 64 (laneOf u) ≡ tab 64 (laneOf w)
-lanes-kept w u e f =
-    tab-ext 64 (laneOf u) (laneOf w) (λ k h. lane-kept w u k (record { present = present-kept w u k e; row = λ i p q. f i (omega arith); ring = λ i p q. f i (omega arith) }))
+lanes-kept : (w u : List ℕ) → getD u 1 0 ≡ getD w 1 0 → getD u framingWord 0 ≡ getD w framingWord 0 → ((i : ℕ) → 80 ≤ i → getD u i 0 ≡ getD w i 0) → tab 64 (laneOf u) ≡ tab 64 (laneOf w)
+lanes-kept w u e h f =
+    tab-ext 64 (laneOf u) (laneOf w) (λ k b. lane-kept w u k (record { present = present-kept w u k e; framing = h; row = λ i p q. f i (omega arith); ring = λ i p q. f i (omega arith) }))
 
 pub order-changed : (w u : List ℕ) → OutsideOrder w u → stateOf u ≡ withOrder (stateOf w) (reads u 16 (getD u 2 0))
 unfolding stateOf
-order-changed w u o = rw (o .clock, lanes-kept w u (o .present) (o .above))
+order-changed w u o = rw (o .clock, lanes-kept w u (o .present) (o .framing) (o .above))
 
 pub clock-changed : (w : List ℕ) (v : ℕ) → length w ≡ 1360 → getD w 2 0 ≤ 64 → stateOf (set w 0 v) ≡ withClock (stateOf w) v
 unfolding stateOf
 clock-changed w v len few =
     let other : (i : ℕ) → 0 < i → getD (set w 0 v) i 0 ≡ getD w i 0 = λ i h. getD-set-other w 0 i v 0 (omega arith) in
-    let lanes : tab 64 (laneOf (set w 0 v)) ≡ tab 64 (laneOf w) = lanes-kept w (set w 0 v) (other 1 (omega arith)) (λ i h. other i (omega arith)) in
+    let lanes : tab 64 (laneOf (set w 0 v)) ≡ tab 64 (laneOf w) = lanes-kept w (set w 0 v) (other 1 (omega arith)) (other framingWord (omega arith)) (λ i h. other i (omega arith)) in
     let order : reads (set w 0 v) 16 (getD w 2 0) ≡ reads w 16 (getD w 2 0) = reads-ext w (set w 0 v) 16 (getD w 2 0) (λ i p q. other i (omega arith)) in
     rw (getD-set-same w 0 v 0 (omega arith), lanes, other 2 (omega arith), order)
 
 pub clock-settings : (w : List ℕ) (v : ℕ) → SameSettings w (set w 0 v)
 clock-settings w v =
-    record { present = getD-set-other w 0 1 v 0 (omega arith); setting = λ k h. getD-set-other w 0 (laneWord k) v 0 (omega arith) }
+    record { present = getD-set-other w 0 1 v 0 (omega arith); framing = getD-set-other w 0 framingWord v 0 (omega arith); setting = λ k h. getD-set-other w 0 (laneWord k) v 0 (omega arith) }

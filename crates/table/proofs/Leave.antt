@@ -31,7 +31,7 @@ pub leave-order : (t t′ u o : List ℕ) → Now t t′ u → OutsideOrder (cel
 leave-order t t′ u o n x e =
     record {
       state = rw (n .words, ← e) (order-changed (cells t) u x);
-      beside = λ b. rw (n .words) (beside-kept (cells t) u (record { present = x .present; setting = λ k h. x .above (laneWord k) (omega arith) }) b);
+      beside = λ b. rw (n .words) (beside-kept (cells t) u (record { present = x .present; framing = x .framing; setting = λ k h. x .above (laneWord k) (omega arith) }) b);
       rest = n .rest;
     }
 

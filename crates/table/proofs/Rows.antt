@@ -7,7 +7,7 @@ use mathlib.Core.List.{List}
 use native.Mathlib.Omega.{arith}
 use lib.ListN.{length, getD, set, length-set}
 use lib.Seq.{getD-set-same, getD-set-other}
-use Rattle.table.specs.Layout.{presentWord, laneWord, placeWord, rowAt, putRow}
+use Rattle.table.specs.Layout.{presentWord, framingWord, laneWord, placeWord, rowAt, putRow}
 use Rattle.table.specs.Means.{presentAt, ringOf, givenOf, timed, rowLane, laneOf, stateOf}
 use Rattle.table.specs.declared.LaneRow.{LaneRow}
 use Rattle.words.proofs.Runs.{length-tab}
@@ -37,18 +37,19 @@ outside-place w k i e = record { kept = λ j p q. getD-set-other w (placeWord k 
 
 -- a row with its clock and its ring changed
 abbrev pub retimed : LaneRow → ℕ → ℕ → ℕ → LaneRow
-retimed l x h n = record { longest = l .longest; weight = l .weight; group = l .group; rate = l .rate; time = record { 0 = x }; head = h; count = n }
+retimed l x h n = record { longest = l .longest; framing = l .framing; weight = l .weight; group = l .group; rate = l .rate; time = record { 0 = x }; head = h; count = n }
 
 pub row-put : (w : List ℕ) (k x h n : ℕ) → length w ≡ 1360 → k < 64 → h < 16 → rowAt (putRow w k (retimed (rowAt w k) x h n)) k ≡ retimed (rowAt w k) x h n
 unfolding rowAt putRow
 row-put w k x h n len hk small =
     let u = set w (laneWord k + 1) x in
+    let zeroth : getD (set u (laneWord k + 2) (h + 16 * n)) framingWord 0 ≡ getD w framingWord 0 = getD-set-other u (laneWord k + 2) framingWord (h + 16 * n) 0 (omega arith) ∙ getD-set-other w (laneWord k + 1) framingWord x 0 (omega arith) in
     let first : getD (set u (laneWord k + 2) (h + 16 * n)) (laneWord k) 0 ≡ getD w (laneWord k) 0 = getD-set-other u (laneWord k + 2) (laneWord k) (h + 16 * n) 0 (omega arith) ∙ getD-set-other w (laneWord k + 1) (laneWord k) x 0 (omega arith) in
     let second : getD (set u (laneWord k + 2) (h + 16 * n)) (laneWord k + 1) 0 ≡ x = getD-set-other u (laneWord k + 2) (laneWord k + 1) (h + 16 * n) 0 (omega arith) ∙ getD-set-same w (laneWord k + 1) x 0 (omega arith) in
     let third : getD (set u (laneWord k + 2) (h + 16 * n)) (laneWord k + 2) 0 ≡ h + 16 * n = getD-set-same u (laneWord k + 2) (h + 16 * n) 0 (rw length-set (omega arith)) in
     let low : (h + 16 * n) % 16 ≡ h = omega arith in
     let high : (h + 16 * n) / 16 ≡ n = omega arith in
-    rw (first, second, third, low, high)
+    rw (zeroth, first, second, third, low, high)
 
 pub present-put : (w : List ℕ) (k : ℕ) (l : LaneRow) → presentAt (putRow w k l) k ≡ presentAt w k
 present-put w k l =
@@ -67,10 +68,15 @@ lane-put w k x h n len hk small p =
 
 -- a record stored in a ring leaves its lane's row
 pub row-place : (w : List ℕ) (k i e : ℕ) → k < 64 → rowAt (set w (placeWord k i) e) k ≡ rowAt w k
-row-place w k i e hk = row-kept w (set w (placeWord k i) e) k (λ j p q. getD-set-other w (placeWord k i) j e 0 (omega arith))
+row-place w k i e hk = row-kept w (set w (placeWord k i) e) k (getD-set-other w (placeWord k i) framingWord e 0 (omega arith)) (λ j p q. getD-set-other w (placeWord k i) j e 0 (omega arith))
 
 pub present-place : (w : List ℕ) (k i e : ℕ) → presentAt (set w (placeWord k i) e) k ≡ presentAt w k
 present-place w k i e = present-kept w (set w (placeWord k i) e) k (getD-set-other w (placeWord k i) presentWord e 0 (omega arith))
+
+-- every row has the line's framing bytes
+pub row-framing : (w : List ℕ) (k : ℕ) → rowAt w k .framing .0 ≡ getD w framingWord 0
+unfolding rowAt
+row-framing w k = refl
 
 -- ---- which lanes are in the setup, and what their rows say of them
 

@@ -14,5 +14,5 @@ length-cells t = length-wordsOf WORDS t
 pub now-then : {t u w : List ℕ} (t′ : List ℕ) (i v : ℕ) → Now t u w → Now u t′ (set (cells u) i v) → Now t t′ (set w i v)
 now-then t′ i v a b = record { words = b .words ∙ ap (λ x. set x i v) (a .words); rest = b .rest ∙ a .rest }
 
-pub rowOf-eq : (a b c a′ b′ c′ : ℕ) → a ≡ a′ → b ≡ b′ → c ≡ c′ → rowOf a b c ≡ rowOf a′ b′ c′
-rowOf-eq a b c a′ b′ c′ p q r = rw (p, q, r)
+pub rowOf-eq : (h a b c h′ a′ b′ c′ : ℕ) → h ≡ h′ → a ≡ a′ → b ≡ b′ → c ≡ c′ → rowOf h a b c ≡ rowOf h′ a′ b′ c′
+rowOf-eq h a b c h′ a′ b′ c′ o p q r = rw (o, p, q, r)

@@ -6,7 +6,8 @@
 --   Now              what a store leaves: the words, and the bytes past the table
 --   laneWord         the first of lane k's words: setting, clock, ring
 --   placeWord        the word of lane k's place i, i counted on past the ring's end
---   rowOf, rowAt     a lane's three words, taken apart
+--   framingWord      the word of h, the line's framing bytes
+--   rowOf, rowAt     a lane's three words, taken apart, with the line's framing bytes
 --   entryOf          a record's word, taken apart
 --
 -- Assumes nothing.
@@ -48,6 +49,10 @@ presentWord = 1
 abbrev pub holdingWord : ℕ
 holdingWord = 2
 
+-- "a fixed number of framing bytes" that each record costs beside its own: one number for the whole table
+abbrev pub framingWord : ℕ
+framingWord = 4
+
 abbrev pub orderWord : ℕ
 orderWord = 16
 
@@ -59,9 +64,10 @@ laneWord k = 80 + 4 * k
 abbrev pub placeWord : ℕ → ℕ → ℕ
 placeWord k i = placesWord + laneDepth * k + i % laneDepth
 
-abbrev pub rowOf : ℕ → ℕ → ℕ → LaneRow
-rowOf setting time ring = record {
+abbrev pub rowOf : ℕ → ℕ → ℕ → ℕ → LaneRow
+rowOf framing setting time ring = record {
   longest = record { 0 = setting % 2 ^ 16 };
+  framing = record { 0 = framing };
   weight = setting / 2 ^ 16 % 2 ^ 16;
   group = setting / 2 ^ 32 % 2 ^ 8;
   rate = record { 0 = setting / 2 ^ 40 };
@@ -71,7 +77,7 @@ rowOf setting time ring = record {
 }
 
 unfoldable pub rowAt : List ℕ → ℕ → LaneRow
-rowAt w k = rowOf (getD w (laneWord k) 0) (getD w (laneWord k + 1) 0) (getD w (laneWord k + 2) 0)
+rowAt w k = rowOf (getD w framingWord 0) (getD w (laneWord k) 0) (getD w (laneWord k + 1) 0) (getD w (laneWord k + 2) 0)
 
 -- the words with lane k's clock and ring changed; the setting stays
 unfoldable pub putRow : List ℕ → ℕ → LaneRow → List ℕ

@@ -5,7 +5,7 @@
 --   timed       a lane by its setting, its one clock word and its queue
 --   laneOf      lane k; one that is not in the setup means nothing, whatever its words hold
 --   stateOf     the state
---   Beside      what is stored beside the state: c and the group of each present lane
+--   Beside      what is stored beside the state: c and the group of each present lane; h within its numbers
 --   Sound       what the inner functions rest on
 --   Leaves      what a function leaves: a state, what is stored beside it, and the bytes past the table
 --
@@ -43,7 +43,7 @@ unfoldable pub ringOf : List ℕ → ℕ → ℕ → ℕ → List Rec
 ringOf w k h n = tab n (λ i. recOf (getD w (placeWord k (h + i)) 0))
 
 abbrev pub givenOf : LaneRow → Setting
-givenOf l = record { weight = l .weight; longest = l .longest .0; framing = 0 }
+givenOf l = record { weight = l .weight; longest = l .longest .0; framing = l .framing .0 }
 
 -- One clock word x: F of an idle lane, whose S is 0 by definition; S of a holding one, whose F is "S + its first record's length times c".
 unfoldable pub timed : Setting → ℕ → List Rec → Lane
@@ -68,6 +68,7 @@ meant t = stateOf (cells t)
 -- "any stored links and sets agreeing with these": a lane is present exactly if it is in the setup, and its c and group are those of its setting
 pub record RowAgrees (l : LaneRow) : Type 0 where
   pub numbers : InNumbers (givenOf l)
+  pub framing : l .framing .0 ≤ 64
   pub rated : l .rate .0 ≡ rate (givenOf l)
   pub grouped : l .group ≡ group (givenOf l)
 

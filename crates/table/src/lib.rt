@@ -23,12 +23,15 @@ pub const LANES: usize = 64;
 // Each lane holds at most 16 records.
 pub const DEPTH: u64 = 16;
 
-// The words of the clock, of the present lanes, of the number of holding lanes, and the first ones of the tie order, the rows and the rings.
+// The words of the clock, of the present lanes, of the number of holding lanes, of the line's framing bytes, and the first ones of the tie order, the
+// rows and the rings.
 pub const CLOCK: usize = 0;
 
 pub const PRESENT: usize = 1;
 
 pub const HOLDING: usize = 2;
+
+pub const FRAMING: usize = 4;
 
 pub const ORDER: usize = 16;
 
@@ -59,9 +62,10 @@ const GROUPS: u64 = 256;
 // Where the length begins in a record's word: after the mark's 32 bits.
 const LENGTH_UNIT: u64 = 4294967296;
 
-// A lane as the table keeps it: its setting, its one clock word (S while it holds records, F while it is idle), and its ring.
+// A lane as the table keeps it: its setting, the line's framing bytes, its one clock word (S while it holds records, F while it is idle), and its ring.
 pub struct LaneRow {
     pub longest: Bytes,
+    pub framing: Bytes,
     pub weight: u64,
     pub group: u32,
     pub rate: Rate,
@@ -92,7 +96,7 @@ pub fn set_cell(t: &mut [u8], i: usize, v: u64)
     set_word(t, i, v);
 }
 
-// Lane `k`'s words, taken apart.
+// Lane `k`'s words, taken apart, with the line's framing bytes.
 pub fn row(t: &[u8], k: usize) -> LaneRow
     requires { ⌜ Room (now t) × (k < 64) ⌝ }
     ensures { λ r. ⌜ (r ≡ rowAt (cells (now (t .entry))) k) × (r .head < 16) × (r .rate .0 < 2 ^ 24) ⌝ }
@@ -101,8 +105,10 @@ pub fn row(t: &[u8], k: usize) -> LaneRow
     let setting = cell(t, base);
     let time = cell(t, base + 1);
     let ring = cell(t, base + 2);
+    let framing = cell(t, FRAMING);
     LaneRow {
         longest: Bytes(setting % PART),
+        framing: Bytes(framing),
         weight: setting / WEIGHT_UNIT % PART,
         group: (setting / GROUP_UNIT % GROUPS) as u32,
         rate: Rate(setting / RATE_UNIT),
@@ -199,9 +205,10 @@ pub fn order_at(t: &[u8], i: usize) -> usize
     cell(t, ORDER + i) as usize
 }
 
-// What a record of this length is charged for in this lane: its own length.
+// What a record of this length is charged for in this lane: its own length and the line's framing bytes.
 pub fn charged(l: LaneRow, length: Bytes) -> Bytes
+    requires { ⌜ (l .framing .0 ≤ 64) × (length .0 < 2 ^ 32) ⌝ }
     ensures { λ r. ⌜ (r .0 ≡ charge (givenOf l) (length .0)) × (r .0 ≤ length .0 + 64) ⌝ }
 {
-    length
+    Bytes(length.0 + l.framing.0)
 }

@@ -64,7 +64,17 @@ requeue-requires c κs =
     (sound-after (s .pre .0 .sound) (w .ensures .leaves) (w .kept .0) (few-good (meant t) (s .pre .0 .good)), rw (w .ensures .leaves .state) (room-held (meant t) (s .pre .0 .good) (s .args .k) h))
 
 charged-requires : tie.Need-charged-requires
-charged-requires c κs = search needs
+charged-requires c κs =
+    let s = c .before .before .before .before .before .before .before .before .before .before .before .before .before .before .before .before in
+    let t = s .args .t .now in
+    let f = found (meant t) (s .args .k) (s .pre .1) in
+    let p = f .pick in
+    let w = c .before .before .before .before .before .before .before .before .before .take-first in
+    let taken : Takes t (w .last .0) (p .lane) (w .result) = subst (λ (j : ℕ). Takes t (w .last .0) j (w .result)) (sym (f .lane)) (w .ensures) in
+    let same = pick-first t (s .pre .0) p (f .is) (w .result) (taken .first) in
+    let size : w .result .length .0 ≡ p .first .len = ap (λ (r : Rec). r .len) same in
+    let row : RowIs (laneAt (meant t) (p .lane)) (c .before .before .before .before .before .before .before .before .before .before .before .before .before .row .result) = pick-row t (s .pre .0) p (f .is) _ (c .before .before .before .before .before .before .before .before .before .before .before .before .before .row .ensures .0 ∙ ap (rowAt (cells t)) (sym (f .lane))) in
+    (row .framing, omega (arith, size, pick-short t (s .pre .0) p (f .is)))
 
 line-charge-requires : tie.Need-line-charge-requires
 line-charge-requires c κs =

@@ -1,11 +1,12 @@
-use Rattle.good.proofs.Whole.{whole-good, good-weights, good-live, good-ordered, good-lanes, says-iff}
+use Rattle.good.proofs.Whole.{whole-good, good-weights, good-live, good-ordered, good-lanes, good-framing, says-iff}
 use Rattle.table.proofs.Few.{few-good}
 use Rattle.good.specs.declared.Pass.{Pass}
 use Rattle.good.specs.Pass.{PassSays}
-use Rattle.table.specs.Layout.{cells}
+use lib.ListN.{getD}
+use Rattle.table.specs.Layout.{cells, framingWord}
 use mathlib.Core.Path.{subst}
 use native.Mathlib.Omega.{arith}
-use Prim.Native.Nat.{_+_, _^_}
+use Prim.Native.Nat.{_+_, _^_, _≤_}
 use Rattle.units.proofs.Compare.{is-not-after, is-after}
 use borrow.Author.Needs.{needs}
 use Rattle.good.proofs.good.Statement.{statement}
@@ -31,11 +32,17 @@ holding-requires c κs = search needs
 returns-3 : tie.Need-returns-3
 returns-3 c = λ g. omega (arith, few-good _ (g .good), c .before .holding .ensures, c .if3 .taken)
 
+cell-requires : tie.Need-cell-requires
+cell-requires c κs = search needs
+
+returns-4 : tie.Need-returns-4
+returns-4 c = λ g. omega (arith, good-framing _ g, c .before .cell .ensures, c .if4 .taken)
+
 lanes-good-requires : tie.Need-lanes-good-requires
 lanes-good-requires c κs =
-    let e = c .before .before in
+    let e = c .before .before .before .before in
     let v = e .before .before in
-    (v .before .if1 .left, omega (arith, is-after (2 ^ 62 + 2 ^ 42) (v .clock .result .0) (e .before .not-after .ensures) (e .if2 .left)))
+    (v .before .if1 .left, omega (arith, is-after (2 ^ 62 + 2 ^ 42) (v .clock .result .0) (e .before .not-after .ensures) (e .if2 .left)), omega (arith, c .before .cell .ensures, c .if4 .left))
 
 enum-told : tie.Need-enum-told
 enum-told c = search needs
@@ -46,24 +53,25 @@ enum-known-f c = search needs
 found-good-requires : tie.Need-found-good-requires
 found-good-requires c κs = search needs
 
-returns-4 : tie.Need-returns-4
-unfolding PassSays
-returns-4 c =
-    let t = c .before .before .before .before .before .before .before .before .before .before .args .t .now in
-    let v = c .before .before .before .before .before .before .before .clock .result .0 in
-    λ g. (subst (λ (r : Pass). PassSays v (cells t) r) (c .enum-told .given .1) (c .before .before .lanes-good .ensures)) (good-lanes t v (c .before .before .before .before .before .before .before .clock .ensures) g)
-
 returns-5 : tie.Need-returns-5
 unfolding PassSays
 returns-5 c =
     let t = c .before .before .before .before .before .before .before .before .before .before .before .before .args .t .now in
     let v = c .before .before .before .before .before .before .before .before .before .clock .result .0 in
-    let n = c .before .before .before .before .before .before .holding .result in
-    let clock = c .before .before .before .before .before .before .before .before .before .clock .ensures in
-    let holding = c .before .before .before .before .before .before .holding .ensures in
+    λ g. (subst (λ (r : Pass). PassSays v (cells t) r) (c .enum-told .given .1) (c .before .before .lanes-good .ensures)) (good-lanes t v (c .before .before .before .before .before .before .before .before .before .clock .ensures) g)
+
+returns-6 : tie.Need-returns-6
+unfolding PassSays
+returns-6 c =
+    let t = c .before .before .before .before .before .before .before .before .before .before .before .before .before .before .args .t .now in
+    let v = c .before .before .before .before .before .before .before .before .before .before .before .clock .result .0 in
+    let n = c .before .before .before .before .before .before .before .before .holding .result in
+    let clock = c .before .before .before .before .before .before .before .before .before .before .before .clock .ensures in
+    let holding = c .before .before .before .before .before .before .before .before .holding .ensures in
+    let framed : getD (cells t) framingWord 0 ≤ 64 = omega (arith, c .before .before .before .before .before .before .cell .ensures, c .before .before .before .before .before .if4 .left) in
     let found = subst (λ (r : Pass). PassSays v (cells t) r) (c .before .before .f .given .1) (c .before .before .before .before .lanes-good .ensures) in
     says-iff (c .found-good .result)
-    (λ q. whole-good t v _ clock found n holding (c .before .before .before .before .before .before .before .before .before .before .if1 .left) (is-after (2 ^ 62 + 2 ^ 42) v (c .before .before .before .before .before .before .before .before .not-after .ensures) (c .before .before .before .before .before .before .before .if2 .left)) (q .0) (q .1) (q .2) (q .3))
+    (λ q. whole-good t v _ clock found n holding (c .before .before .before .before .before .before .before .before .before .before .before .before .if1 .left) (is-after (2 ^ 62 + 2 ^ 42) v (c .before .before .before .before .before .before .before .before .before .before .not-after .ensures) (c .before .before .before .before .before .before .before .before .before .if2 .left)) framed (q .0) (q .1) (q .2) (q .3))
     (λ g. let sums = good-weights t v _ clock found n holding g in (sums .0, sums .1, good-live t v _ clock found n holding g, good-ordered t v _ clock found n holding g))
     (c .found-good .ensures)
 
@@ -77,9 +85,11 @@ good-spec =
     returns-2
     holding-requires
     returns-3
+    cell-requires
+    returns-4
     lanes-good-requires
     enum-told
     enum-known-f
     found-good-requires
-    returns-4
-    returns-5)
+    returns-5
+    returns-6)

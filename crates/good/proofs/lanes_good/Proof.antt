@@ -1,13 +1,16 @@
 -- `lanes_good` meets its contract. The loop's invariant: the lanes below some number are passed, and what is left of the word are its bits from there on.
 -- Assumes nothing.
 use Prim.Native.Nat.{_-_}
-use mathlib.Core.Path.{refl}
+use mathlib.Core.Path.{_≡_, refl, ap, _∙_}
 use native.Mathlib.Nat.{pos-of-ne-zero}
 use native.Mathlib.Omega.{arith}
 use lib.Bits.{and-le-r}
 use lib.Count.{trailingZeros, trailing-le}
 use Rattle.rules.proofs.Word.{word-lt}
-use Rattle.table.specs.Layout.{cells}
+use lib.ListN.{getD}
+use Rattle.table.specs.Layout.{cells, framingWord}
+use Rattle.table.specs.declared.LaneRow.{LaneRow}
+use Rattle.table.proofs.Rows.{row-framing}
 use Rattle.lane_test.proofs.Setting.{says-yes, says-no}
 use Rattle.good.specs.Pass.{PassSays}
 use Rattle.good.proofs.Lanes.{found-none, found-next, found-noted, note-weight, note-group}
@@ -46,8 +49,9 @@ lane-good-requires : tie.Need-lane-good-requires Inv-loop μ-loop
 lane-good-requires c κs =
     let s = c .before .before .before .before .before in
     let l = c .before .before .loop in
+    let framed : c .row .result .framing .0 ≡ getD (cells (s .args .t .now)) framingWord 0 = ap (λ (l : LaneRow). l .framing .0) (c .row .ensures .0) ∙ row-framing _ _ in
     let some = pos-of-ne-zero (c .before .loop-test .taken) in
-    (s .pre .0, lane-small _ _ (l .rest) (l .found) (l .inv) some, lane-here _ _ (l .rest) (l .found) (l .inv) some, c .row .ensures .0, c .row .ensures .1, c .row .ensures .2, s .pre .1)
+    (s .pre .0, lane-small _ _ (l .rest) (l .found) (l .inv) some, lane-here _ _ (l .rest) (l .found) (l .inv) some, c .row .ensures .0, c .row .ensures .1, c .row .ensures .2, s .pre .1, omega (arith, framed, s .pre .2))
 
 returns : tie.Need-returns Inv-loop μ-loop
 unfolding PassSays

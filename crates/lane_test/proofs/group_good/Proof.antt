@@ -18,7 +18,7 @@ use Rattle.units.proofs.plus.Reads as plus-reads
 use Rattle.units.proofs.slot.Reads as slot-reads
 
 returns : tie.Need-returns
-returns c = λ same. omega (arith, group-at-most (c .before .args .l) (c .before .pre .2) (c .before .pre .1) same, c .if1 .taken)
+returns c = λ same. omega (arith, group-at-most (c .before .args .l) (c .before .pre .2) (c .before .pre .1) (c .before .pre .5) same, c .if1 .taken)
 
 charged-requires : tie.Need-charged-requires
 charged-requires c κs = search needs

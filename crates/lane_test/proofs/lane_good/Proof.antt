@@ -41,7 +41,7 @@ time-good-requires c κs =
     let k = s .args .k in
     let v = s .args .v .0 in
     let a = says-yes (c .before .before .before .setting-good .result) (c .before .before .before .setting-good .ensures) (c .before .before .if1 .left) in
-    (group-at-most (s .args .l) (a .rated) (a .numbers .longest-high) (a .grouped), s .pre .6)
+    (group-at-most (s .args .l) (a .rated) (a .numbers .longest-high) (s .pre .7) (a .grouped), s .pre .6, s .pre .7)
 
 returns-3 : tie.Need-returns-3
 returns-3 c =

@@ -22,7 +22,7 @@ returns-5 : tie.Need-returns-5
 returns-5 c = λ a. says-no (c .before .rate-good .result) (c .before .rate-good .ensures) (c .if5 .taken) (a .rated)
 
 group-good-requires : tie.Need-group-good-requires
-group-good-requires c κs = (c .before .before .before .before .if3 .left, c .before .before .if4 .left, says-yes (c .before .rate-good .result) (c .before .rate-good .ensures) (c .if5 .left), c .before .before .before .before .before .before .before .before .if1 .left, c .before .before .before .before .before .before .if2 .left)
+group-good-requires c κs = (c .before .before .before .before .if3 .left, c .before .before .if4 .left, says-yes (c .before .rate-good .result) (c .before .rate-good .ensures) (c .if5 .left), c .before .before .before .before .before .before .before .before .if1 .left, c .before .before .before .before .before .before .if2 .left, c .before .before .before .before .before .before .before .before .before .before .pre .1)
 
 returns-6 : tie.Need-returns-6
 returns-6 c = λ a. says-no (c .before .group-good .result) (c .before .group-good .ensures) (c .if6 .taken) (a .grouped)
@@ -31,6 +31,7 @@ returns-7 : tie.Need-returns-7
 returns-7 c =
     record {
       numbers = record { weight-low = c .before .before .before .before .before .before .before .before .before .before .if1 .left; weight-high = c .before .before .before .before .before .before .before .before .if2 .left; longest-low = c .before .before .before .before .before .before .if3 .left; longest-high = c .before .before .before .before .if4 .left };
+      framing = c .before .before .before .before .before .before .before .before .before .before .before .before .pre .1;
       rated = says-yes (c .before .before .before .rate-good .result) (c .before .before .before .rate-good .ensures) (c .before .before .if5 .left);
       grouped = says-yes (c .before .group-good .result) (c .before .group-good .ensures) (c .if6 .left);
     }

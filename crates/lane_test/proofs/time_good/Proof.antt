@@ -1,10 +1,12 @@
 use native.Mathlib.Omega.{arith}
+use Rattle.rules.specs.State.{charge}
 use Rattle.units.proofs.Compare.{is-not-after, is-after}
 use borrow.Author.Needs.{needs}
 use Rattle.lane_test.proofs.time_good.Statement.{statement}
 use Rattle.lane_test.proofs.time_good.Tie as tie
 use Rattle.lane_test.proofs.time_good.Reads as reads
 use Rattle.lane_test.proofs.time_good.Lts as lts
+use Rattle.table.proofs.charged.Reads as charged-reads
 use Rattle.units.proofs.line_charge.Reads as line-charge-reads
 use Rattle.units.proofs.not_after.Reads as not-after-reads
 use Rattle.units.proofs.plus.Reads as plus-reads
@@ -37,30 +39,34 @@ returns-2 c =
 rounded-start-requires : tie.Need-rounded-start-requires
 rounded-start-requires c κs = search needs
 
+charged-requires : tie.Need-charged-requires
+charged-requires c κs = search needs
+
 line-charge-requires : tie.Need-line-charge-requires
-line-charge-requires c κs = search needs
+line-charge-requires c κs = omega (arith, c .charged .ensures .1)
 
 plus-requires-2 : tie.Need-plus-requires-2
 plus-requires-2 c κs =
-    let e = c .before .before .before .before in
+    let e = c .before .before .before .before .before in
     let p = e .before .before in
-    omega (arith, c .before .rounded-start .ensures .1, is-after (p .plus .result .0) (p .before .before .args .l .time .0) (e .before .not-after .ensures) (e .if1 .left), p .plus .ensures, p .before .two-slots .ensures .1, p .before .before .pre .1)
+    omega (arith, c .before .before .rounded-start .ensures .1, is-after (p .plus .result .0) (p .before .before .args .l .time .0) (e .before .not-after .ensures) (e .if1 .left), p .plus .ensures, p .before .two-slots .ensures .1, p .before .before .pre .1)
 
 plus-requires-3 : tie.Need-plus-requires-3
 plus-requires-3 c κs =
     let l = c .before in
-    let e = l .before .before .before .before in
+    let e = l .before .before .before .before .before in
     let p = e .before .before in
-    omega (arith, c .plus2 .ensures, l .line-charge .ensures, l .before .rounded-start .ensures .1, is-after (p .plus .result .0) (p .before .before .args .l .time .0) (e .before .not-after .ensures) (e .if1 .left), p .plus .ensures, p .before .two-slots .ensures .1, p .before .before .pre .1)
+    omega (arith, c .plus2 .ensures, l .line-charge .ensures, l .before .charged .ensures .1, l .before .before .rounded-start .ensures .1, is-after (p .plus .result .0) (p .before .before .args .l .time .0) (e .before .not-after .ensures) (e .if1 .left), p .plus .ensures, p .before .two-slots .ensures .1, p .before .before .pre .1)
 
 not-after-requires-2 : tie.Need-not-after-requires-2
 not-after-requires-2 c κs = search needs
 
 returns-3 : tie.Need-returns-3
+unfolding charge
 returns-3 c =
     let three = c .before .before in
     let l = three .before .before in
-    let r = l .before in
+    let r = l .before .before in
     let e = r .before .before .before in
     let p = e .before .before in
     λ t.
@@ -71,15 +77,17 @@ returns-3 c =
       three .plus3 .ensures,
       three .before .plus2 .ensures,
       l .line-charge .ensures,
+      l .before .charged .ensures .0,
       r .rounded-start .ensures .0,
       p .before .two-slots .ensures .0,
     )
 
 returns-4 : tie.Need-returns-4
+unfolding charge
 returns-4 c =
     let three = c .before .before in
     let l = three .before .before in
-    let r = l .before in
+    let r = l .before .before in
     let e = r .before .before .before in
     let p = e .before .before in
     record {
@@ -91,6 +99,7 @@ returns-4 c =
             three .plus3 .ensures,
             three .before .plus2 .ensures,
             l .line-charge .ensures,
+            l .before .charged .ensures .0,
             r .rounded-start .ensures .0,
             p .before .two-slots .ensures .0,
           );
@@ -106,6 +115,7 @@ time-good-spec =
     returns
     returns-2
     rounded-start-requires
+    charged-requires
     line-charge-requires
     plus-requires-2
     plus-requires-3

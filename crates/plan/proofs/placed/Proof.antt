@@ -32,14 +32,20 @@ array-set-from-lanes c = let g = c .before .before .before .field .given in omeg
 enum-told-2 : tie.Need-enum-told-2
 enum-told-2 c = search needs
 
+enum-told-3 : tie.Need-enum-told-3
+enum-told-3 c = search needs
+
 returns : tie.Need-returns
 returns c = search needs
 
 returns-2 : tie.Need-returns-2
-returns-2 c = let g = c .before .before .before .field .given in let a = c .before .before .before .before .before .args in map-set settingOf (a .t1) (g .0 .0 .lane) (c .lane-of .result) ∙ ap (set (map settingOf (a .t1)) (g .0 .0 .lane)) (c .lane-of .ensures) ∙ sym (ap (placed (map settingOf (a .t1))) (g .1))
+returns-2 c = let g = c .before .before .before .field .given in let a = c .before .before .before .before .before .args in map-set settingOf (a .t1) (g .0 .0 .lane) (c .lane-of .result) ∙ ap (set (map settingOf (a .t1)) (g .0 .0 .lane)) (c .lane-of .ensures) ∙ sym (ap (placed (a .framing) (map settingOf (a .t1))) (g .1))
 
 returns-3 : tie.Need-returns-3
 returns-3 c = search needs
+
+returns-4 : tie.Need-returns-4
+returns-4 c = search needs
 
 pub placed-spec : {M : Type 1} → statement M
 placed-spec =
@@ -52,6 +58,8 @@ placed-spec =
     mul-lanes
     array-set-from-lanes
     enum-told-2
+    enum-told-3
     returns
     returns-2
-    returns-3)
+    returns-3
+    returns-4)

@@ -1,4 +1,4 @@
-use Rattle.queue.proofs.Lane.{take-leaves, finish-row, room-row, some-row, rate-row}
+use Rattle.queue.proofs.Lane.{take-leaves, finish-row, room-row, some-row, rate-row, framing-row}
 use Rattle.table.specs.Means.{meant}
 use Rattle.rules.specs.State.{laneAt}
 use mathlib.Core.Path.{_≡_, _∙_, ap}
@@ -15,7 +15,10 @@ record-at-requires : tie.Need-record-at-requires
 record-at-requires c κs = search needs
 
 charged-requires : tie.Need-charged-requires
-charged-requires c κs = search needs
+charged-requires c κs =
+    let s = c .before .before .before .before .before in
+    let r = c .before .before .row in
+    (framing-row (s .args .t .now) (s .args .k) (r .result) (r .ensures .0) (s .pre .0) (s .pre .1) (s .pre .2), c .record-at .ensures .1)
 
 lane-charge-requires : tie.Need-lane-charge-requires
 lane-charge-requires c κs =

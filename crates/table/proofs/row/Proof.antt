@@ -26,12 +26,15 @@ add-cell-2 c = search needs
 cell-requires-3 : tie.Need-cell-requires-3
 cell-requires-3 c κs = search needs
 
-cast-t14 : tie.Need-cast-t14
-cast-t14 c = search needs
+cell-requires-4 : tie.Need-cell-requires-4
+cell-requires-4 c κs = search needs
+
+cast-t16 : tie.Need-cast-t16
+cast-t16 c = search needs
 
 returns : tie.Need-returns
 unfolding rowAt
-returns c = (rowOf-eq _ _ _ _ _ _ (c .before .before .cell .ensures) (c .before .cell2 .ensures) (c .cell3 .ensures), omega arith, omega arith)
+returns c = (rowOf-eq _ _ _ _ _ _ _ _ (c .cell4 .ensures) (c .before .before .before .cell .ensures) (c .before .before .cell2 .ensures) (c .before .cell3 .ensures), omega arith, omega arith)
 
 pub row-spec : {M : Type 1} → statement M
 row-spec =
@@ -44,5 +47,6 @@ row-spec =
     cell-requires-2
     add-cell-2
     cell-requires-3
-    cast-t14
+    cell-requires-4
+    cast-t16
     returns)

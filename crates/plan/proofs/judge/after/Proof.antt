@@ -11,20 +11,23 @@ enum-told c = search needs
 enum-known-field : tie.Need-enum-known-field
 enum-known-field c = search needs
 
-cast-t5 : tie.Need-cast-t5
-cast-t5 c = search needs
+cast-t6 : tie.Need-cast-t6
+cast-t6 c = search needs
 
-add-t6 : tie.Need-add-t6
-add-t6 c = search needs
+add-t7 : tie.Need-add-t7
+add-t7 c = search needs
 
-cast-t7 : tie.Need-cast-t7
-cast-t7 c = search needs
-
-add-t8 : tie.Need-add-t8
-add-t8 c = search needs
+cast-t8 : tie.Need-cast-t8
+cast-t8 c = search needs
 
 add-t9 : tie.Need-add-t9
 add-t9 c = search needs
+
+add-t10 : tie.Need-add-t10
+add-t10 c = search needs
+
+enum-known-field-2 : tie.Need-enum-known-field-2
+enum-known-field-2 c = search needs
 
 enum-told-2 : tie.Need-enum-told-2
 enum-told-2 c = search needs
@@ -36,7 +39,10 @@ returns-2 : tie.Need-returns-2
 returns-2 c = sym (ap (after (c .before .before .before .before .before .before .before .args .seen)) (c .before .before .before .before .before .field .given .1))
 
 returns-3 : tie.Need-returns-3
-returns-3 c = search needs
+returns-3 c = sym (ap (after (c .before .before .before .args .seen)) (c .before .field2 .given .1))
+
+returns-4 : tie.Need-returns-4
+returns-4 c = search needs
 
 pub after-spec : {M : Type 1} → statement M
 after-spec =
@@ -44,12 +50,14 @@ after-spec =
     (tie.spec
     enum-told
     enum-known-field
-    cast-t5
-    add-t6
-    cast-t7
-    add-t8
+    cast-t6
+    add-t7
+    cast-t8
     add-t9
+    add-t10
+    enum-known-field-2
     enum-told-2
     returns
     returns-2
-    returns-3)
+    returns-3
+    returns-4)

@@ -32,6 +32,9 @@ enum-told-5 c = search needs
 enum-told-6 : tie.Need-enum-told-6
 enum-told-6 c = search needs
 
+enum-told-7 : tie.Need-enum-told-7
+enum-told-7 c = search needs
+
 returns : tie.Need-returns
 returns c = search needs
 
@@ -50,6 +53,9 @@ returns-5 c = row _ _ _ _ _ refl (c .enum-told5 .given .1)
 returns-6 : tie.Need-returns-6
 returns-6 c = row _ _ _ _ _ refl (c .enum-told6 .given .1)
 
+returns-7 : tie.Need-returns-7
+returns-7 c = row _ _ _ _ _ refl (c .enum-told7 .given .1)
+
 pub faulted-spec : {M : Type 1} → statement M
 faulted-spec =
     tie.close
@@ -60,9 +66,11 @@ faulted-spec =
     enum-told-4
     enum-told-5
     enum-told-6
+    enum-told-7
     returns
     returns-2
     returns-3
     returns-4
     returns-5
-    returns-6)
+    returns-6
+    returns-7)

@@ -17,6 +17,9 @@ cast-result c = search needs
 enum-told-2 : tie.Need-enum-told-2
 enum-told-2 c = search needs
 
+enum-told-3 : tie.Need-enum-told-3
+enum-told-3 c = search needs
+
 returns : tie.Need-returns
 returns c = search needs
 
@@ -29,6 +32,9 @@ returns-3 c = search needs
 returns-4 : tie.Need-returns-4
 returns-4 c = sym (ap (misplaced (c .before .before .before .args .seen)) (c .before .enum-told2 .given .1))
 
+returns-5 : tie.Need-returns-5
+returns-5 c = sym (ap (misplaced (c .before .before .before .args .seen)) (c .before .enum-told3 .given .1))
+
 pub misplaced-spec : {M : Type 1} → statement M
 misplaced-spec =
     tie.close
@@ -37,7 +43,9 @@ misplaced-spec =
     enum-known-field
     cast-result
     enum-told-2
+    enum-told-3
     returns
     returns-2
     returns-3
-    returns-4)
+    returns-4
+    returns-5)

@@ -1,5 +1,5 @@
 -- `plan::judge::outside` meets its contract. Assumes nothing.
-use borrow.Author.Tests.{ne-eqb}
+use borrow.Author.Tests.{ne-eqb, lt-ltb, le-ltb}
 use mathlib.Core.Path.{sym, ap, _∙_}
 use Rattle.plan.specs.Judge.{outside}
 use borrow.Author.Needs.{needs}
@@ -15,6 +15,9 @@ enum-known-field-2 c = search needs
 lane-outside-requires : tie.Need-lane-outside-requires
 lane-outside-requires c κs = search needs
 
+enum-known-field-3 : tie.Need-enum-known-field-3
+enum-known-field-3 c = search needs
+
 enum-told : tie.Need-enum-told
 enum-told c = search needs
 
@@ -28,7 +31,13 @@ returns-3 : tie.Need-returns-3
 returns-3 c = c .lane-outside .ensures ∙ sym (ap outside (c .before .before .field2 .given .1))
 
 returns-4 : tie.Need-returns-4
-returns-4 c = search needs
+returns-4 c = sym (ap outside (c .before .before .field3 .given .1) ∙ rw (lt-ltb _ _ (c .if2 .taken)))
+
+returns-5 : tie.Need-returns-5
+returns-5 c = sym (ap outside (c .before .before .field3 .given .1) ∙ rw (le-ltb _ _ (c .if2 .left)))
+
+returns-6 : tie.Need-returns-6
+returns-6 c = search needs
 
 pub outside-spec : {M : Type 1} → statement M
 outside-spec =
@@ -37,8 +46,11 @@ outside-spec =
     enum-known-field
     enum-known-field-2
     lane-outside-requires
+    enum-known-field-3
     enum-told
     returns
     returns-2
     returns-3
-    returns-4)
+    returns-4
+    returns-5
+    returns-6)
