@@ -1,0 +1,186 @@
+-- Records of different trains that are on the board: the same replies and the same board in either order. Assumes nothing.
+use Prim.Native.Nat.{ℕ, _<_}
+use native.Mathlib.Omega.{arith}
+use mathlib.Core.Path.{_≡_, refl, sym, ap, _∙_}
+use mathlib.Core.Bool.{true, false, not, false≢true}
+use mathlib.Core.Option.{Option, none, some}
+use lib.Dec.{ltb}
+use lib.ListN.{length, set, length-set}
+use lib.Seq.{set-comm}
+use borrow.Author.Tests.{ne-eqb}
+use Rattle.units.specs.Plain.{if_then_else_}
+use Rattle.desk.specs.Board.{Rec, Board, lineAt, isOf, isFree, place, lowest}
+use Rattle.desk.specs.Calls.{enter, known, judged, refusal, target, entered, step}
+use Rattle.desk.specs.Claims.{InEitherOrder, Commutes, CommutesNew}
+use Rattle.desk.proofs.First.{first-hit, first-none, first-set}
+use Rattle.desk.proofs.Lines.{beyond, free-is, of-used, of-one, stands, accepts, target-old, target-new, target-below, place-stays, line-stays}
+
+-- what decides on a record of a train that is on the board: its line
+abbrev verdict : Option Rec → Rec → Option ℕ
+verdict x r = if not (known (r .kind)) then some 30 else judged x true r
+
+on-refusal : (b : Board) (r : Rec) → place (r .train) b < length b → refusal b r ≡ verdict (lineAt b (place (r .train) b)) r
+unfolding refusal
+on-refusal b r h =
+    let u = of-used (lineAt b (place (r .train) b)) (r .train) (stands b (r .train) h) in
+    go (lineAt b (place (r .train) b)) (u .0) (u .1)
+  where
+    go : (x : Option Rec) (o : Rec) → x ≡ some o
+        → (if not (known (r .kind)) then some 30 else judged x (ltb (lowest b) (length b)) r) ≡ (if not (known (r .kind)) then some 30 else judged x true r)
+    go x o e = rw e
+
+on-step : (b : Board) (r : Rec) → place (r .train) b < length b → step b (enter r) ≡ entered (verdict (lineAt b (place (r .train) b)) r) b (place (r .train) b) r
+unfolding step
+on-step b r h = rw (on-refusal b r h, target-old b r h)
+
+-- the board after a record of another train
+module _ (b : Board) (q r : Rec) (n : q .train ≡ r .train → ⊥) (hq : place (q .train) b < length b) (hr : place (r .train) b < length b) where
+  -- with the verdict on r as it may be
+  next : Option ℕ → Board
+  next v = (entered v b (place (r .train) b) r) .board
+
+  next-place : (v : Option ℕ) → place (q .train) (next v) ≡ place (q .train) b
+  unfolding next
+  next-place (some m) = refl
+  next-place none = place-stays b (place (r .train) b) (some r) (q .train) hr (ne-eqb (r .train) (q .train) (λ e. n (sym e))) (of-one (lineAt b (place (r .train) b)) (q .train) (r .train) (stands b (r .train) hr) (λ e. n (sym e)))
+
+  next-line : (v : Option ℕ) → lineAt (next v) (place (q .train) b) ≡ lineAt b (place (q .train) b)
+  unfolding next
+  next-line (some m) = refl
+  next-line none = line-stays b (place (r .train) b) (some r) (q .train) hr (ne-eqb (r .train) (q .train) (λ e. n (sym e))) (of-one (lineAt b (place (r .train) b)) (q .train) (r .train) (stands b (r .train) hr) (λ e. n (sym e)))
+
+  next-size : (v : Option ℕ) → length (next v) ≡ length b
+  unfolding next
+  next-size (some m) = refl
+  next-size none = length-set b (place (r .train) b) (some r)
+
+  -- then q, judged as before
+  then-step : (v : Option ℕ) → step (next v) (enter q) ≡ entered (verdict (lineAt b (place (q .train) b)) q) (next v) (place (q .train) b) q
+  then-step v =
+      let h : place (q .train) (next v) < length (next v) = rw (next-place v, next-size v) hq in
+      on-step (next v) q h ∙ rw (next-place v, next-line v)
+
+  after-r : (step b (enter r)) .board ≡ next (verdict (lineAt b (place (r .train) b)) r)
+  unfolding next
+  after-r = ap (λ o. o .board) (on-step b r hr)
+
+  pub then-q : step ((step b (enter r)) .board) (enter q)
+      ≡ entered (verdict (lineAt b (place (q .train) b)) q) ((entered (verdict (lineAt b (place (r .train) b)) r) b (place (r .train) b) r) .board) (place (q .train) b) q
+  unfolding next
+  then-q = ap (λ x. step x (enter q)) after-r ∙ then-step (verdict (lineAt b (place (r .train) b)) r)
+
+reply-same : (v : Option ℕ) (b c : Board) (k : ℕ) (r : Rec) → (entered v b k r) .reply ≡ (entered v c k r) .reply
+reply-same none b c k r = refl
+reply-same (some n) b c k r = refl
+
+swap : (v w : Option ℕ) (b : Board) (i j : ℕ) (q r : Rec) → (i ≡ j → ⊥)
+    → (entered w ((entered v b i q) .board) j r) .board ≡ (entered v ((entered w b j r) .board) i q) .board
+swap none none b i j q r n = set-comm b i j (some q) (some r) n
+swap none (some m) b i j q r n = refl
+swap (some m) none b i j q r n = refl
+swap (some m) (some l) b i j q r n = refl
+
+apart : (b : Board) (q r : Rec) → (q .train ≡ r .train → ⊥) → place (q .train) b < length b → place (r .train) b < length b → place (q .train) b ≡ place (r .train) b → ⊥
+apart b q r n hq hr e =
+    let u = of-used (lineAt b (place (q .train) b)) (q .train) (stands b (q .train) hq) in
+    let w = of-used (lineAt b (place (r .train) b)) (r .train) (stands b (r .train) hr) in
+    n (cc (u .1, u .2, w .1, w .2))
+
+pub commutes : Commutes
+commutes b q r n hq hr =
+    let a = then-q b q r n hq hr in
+    let c = then-q b r q (λ e. n (sym e)) hr hq in
+    let i = place (q .train) b in
+    let j = place (r .train) b in
+    let v = verdict (lineAt b (place (q .train) b)) q in
+    let w = verdict (lineAt b (place (r .train) b)) r in
+    record {
+      reply-q = ap (λ o. o .reply) a ∙ reply-same v ((entered w b j r) .board) b i q ∙ sym (ap (λ o. o .reply) (on-step b q hq));
+      reply-r = ap (λ o. o .reply) c ∙ reply-same w ((entered v b i q) .board) b j r ∙ sym (ap (λ o. o .reply) (on-step b r hr));
+      board = ap (λ o. o .board) c ∙ swap v w b i j q r (apart b q r n hq hr) ∙ sym (ap (λ o. o .board) a);
+    }
+
+-- ---- one of the two trains is new
+
+-- two records that leave each other's judgement and line alone
+either : (b : Board) (q r : Rec)
+    → refusal ((step b (enter r)) .board) q ≡ refusal b q → target ((step b (enter r)) .board) q ≡ target b q
+    → refusal ((step b (enter q)) .board) r ≡ refusal b r → target ((step b (enter q)) .board) r ≡ target b r
+    → (target b q ≡ target b r → ⊥) → InEitherOrder b q r
+unfolding step
+either b q r e₁ t₁ e₂ t₂ n =
+    let v = refusal b q in
+    let w = refusal b r in
+    let i = target b q in
+    let j = target b r in
+    let x = (entered w b j r) .board in
+    let y = (entered v b i q) .board in
+    record {
+      reply-q = ap (λ z. (entered z x (target x q) q) .reply) e₁ ∙ ap (λ z. (entered v x z q) .reply) t₁ ∙ reply-same v x b i q;
+      reply-r = ap (λ z. (entered z y (target y r) r) .reply) e₂ ∙ ap (λ z. (entered w y z r) .reply) t₂ ∙ reply-same w y b j r;
+      board =
+          ap (λ z. (entered z y (target y r) r) .board) e₂ ∙ ap (λ z. (entered w y z r) .board) t₂ ∙ swap v w b i j q r n
+          ∙ sym (ap (λ z. (entered z x (target x q) q) .board) e₁ ∙ ap (λ z. (entered v x z q) .board) t₁);
+    }
+
+-- a record of a train that is on the board is judged by its line, and goes there
+kept-on : (b c : Board) (q : Rec) → place (q .train) b < length b → length c ≡ length b → place (q .train) c ≡ place (q .train) b → lineAt c (place (q .train) b) ≡ lineAt b (place (q .train) b)
+    → (refusal c q ≡ refusal b q) × (target c q ≡ target b q)
+kept-on b c q h z p l =
+    let hc : place (q .train) c < length c = rw (p, z) h in
+    (on-refusal c q hc ∙ ap (λ x. verdict x q) (ap (lineAt c) p ∙ l) ∙ sym (on-refusal b q h), target-old c q hc ∙ p ∙ sym (target-old b q h))
+
+-- one of a new train by whether a line is free, and goes to the lowest
+kept-new : (b c : Board) (r : Rec) → ((j : ℕ) → isOf (r .train) (lineAt b j) ≡ false) → length c ≡ length b → place (r .train) c ≡ place (r .train) b → lowest c ≡ lowest b
+    → (refusal c r ≡ refusal b r) × (target c r ≡ target b r)
+unfolding refusal
+kept-new b c r off z p l =
+    let e : place (r .train) b ≡ length b = first-none (isOf (r .train)) b none off in
+    let x : lineAt b (place (r .train) b) ≡ none = beyond b (place (r .train) b) (omega arith) in
+    let y : lineAt c (place (r .train) c) ≡ none = beyond c (place (r .train) c) (omega arith) in (
+      ap (λ f. if not (known (r .kind)) then some 30 else judged f (ltb (lowest c) (length c)) r) y
+          ∙ ap (λ k. if not (known (r .kind)) then some 30 else judged none (ltb k (length c)) r) l
+          ∙ ap (λ k. if not (known (r .kind)) then some 30 else judged none (ltb (lowest b) k) r) z
+          ∙ sym (ap (λ f. if not (known (r .kind)) then some 30 else judged f (ltb (lowest b) (length b)) r) x),
+      target-new c r (omega arith) ∙ l ∙ sym (target-new b r (omega arith)),
+    )
+
+module _ (b : Board) (q r : Rec) (n : q .train ≡ r .train → ⊥) (hq : place (q .train) b < length b) (off : (j : ℕ) → isOf (r .train) (lineAt b j) ≡ false) where
+  new-target : target b r ≡ lowest b
+  new-target = let e = first-none (isOf (r .train)) b none off in target-new b r (omega arith)
+
+  used-q : isFree (lineAt b (place (q .train) b)) ≡ false
+  used-q = let u = of-used (lineAt b (place (q .train) b)) (q .train) (stands b (q .train) hq) in rw (u .1)
+
+  -- q after r
+  q-stays : (v : Option ℕ) → refusal b r ≡ v → (refusal ((entered v b (target b r) r) .board) q ≡ refusal b q) × (target ((entered v b (target b r) r) .board) q ≡ target b q)
+  q-stays (some m) e = (refl, refl)
+  q-stays none e =
+      let a = accepts b r e in
+      let k = target-below b r a in
+      let new : isOf (q .train) (some r) ≡ false = ne-eqb (r .train) (q .train) (λ z. n (sym z)) in
+      let free : lineAt b (target b r) ≡ none = ap (lineAt b) new-target ∙ free-is (lineAt b (lowest b)) (first-hit isFree b none (rw new-target at k)) in
+      let old : isOf (q .train) (lineAt b (target b r)) ≡ false = ap (isOf (q .train)) free in
+      kept-on b (set b (target b r) (some r)) q hq (length-set b (target b r) (some r)) (place-stays b (target b r) (some r) (q .train) k new old) (line-stays b (target b r) (some r) (q .train) k new old)
+
+  -- r after q
+  r-stays : (v : Option ℕ) → (refusal ((entered v b (target b q) q) .board) r ≡ refusal b r) × (target ((entered v b (target b q) q) .board) r ≡ target b r)
+  r-stays (some m) = (refl, refl)
+  r-stays none =
+      let t = target-old b q hq in
+      let k : target b q < length b = rw t hq in
+      let new : isOf (r .train) (some q) ≡ false = ne-eqb (q .train) (r .train) n in
+      kept-new b (set b (target b q) (some q)) r off (length-set b (target b q) (some q)) (place-stays b (target b q) (some q) (r .train) k new (off (target b q)))
+      (first-set isFree b none (target b q) (some q) (sym (ap (λ i. isFree (lineAt b i)) t ∙ used-q)))
+
+  lines-apart : target b q ≡ target b r → ⊥
+  lines-apart e =
+      let p : place (q .train) b ≡ lowest b = sym (target-old b q hq) ∙ e ∙ new-target in
+      false≢true (sym used-q ∙ ap (λ i. isFree (lineAt b i)) p ∙ first-hit isFree b none (rw p at hq))
+
+pub commutes-new : CommutesNew
+unfolding step
+commutes-new b q r n hq off =
+    let x = q-stays b q r n hq off (refusal b r) refl in
+    let y = r-stays b q r n hq off (refusal b q) in
+    either b q r (x .0) (x .1) (y .0) (y .1) (lines-apart b q r n hq off)

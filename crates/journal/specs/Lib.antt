@@ -1,0 +1,5 @@
+pub mod Reads
+pub mod Record
+pub mod Field
+pub mod Step
+pub mod Bytes
