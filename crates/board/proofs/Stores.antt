@@ -13,11 +13,7 @@ use Rattle.words.proofs.Laws.{length-putWord, wordAt-putWord-same, wordAt-putWo
 use Rattle.desk.specs.Board.{Rec, Board, lineAt, first, Fine, Makeable}
 use Rattle.desk.proofs.First.{first-le, first-hit, first-is}
 use Rattle.desk.proofs.Lines.{line-same, line-other}
-use Rattle.board.specs.Layout.{trainWord, cellWord, Shows, Found}
-
--- t with line k changed to x
-abbrev pub putLine : List ℕ → ℕ → Option Rec → List ℕ
-putLine t k x = putWord (putWord t (k * 2) (trainWord x)) (k * 2 + 1) (cellWord x)
+use Rattle.board.specs.Layout.{trainWord, cellWord, putLine, Shows, Found}
 
 -- both words fit
 pub words-fit : (x : Option Rec) → ((r : Rec) → x ≡ some r → Fine r) → (trainWord x < 2 ^ 64) × (cellWord x < 2 ^ 64)

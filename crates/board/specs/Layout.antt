@@ -2,17 +2,21 @@
 --
 --   Room                   the bytes have room for a board
 --   trainWord, cellWord    the two words of a line
+--   putLine                the bytes with one line changed
+--   Written                a board is written in the bytes
 --   Shows                  the bytes show a board that the rules can make
 --   recOf, lineOf          the line of a value; of two words
 --   boardOf                the board that bytes mean
 --   wellFormed             two words are a line: the test of 29, for one line
---   Tells                  what the test of 29 says of bytes
+--   NoBoard, Tells         the bytes show none; what the test of 29 says of bytes
+--   Decided                bytes show a board or none
 --   Found                  where a test first passes on the lines below n
 --
 -- Assumes nothing.
 use Prim.Native.Nat.{ℕ, _+_, _*_, _/_, _%_, _≤_, _<_}
 use mathlib.Core.Path.{_≡_}
 use mathlib.Core.Bool.{Bool, true, false}
+use mathlib.Core.Logic.{_⊎_}
 use mathlib.Core.List.{List}
 use mathlib.Core.Option.{Option, none, some}
 use lib.Dec.{eqb, ltb, leb}
@@ -20,7 +24,7 @@ use lib.ListN.{length}
 use Rattle.units.specs.Plain.{if_then_else_}
 use Rattle.words.specs.Runs.{tab}
 use Rattle.words.specs.Bits.{bit}
-use Rattle.words.specs.Words.{wordAt}
+use Rattle.words.specs.Words.{wordAt, putWord}
 use Rattle.desk.specs.Board.{Rec, Board, lineAt, isOf, Makeable}
 use Rattle.desk_line.specs.declared.Line.{Line}
 
@@ -36,6 +40,17 @@ trainWord (some r) = r .train + 4294967296 * r .sequence
 abbrev pub cellWord : Option Rec → ℕ
 cellWord none = 0
 cellWord (some r) = r .cell + 65536 * r .kind
+
+-- the bytes t with line k changed to x: its two words, and no other byte
+abbrev pub putLine : List ℕ → ℕ → Option Rec → List ℕ
+putLine t k x = putWord (putWord t (k * 2) (trainWord x)) (k * 2 + 1) (cellWord x)
+
+-- b is written in t, whether the rules can make it or not
+pub record Written (t : List ℕ) (b : Board) : Type 0 where
+  pub room : Room t
+  pub size : length b ≡ 64
+  pub trains : (k : ℕ) → k < 64 → wordAt t (k * 2) ≡ trainWord (lineAt b k)
+  pub cells : (k : ℕ) → k < 64 → wordAt t (k * 2 + 1) ≡ cellWord (lineAt b k)
 
 -- by `ExactlyMade` of desk a makeable board is one that calls make from the empty board
 pub record Shows (t : List ℕ) (b : Board) : Type 0 where
@@ -67,9 +82,15 @@ wellFormed a c =
     else if ltb c 196608 then leb 4294967296 a
     else false
 
+abbrev pub NoBoard : List ℕ → Type 0
+NoBoard t = (b : Board) → Shows t b → ⊥
+
 abbrev pub Tells : Bool → List ℕ → Type 0
 Tells true t = Shows t (boardOf t)
-Tells false t = (b : Board) → Shows t b → ⊥
+Tells false t = NoBoard t
+
+abbrev pub Decided : Type 0
+Decided = (t : List ℕ) → Shows t (boardOf t) ⊎ NoBoard t
 
 -- the train of line k, where it has one, is on no line below; or it is
 abbrev pub Parted : Bool → Board → ℕ → Type 0

@@ -1,8 +1,9 @@
 -- Records of different trains that are on the board: the same replies and the same board in either order. Assumes nothing.
-use Prim.Native.Nat.{ℕ, _<_}
+use Prim.Native.Nat.{ℕ, _≤_, _<_}
 use native.Mathlib.Omega.{arith}
 use mathlib.Core.Path.{_≡_, refl, sym, ap, _∙_}
 use mathlib.Core.Bool.{true, false, not, false≢true}
+use mathlib.Core.Logic.{⊎-elim}
 use mathlib.Core.Option.{Option, none, some}
 use lib.Dec.{ltb}
 use lib.ListN.{length, set, length-set}
@@ -10,10 +11,12 @@ use lib.Seq.{set-comm}
 use borrow.Author.Tests.{ne-eqb}
 use Rattle.units.specs.Plain.{if_then_else_}
 use Rattle.desk.specs.Board.{Rec, Board, lineAt, isOf, isFree, place, lowest}
-use Rattle.desk.specs.Calls.{enter, known, judged, refusal, target, entered, step}
-use Rattle.desk.specs.Claims.{InEitherOrder, Commutes, CommutesNew}
+use Rattle.desk.specs.Calls.{enter, told, known, judged, refusal, target, entered, step}
+use Rattle.desk.specs.Claims.{InEitherOrder, Commutes}
+use Rattle.words.proofs.Runs.{le-or-lt}
+use Rattle.desk.proofs.Shows.{one-line}
 use Rattle.desk.proofs.First.{first-hit, first-none, first-set}
-use Rattle.desk.proofs.Lines.{beyond, free-is, of-used, of-one, stands, accepts, target-old, target-new, target-below, place-stays, line-stays}
+use Rattle.desk.proofs.Lines.{absent, beyond, free-is, of-used, of-one, stands, accepts, target-old, target-new, target-below, place-stays, line-stays}
 
 -- what decides on a record of a train that is on the board: its line
 abbrev verdict : Option Rec → Rec → Option ℕ
@@ -86,8 +89,8 @@ apart b q r n hq hr e =
     let w = of-used (lineAt b (place (r .train) b)) (r .train) (stands b (r .train) hr) in
     n (cc (u .1, u .2, w .1, w .2))
 
-pub commutes : Commutes
-commutes b q r n hq hr =
+both-on : (b : Board) (q r : Rec) → (q .train ≡ r .train → ⊥) → place (q .train) b < length b → place (r .train) b < length b → InEitherOrder b q r
+both-on b q r n hq hr =
     let a = then-q b q r n hq hr in
     let c = then-q b r q (λ e. n (sym e)) hr hq in
     let i = place (q .train) b in
@@ -178,9 +181,32 @@ module _ (b : Board) (q r : Rec) (n : q .train ≡ r .train → ⊥) (hq : place
       let p : place (q .train) b ≡ lowest b = sym (target-old b q hq) ∙ e ∙ new-target in
       false≢true (sym used-q ∙ ap (λ i. isFree (lineAt b i)) p ∙ first-hit isFree b none (rw p at hq))
 
-pub commutes-new : CommutesNew
+one-new : (b : Board) (q r : Rec) → (q .train ≡ r .train → ⊥) → place (q .train) b < length b → ((j : ℕ) → isOf (r .train) (lineAt b j) ≡ false) → InEitherOrder b q r
 unfolding step
-commutes-new b q r n hq off =
+one-new b q r n hq off =
     let x = q-stays b q r n hq off (refusal b r) refl in
     let y = r-stays b q r n hq off (refusal b q) in
     either b q r (x .0) (x .1) (y .0) (y .1) (lines-apart b q r n hq off)
+
+pub commutes : Commutes
+commutes b q r n hq =
+    ⊎-elim
+    (λ (h : length b ≤ place (r .train) b). one-new b q r n hq (absent b (r .train) h))
+    (λ (h : place (r .train) b < length b). both-on b q r n hq h)
+    (le-or-lt (length b) (place (r .train) b))
+
+-- the lines that the two change are different
+pub lines-differ : (b : Board) (q r : Rec) (j k : ℕ) → (q .train ≡ r .train → ⊥) → place (q .train) b < length b
+    → (step b (enter q)) .reply ≡ told j → (step b (enter r)) .reply ≡ told k → j ≡ k → ⊥
+lines-differ b q r j k n hq x y e =
+    ⊎-elim
+    (λ (f : isOf (q .train) (lineAt b j) ≡ true). ⊎-elim
+    (λ (g : isOf (r .train) (lineAt b k) ≡ true). false≢true (sym (of-one (lineAt b k) (q .train) (r .train) g (λ z. n (sym z))) ∙ ap (λ i. isOf (q .train) (lineAt b i)) (sym e) ∙ f))
+    (λ (g : ((i : ℕ) → isOf (r .train) (lineAt b i) ≡ false) × (isFree (lineAt b k) ≡ true) × ((i : ℕ) → i < k → isFree (lineAt b i) ≡ false)).
+    let o = of-used (lineAt b j) (q .train) f in
+    let u : isFree (lineAt b j) ≡ false = rw (o .1) in
+    false≢true (sym u ∙ ap (λ i. isFree (lineAt b i)) e ∙ g .1))
+    (one-line b r k y .was))
+    (λ (f : ((i : ℕ) → isOf (q .train) (lineAt b i) ≡ false) × (isFree (lineAt b j) ≡ true) × ((i : ℕ) → i < j → isFree (lineAt b i) ≡ false)).
+    false≢true (sym (f .0 (place (q .train) b)) ∙ stands b (q .train) hq))
+    (one-line b q j x .was)

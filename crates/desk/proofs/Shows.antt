@@ -75,10 +75,10 @@ shown-clear b u t m h =
         no true q n = absurd (n (sym (place-is b t j m q) ∙ ap (λ i. place i b) (sym e)))
         no false q n = refl
 
-shown-step : (b : Board) (c : Call) (t : ℕ) → Makeable b → Sayable c
+pub shown-step : (b : Board) (c : Call) (t : ℕ) → Makeable b → Makeable ((step b c) .board)
     → shown t ((step b c) .board) ≡ (if isTold ((step b c) .reply) then noted t (shown t b) c else shown t b)
 unfolding step
-shown-step b (enter r) t m s = go (refusal b r) refl (keeps b (enter r) m s)
+shown-step b (enter r) t m s = go (refusal b r) refl s
   where
     go : (x : Option ℕ) → refusal b r ≡ x → Makeable ((entered (refusal b r) b (target b r) r) .board)
         → shown t ((entered x b (target b r) r) .board) ≡ (if isTold ((entered x b (target b r) r) .reply) then noted t (shown t b) (enter r) else shown t b)
@@ -98,7 +98,7 @@ unfolding after trace lastOf AllSayable
 shown-after [] b t m s = refl
 shown-after (c ∷ cs) b t m s =
     shown-after cs ((step b c) .board) t (keeps b c m (s .0)) (s .1)
-    ∙ ap (λ x. lastOf t x (trace ((step b c) .board) cs)) (shown-step b c t m (s .0))
+    ∙ ap (λ x. lastOf t x (trace ((step b c) .board) cs)) (shown-step b c t m (keeps b c m (s .0)))
 
 pub shows-last : ShowsLast
 shows-last cs t s =

@@ -2,8 +2,7 @@
 --
 --   KeepsMakeable   every call keeps it
 --   ExactlyMade     the boards that calls make from the empty board are the makeable ones, both ways
---   Commutes        two records of different trains that are on the board, refused ones too: the same replies and the same board in either order
---   CommutesNew     the same where one of the two trains is on no line
+--   Commutes        two records of different trains, one of them on the board, refused records too: the same replies and the same board in either order
 --   OneLine         an accepted record changes its train's line, or the lowest free one of a new train, and no other
 --   ShowsLast       what a board shows of a train is its last accepted record since its last clear
 --
@@ -24,22 +23,15 @@ KeepsMakeable = (b : Board) (c : Call) → Makeable b → Sayable c → Makeable
 abbrev pub ExactlyMade : Type 0
 ExactlyMade = (b : Board) → (Made b → Makeable b) × (Makeable b → Made b)
 
--- "two accepted records of different trains, both already on the board, give the same board in either order"
+-- q and then r, or r and then q
 pub record InEitherOrder (b : Board) (q r : Rec) : Type 0 where
   pub reply-q : (step ((step b (enter r)) .board) (enter q)) .reply ≡ (step b (enter q)) .reply
   pub reply-r : (step ((step b (enter q)) .board) (enter r)) .reply ≡ (step b (enter r)) .reply
   pub board : (step ((step b (enter q)) .board) (enter r)) .board ≡ (step ((step b (enter r)) .board) (enter q)) .board
 
+-- r's train may be on the board or new. (Two new trains do not commute: the first takes the lower line.)
 abbrev pub Commutes : Type 0
-Commutes =
-    (b : Board) (q r : Rec) → (q .train ≡ r .train → ⊥) → place (q .train) b < length b → place (r .train) b < length b
-    → InEitherOrder b q r
-
--- It also holds where r's train is new (and not for two new trains: the first takes the lower line).
-abbrev pub CommutesNew : Type 0
-CommutesNew =
-    (b : Board) (q r : Rec) → (q .train ≡ r .train → ⊥) → place (q .train) b < length b → ((j : ℕ) → isOf (r .train) (lineAt b j) ≡ false)
-    → InEitherOrder b q r
+Commutes = (b : Board) (q r : Rec) → (q .train ≡ r .train → ⊥) → place (q .train) b < length b → InEitherOrder b q r
 
 -- "An accepted record changes that one train's line in place and no other line."
 pub record Changes (b : Board) (r : Rec) (k : ℕ) (after : Board) : Type 0 where

@@ -1,32 +1,30 @@
 -- What follows for the bytes of a board. Assumes nothing.
-use Prim.Native.Nat.{ℕ, zero, suc, _+_, _-_, _*_, _/_, _%_, _≤_, _<_}
-use native.Mathlib.Nat.{add-zero, add-suc, suc-add}
+use Prim.Native.Nat.{ℕ, zero, suc, _+_, _*_, _/_, _%_, _≤_, _<_}
 use native.Mathlib.Omega.{arith}
 use mathlib.Core.Path.{_≡_, refl, sym, ap, _∙_, subst}
 use mathlib.Core.Logic.{_⊎_, inl, inr, ⊎-elim}
 use mathlib.Core.List.{List}
-use mathlib.Core.Option.{Option, none}
-use lib.ListN.{length, getD, drop}
-use lib.Seq.{ext-getD, getD-drop}
-use Rattle.words.specs.Runs.{reads}
-use Rattle.words.specs.Words.{leVal, wordAt, putWord}
+use mathlib.Core.Option.{Option, none, some}
+use lib.ListN.{length, drop}
+use Rattle.words.specs.Words.{wordAt, putWord}
 use Rattle.words.proofs.Runs.{le-or-lt, eq-or-ne}
 use Rattle.words.proofs.Laws.{length-putWord, wordAt-putWord-same, wordAt-putWord-other}
-use Rattle.desk.specs.Board.{Board, lineAt, Makeable}
-use Rattle.desk.specs.Calls.{enter, step}
+use Rattle.desk.specs.Board.{Rec, Board, lineAt, Makeable}
+use Rattle.desk.specs.Calls as Calls
+use Rattle.desk.specs.Calls.{Call, Reply, enter, step}
 use Rattle.desk.proofs.Made.{exactly-made}
-use Rattle.desk.proofs.Commute.{commutes}
-use Rattle.board.specs.Layout.{Room, trainWord, cellWord, Shows, boardOf}
+use Rattle.desk.proofs.Commute.{commutes, lines-differ}
+use Rattle.board.specs.Layout.{Room, trainWord, cellWord, putLine, Written, Shows, boardOf, NoBoard}
 use Rattle.board.proofs.Means.{shows-is}
-use Rattle.board.proofs.Stores.{putLine, words-fit, put-size, put-rest, put-other}
-use Rattle.journal.specs.Reads.{refused, told, fromRules}
-use Rattle.journal.specs.Record.{says, faulty}
+use Rattle.board.proofs.Stores.{words-fit, put-size, put-rest, put-other}
+use Rattle.board.proofs.Order.{lines-either}
+use Rattle.board.proofs.Decided.{decided}
+use Rattle.journal.specs.Reads.{Plain, refused, told, shown, fromRules}
+use Rattle.journal.specs.Record.{Reading, says, faulty, readRecord}
 use Rattle.journal.specs.declared.Told.{Told}
-use Rattle.journal.specs.Step.{Stays, Kept}
-use Rattle.journal.specs.Bytes.{SameBytes, AreBytes, EqualBytes, OnlyMade, EachMade, OneBoard, OneAnswer, OneClear, AnyOrder}
-
-pub only-made : OnlyMade
-only-made t b s = (exactly-made b) .1 (s .makeable)
+use Rattle.journal.specs.Step.{stored, Stays, Kept, Step, RecordSays, LineStep}
+use Rattle.journal.specs.Bytes.{NotMade, Exactly29, Exact29, EachMade, OneBoard, OneAnswer, OneClear, AnyOrder}
+use Rattle.journal.proofs.Numbers.{rules-not-29, stands-not-29, field-not-29}
 
 -- ---- one encoding
 
@@ -76,73 +74,80 @@ each-made b made t room =
     let s : Shows (written 64 b t) b = record { room = rw (written-size 64 b t (omega arith)) room; makeable = m; trains = λ k h. (written-words 64 b t (omega arith) room m k h) .0; cells = λ k h. (written-words 64 b t (omega arith) room m k h) .1 } in
     (written 64 b t, s, written-rest 64 b t (omega arith), written-size 64 b t (omega arith))
 
+-- ---- 29
+
+written-shows : (t : List ℕ) (b : Board) → Written t b → Makeable b → Shows t b
+written-shows t b w m = record { room = w .room; makeable = m; trains = w .trains; cells = w .cells }
+
+shows-written : (t : List ℕ) (b : Board) → Shows t b → Written t b
+shows-written t b s = record { room = s .room; size = s .makeable .size; trains = s .trains; cells = s .cells }
+
+-- an answer that is 29 on no board, and never on a board
+exactly : (a : Plain) (t : List ℕ) → (NoBoard t → a ≡ refused 29 none) → ((b : Board) → Shows t b → a ≡ refused 29 none → ⊥) → Exactly29 a t
+exactly a t always never = record {
+  only = λ e b w m. never b (written-shows t b w ((exactly-made b) .0 m)) e;
+  always = λ n. always (λ b s. n b (shows-written t b s) ((exactly-made b) .1 (s .makeable)));
+}
+
+step-29 : (c : Call) (t : List ℕ) (a : Told) (u : List ℕ) → Step c t a u → Exactly29 (told a) t
+step-29 c t a u x = exactly (told a) t (x .not-board) (λ b s e. rules-not-29 b c (sym (x .reply b s) ∙ e))
+
+says-29 : (s : List ℕ) (g : Reading) → readRecord s ≡ g → (t : List ℕ) (a : Told) (u : List ℕ) → RecordSays g t a u → Exactly29 (told a) t
+says-29 s (says r) q t a u x = step-29 (enter r) t a u x
+says-29 s (faulty n p) q t a u x = exactly (told a) t (x .0) (λ b h e. field-not-29 s n p q (sym (x .1 b h) ∙ e))
+
+pub exact-29 : Exact29
+exact-29 = record {
+  record-call = λ s t a u x. says-29 s (readRecord s) refl t a u x;
+  clear-call = step-29;
+  line-call = λ k t a x. exactly (shown a) t (x .not-board) (λ b s e. stands-not-29 (lineAt b k) (sym (x .reply b s) ∙ e));
+}
+
 -- ---- nothing is left open
 
-same-bytes : (u v : List ℕ) → u ≡ v → SameBytes u v
-same-bytes u v e = record { words = λ i h. ap (λ x. wordAt x i) e; rest = ap (drop 1024) e; size = ap length e }
-
--- a refused call, twice
-stayed : (a a′ : Told) (t u u′ : List ℕ) (n : ℕ) (p : Option ℕ) → told a ≡ refused n p → told a′ ≡ refused n p → Kept (told a) t u → Kept (told a′) t u′ → (told a ≡ told a′) × SameBytes u u′
-stayed a a′ t u u′ n p e e′ k k′ = (e ∙ sym e′, same-bytes u u′ ((subst (λ x. Stays x t u) e (k .stays)) ∙ sym (subst (λ x. Stays x t u′) e′ (k′ .stays))))
+-- a refused call leaves the bytes
+pub stayed : (a : Told) (t u : List ℕ) (n : ℕ) (p : Option ℕ) → told a ≡ refused n p → Kept (told a) t u → u ≡ t
+stayed a t u n p e k = subst (λ x. Stays x t u) e (k .stays)
 
 pub one-clear : OneClear
-one-clear c t (inl s) a a′ u u′ x y =
-    let b = boardOf t in (
-      x .reply b s ∙ sym (y .reply b s),
-      record {
-        words = one-board .1 u u′ ((step b c) .board) (x .board b s) (y .board b s);
-        rest = x .kept .rest ∙ sym (y .kept .rest);
-        size = x .kept .size ∙ sym (y .kept .size);
-      },
-    )
-one-clear c t (inr n) a a′ u u′ x y = stayed a a′ t u u′ 29 none (x .not-board n) (y .not-board n) (x .kept) (y .kept)
+one-clear c t a a′ u u′ x y =
+    ⊎-elim
+    (λ (s : Shows t (boardOf t)). (x .reply (boardOf t) s ∙ sym (y .reply (boardOf t) s), x .bytes (boardOf t) s ∙ sym (y .bytes (boardOf t) s)))
+    (λ (n : NoBoard t). (x .not-board n ∙ sym (y .not-board n), stayed a t u 29 none (x .not-board n) (x .kept) ∙ sym (stayed a′ t u′ 29 none (y .not-board n) (y .kept))))
+    (decided t)
+
+says-one : (g : Reading) (t : List ℕ) (a a′ : Told) (u u′ : List ℕ) → RecordSays g t a u → RecordSays g t a′ u′ → (told a ≡ told a′) × (u ≡ u′)
+says-one (says r) t a a′ u u′ x y = one-clear (enter r) t a a′ u u′ x y
+says-one (faulty n p) t a a′ u u′ x y =
+    ⊎-elim
+    (λ (s : Shows t (boardOf t)). let e = x .1 (boardOf t) s in let f = y .1 (boardOf t) s in (e ∙ sym f, stayed a t u n p e (x .2) ∙ sym (stayed a′ t u′ n p f (y .2))))
+    (λ (m : NoBoard t). let e = x .0 m in let f = y .0 m in (e ∙ sym f, stayed a t u 29 none e (x .2) ∙ sym (stayed a′ t u′ 29 none f (y .2))))
+    (decided t)
 
 pub one-answer : OneAnswer
-one-answer (says r) t d a a′ u u′ x y = one-clear (enter r) t d a a′ u u′ x y
-one-answer (faulty n p) t (inl s) a a′ u u′ x y = stayed a a′ t u u′ n p (x .1 (boardOf t) s) (y .1 (boardOf t) s) (x .2) (y .2)
-one-answer (faulty n p) t (inr m) a a′ u u′ x y = stayed a a′ t u u′ 29 none (x .0 m) (y .0 m) (x .2) (y .2)
+one-answer s t a a′ u u′ x y = says-one (readRecord s) t a a′ u u′ x y
 
 -- ---- in either order
 
+stores-either : (q r : Rec) (x y : Reply) (t : List ℕ) → ((j k : ℕ) → x ≡ Calls.told j → y ≡ Calls.told k → j ≡ k → ⊥)
+    → stored (enter r) y (stored (enter q) x t) ≡ stored (enter q) x (stored (enter r) y t)
+stores-either q r (Calls.told j) (Calls.told k) t n = lines-either t j k (some q) (some r) (n j k refl refl)
+stores-either q r (Calls.told j) (Calls.refused m) t n = refl
+stores-either q r (Calls.refused m) (Calls.told k) t n = refl
+stores-either q r (Calls.refused m) (Calls.refused l) t n = refl
+
 pub any-order : AnyOrder
-any-order t b q r s n hq hr a₁ a₂ c₁ c₂ t₁ t₂ u₁ u₂ x₁ x₂ y₁ y₂ =
-    let e = commutes b q r n hq hr in
+any-order t b q r s n hq a₁ a₂ c₁ c₂ t₁ t₂ u₁ u₂ x₁ x₂ y₁ y₂ =
+    let e = commutes b q r n hq in
+    let bq = (step b (enter q)) .board in
+    let br = (step b (enter r)) .board in
     let s₁ = x₁ .board b s in
     let w₁ = y₁ .board b s in
-    let s₂ = x₂ .board ((step b (enter q)) .board) s₁ in
-    let w₂ = y₂ .board ((step b (enter r)) .board) w₁ in
-    let s₃ : Shows t₂ ((step ((step b (enter r)) .board) (enter q)) .board) = (rw (e .board) at s₂) in (
-      x₁ .reply b s ∙ ap fromRules (sym (e .reply-q)) ∙ sym (y₂ .reply ((step b (enter r)) .board) w₁),
-      x₂ .reply ((step b (enter q)) .board) s₁ ∙ ap fromRules (e .reply-r) ∙ sym (y₁ .reply b s),
-      record {
-        words = one-board .1 t₂ u₂ ((step ((step b (enter r)) .board) (enter q)) .board) s₃ w₂;
-        rest = x₂ .kept .rest ∙ x₁ .kept .rest ∙ sym (y₁ .kept .rest) ∙ sym (y₂ .kept .rest);
-        size = x₂ .kept .size ∙ x₁ .kept .size ∙ sym (y₁ .kept .size) ∙ sym (y₂ .kept .size);
-      },
+    let ρ = (step b (enter q)) .reply in
+    let π = (step b (enter r)) .reply in (
+      x₁ .reply b s ∙ ap fromRules (sym (e .reply-q)) ∙ sym (y₂ .reply br w₁),
+      x₂ .reply bq s₁ ∙ ap fromRules (e .reply-r) ∙ sym (y₁ .reply b s),
+      x₂ .bytes bq s₁ ∙ ap (λ z. stored (enter r) z t₁) (e .reply-r) ∙ ap (stored (enter r) π) (x₁ .bytes b s)
+          ∙ stores-either q r ρ π t (λ j k f g. lines-differ b q r j k n hq f g)
+          ∙ sym (y₂ .bytes br w₁ ∙ ap (λ z. stored (enter q) z u₁) (e .reply-q) ∙ ap (stored (enter q) ρ) (y₁ .bytes b s)),
     )
-
--- ---- from words to bytes
-
-digits-same : (n : ℕ) (u v : List ℕ) (a : ℕ) → AreBytes u → AreBytes v → leVal (reads u a n) ≡ leVal (reads v a n) → (j : ℕ) → j < n → getD u (a + j) 0 ≡ getD v (a + j) 0
-unfolding leVal
-digits-same zero u v a p q e j h = absurd (omega arith)
-digits-same (suc n) u v a p q e zero h = rw add-zero (omega (arith, p a, q a))
-digits-same (suc n) u v a p q e (suc j) h = rw (add-suc, ← suc-add) (digits-same n u v (suc a) p q (omega (arith, p a, q a)) j (omega arith))
-
-byte-same : (u v : List ℕ) → AreBytes u → AreBytes v → (i : ℕ) → i < 1024 → wordAt u (i / 8) ≡ wordAt v (i / 8) → getD u i 0 ≡ getD v i 0
-unfolding wordAt
-byte-same u v p q i h e =
-    let z : i ≡ i / 8 * 8 + i % 8 = omega arith in
-    ap (λ k. getD u k 0) z ∙ digits-same 8 u v (i / 8 * 8) p q e (i % 8) (omega arith) ∙ ap (λ k. getD v k 0) (sym z)
-
-pub equal-bytes : EqualBytes
-equal-bytes u v p q h s = ext-getD 0 u v (s .size) at
-  where
-    at : (i : ℕ) → i < length u → getD u i 0 ≡ getD v i 0
-    at i lt =
-        ⊎-elim
-        (λ (g : 1024 ≤ i).
-        let z : i ≡ 1024 + (i - 1024) = omega arith in
-        ap (λ k. getD u k 0) z ∙ sym (getD-drop 1024 u (i - 1024) 0) ∙ ap (λ l. getD l (i - 1024) 0) (s .rest) ∙ getD-drop 1024 v (i - 1024) 0 ∙ ap (λ k. getD v k 0) (sym z))
-        (λ (g : i < 1024). byte-same u v p q i g (s .words (i / 8) (omega arith)))
-        (le-or-lt 1024 i)

@@ -18,14 +18,14 @@ use Rattle.desk.specs.Calls.{enter, known, inTurn, follows, judged, refusal, ta
 use Rattle.desk.proofs.Lines.{beyond, target-old, target-new}
 use Rattle.desk.proofs.Keep.{keeps}
 use Rattle.desk.proofs.Made.{refusal-is}
-use Rattle.board.specs.Layout.{Shows, recOf, boardOf, Found}
+use Rattle.board.specs.Layout.{putLine, Shows, recOf, boardOf, NoBoard, Found}
 use Rattle.desk_line.specs.declared.Line.{Line}
 use Rattle.desk_line.specs.Follow.{follow}
 use Rattle.board.proofs.Means.{board-size}
-use Rattle.board.proofs.Stores.{putLine, put-size, put-rest, put-shows, found-first}
+use Rattle.board.proofs.Stores.{put-size, put-rest, put-shows, found-first}
 use Rattle.journal.specs.Reads.{refused, refusedBy}
 use Rattle.journal.specs.Record.{recLine, Read, Reading, says, faulty, readHeader, readRecord}
-use Rattle.journal.specs.Step.{NoBoard, Step, RecordSays}
+use Rattle.journal.specs.Step.{Step, RecordSays}
 use Rattle.journal.specs.Field.{ReadingIs}
 use Rattle.journal.specs.declared.Reading as Answered
 use Rattle.journal.specs.declared.Refusal.{Refusal}
@@ -48,14 +48,14 @@ module _ (t : List ℕ) (r : Rec) (s : Shows t (boardOf t)) where
   refused-record : (x : Refusal) (n : ℕ) → refusedBy x ≡ refused n none → refusal (boardOf t) r ≡ some n → Step (enter r) t (Told.Refused x) t
   refused-record x n q e =
       let w = enter-refused-is (boardOf t) r n e in
-      does-step (enter r) t (Told.Refused x) t s (rw w q) (rw w s) (kept-same (refusedBy x) t refl)
+      does-step (enter r) t (Told.Refused x) t s (rw w q) (rw w s) (rw w) (kept-same (refusedBy x) t refl)
 
   accepted-record : (k : ℕ) → Carried r → refusal (boardOf t) r ≡ none → target (boardOf t) r ≡ k → k < 64 → Step (enter r) t (Told.Line k) (putLine t k (some r))
   unfolding Sayable
   accepted-record k c e q h =
       let w = enter-accepted-is (boardOf t) r k e q in
       let m : Makeable (set (boardOf t) k (some r)) = (rw w at (keeps (boardOf t) (enter r) (s .makeable) c)) in
-      does-step (enter r) t (Told.Line k) (putLine t k (some r)) s (rw w) (rw w (put-shows t k (some r) h (boardOf t) s m)) (record { stays = tt; rest = put-rest t k (some r) h; size = put-size t k (some r) h })
+      does-step (enter r) t (Told.Line k) (putLine t k (some r)) s (rw w) (rw w (put-shows t k (some r) h (boardOf t) s m)) (rw w) (record { stays = tt; rest = put-rest t k (some r) h; size = put-size t k (some r) h })
 
   pub unknown-kind : known (r .kind) ≡ false → Step (enter r) t (Told.Refused KindUnknown) t
   unfolding refusal

@@ -16,12 +16,12 @@ use Rattle.desk.specs.Board.{Rec, Board, lineAt, isOf, place, Makeable}
 use Rattle.desk.specs.Calls.{Call, clear, left, cleared, step, Sayable}
 use Rattle.desk.proofs.Lines.{beyond}
 use Rattle.desk.proofs.Keep.{keeps, empty-line, empty-makeable}
-use Rattle.board.specs.Layout.{Room, Shows, recOf, boardOf, Tells, Found}
+use Rattle.board.specs.Layout.{Room, putLine, Shows, recOf, boardOf, NoBoard, Tells, Found}
 use Rattle.desk_line.specs.declared.Line.{Line}
 use Rattle.board.proofs.Means.{board-size, shows-is}
-use Rattle.board.proofs.Stores.{putLine, put-size, put-rest, put-shows, found-first}
+use Rattle.board.proofs.Stores.{put-size, put-rest, put-shows, found-first}
 use Rattle.journal.specs.Reads.{Plain, stands, refused, fromRules, told, shown}
-use Rattle.journal.specs.Step.{NoBoard, Stays, Kept, Step, LineStep, BeginStep}
+use Rattle.journal.specs.Step.{stored, Stays, Kept, Step, LineStep, BeginStep}
 use Rattle.journal.specs.declared.Refusal.the-variants.{BoardShort, NotABoard, NotCleared}
 use Rattle.journal.specs.declared.Told.{Told}
 use Rattle.journal.specs.declared.Told.the-variants as Told
@@ -50,15 +50,17 @@ bad-step c t n = record {
   not-board = λ m. refl;
   reply = λ b s. absurd (n b s);
   board = λ b s. absurd (n b s);
+  bytes = λ b s. absurd (n b s);
   kept = kept-same (refused 29 none) t refl;
 }
 
 -- a call on the board that the bytes mean
-pub does-step : (c : Call) (t : List ℕ) (a : Told) (u : List ℕ) → Shows t (boardOf t) → told a ≡ fromRules ((step (boardOf t) c) .reply) → Shows u ((step (boardOf t) c) .board) → Kept (told a) t u → Step c t a u
-does-step c t a u s r n k = record {
+pub does-step : (c : Call) (t : List ℕ) (a : Told) (u : List ℕ) → Shows t (boardOf t) → told a ≡ fromRules ((step (boardOf t) c) .reply) → Shows u ((step (boardOf t) c) .board) → u ≡ stored c ((step (boardOf t) c) .reply) t → Kept (told a) t u → Step c t a u
+does-step c t a u s r n y k = record {
   not-board = λ m. absurd (m (boardOf t) s);
   reply = λ b h. subst (λ x. told a ≡ fromRules ((step x c) .reply)) (shows-is t b h) r;
   board = λ b h. subst (λ x. Shows u ((step x c) .board)) (shows-is t b h) n;
+  bytes = λ b h. subst (λ x. u ≡ stored c ((step x c) .reply) t) (shows-is t b h) y;
   kept = k;
 }
 
@@ -78,7 +80,7 @@ module _ (t : List ℕ) (u k : ℕ) (s : Shows t (boardOf t)) (f : Found (isOf u
   refused-clear : left (lineAt (boardOf t) k) ≡ false → Step (clear u) t (Told.Refused NotCleared) t
   refused-clear e =
       let q = clear-is (boardOf t) u k false at-place e in
-      does-step (clear u) t (Told.Refused NotCleared) t s (rw q) (rw q s) (kept-same (refused 34 none) t refl)
+      does-step (clear u) t (Told.Refused NotCleared) t s (rw q) (rw q s) (rw q) (kept-same (refused 34 none) t refl)
 
   pub clear-absent : k ≡ 64 → Step (clear u) t (Told.Refused NotCleared) t
   clear-absent e = refused-clear (ap left (beyond (boardOf t) k (omega (arith, board-size t))))
@@ -91,7 +93,7 @@ module _ (t : List ℕ) (u k : ℕ) (s : Shows t (boardOf t)) (f : Found (isOf u
   clear-done l e two h w =
       let q = clear-is (boardOf t) u k true at-place (sym (left-kind l (lineAt (boardOf t) k) e) ∙ eq-eqb (l .kind) 2 two) in
       let m : Makeable (set (boardOf t) k none) = (rw q at (keeps (boardOf t) (clear u) (s .makeable) w)) in
-      does-step (clear u) t (Told.Line k) (putLine t k none) s (rw q) (rw q (put-shows t k none h (boardOf t) s m)) (record { stays = tt; rest = put-rest t k none h; size = put-size t k none h })
+      does-step (clear u) t (Told.Line k) (putLine t k none) s (rw q) (rw q (put-shows t k none h (boardOf t) s m)) (rw q) (record { stays = tt; rest = put-rest t k none h; size = put-size t k none h })
 
 -- ---- line
 

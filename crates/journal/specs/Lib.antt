@@ -3,3 +3,4 @@ pub mod Record
 pub mod Field
 pub mod Step
 pub mod Bytes
+pub mod Lists

@@ -1,6 +1,6 @@
 -- The promises of the public calls, whole: for every slice, every argument and every answer, refusals included.
 --
---   NoBoard      the bytes show no board that the rules can make
+--   stored       the bytes after a call of the rules: one line's two words where it is accepted
 --   Kept         what a call leaves of the bytes: all of them where it refuses, and always those past the board
 --   Step         a call of the rules: clear, and record with a field that is read
 --   RecordStep   record, by what its field says
@@ -11,19 +11,26 @@
 use Prim.Native.Nat.{ℕ}
 use mathlib.Core.Path.{_≡_}
 use mathlib.Core.List.{List}
-use mathlib.Core.Option.{none, some}
+use mathlib.Core.Option.{Option, none, some}
 use lib.ListN.{length, drop}
-use Rattle.desk.specs.Board.{Board, emptyBoard, lineAt}
-use Rattle.desk.specs.Calls.{Call, enter, step}
-use Rattle.board.specs.Layout.{Room, Shows}
+use Rattle.desk.specs.Board.{Rec, Board, emptyBoard, lineAt}
+use Rattle.desk.specs.Calls as Calls
+use Rattle.desk.specs.Calls.{Call, Reply, enter, clear, step}
+use Rattle.board.specs.Layout.{Room, putLine, Shows, NoBoard}
 use Rattle.journal.specs.Reads.{Plain, line, stands, begun, refused, fromRules, told, shown, beginning}
 use Rattle.journal.specs.Record.{Reading, says, faulty, readRecord}
 use Rattle.journal.specs.declared.Told.{Told}
 use Rattle.journal.specs.declared.Shown.{Shown}
 use Rattle.journal.specs.declared.Begun.{Begun}
 
-abbrev pub NoBoard : List ℕ → Type 0
-NoBoard t = (b : Board) → Shows t b → ⊥
+-- what an accepted call leaves on its line
+abbrev pub leaves : Call → Option Rec
+leaves (enter r) = some r
+leaves (clear u) = none
+
+abbrev pub stored : Call → Reply → List ℕ → List ℕ
+stored c (Calls.told k) t = putLine t k (leaves c)
+stored c (Calls.refused n) t = t
 
 -- "the board stays"
 abbrev pub Stays : Plain → List ℕ → List ℕ → Type 0
@@ -43,6 +50,8 @@ pub record Step (c : Call) (before : List ℕ) (a : Told) (after : List ℕ) : T
   pub not-board : NoBoard before → told a ≡ refused 29 none
   pub reply : (b : Board) → Shows before b → told a ≡ fromRules ((step b c) .reply)
   pub board : (b : Board) → Shows before b → Shows after ((step b c) .board)
+  -- "changes that one train's line in place", to the byte
+  pub bytes : (b : Board) → Shows before b → after ≡ stored c ((step b c) .reply) before
   pub kept : Kept (told a) before after
 
 -- 29 before the numbers of the field, and those before 30 to 33

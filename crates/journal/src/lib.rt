@@ -18,12 +18,12 @@ use board::line_at;
 use board::lowest;
 use board::set_line;
 use board::sound;
+use desk_line::Line;
+use desk_line::changed;
 use fields::Field;
 use fields::field_at;
 use fields::fits;
 use fields::u16_at;
-use desk_line::Line;
-use desk_line::changed;
 use words::set_word;
 
 // The fixed size of a board, in bytes.

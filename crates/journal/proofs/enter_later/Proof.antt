@@ -8,7 +8,7 @@ use Rattle.journal.proofs.Entered.{out-of-turn, not-following, follows-
 use borrow.Author.Tests.{not-true, not-false}
 use mathlib.Core.Path.{ap}
 use mathlib.Core.Option.{some}
-use Rattle.board.proofs.Stores.{putLine}
+use Rattle.board.specs.Layout.{putLine}
 use borrow.Author.Needs.{needs}
 use Rattle.journal.proofs.enter_later.Statement.{statement}
 use Rattle.journal.proofs.enter_later.Tie as tie
