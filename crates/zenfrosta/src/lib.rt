@@ -15,6 +15,9 @@ ghost use Rattle.scheduler.specs.Make as Make;
 ghost use Rattle.walk.specs.Follows.{whyIs};
 ghost use Rattle.session.specs.Ran.{Ran};
 ghost use Rattle.zenfrosta.specs.Crossing.{four, code, values, stopCode, runValues, placeOr0, spoken, Crosses, CrossesMaking, CrossesRun};
+
+pub mod board;
+
 use lines::Place;
 use rules::Answer;
 use rules::Refusal;
