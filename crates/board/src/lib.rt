@@ -164,7 +164,7 @@ fn parted(t: &[u8], k: usize, seen: u64) -> bool
 {
     let l = line_at(t, k);
     if l.kind == 0 {
-        return true;
+        return true; // a free line may stand anywhere
     }
     if !marked(seen, l.train) {
         return true;

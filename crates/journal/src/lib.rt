@@ -159,7 +159,7 @@ fn in_turn(old: Line, r: Line) -> bool
     ensures { λ v. ⌜ v ≡ Calls.inTurn (recLine old) (recLine r) ⌝ }
 {
     if old.sequence >= LAST {
-        return false;
+        return false; // nothing follows the last one, so it never wraps
     }
     r.sequence == old.sequence + 1
 }
