@@ -5,13 +5,16 @@ use mathlib.Core.Path.{_≡_, refl, sym, subst, _∙_}
 use mathlib.Core.Bool.{Bool, true, false, false≢true}
 use mathlib.Core.Logic.{⊎-elim}
 use mathlib.Core.Option.{Option}
+use mathlib.Core.List.{List}
 use lib.Dec.{eqb, leb}
+use lib.ListN.{length, getD, set}
+use lib.Seq.{getD-set-same, getD-set-other}
 use borrow.Author.Tests.{eq-eqb, ne-eqb, lt-ltb, le-ltb, eqb-true, eqb-false}
 use Rattle.words.specs.Bits.{bit}
 use Rattle.words.proofs.Runs.{le-or-lt, eq-or-ne}
 use Rattle.words.proofs.Bits.{bit-add-same, bit-add-other}
 use Rattle.desk.specs.Board.{Rec, Board, lineAt, isOf, isFree}
-use Rattle.board.specs.Layout.{Marked, SeenBelow, recOf, wellFormed, Parted, Found}
+use Rattle.board.specs.Layout.{Marked, TrainOf, SeenBelow, SeenHere, recOf, wellFormed, Parted, Found}
 use Rattle.desk_line.specs.declared.Line.{Line}
 
 -- ---- two words
@@ -45,6 +48,15 @@ module _ (l : Line) (x : Option Rec) (e : recOf l ≡ x) where
 
   pub of-train : (u : ℕ) → (l .kind ≡ 0 → ⊥) → eqb (l .train) u ≡ isOf u x
   of-train u n = rw (← e, ne-eqb (l .kind) 0 n)
+
+  pub of-other : (u : ℕ) → (l .train ≡ u → ⊥) → false ≡ isOf u x
+  of-other u n = ⊎-elim (λ (z : l .kind ≡ 0). of-free u z) (λ (m : l .kind ≡ 0 → ⊥). sym (ne-eqb (l .train) u n) ∙ of-train u m) (eq-or-ne (l .kind) 0)
+
+  pub of-same : (u : ℕ) → l .train ≡ u → (l .kind ≡ 0 → ⊥) → true ≡ isOf u x
+  of-same u e m = sym (eq-eqb (l .train) u e) ∙ of-train u m
+
+  pub train-of : (u : ℕ) → isOf u x ≡ true → u ≡ l .train
+  train-of u h = ⊎-elim (λ (e : l .train ≡ u). sym e) (λ (n : l .train ≡ u → ⊥). absurd (false≢true (of-other u n ∙ h))) (eq-or-ne (l .train) u)
 
   pub free-kind : eqb (l .kind) 0 ≡ isFree x
   free-kind = ⊎-elim (λ (z : l .kind ≡ 0). rw (← e, eq-eqb (l .kind) 0 z)) (λ (n : l .kind ≡ 0 → ⊥). rw (← e, ne-eqb (l .kind) 0 n)) (eq-or-ne (l .kind) 0)
@@ -96,20 +108,33 @@ two-bits x n = ⊎-elim (λ (h : x % 2 ≤ 0). omega arith) (λ (h : 0 < x % 2).
 pub bit-unset : (k s : ℕ) → eqb (bit k s) 1 ≡ false → bit k s ≡ 0
 bit-unset k s e = two-bits (s / 2 ^ k) (eqb-false (bit k s) 1 e)
 
-pub parted-unmarked : (b : Board) (k u s : ℕ) → SeenBelow b k s → ((v : ℕ) → eqb u v ≡ isOf v (lineAt b k)) → eqb (bit (u % 64) s) 1 ≡ false → Parted true b k
+pub parted-unmarked : (b : Board) (k u s : ℕ) → SeenHere b k s → ((v : ℕ) → eqb u v ≡ isOf v (lineAt b k)) → eqb (bit (u % 64) s) 1 ≡ false → Parted true b k
 parted-unmarked b k u s seen f e j v h x y =
     let z : u ≡ v = eqb-true u v (f v ∙ y) in
-    eqb-false (bit (u % 64) s) 1 e (seen j u h (rw (← z) at x))
+    eqb-false (bit (u % 64) s) 1 e (seen j u h (rw (← z) at x) (rw (← z) at y))
 
-pub seen-none : (b : Board) → SeenBelow b 0 0
-seen-none b j u h = absurd (omega arith)
+pub seen-none : (b : Board) (s : List ℕ) → SeenBelow b 0 s
+seen-none b s j u h = absurd (omega arith)
 
-pub seen-free : (b : Board) (k s : ℕ) → SeenBelow b k s → ((u : ℕ) → false ≡ isOf u (lineAt b k)) → SeenBelow b (k + 1) s
-seen-free b k s seen f j u h x = ⊎-elim (λ (z : j ≡ k). absurd (false≢true (f u ∙ (rw z at x)))) (λ (n : j ≡ k → ⊥). seen j u (omega arith) x) (eq-or-ne j k)
+-- the word of line k's train
+pub seen-here : (b : Board) (k u i w : ℕ) (s : List ℕ) → SeenBelow b k s → TrainOf b k u → i ≡ u / 64 % 16 → w ≡ getD s i 0 → SeenHere b k w
+seen-here b k u i w s seen f e q j v h x y =
+    let z : v ≡ u = f v y in
+    let g = seen j v h x in
+    rw (q, e, ← z) g
 
-pub seen-more : (b : Board) (k u s r : ℕ) → SeenBelow b k s → ((v : ℕ) → eqb u v ≡ isOf v (lineAt b k)) → Marked s (u % 64) r → SeenBelow b (k + 1) r
-seen-more b k u s r seen f m j v h x =
+pub seen-more : (b : Board) (k u i w r : ℕ) (s : List ℕ) → length s ≡ 16 → SeenBelow b k s → TrainOf b k u → i ≡ u / 64 % 16 → w ≡ getD s i 0 → Marked w (u % 64) r → SeenBelow b (k + 1) (set s i r)
+seen-more b k u i w r s size seen f e q m j v h x =
     ⊎-elim
-    (λ (z : j ≡ k). let e : u ≡ v = eqb-true u v (f v ∙ (rw z at x)) in rw (← e) (m .here))
-    (λ (n : j ≡ k → ⊥). m .others (v % 64) (seen j v (omega arith) x))
-    (eq-or-ne j k)
+    (λ (y : v / 64 % 16 ≡ i).
+    let same : getD (set s i r) (v / 64 % 16) 0 ≡ r = rw y (getD-set-same s i r 0 (omega arith)) in
+    rw same (⊎-elim
+    (λ (z : j ≡ k). let d : v ≡ u = f v (rw z at x) in rw d (m .here))
+    (λ (n : j ≡ k → ⊥). m .others (v % 64) (rw (q, ← y) (seen j v (omega arith) x)))
+    (eq-or-ne j k)))
+    (λ (y : v / 64 % 16 ≡ i → ⊥).
+    rw (getD-set-other s i (v / 64 % 16) r 0 y) (⊎-elim
+    (λ (z : j ≡ k). let d : v ≡ u = f v (rw z at x) in absurd (y (rw d (sym e))))
+    (λ (n : j ≡ k → ⊥). seen j v (omega arith) x)
+    (eq-or-ne j k)))
+    (eq-or-ne (v / 64 % 16) i)

@@ -20,7 +20,7 @@ use mathlib.Core.Logic.{_⊎_}
 use mathlib.Core.List.{List}
 use mathlib.Core.Option.{Option, none, some}
 use lib.Dec.{eqb, ltb, leb}
-use lib.ListN.{length}
+use lib.ListN.{length, getD}
 use Rattle.units.specs.Plain.{if_then_else_}
 use Rattle.words.specs.Runs.{tab}
 use Rattle.words.specs.Bits.{bit}
@@ -109,6 +109,14 @@ pub record Marked (s k r : ℕ) : Type 0 where
   pub here : bit k r ≡ 1
   pub others : (j : ℕ) → bit j s ≡ 1 → bit j r ≡ 1
 
--- each train on a line below k has its bit set
-abbrev pub SeenBelow : Board → ℕ → ℕ → Type 0
-SeenBelow b k s = (j u : ℕ) → j < k → isOf u (lineAt b j) ≡ true → bit (u % 64) s ≡ 1
+-- r is the train of line k, where it has one
+abbrev pub TrainOf : Board → ℕ → ℕ → Type 0
+TrainOf b k r = (u : ℕ) → isOf u (lineAt b k) ≡ true → u ≡ r
+
+-- Each train on a line below k has its bit set, one of 1,024 in sixteen words: bit u mod 64 of word u / 64 mod 16.
+abbrev pub SeenBelow : Board → ℕ → List ℕ → Type 0
+SeenBelow b k s = (j u : ℕ) → j < k → isOf u (lineAt b j) ≡ true → bit (u % 64) (getD s (u / 64 % 16) 0) ≡ 1
+
+-- where line k's train stands on a line below, its bit is set in the word s
+abbrev pub SeenHere : Board → ℕ → ℕ → Type 0
+SeenHere b k s = (j u : ℕ) → j < k → isOf u (lineAt b j) ≡ true → isOf u (lineAt b k) ≡ true → bit (u % 64) s ≡ 1

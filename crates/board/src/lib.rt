@@ -5,11 +5,11 @@
 //
 // `sound` is the test of 29 and takes any bytes. The others are inner functions: a `requires` says what the callers keep.
 ghost use mathlib.Core.Path.{_≡_};
-ghost use Prim.Native.Nat.{_+_, _*_, _%_, _^_, _<_, _≤_};
+ghost use Prim.Native.Nat.{_+_, _*_, _/_, _%_, _^_, _<_, _≤_};
 ghost use lib.ListN.{length};
 ghost use Rattle.desk.specs.Board.{lineAt, isOf, isFree};
 ghost use Rattle.words.specs.Words.{wordAt, putWord};
-ghost use Rattle.board.specs.Layout.{Room, boardOf, recOf, wellFormed, Tells, Parted, Found, Marked, SeenBelow};
+ghost use Rattle.board.specs.Layout.{Room, boardOf, recOf, wellFormed, Tells, Parted, Found, Marked, TrainOf, SeenHere};
 ghost use Rattle.words.specs.Bits.{bit};
 ghost use lib.Dec.{eqb};
 use desk_line::Line;
@@ -32,6 +32,9 @@ const LEAVES: u64 = 131072;
 const UNKNOWN: u64 = 196608;
 
 const KINDS: u64 = 256;
+
+// The words of the trains that the test of 29 has passed.
+const SEEN: usize = 16;
 
 // Line `k`.
 pub fn line_at(t: &[u8], k: usize) -> Line
@@ -67,10 +70,13 @@ fn is_of(t: &[u8], k: usize, train: u32) -> bool
     ensures { λ r. ⌜ r ≡ isOf train (lineAt (boardOf (now (t .entry))) k) ⌝ }
 {
     let l = line_at(t, k);
+    if l.train != train {
+        return false;
+    }
     if l.kind == 0 {
         return false;
     }
-    l.train == train
+    true
 }
 
 // Whether line `k` is free.
@@ -140,7 +146,23 @@ fn formed_at(t: &[u8], k: usize) -> bool
     formed(a, c)
 }
 
-// Whether the bit of a train is set. Trains have 64 bits, by their low six.
+// The train of line `k`; of a free line 0.
+fn train_at(t: &[u8], k: usize) -> u32
+    requires { ⌜ Room (now t) × (k < 64) ⌝ }
+    ensures { λ r. ⌜ TrainOf (boardOf (now (t .entry))) k r ⌝ }
+{
+    let l = line_at(t, k);
+    l.train
+}
+
+// Which of the sixteen words has a train's bit.
+fn bucket(train: u32) -> usize
+    ensures { λ r. ⌜ (r ≡ train / 64 % 16) × (r < 16) ⌝ }
+{
+    (train / 64 % 16) as usize
+}
+
+// Whether the bit of a train is set, by its low six bits.
 fn marked(seen: u64, train: u32) -> bool
     ensures { λ r. ⌜ r ≡ eqb (bit (train % 64) seen) 1 ⌝ }
 {
@@ -159,7 +181,7 @@ fn mark(seen: u64, train: u32) -> u64
 
 // Whether line `k` is free or its train is on no line below. The lines below are looked at only where a train there has the same bit.
 fn parted(t: &[u8], k: usize, seen: u64) -> bool
-    requires { ⌜ Room (now t) × (k < 64) × SeenBelow (boardOf (now t)) k seen ⌝ }
+    requires { ⌜ Room (now t) × (k < 64) × SeenHere (boardOf (now t)) k seen ⌝ }
     ensures { λ r. ⌜ Parted r (boardOf (now (t .entry))) k ⌝ }
 {
     let l = line_at(t, k);
@@ -172,18 +194,6 @@ fn parted(t: &[u8], k: usize, seen: u64) -> bool
     find(t, l.train, k) == k
 }
 
-// The word with the bit of line `k`'s train.
-fn seen_at(t: &[u8], k: usize, seen: u64) -> u64
-    requires { ⌜ Room (now t) × (k < 64) × SeenBelow (boardOf (now t)) k seen ⌝ }
-    ensures { λ r. ⌜ SeenBelow (boardOf (now (t .entry))) (k + 1) r ⌝ }
-{
-    let l = line_at(t, k);
-    if l.kind == 0 {
-        return seen;
-    }
-    mark(seen, l.train)
-}
-
 // Whether the bytes show a board that the rules can make.
 pub fn sound(t: &[u8]) -> bool
     ensures { λ r. ⌜ Tells r (now (t .entry)) ⌝ }
@@ -192,15 +202,18 @@ pub fn sound(t: &[u8]) -> bool
         return false;
     }
     let mut k = 0;
-    let mut seen = 0u64;
+    let mut seen = [0u64; SEEN];
     while k < LINES {
         if !formed_at(t, k) {
             return false;
         }
-        if !parted(t, k, seen) {
+        let train = train_at(t, k);
+        let i = bucket(train);
+        let word = seen[i];
+        if !parted(t, k, word) {
             return false;
         }
-        seen = seen_at(t, k, seen);
+        seen[i] = mark(word, train);
         k += 1;
     }
     true
