@@ -13,7 +13,7 @@ use borrow.Author.Tests.{eqb-true, eq-eqb}
 use Rattle.words.specs.Words.{wordAt}
 use Rattle.words.proofs.Runs.{le-or-lt, eq-or-ne}
 use Rattle.desk.specs.Board.{Rec, Board, lineAt, isOf}
-use Rattle.board.specs.Layout.{Room, boardOf, wellFormed, NoBoard, Parted, Decided}
+use Rattle.board.specs.Layout.{boardOf, wellFormed, NoBoard, Parted, Decided}
 use Rattle.board.proofs.Means.{Passed, passed-none, passed-more, passed-all, fails-room, fails-formed, fails-parted}
 use Rattle.board.proofs.Stores.{words-fit}
 

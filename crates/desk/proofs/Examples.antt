@@ -32,7 +32,7 @@ other-cell : (step (after emptyBoard (enter (rec 5 1 1 7) ∷ [])) (enter (rec 5
 unfolding step refusal target first after
 other-cell = refl
 
--- "A sequence of 4,294,967,295 is the train's last until it is cleared."
+-- nothing follows the greatest sequence
 last-sequence : (step (after emptyBoard (enter (rec 5 1 1 4294967295) ∷ [])) (enter (rec 5 1 2 4294967296))) .reply ≡ refused 32
 unfolding step refusal target first after
 last-sequence = refl

@@ -3,6 +3,7 @@ pub mod Lines
 pub mod Keep
 pub mod Fresh
 pub mod Made
+pub mod BothOn
 pub mod Commute
 pub mod Shows
 pub mod Examples

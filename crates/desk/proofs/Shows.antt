@@ -11,7 +11,7 @@ use borrow.Author.Tests.{eq-eqb, ne-eqb}
 use Rattle.units.specs.Plain.{if_then_else_}
 use Rattle.words.proofs.Runs.{eq-or-ne}
 use Rattle.desk.specs.Board.{Rec, Board, emptyBoard, lineAt, isOf, isFree, place, lowest, shown, Makeable}
-use Rattle.desk.specs.Calls.{Call, enter, clear, told, refusal, target, entered, left, cleared, step, after, trace, Sayable, AllSayable, isTold, noted, lastOf}
+use Rattle.desk.specs.Calls.{Call, enter, clear, told, refusal, target, entered, left, cleared, step, after, trace, AllSayable, isTold, noted, lastOf}
 use Rattle.desk.specs.Claims.{Changes, OneLine, ShowsLast}
 use Rattle.desk.proofs.First.{first-hit, first-miss, first-none}
 use Rattle.desk.proofs.Lines.{beyond, of-made, of-one, free-is, line-same, line-other, place-is, stands, Accepts, later, newly, accepts, target-below, shown-stays}

@@ -19,7 +19,7 @@ use lib.Dec.{eqb}
 use lib.ListN.{length, getD, replicate}
 use Rattle.units.specs.Plain.{if_then_else_}
 
--- "A handover record is .. train u32, cell u16, kind (1 joined, 2 left), sequence u32."
+-- a handover record; kind 1: its train joined the cell, 2: it left
 pub record Rec : Type 0 where
   pub train : ℕ
   pub cell : ℕ
@@ -29,7 +29,7 @@ pub record Rec : Type 0 where
 abbrev pub Board : Type 0
 Board = List (Option Rec)
 
--- "The journal holds up to 64 trains."
+-- a line for each of at most 64 trains
 abbrev pub emptyBoard : Board
 emptyBoard = replicate 64 none
 
@@ -51,7 +51,7 @@ isFree (some r) = false
 abbrev pub place : ℕ → Board → ℕ
 place t b = first (isOf t) b
 
--- "a new train takes the lowest free line"
+-- the line for a new train
 abbrev pub lowest : Board → ℕ
 lowest b = first isFree b
 
@@ -66,7 +66,7 @@ pub record Carried (r : Rec) : Type 0 where
   pub kind : r .kind < 2 ^ 8
   pub sequence : r .sequence < 2 ^ 32
 
--- "a train's first record .. must be a join", so a leave's sequence is one above that of a join
+-- a first record is a join, so a leave always comes one after a join, and its sequence is 1 or more
 pub record Fine (r : Rec) : Type 0 where
   pub carried : Carried r
   pub kind : (r .kind ≡ 1) ⊎ ((r .kind ≡ 2) × (1 ≤ r .sequence))

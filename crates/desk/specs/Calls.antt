@@ -33,15 +33,15 @@ pub record Outcome : Type 0 where
 
 -- ---- a record
 
--- "kind (1 joined, 2 left)"
+-- joined, left
 abbrev pub known : ℕ → Bool
 known n = eqb n 1 || eqb n 2
 
--- "later ones must follow by exactly one"; "A sequence of 4,294,967,295 is the train's last until it is cleared."
+-- the next sequence; after the greatest there is none, so it never wraps
 abbrev pub inTurn : Rec → Rec → Bool
 inTurn old r = ltb (old .sequence) 4294967295 && eqb (r .sequence) (old .sequence + 1)
 
--- "a leave must follow a join and name its cell, and a join may follow only a leave"
+-- a leave comes after a join and of the same cell, a join after a leave
 abbrev pub follows : Rec → Rec → Bool
 follows old r = if eqb (r .kind) 2 then eqb (old .kind) 1 && eqb (r .cell) (old .cell) else eqb (old .kind) 2
 
@@ -50,7 +50,7 @@ abbrev pub judged : Option Rec → Bool → Rec → Option ℕ
 judged none free r = if not free then some 31 else if eqb (r .kind) 1 then none else some 33
 judged (some old) free r = if not (inTurn old r) then some 32 else if follows old r then none else some 33
 
--- "30 kind unknown, 31 new train and no free line, 32 sequence out of turn, 33 cell or kind doesn't follow"
+-- 30 goes before what `judged` finds
 unfoldable pub refusal : Board → Rec → Option ℕ
 refusal b r = if not (known (r .kind)) then some 30 else judged (lineAt b (place (r .train) b)) (ltb (lowest b) (length b)) r
 
@@ -67,7 +67,7 @@ abbrev pub left : Option Rec → Bool
 left none = false
 left (some r) = eqb (r .kind) 2
 
--- "34 train not on the board or still joined"
+-- 34 for a train on no line, whose place holds nothing, and for one that is joined
 abbrev pub cleared : Bool → Board → ℕ → Outcome
 cleared true b k = record { reply = told k; board = set b k none }
 cleared false b k = record { reply = refused 34; board = b }

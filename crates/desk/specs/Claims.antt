@@ -33,7 +33,7 @@ pub record InEitherOrder (b : Board) (q r : Rec) : Type 0 where
 abbrev pub Commutes : Type 0
 Commutes = (b : Board) (q r : Rec) → (q .train ≡ r .train → ⊥) → place (q .train) b < length b → InEitherOrder b q r
 
--- "An accepted record changes that one train's line in place and no other line."
+-- what an accepted record leaves of a board: line k is the record, and the rest is as it was
 pub record Changes (b : Board) (r : Rec) (k : ℕ) (after : Board) : Type 0 where
   pub new : lineAt after k ≡ some r
   pub others : (j : ℕ) → (j ≡ k → ⊥) → lineAt after j ≡ lineAt b j

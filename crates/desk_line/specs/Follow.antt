@@ -1,4 +1,4 @@
--- "An accepted record changes that one train's line in place": the train stays, the rest is the record's.
+-- A line that takes its train's next record: the train stays, the rest is the record's.
 use Prim.Native.Nat.{ℕ}
 use Rattle.desk_line.specs.declared.Line.{Line}
 

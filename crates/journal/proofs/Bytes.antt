@@ -22,8 +22,8 @@ use Rattle.board.proofs.Decided.{decided}
 use Rattle.journal.specs.Reads.{Plain, refused, told, shown, fromRules}
 use Rattle.journal.specs.Record.{Reading, says, faulty, readRecord}
 use Rattle.journal.specs.declared.Told.{Told}
-use Rattle.journal.specs.Step.{stored, Stays, Kept, Step, RecordSays, LineStep}
-use Rattle.journal.specs.Bytes.{NotMade, Exactly29, Exact29, EachMade, OneBoard, OneAnswer, OneClear, AnyOrder}
+use Rattle.journal.specs.Step.{stored, Stays, Kept, Step, RecordSays}
+use Rattle.journal.specs.Bytes.{Exactly29, Exact29, EachMade, OneBoard, OneAnswer, OneClear, AnyOrder}
 use Rattle.journal.proofs.Numbers.{rules-not-29, stands-not-29, field-not-29}
 
 -- ---- one encoding

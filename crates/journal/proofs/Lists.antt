@@ -2,15 +2,13 @@
 use Prim.Native.Nat.{ℕ, _≤_, _<_}
 use native.Mathlib.Omega.{arith}
 use mathlib.Core.Path.{_≡_, refl, sym, ap, subst, _∙_}
-use mathlib.Core.Bool.{Bool, true, false}
 use mathlib.Core.Logic.{⊎-elim}
-use mathlib.Core.List.{List, [], _∷_}
+use mathlib.Core.List.{List}
 use mathlib.Core.Option.{Option, none, some}
 use lib.ListN.{length}
-use borrow.Author.Tests.{eqb-true, eq-eqb}
 use Rattle.units.specs.Plain.{if_then_else_}
 use Rattle.words.proofs.Runs.{le-or-lt}
-use Rattle.desk.specs.Board.{Rec, Board, emptyBoard, lineAt, isOf, place, Makeable}
+use Rattle.desk.specs.Board.{Rec, Board, emptyBoard, lineAt, place}
 use Rattle.desk.specs.Board as Board
 use Rattle.desk.specs.Calls.{Call, Reply, enter, clear, step, isTold, noted}
 use Rattle.desk.specs.Calls as Calls
@@ -18,14 +16,13 @@ use Rattle.desk.proofs.Lines.{beyond, of-made, place-is}
 use Rattle.desk.proofs.Keep.{empty-line}
 use Rattle.desk.proofs.Shows.{shown-step}
 use Rattle.board.specs.Layout.{Room, Shows}
-use Rattle.journal.specs.Reads.{Plain, refused, told, shown, fromRules}
+use Rattle.journal.specs.Reads.{refused, told, shown, fromRules}
 use Rattle.journal.specs.Reads as Reads
 use Rattle.journal.specs.Record.{Reading, says, faulty, readRecord}
-use Rattle.journal.specs.Step.{Step, RecordSays, LineStep, BeginStep}
-use Rattle.journal.specs.Lists.{Asked, recorded, cleared, Event, Does, Chain, done, next, accepted, noteRead, note, lastSaid, Never29, Showing, ShowsLast}
+use Rattle.journal.specs.Step.{Step, RecordSays, LineStep}
+use Rattle.journal.specs.Lists.{Asked, recorded, cleared, Event, Does, Chain, done, next, accepted, note, lastSaid, Never29, ShowsLast}
 use Rattle.journal.specs.declared.Told.{Told}
 use Rattle.journal.specs.declared.Shown.{Shown}
-use Rattle.journal.specs.declared.Begun.the-variants as Begun
 use Rattle.journal.proofs.Numbers.{rules-not-29, stands-not-29, field-not-29}
 use Rattle.journal.proofs.Bytes.{stayed}
 

@@ -22,7 +22,7 @@ use Rattle.journal.specs.Step.{Step, RecordStep, LineStep}
 use Rattle.journal.specs.declared.Told.{Told}
 use Rattle.journal.specs.declared.Shown.{Shown}
 
--- "board not one these rules can make": no list of calls from the empty board makes a board that is written there
+-- no list of calls from the empty board makes a board that is written there
 abbrev pub NotMade : List ℕ → Type 0
 NotMade t = (b : Board) → Written t b → Made b → ⊥
 

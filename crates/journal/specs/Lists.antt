@@ -15,7 +15,7 @@ use mathlib.Core.List.{List, [], _∷_}
 use mathlib.Core.Option.{Option, none, some}
 use Rattle.units.specs.Plain.{if_then_else_}
 use Rattle.desk.specs.Board.{Rec}
-use Rattle.desk.specs.Calls.{Call, enter, clear, noted}
+use Rattle.desk.specs.Calls.{enter, clear, noted}
 use Rattle.journal.specs.Reads.{Plain, line, stands, begun, refused, told, shown}
 use Rattle.journal.specs.Record.{Reading, says, faulty, readRecord}
 use Rattle.journal.specs.Step.{Step, RecordStep, LineStep, BeginStep}

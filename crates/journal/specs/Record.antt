@@ -24,7 +24,7 @@ use Rattle.desk_line.specs.declared.Line.{Line}
 abbrev pub recLine : Line → Rec
 recLine l = record { train = l .train; cell = l .cell; kind = l .kind; sequence = l .sequence }
 
--- "field 0x30, 11 bytes: train u32, cell u16, kind (1 joined, 2 left), sequence u32", behind the three bytes of the header
+-- the eleven bytes of the value, behind the three of the header, each number high byte first
 abbrev pub valuesOf : List ℕ → Rec
 valuesOf s = record { train = big s 3 4; cell = big s 7 2; kind = big s 9 1; sequence = big s 10 4 }
 
@@ -36,7 +36,7 @@ pub data Reading : Type 0 where
   says : Rec → Reading
   faulty : ℕ → Option ℕ → Reading
 
--- "1 to 3 as before": 1 (header), 2, 3, 1 (value); "One call reads one field and nothing after it", so every place is 0
+-- 1 (header), 2, 3, 1 (value), as in every field. It stands first, so every place is 0; bytes behind it are not looked at.
 abbrev pub readHeader : List ℕ → Field → Reading
 readHeader s Nothing = faulty 1 (some 0)
 readHeader s Cut = faulty 1 (some 0)

@@ -32,7 +32,7 @@ abbrev pub stored : Call → Reply → List ℕ → List ℕ
 stored c (Calls.told k) t = putLine t k (leaves c)
 stored c (Calls.refused n) t = t
 
--- "the board stays"
+-- a refusal leaves every byte
 abbrev pub Stays : Plain → List ℕ → List ℕ → Type 0
 Stays (line k) before after = Unit {0}
 Stays (stands x) before after = Unit {0}
@@ -46,11 +46,11 @@ pub record Kept (a : Plain) (before after : List ℕ) : Type 0 where
 
 -- The call c on the bytes `before` answers a and leaves the bytes `after`.
 pub record Step (c : Call) (before : List ℕ) (a : Told) (after : List ℕ) : Type 0 where
-  -- "29 board not one these rules can make"
+  -- the test of 29, before all others
   pub not-board : NoBoard before → told a ≡ refused 29 none
   pub reply : (b : Board) → Shows before b → told a ≡ fromRules ((step b c) .reply)
   pub board : (b : Board) → Shows before b → Shows after ((step b c) .board)
-  -- "changes that one train's line in place", to the byte
+  -- an accepted call changes the two words of one line
   pub bytes : (b : Board) → Shows before b → after ≡ stored c ((step b c) .reply) before
   pub kept : Kept (told a) before after
 
@@ -70,7 +70,7 @@ pub record LineStep (k : ℕ) (t : List ℕ) (a : Shown) : Type 0 where
   pub reply : (b : Board) → Shows t b → shown a ≡ stands (lineAt b k)
 
 pub record BeginStep (before : List ℕ) (a : Begun) (after : List ℕ) : Type 0 where
-  -- "7" at 0
+  -- 7, at place 0
   pub short : (Room before → ⊥) → beginning a ≡ refused 7 (some 0)
   pub done : Room before → (beginning a ≡ begun) × Shows after emptyBoard
   pub kept : Kept (beginning a) before after

@@ -7,7 +7,7 @@
 use Prim.Native.Nat.{ℕ, _≤_, _<_}
 use mathlib.Core.Path.{_≡_}
 use mathlib.Core.List.{List}
-use mathlib.Core.Option.{Option, none, some}
+use mathlib.Core.Option.{none, some}
 use lib.ListN.{length}
 use Rattle.journal.specs.Reads.{Plain, line, stands, begun, refused}
 use Rattle.zenfrosta.specs.Crossing.{four, spoken}
