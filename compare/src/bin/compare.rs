@@ -103,11 +103,9 @@ fn main() -> ExitCode {
     let Some((mode, rest)) = arguments.split_first() else { return help() };
     let Some(options) = options(rest) else { return help() };
     match (mode.as_str(), options.programs.is_empty()) {
-        ("short", true) => {
-            both(calls(&options, 0, Budget::Cases(SHORT), |_| true), || {
-                boards(&options, 0, Budget::Cases(SHORT_BOARDS))
-            })
-        }
+        ("short", true) => both(calls(&options, 0, Budget::Cases(SHORT), |_| true), || {
+            boards(&options, 0, Budget::Cases(SHORT_BOARDS))
+        }),
         ("long" | "tables", true) => {
             let kinds = |kind| mode == "long" || kind == Kind::Tables;
             let Some(budget) = budget(&options) else { return help() };

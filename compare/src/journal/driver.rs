@@ -104,7 +104,11 @@ impl Both {
         }
         if self.lent.bytes() != self.right {
             let theirs = self.lent.bytes().to_vec();
-            return Err(self.found(format!("the bytes differ: {}, right is {}", hex(&theirs), hex(&self.right))));
+            return Err(self.found(format!(
+                "the bytes differ: {}, right is {}",
+                hex(&theirs),
+                hex(&self.right)
+            )));
         }
         self.lent.guarded().map_err(|what| self.found(what))?;
         Ok(right)

@@ -75,8 +75,7 @@ impl Journal {
     pub fn enter(&mut self, record: Record) -> Result<u8, u64> {
         let line = self.judge(record)?;
         let joined = record.kind == JOINED;
-        self.trains
-            .insert(record.train, Last { line, cell: record.cell, joined, sequence: record.sequence });
+        self.trains.insert(record.train, Last { line, cell: record.cell, joined, sequence: record.sequence });
         Ok(line)
     }
 

@@ -26,7 +26,10 @@ fn main() -> Result<(), BoardRefusal> {
             Kind::Joined => "joined",
             Kind::Left => "left",
         };
-        println!("line {line}: train {} {kind} cell {}, record {}", record.train, record.cell, record.sequence);
+        println!(
+            "line {line}: train {} {kind} cell {}, record {}",
+            record.train, record.cell, record.sequence
+        );
     }
     Ok(())
 }

@@ -92,10 +92,22 @@ impl BoardRefusal {
 
     fn of(number: u64) -> BoardRefusal {
         use BoardRefusal::*;
-        [Cut, UnknownTag, WrongLength, NotABoard, KindUnknown, NoFreeLine, OutOfTurn, DoesNotFollow, NotCleared]
-            .into_iter()
-            .find(|refusal| refusal.number() == number)
-            .expect("7 and 255 are for short areas, and this module lends none; the library gives no other number")
+        [
+            Cut,
+            UnknownTag,
+            WrongLength,
+            NotABoard,
+            KindUnknown,
+            NoFreeLine,
+            OutOfTurn,
+            DoesNotFollow,
+            NotCleared,
+        ]
+        .into_iter()
+        .find(|refusal| refusal.number() == number)
+        .expect(
+            "7 and 255 are for short areas, and this module lends none; the library gives no other number",
+        )
     }
 }
 

@@ -94,7 +94,9 @@ fn nothing_follows_the_last_sequence() {
 fn bytes_that_are_no_board() {
     let mut board = Board::new();
     assert_eq!(board.record(&join(7, 3, 0)), Ok(0));
-    for (at, value) in [(0, 8), (4, 1), (8, 4), (16, 1), (1_023, 1), (10, 0), (10, 2), (10, 3), (11, 1), (15, 128)] {
+    for (at, value) in
+        [(0, 8), (4, 1), (8, 4), (16, 1), (1_023, 1), (10, 0), (10, 2), (10, 3), (11, 1), (15, 128)]
+    {
         let mut bytes = *board.as_bytes();
         bytes[at] = value;
         // Another train, sequence or cell is a board; a free line with a number, an unknown kind, a leave of sequence 0 and a stray bit are none.
@@ -108,5 +110,8 @@ fn bytes_that_are_no_board() {
 
 #[test]
 fn refusals_in_words() {
-    assert_eq!(BoardRefusal::OutOfTurn.to_string(), "refused with 32: the sequence is not the train's last one plus 1");
+    assert_eq!(
+        BoardRefusal::OutOfTurn.to_string(),
+        "refused with 32: the sequence is not the train's last one plus 1"
+    );
 }

@@ -5,7 +5,14 @@ use super::{told, Told};
 extern "C" {
     fn zf_board_size() -> u64;
     fn zf_board_begin(b: *mut u8, b_len: usize, out: *mut u8, out_len: usize) -> u64;
-    fn zf_board_record(b: *mut u8, b_len: usize, f: *const u8, f_len: usize, out: *mut u8, out_len: usize) -> u64;
+    fn zf_board_record(
+        b: *mut u8,
+        b_len: usize,
+        f: *const u8,
+        f_len: usize,
+        out: *mut u8,
+        out_len: usize,
+    ) -> u64;
     fn zf_board_clear(b: *mut u8, b_len: usize, train: u32, out: *mut u8, out_len: usize) -> u64;
     fn zf_board_line(b: *const u8, b_len: usize, line: u8, out: *mut u8, out_len: usize) -> u64;
 }
