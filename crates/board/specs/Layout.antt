@@ -11,6 +11,9 @@
 --   NoBoard, Tells         the bytes show none; what the test of 29 says of bytes
 --   Decided                bytes show a board or none
 --   Found                  where a test first passes on the lines below n
+--   Parted                 whether a line's train stands on no line below
+--   Marked, TrainOf        a word with one more bit set; the train of a line
+--   SeenBelow, SeenHere    the bits of the trains that the test has passed: of all, and of one line's train
 --
 -- Assumes nothing.
 use Prim.Native.Nat.{ℕ, _+_, _*_, _/_, _%_, _≤_, _<_}
