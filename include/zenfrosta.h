@@ -2,7 +2,7 @@
  *
  * One rule for every answer:
  *
- *   - The result is 0, or document 01's number of the refusal (ZF_... below).
+ *   - The result is 0, or the number of the refusal (ZF_... below).
  *   - Values stand in the lent answer buffer `out`, which has at least 32 bytes: four 64-bit words, each low byte first. What a call does not
  *     use is 0. A refusal leaves its place in word 0 and 1 in word 1; 0 in both if it has none. (0 is a place, too.) zf_run has the place in
  *     word 3, and says in word 2 whether there is one.
@@ -88,6 +88,48 @@ uint64_t zf_restart(uint8_t *table, size_t table_length, uint8_t *out, size_t ou
  * stopped (ZF_STOP_...), and a refusal's place. The result is 0 at the end field or the limit, else the number of the refusal. */
 uint64_t zf_run(const uint8_t *session, size_t session_length, uint64_t limit, uint8_t *table, size_t table_length, uint8_t *answers,
                 size_t answers_length, uint8_t *out, size_t out_length);
+
+/* ---- The desk's board: which train is in which cell (docs/DESK.md)
+ *
+ * A board is ZF_BOARD_SIZE lent bytes that zf_board_begin has written: 64 lines, each free or the last accepted handover record of a train. It
+ * may be kept, moved or copied between calls, and it has nothing to do with a table. Every call tests the whole board first. A refusal changes
+ * no byte; bytes past the size are never touched.
+ */
+
+/* The fixed size of a board in bytes, as zf_board_size() gives it, and its lines. */
+#define ZF_BOARD_SIZE 1024
+#define ZF_BOARD_LINES 64
+
+/* The kind of a handover record: its train joined the cell, or left it. */
+#define ZF_JOINED 1
+#define ZF_LEFT 2
+
+/* A handover record is one field of ZF_RECORD_SIZE bytes: the tag 0x30, the length 0x000B, then train (4 bytes), cell (2), kind (1) and
+ * sequence (4), each high byte first. */
+#define ZF_RECORD_TAG 0x30
+#define ZF_RECORD_SIZE 14
+
+/* Refusals of the board, in this order; 1 to 3 come between 29 and 30, for the one field, at place 0; 7 is for beginning a board. */
+#define ZF_NOT_A_BOARD 29      /* the bytes are no board that calls make from an empty one, or too few */
+#define ZF_KIND_UNKNOWN 30     /* kind neither 1 nor 2 */
+#define ZF_NO_FREE_LINE 31     /* a train that is not on the board, and all 64 lines are used */
+#define ZF_OUT_OF_TURN 32      /* sequence not the train's last one plus 1; always so after 4,294,967,295 */
+#define ZF_DOES_NOT_FOLLOW 33  /* cell or kind does not follow: a first record that is no join, a join after a join, a leave after a leave or of another cell */
+#define ZF_NOT_CLEARED 34      /* clear of a train that is not on the board, or whose last record is a join */
+
+uint64_t zf_board_size(void);
+
+/* Begins an empty board in the lent bytes, whatever they held. Refusals: 7 at place 0, the board is shorter than ZF_BOARD_SIZE. */
+uint64_t zf_board_begin(uint8_t *board, size_t board_length, uint8_t *out, size_t out_length);
+
+/* Enters the handover record at the start of `field`; bytes after the field are not looked at. out: the line, 0 to 63. Refusals: 29, 1 to 3, 30 to 33. */
+uint64_t zf_board_record(uint8_t *board, size_t board_length, const uint8_t *field, size_t field_length, uint8_t *out, size_t out_length);
+
+/* Clears a train whose last record is a leave: its line is free, and its next record is a first one. out: the line. Refusals: 29, 34. */
+uint64_t zf_board_clear(uint8_t *board, size_t board_length, uint32_t train, uint8_t *out, size_t out_length);
+
+/* What stands on a line. out: kind, train, cell and sequence; a free line, and any number over 63, is all 0. Refusals: 29. */
+uint64_t zf_board_line(const uint8_t *board, size_t board_length, uint8_t line, uint8_t *out, size_t out_length);
 
 #ifdef __cplusplus
 }

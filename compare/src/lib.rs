@@ -2,6 +2,7 @@
 //! machinery that compares the unit with it over long random lists of calls and random inputs.
 //!
 //! The implementation: [`numbers`], [`calls`], [`rules`], [`fields`], [`setup`], [`session`]; [`layout`] reads docs/TABLE.md's tables.
+//! [`journal`] is a second journal of the desk with its own comparison.
 //! The machinery: [`rng`], [`gen`], [`laws`], [`unit`], [`stand_in`], [`on_words`], [`driver`], [`pipes`]; [`loads`] and, with the feature `inner`, `inner` are the
 //! benchmark's.
 //!
@@ -16,6 +17,7 @@ pub mod fields;
 pub mod gen;
 #[cfg(feature = "inner")]
 pub mod inner;
+pub mod journal;
 pub mod laws;
 pub mod layout;
 #[cfg(feature = "unit")]

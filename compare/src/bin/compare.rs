@@ -2,6 +2,7 @@
 
 use compare::driver::report::Tally;
 use compare::driver::{self, Budget, Kind};
+use compare::journal;
 use compare::on_words::{lapses, OnWords};
 use compare::pipes;
 use compare::stand_in::{StandIn, ALL};
@@ -16,6 +17,8 @@ compare long --seconds N | --cases N [--seed N]
 compare tables --seconds N | --cases N [--seed N]
                                                the cases of a long run that are tables which no call made
 compare one --seed N --case N                  one case again, alone
+compare boards --seconds N | --cases N [--seed N] [--case N]
+                                               the desk's board; --case N begins at that case. A short and a long run have such cases too
 compare sessions PROGRAM... [--cases N] [--seed N] [--case N]
                                                sessions by pipe; --case N begins at that case
 compare clock --pairs N                        one lane up to the clock's edge, or N pairs of put and take
@@ -25,6 +28,9 @@ compare slips [--seed N]                       each slip and each lapse, and the
 const SEED: u64 = 1;
 /// The cases of a short run.
 const SHORT: u64 = 20_000;
+/// Its cases of the desk's board, and the part of a long run that they get.
+const SHORT_BOARDS: u64 = 20_000;
+const PART_OF_BOARDS: u64 = 8;
 /// A slip must be found within so many cases, far fewer than a short run has.
 const SLIP: u64 = 1_500;
 const SESSIONS: u64 = 2_000;
@@ -44,6 +50,21 @@ fn under_test() -> impl Unit {
 fn under_test() -> impl Unit {
     println!("The unit's library is not linked: this run compares the stand-in.");
     StandIn::new(compare::stand_in::Slip::None)
+}
+
+/// The board under test, likewise.
+#[cfg(feature = "unit")]
+fn desk_under_test() -> impl journal::Desk {
+    if let Err(wrong) = journal::linked::boundary() {
+        println!("DIFFERENCE at the boundary: {wrong}");
+        std::process::exit(1);
+    }
+    journal::linked::Linked
+}
+
+#[cfg(not(feature = "unit"))]
+fn desk_under_test() -> impl journal::Desk {
+    journal::slips::Slipped(journal::slips::Slip::None)
 }
 
 struct Options {
@@ -82,15 +103,23 @@ fn main() -> ExitCode {
     let Some((mode, rest)) = arguments.split_first() else { return help() };
     let Some(options) = options(rest) else { return help() };
     match (mode.as_str(), options.programs.is_empty()) {
-        ("short", true) => calls(&options, 0, Budget::Cases(SHORT), |_| true),
+        ("short", true) => both(calls(&options, 0, Budget::Cases(SHORT), |_| true), || {
+            boards(&options, 0, Budget::Cases(SHORT_BOARDS))
+        }),
         ("long" | "tables", true) => {
             let kinds = |kind| mode == "long" || kind == Kind::Tables;
-            match (options.cases, options.seconds) {
-                (Some(cases), None) => calls(&options, 0, Budget::Cases(cases), kinds),
-                (None, Some(time)) => calls(&options, 0, Budget::Time(Duration::from_secs(time)), kinds),
-                _ => help(),
+            let Some(budget) = budget(&options) else { return help() };
+            let boards = || boards(&options, 0, part(budget));
+            match mode.as_str() {
+                "long" => both(calls(&options, 0, budget, kinds), boards),
+                _ => calls(&options, 0, budget, kinds),
             }
         }
+        ("boards", true) => match (options.case, budget(&options)) {
+            (case, Some(budget)) => boards(&options, case.unwrap_or(0), budget),
+            (Some(case), None) => boards(&options, case, Budget::Cases(1)),
+            _ => help(),
+        },
         ("one", true) => match options.case {
             Some(case) => calls(&options, case, Budget::Cases(1), |_| true),
             None => help(),
@@ -102,6 +131,57 @@ fn main() -> ExitCode {
         ("sessions", false) => sessions(&options),
         ("slips", true) => slips(&options),
         _ => help(),
+    }
+}
+
+fn budget(options: &Options) -> Option<Budget> {
+    match (options.cases, options.seconds) {
+        (Some(cases), None) => Some(Budget::Cases(cases)),
+        (None, Some(time)) => Some(Budget::Time(Duration::from_secs(time))),
+        _ => None,
+    }
+}
+
+/// The boards' part of a long run, on top of it.
+fn part(budget: Budget) -> Budget {
+    match budget {
+        Budget::Cases(cases) => Budget::Cases(cases / PART_OF_BOARDS),
+        Budget::Time(time) => Budget::Time(time / PART_OF_BOARDS as u32),
+    }
+}
+
+/// The second only if the first went well.
+fn both(first: ExitCode, second: impl FnOnce() -> ExitCode) -> ExitCode {
+    if first == ExitCode::SUCCESS {
+        second()
+    } else {
+        first
+    }
+}
+
+fn boards(options: &Options, first: u64, budget: Budget) -> ExitCode {
+    let begin = Instant::now();
+    let mut tally = journal::driver::Tally::default();
+    let more = |done| match budget {
+        Budget::Cases(cases) => done < cases,
+        Budget::Time(time) => begin.elapsed() < time,
+    };
+    let result = journal::driver::compare(&mut desk_under_test(), options.seed, first, more, &mut tally);
+    println!("Seed {}, {:.1} s, {tally}", options.seed, begin.elapsed().as_secs_f64());
+    match result {
+        Ok(()) => {
+            println!("No difference.");
+            ExitCode::SUCCESS
+        }
+        Err((case, found)) => {
+            println!("DIFFERENCE in the board's case {case} of seed {}", options.seed);
+            for line in &found.shown_by {
+                println!("  {line}");
+            }
+            println!("{}", found.what);
+            println!("Again, alone: compare boards --seed {} --case {case}", options.seed);
+            ExitCode::FAILURE
+        }
     }
 }
 
@@ -179,7 +259,13 @@ fn slips(options: &Options) -> ExitCode {
     let lapses = lapses().into_iter().map(|lapse| (format!("{lapse:?}"), found(options, OnWords { lapse })));
     let mut missed = 0;
     let mut tried = 0;
-    for (name, case) in slips.chain(lapses) {
+    let desks = journal::slips::ALL.iter().map(|&slip| {
+        let mut desk = journal::slips::Slipped(slip);
+        let mut tally = journal::driver::Tally::default();
+        let found = journal::driver::compare(&mut desk, options.seed, 0, |done| done < SLIP, &mut tally);
+        (format!("{slip:?}"), found.err().map(|(case, _)| case))
+    });
+    for (name, case) in slips.chain(lapses).chain(desks) {
         tried += 1;
         match case {
             Some(case) => println!("{name}: found in case {case}"),

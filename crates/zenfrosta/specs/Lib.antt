@@ -1,3 +1,4 @@
 pub mod Crossing
 pub mod AfterRun
 pub mod Heard
+pub mod Board

@@ -17,6 +17,9 @@ ghost use Rattle.scheduler.specs.Make as Make;
 ghost use Rattle.walk.specs.Follows.{whyIs};
 ghost use Rattle.session.specs.Ran.{Ran};
 ghost use Rattle.zenfrosta.specs.Crossing.{four, code, values, stopCode, runValues, refusalWords, Spoken, CrossesCall, CrossesMaking, CrossesRun};
+
+pub mod board;
+
 use lines::Place;
 use rules::Answer;
 use rules::Record;

@@ -2,6 +2,8 @@
 
 #![allow(unsafe_code)]
 
+pub mod board;
+
 /// The answer buffer: four 64-bit words, low byte first.
 const OUT: usize = 32;
 

@@ -1,10 +1,14 @@
 //! Zenfrosta for hosts in Rust: the public calls on a lent table, and the session run. Every function takes any bytes; a refusal changes no table.
 //!
-//! A table is [`TABLE_SIZE`] bytes or more that [`make`] has written; it may be kept, moved or copied between calls.
+//! A table is [`TABLE_SIZE`] bytes or more that [`make`] has written; it may be kept, moved or copied between calls. [`Board`] is the desk's
+//! board of which train is in which cell; it has nothing to do with a table.
 
 #![deny(missing_docs, unsafe_code)]
 
+mod board;
 mod boundary;
+
+pub use board::{board_size, Board, BoardRefusal, Handover, Kind, BOARD_SIZE, LINES};
 
 /// The fixed size of a table in bytes; bytes past it are never touched.
 pub const TABLE_SIZE: usize = 10_880;

@@ -1,0 +1,10 @@
+pub mod First
+pub mod Lines
+pub mod Keep
+pub mod Fresh
+pub mod Made
+pub mod BothOn
+pub mod Commute
+pub mod Shows
+pub mod Last
+pub mod Examples

@@ -1,0 +1,72 @@
+-- What is proved of the rules; the proofs have the names of the claims.
+--
+--   KeepsMakeable   every call keeps it
+--   ExactlyMade     the boards that calls make from the empty board are the makeable ones, both ways
+--   Commutes        two records of different trains, one of them on the board, refused records too: the same replies and the same board in either order
+--   OneLine         an accepted record changes its train's line, or the lowest free one of a new train, and no other
+--   ShowsLast       what a board shows of a train is its last accepted record since its last clear
+--   EndsAtLast      after sequence 4,294,967,295 nothing of that train is accepted until it is cleared
+--
+-- Assumes nothing.
+use Prim.Native.Nat.{ℕ, _<_}
+use mathlib.Core.Path.{_≡_}
+use mathlib.Core.Bool.{true, false}
+use mathlib.Core.Logic.{_⊎_}
+use mathlib.Core.List.{List, [], _∷_}
+use mathlib.Core.Option.{none, some}
+use lib.ListN.{length}
+use Rattle.units.specs.Plain.{if_then_else_}
+use Rattle.desk.specs.Board.{Rec, Board, emptyBoard, lineAt, isOf, isFree, place, shown, Makeable}
+use Rattle.desk.specs.Calls.{Call, enter, clear, told, refused, known, step, after, trace, Sayable, AllSayable, Made, lastOf}
+
+abbrev pub KeepsMakeable : Type 0
+KeepsMakeable = (b : Board) (c : Call) → Makeable b → Sayable c → Makeable ((step b c) .board)
+
+abbrev pub ExactlyMade : Type 0
+ExactlyMade = (b : Board) → (Made b → Makeable b) × (Makeable b → Made b)
+
+-- q and then r, or r and then q
+pub record InEitherOrder (b : Board) (q r : Rec) : Type 0 where
+  pub reply-q : (step ((step b (enter r)) .board) (enter q)) .reply ≡ (step b (enter q)) .reply
+  pub reply-r : (step ((step b (enter q)) .board) (enter r)) .reply ≡ (step b (enter r)) .reply
+  pub board : (step ((step b (enter q)) .board) (enter r)) .board ≡ (step ((step b (enter r)) .board) (enter q)) .board
+
+-- r's train may be on the board or new. (Two new trains do not commute: the first takes the lower line.)
+abbrev pub Commutes : Type 0
+Commutes = (b : Board) (q r : Rec) → (q .train ≡ r .train → ⊥) → place (q .train) b < length b → InEitherOrder b q r
+
+-- what an accepted record leaves of a board: line k is the record, and the rest is as it was
+pub record Changes (b : Board) (r : Rec) (k : ℕ) (after : Board) : Type 0 where
+  pub new : lineAt after k ≡ some r
+  pub others : (j : ℕ) → (j ≡ k → ⊥) → lineAt after j ≡ lineAt b j
+  pub size : length after ≡ length b
+  -- the line was this train's, or the train was on no line and this was the lowest free one
+  pub was : (isOf (r .train) (lineAt b k) ≡ true) ⊎ (((j : ℕ) → isOf (r .train) (lineAt b j) ≡ false) × (isFree (lineAt b k) ≡ true) × ((j : ℕ) → j < k → isFree (lineAt b j) ≡ false))
+
+abbrev pub OneLine : Type 0
+OneLine = (b : Board) (r : Rec) (k : ℕ) → (step b (enter r)) .reply ≡ told k → Changes b r k ((step b (enter r)) .board)
+
+abbrev pub ShowsLast : Type 0
+ShowsLast =
+    (cs : List Call) (t : ℕ) → AllSayable cs
+    → (shown t (after emptyBoard cs) ≡ lastOf t none (trace emptyBoard cs))
+    × ((j k : ℕ) → isOf t (lineAt (after emptyBoard cs) j) ≡ true → isOf t (lineAt (after emptyBoard cs) k) ≡ true → j ≡ k)
+
+-- no call of the list clears train t
+unfoldable pub NotCleared : ℕ → List Call → Type 0
+NotCleared t [] = Unit {0}
+NotCleared t (c ∷ cs) = (c ≡ clear t → ⊥) × NotCleared t cs
+
+-- the board b shows o, which has the greatest sequence
+pub record Ended (b : Board) (o : Rec) : Type 0 where
+  -- every record of the train is refused by 32, or by 30 which goes before it
+  pub refuses : (r : Rec) → r .train ≡ o .train → step b (enter r) ≡ record { reply = refused (if known (r .kind) then 32 else 30); board = b }
+  -- its line stays, whatever the calls are, until it is cleared
+  pub stays : (cs : List Call) → AllSayable cs → NotCleared (o .train) cs → shown (o .train) (after b cs) ≡ some o
+  -- a leave is cleared: then the train is on no line, and its next record is a first one
+  pub left : o .kind ≡ 2 → shown (o .train) ((step b (clear (o .train))) .board) ≡ none
+  -- a join is not: its line stays for good
+  pub joined : o .kind ≡ 1 → (cs : List Call) → AllSayable cs → shown (o .train) (after b cs) ≡ some o
+
+abbrev pub EndsAtLast : Type 0
+EndsAtLast = (b : Board) (o : Rec) → Makeable b → shown (o .train) b ≡ some o → o .sequence ≡ 4294967295 → Ended b o

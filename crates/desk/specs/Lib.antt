@@ -1,0 +1,3 @@
+pub mod Board
+pub mod Calls
+pub mod Claims

@@ -1,0 +1,59 @@
+-- The numbers and places of the answers.
+--
+--   listed              a refusal's number, and its place where the list has one
+--   Plain               an answer as the rules give it; fromRules: that of a reply of `desk`
+--   told, shown, begun  an answer of a call, read
+--
+-- Assumes nothing.
+use Prim.Native.Nat.{ℕ}
+use mathlib.Core.Option.{Option, none, some}
+use Rattle.desk.specs.Board.{Rec}
+use Rattle.desk.specs.Calls as Calls
+use Rattle.desk.specs.Calls.{Reply}
+use Rattle.desk_line.specs.declared.Line.{Line}
+use Rattle.journal.specs.declared.Refusal.{Refusal}
+use Rattle.journal.specs.declared.Refusal.the-variants.{Cut, UnknownTag, WrongLength, BoardShort, NotABoard, KindUnknown, NoFreeLine, OutOfTurn, DoesNotFollow, NotCleared}
+use Rattle.journal.specs.declared.Told.{Told}
+use Rattle.journal.specs.declared.Told.the-variants as Told
+use Rattle.journal.specs.declared.Shown.{Shown}
+use Rattle.journal.specs.declared.Shown.the-variants as Shown
+use Rattle.journal.specs.declared.Begun.{Begun}
+use Rattle.journal.specs.declared.Begun.the-variants as Begun
+
+abbrev pub listed : Refusal → ℕ × Option ℕ
+listed (Cut p) = (1, some p)
+listed (UnknownTag p) = (2, some p)
+listed (WrongLength p) = (3, some p)
+listed BoardShort = (7, some 0)
+listed NotABoard = (29, none)
+listed KindUnknown = (30, none)
+listed NoFreeLine = (31, none)
+listed OutOfTurn = (32, none)
+listed DoesNotFollow = (33, none)
+listed NotCleared = (34, none)
+
+pub data Plain : Type 0 where
+  line : ℕ → Plain
+  stands : Option Rec → Plain
+  begun : Plain
+  refused : ℕ → Option ℕ → Plain
+
+abbrev pub refusedBy : Refusal → Plain
+refusedBy x = refused ((listed x) .0) ((listed x) .1)
+
+abbrev pub fromRules : Reply → Plain
+fromRules (Calls.told k) = line k
+fromRules (Calls.refused n) = refused n none
+
+abbrev pub told : Told → Plain
+told (Told.Line k) = line k
+told (Told.Refused x) = refusedBy x
+
+abbrev pub shown : Shown → Plain
+shown Shown.Free = stands none
+shown (Shown.Holds l) = stands (some (record { train = l .train; cell = l .cell; kind = l .kind; sequence = l .sequence }))
+shown (Shown.Refused x) = refusedBy x
+
+abbrev pub beginning : Begun → Plain
+beginning Begun.Begun = begun
+beginning (Begun.Refused x) = refusedBy x
