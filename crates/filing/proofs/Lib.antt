@@ -1,0 +1,12 @@
+pub mod Sift
+pub mod Flat
+pub mod Moves
+pub mod Slots
+pub mod Starts
+pub mod LeastStart
+pub mod Choose
+pub mod KeepsPut
+pub mod KeepsTake
+pub mod AlikeFiled
+pub mod Others
+pub mod Back
