@@ -1,0 +1,46 @@
+-- 512 rings of numbers in bytes: where they lie, and what stands in one.
+--
+--   ringsFrom, ringsEnd   the first byte of the rings, and the first byte past them
+--   Long                  bytes that are long enough for them
+--   headByte, countByte   a ring's first place, and how many stand in it
+--   placeByte             a place of a ring, counted on past the ring's end
+--   ringAt                what stands in ring i, the first first
+--   Rung                  what a change of one ring leaves: that ring, every other one, and the bytes below and past the rings
+--
+-- Assumes nothing.
+use mathlib.Core.Path.{_≡_}
+use Prim.Native.Nat.{ℕ, _+_, _*_, _%_, _≤_, _<_}
+use mathlib.Core.List.{List}
+use lib.ListN.{length, drop, getD}
+use Rattle.words.specs.Runs.{tab}
+
+abbrev pub ringsFrom : ℕ
+ringsFrom = 11264
+
+abbrev pub ringsEnd : ℕ
+ringsEnd = 45056
+
+abbrev pub Long : List ℕ → Type 0
+Long t = ringsEnd ≤ length t
+
+abbrev pub headByte : ℕ → ℕ
+headByte i = ringsFrom + i
+
+abbrev pub countByte : ℕ → ℕ
+countByte i = ringsFrom + 512 + i
+
+abbrev pub placeByte : ℕ → ℕ → ℕ
+placeByte i p = ringsFrom + 1024 + 64 * i + p % 64
+
+-- n of ring i's places from the place h on
+unfoldable pub ringOf : List ℕ → ℕ → ℕ → ℕ → List ℕ
+ringOf t i h n = tab n (λ j. getD t (placeByte i (h + j)) 0)
+
+unfoldable pub ringAt : List ℕ → ℕ → List ℕ
+ringAt t i = ringOf t i (getD t (headByte i) 0) (getD t (countByte i) 0)
+
+pub record Rung (before after : List ℕ) (i : ℕ) (l : List ℕ) : Type 0 where
+  pub ring : ringAt after i ≡ l
+  pub others : (j : ℕ) → j < 512 → (j ≡ i → ⊥) → ringAt after j ≡ ringAt before j
+  pub below : (a : ℕ) → a < ringsFrom → getD after a 0 ≡ getD before a 0
+  pub rest : drop ringsEnd after ≡ drop ringsEnd before

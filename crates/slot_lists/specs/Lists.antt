@@ -1,0 +1,74 @@
+-- The slot lists of a table: for each group 16 to 31 and each of its 32 list numbers the lanes that stand there, the first first.
+--
+--   listsFrom              the first word of this part of a table
+--   groupsWord, backWord   the words of the groups that have lanes, and of what was taken off the clock
+--   startWord, mapWord     group g's words: its start, and which of its lists have lanes
+--   ringNumber             the ring that keeps list b of group g
+--   mapOf                  the word of group g's lists that have lanes; 0 where the group's own bit is not set
+--   listIn                 list b of group g, m being the word of the group's lists that have lanes
+--   listAt                 list b of group g
+--   startAt                the stored start of group g; none where the group's own bit is not set
+--   Fills                  each list that a word marks has lanes
+--   Solid                  what is stored agrees with itself
+--
+-- Assumes nothing.
+use mathlib.Core.Path.{_≡_}
+use Prim.Native.Nat.{ℕ, _+_, _-_, _*_, _%_, _^_, _≤_, _<_}
+use mathlib.Core.List.{List, []}
+use mathlib.Core.Option.{Option, none, some}
+use lib.Dec.{eqb}
+use lib.ListN.{length}
+use Rattle.units.specs.Plain.{if_then_else_}
+use Rattle.words.specs.Bits.{bit}
+use Rattle.words.specs.Words.{wordAt}
+use Rattle.rings.specs.Rings.{ringAt}
+
+abbrev pub listsFrom : ℕ
+listsFrom = 1360
+
+abbrev pub groupsWord : ℕ
+groupsWord = listsFrom
+
+abbrev pub backWord : ℕ
+backWord = listsFrom + 1
+
+-- groups are 16 to 31
+abbrev pub startWord : ℕ → ℕ
+startWord g = listsFrom + g
+
+abbrev pub mapWord : ℕ → ℕ
+mapWord g = listsFrom + 16 + g
+
+abbrev pub ringNumber : ℕ → ℕ → ℕ
+ringNumber g b = 32 * (g - 16) + b
+
+abbrev pub groupsAt : List ℕ → ℕ
+groupsAt t = wordAt t groupsWord
+
+abbrev pub backAt : List ℕ → ℕ
+backAt t = wordAt t backWord
+
+unfoldable pub mapOf : List ℕ → ℕ → ℕ
+mapOf t g = if eqb (bit g (groupsAt t)) 1 then wordAt t (mapWord g) else 0
+
+unfoldable pub listIn : List ℕ → ℕ → ℕ → ℕ → List ℕ
+listIn t g m b = if eqb (bit b m) 1 then ringAt t (ringNumber g b) else []
+
+abbrev pub listAt : List ℕ → ℕ → ℕ → List ℕ
+listAt t g b = listIn t g (mapOf t g) b
+
+unfoldable pub startAt : List ℕ → ℕ → Option ℕ
+startAt t g = if eqb (bit g (groupsAt t)) 1 then some (wordAt t (startWord g)) else none
+
+pub record Fills (t : List ℕ) (g m : ℕ) : Type 0 where
+  pub narrow : m < 2 ^ 32
+  pub filled : (b : ℕ) → b < 32 → bit b m ≡ 1 → 0 < length (ringAt t (ringNumber g b))
+
+pub record Solid (t : List ℕ) : Type 0 where
+  pub fills : (g : ℕ) → 16 ≤ g → g ≤ 31 → Fills t g (mapOf t g)
+  pub groups : (g : ℕ) → bit g (groupsAt t) ≡ 1 → (16 ≤ g) × (g ≤ 31)
+  pub some-list : (g : ℕ) → bit g (groupsAt t) ≡ 1 → 0 < mapOf t g
+  pub high : groupsAt t < 2 ^ 32
+  -- whole slots of every group; what matters of it is its remainder by 32 slots of the greatest
+  pub back-whole : backAt t % 2 ^ 31 ≡ 0
+  pub back-small : backAt t < 2 ^ 36
