@@ -1,0 +1,3 @@
+pub mod Views
+pub mod Steps
+pub mod Rules
