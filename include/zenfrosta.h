@@ -24,7 +24,7 @@ extern "C" {
 #endif
 
 /* The fixed size of a table in bytes, as zf_table_size() gives it. A lent table may be longer: bytes past the size are never touched. */
-#define ZF_TABLE_SIZE 10880
+#define ZF_TABLE_SIZE 45056
 
 /* The least length of an answer buffer. */
 #define ZF_OUT_SIZE 32

@@ -84,7 +84,7 @@ static void beside(const struct area *area) {
 }
 
 static struct area input, table, answers, out;
-static uint8_t before[1 << 15], sample[ZF_TABLE_SIZE];
+static uint8_t before[1 << 16], sample[ZF_TABLE_SIZE];
 
 static uint64_t word(int index) {
   uint64_t value;
@@ -165,7 +165,7 @@ static size_t table_length(uint8_t choice) {
   switch (choice & 7) {
     case 0: return ZF_TABLE_SIZE - 1;
     case 1: return ZF_TABLE_SIZE + 1 + choice / 8;
-    case 2: return choice & 64 ? (size_t)(choice >> 3) * 340 : ZF_TABLE_SIZE;
+    case 2: return choice & 64 ? (size_t)(choice >> 3) * 1408 : ZF_TABLE_SIZE;
     default: return ZF_TABLE_SIZE;
   }
 }
@@ -251,8 +251,16 @@ static void make_sample(void) {
 
 static void change(const uint8_t *data, size_t size) {
   for (size_t i = 0; i + 3 <= size && i < 3 * 8; i += 3) {
-    /* Words that mean something come first: the numbers of the whole table, the tie order, the lanes; then the records. */
-    size_t at = data[i] < 3 ? data[i] : data[i] < 24 ? 16 + data[i] - 3u : data[i] < 216 ? 80 + data[i] - 24u : 336 + (data[i] - 216u) * 26u;
+    /* Words that mean something come first: the numbers of the whole table, those of the slot lists, the rows of the sample's lanes; then records, how
+       many stand in the lists, and the lists' places. */
+    static const size_t whole[3] = {0, 1, 4};
+    size_t d = data[i], at;
+    if (d < 3) at = whole[d];
+    else if (d < 51) at = 1360 + d - 3;
+    else if (d < 115) at = 80 + 16 * ((d - 51) / 4) + (d - 51) % 4;
+    else if (d < 155) at = 336 + (d - 115) * 26;
+    else if (d < 219) at = 1472 + d - 155;
+    else at = 1536 + (d - 219) * 110;
     uint64_t value, power = 1ull << (data[i + 1] & 63);
     memcpy(&value, table.at + 8 * at, 8);
     switch (data[i + 1] >> 6) {
@@ -382,7 +390,7 @@ int LLVMFuzzerInitialize(int *argc, char ***argv) {
   check(zf_board_size() == ZF_BOARD_SIZE, "the board's size");
   memset(fill, FILL, sizeof fill);
   reserve(&input, MOST_INPUT + WATCHED);
-  reserve(&table, 1 << 14);
+  reserve(&table, 1 << 16);
   reserve(&answers, ZF_ANSWER_AREA(ZF_MOST_REQUESTS) + 32 + WATCHED);
   reserve(&out, 64 + WATCHED);
   make_sample();

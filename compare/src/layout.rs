@@ -1,21 +1,20 @@
 //! docs/TABLE.md read by itself: a lent table's words, what they mean, and which clauses of document 01's "A good table" they break. It shares nothing
-//! with the unit's own reading.
+//! with the unit's own reading. The slot lists are in [`slots`].
 
 use crate::numbers::*;
 use crate::rules::{Lane, Record, State};
 use crate::setup::LanePlan;
+use crate::slots;
 use std::collections::VecDeque;
 
-/// "A table is 10,880 bytes: 1,360 words of 64 bits, low byte first."
-pub const WORDS: usize = 1_360;
-pub const TABLE_SIZE: usize = 8 * WORDS;
+/// A table is 45,056 bytes: 1,408 words of 64 bits, low byte first, and then the bytes of the slot lists' rings.
+pub const WORDS: usize = 1_408;
+pub const TABLE_SIZE: usize = 45_056;
 
 /// Where the words lie.
 pub const CLOCK: usize = 0;
 pub const PRESENT: usize = 1;
-pub const HOLDING: usize = 2;
 pub const FRAMING_WORD: usize = 4;
-pub const ORDER: usize = 16;
 
 pub fn setting(lane: u8) -> usize {
     80 + 4 * usize::from(lane)
@@ -61,8 +60,6 @@ pub enum Clause {
     Records,
     /// "each length 1 to the lane's longest"
     Length,
-    /// "a tie order": each holding lane once, and as many as the table says.
-    TieOrder,
     /// "V below 2^62 + 2^42"
     Clock,
     /// "S below V + 2s"
@@ -73,6 +70,14 @@ pub enum Clause {
     FinishAhead,
     /// "an eligible lane if any holds"
     Eligible,
+    /// What was taken off the clock is a multiple of 2^31 below 2^36.
+    Back,
+    /// Only groups 16 to 31 and lists 0 to 31 are marked; a marked group has a marked list, and a marked list a lane.
+    Marks,
+    /// "a tie order": each holding lane stands once, in the list of its group and its S, and no other lane stands in one.
+    Lists,
+    /// The stored start of a group is the least R of its lanes.
+    Starts,
 }
 
 pub const CLAUSES: &[Clause] = &[
@@ -86,12 +91,15 @@ pub const CLAUSES: &[Clause] = &[
     Clause::Group,
     Clause::Records,
     Clause::Length,
-    Clause::TieOrder,
     Clause::Clock,
     Clause::StartAhead,
     Clause::StartBehind,
     Clause::FinishAhead,
     Clause::Eligible,
+    Clause::Back,
+    Clause::Marks,
+    Clause::Lists,
+    Clause::Starts,
 ];
 
 impl Clause {
@@ -147,10 +155,9 @@ pub fn read(bytes: &[u8]) -> Reading {
     // Where the number is none that h can be, the other clauses go by the nearest to its low bits.
     let framing = (word(bytes, FRAMING_WORD) % 128).min(u64::from(*FRAMING.end())) as u8;
     reading.breaks(Clause::Framing, word(bytes, FRAMING_WORD) > u64::from(*FRAMING.end()));
-    let order: Option<Vec<u8>> = order(bytes);
+    let order: Vec<u8> = slots::standing(bytes).into_iter().map(|(.., lane)| lane).collect();
     let lanes: Option<Vec<Lane>> =
-        present(bytes).map(|lane| read_lane(bytes, lane, framing, order.as_deref(), &mut reading)).collect();
-    reading.breaks(Clause::TieOrder, order.is_none());
+        present(bytes).map(|lane| read_lane(bytes, lane, framing, &order, &mut reading)).collect();
     let Some(lanes) = lanes else { return reading };
     let clock = i128::from(word(bytes, CLOCK));
     let weights: u32 = lanes.iter().map(|lane| u32::from(lane.plan.weight)).sum();
@@ -167,35 +174,18 @@ pub fn read(bytes: &[u8]) -> Reading {
             reading.breaks(Clause::FinishAhead, lane.finish >= ahead);
         }
     }
-    let holding: Vec<u8> = lanes.iter().filter(|lane| lane.holds()).map(|lane| lane.plan.number).collect();
+    let held = lanes.iter().any(|lane| lane.holds());
     let eligible = lanes.iter().any(|lane| lane.eligible(clock));
-    reading.breaks(Clause::Eligible, !holding.is_empty() && !eligible);
-    // The order is good if, sorted, it is the holding lanes: none left out, none twice, none other.
-    let mut sorted = order.clone().unwrap_or_default();
-    sorted.sort_unstable();
-    reading.breaks(Clause::TieOrder, sorted != holding);
-    reading.state = order.map(|_| State::of(clock, framing, lanes));
+    reading.breaks(Clause::Eligible, held && !eligible);
+    for clause in slots::broken(bytes, &lanes) {
+        reading.breaks(clause, true);
+    }
+    reading.state = Some(State::of(clock, framing, lanes));
     reading
 }
 
-/// The first n entries of the tie order, if they are lane numbers and there is room for n.
-fn order(bytes: &[u8]) -> Option<Vec<u8>> {
-    let count = word(bytes, HOLDING);
-    if count > u64::from(LANES) {
-        return None;
-    }
-    let entry = |at: usize| u8::try_from(word(bytes, ORDER + at)).ok().filter(|lane| *lane < LANES);
-    (0..count as usize).map(entry).collect()
-}
-
 /// A present lane, or nothing if its words are no lane's at all.
-fn read_lane(
-    bytes: &[u8],
-    number: u8,
-    framing: u8,
-    order: Option<&[u8]>,
-    reading: &mut Reading,
-) -> Option<Lane> {
+fn read_lane(bytes: &[u8], number: u8, framing: u8, order: &[u8], reading: &mut Reading) -> Option<Lane> {
     let setting = word(bytes, setting(number));
     let plan = LanePlan { number, weight: (setting >> 16) as u16, longest: setting as u16 };
     reading.breaks(Clause::Weight, !WEIGHT.contains(&plan.weight));
@@ -212,7 +202,7 @@ fn read_lane(
     let queue: VecDeque<Record> = (0..count).map(record).collect();
     let lengths = 1..=u64::from(plan.longest);
     reading.breaks(Clause::Length, queue.iter().any(|record| !lengths.contains(&record.length)));
-    let turn = order.and_then(|order| order.iter().position(|lane| *lane == number));
+    let turn = order.iter().position(|lane| *lane == number);
     let (time, since) = (i128::from(word(bytes, clock_word(number))), turn.map_or(0, |at| at as u64));
     let lane = Lane::of(plan, framing, queue, time, since);
     reading.breaks(Clause::UnitsPerByte, i128::from(setting >> 40) != lane.units_per_byte);
@@ -226,12 +216,7 @@ pub fn write(state: &State, bytes: &mut [u8]) {
     set_word(bytes, CLOCK, number(state.clock));
     set_word(bytes, FRAMING_WORD, state.framing.into());
     set_word(bytes, PRESENT, state.lanes.iter().map(|lane| 1 << lane.plan.number).sum());
-    let mut order: Vec<&Lane> = state.holding().collect();
-    order.sort_by_key(|lane| lane.since);
-    set_word(bytes, HOLDING, order.len() as u64);
-    for (at, lane) in order.iter().enumerate() {
-        set_word(bytes, ORDER + at, u64::from(lane.plan.number));
-    }
+    slots::write(state, bytes);
     for lane in &state.lanes {
         let (at, plan) = (lane.plan.number, lane.plan);
         let units = number(lane.units_per_byte);

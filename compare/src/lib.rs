@@ -1,7 +1,7 @@
 //! An independent implementation of document 01 ("The line scheduler defined, with its exact rules") and the
 //! machinery that compares the unit with it over long random lists of calls and random inputs.
 //!
-//! The implementation: [`numbers`], [`calls`], [`rules`], [`fields`], [`setup`], [`session`]; [`layout`] reads docs/TABLE.md's tables.
+//! The implementation: [`numbers`], [`calls`], [`rules`], [`fields`], [`setup`], [`session`]; [`layout`] and [`slots`] read docs/TABLE.md's tables.
 //! [`journal`] is a second journal of the desk with its own comparison.
 //! The machinery: [`rng`], [`gen`], [`laws`], [`unit`], [`stand_in`], [`on_words`], [`driver`], [`pipes`]; [`loads`] and, with the feature `inner`, `inner` are the
 //! benchmark's.
@@ -31,5 +31,6 @@ pub mod rules;
 pub mod session;
 pub mod setup;
 pub mod shelf;
+pub mod slots;
 pub mod stand_in;
 pub mod unit;

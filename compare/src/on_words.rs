@@ -8,6 +8,7 @@ use crate::numbers::{margin, refusal, CLOCK_END};
 use crate::rules::State;
 use crate::session::{self, Run};
 use crate::setup;
+use crate::slots;
 use crate::unit::Unit;
 
 #[derive(Clone, Copy, Debug, PartialEq, Eq)]
@@ -35,8 +36,12 @@ pub enum Lapse {
     RecordsStrict,
     /// A word that means nothing must be 0.
     FreeWordRead,
-    /// A put forgets the tie order: lanes by their number.
+    /// A put forgets the tie order: the lanes of a list stand by their number.
     OrderLost,
+    /// A group's start may be off by a multiple of 32 slots, which is the same list.
+    StartModulo,
+    /// Of the lanes in the lists only the sum of their bits is tested, wherever they stand: a lane twice may count as its neighbour.
+    ListsAdded,
     /// A record is written one place too far in its ring.
     RingTurned,
     /// A take leaves the clock where it was, if it is the last one.
@@ -58,6 +63,8 @@ pub fn lapses() -> Vec<Lapse> {
         RecordsStrict,
         FreeWordRead,
         OrderLost,
+        StartModulo,
+        ListsAdded,
         RingTurned,
         ClockKept,
     ];
@@ -71,7 +78,7 @@ pub struct OnWords {
 impl OnWords {
     fn read(&self, table: &[u8]) -> Result<State, u8> {
         let reading = layout::read(table);
-        if reading.broken.len() == 1 && self.lapse == Lapse::Untested(reading.broken[0]) {
+        if reading.broken.len() == 1 && self.passes(reading.broken[0], table) {
             return Err(refusal::NOTHING_HELD);
         }
         let state = reading.good().ok_or(refusal::NOT_GOOD)?;
@@ -104,6 +111,34 @@ impl OnWords {
         }
     }
 
+    /// Whether a table that breaks one clause alone is taken for good.
+    fn passes(&self, broken: Clause, table: &[u8]) -> bool {
+        match self.lapse {
+            Lapse::Untested(clause) => clause == broken,
+            Lapse::StartModulo if broken == Clause::Starts => {
+                // The slots of the starts that are stored: each list from there on is where it was.
+                let stored = |group: &u32| layout::word(table, slots::start(*group)) >> group;
+                let right = |group: &u32| {
+                    let lanes = layout::read(table).state.into_iter().flat_map(|state| state.lanes);
+                    let own = lanes.filter(|lane| lane.holds() && lane.group == *group);
+                    own.map(|lane| (lane.rounded_start >> group) as u64).min()
+                };
+                slots::groups(table).iter().all(|group| {
+                    layout::word(table, slots::start(*group)) % (1 << group) == 0
+                        && right(group).is_some_and(|right| right % 32 == stored(group) % 32)
+                })
+            }
+            Lapse::ListsAdded if broken == Clause::Lists => {
+                let met = |sum: u64, lane: u8| sum.wrapping_add(1_u64.wrapping_shl(lane.into()));
+                let standing = slots::standing(table).into_iter().map(|(.., lane)| lane);
+                let state = layout::read(table).state;
+                let held = state.iter().flat_map(|state| state.holding()).map(|lane| lane.plan.number);
+                standing.fold(0, met) == held.fold(0, met)
+            }
+            _ => false,
+        }
+    }
+
     fn change<T>(&self, table: &mut [u8], call: impl Fn(&mut State) -> Result<T, u8>) -> Result<T, u8> {
         let mut state = self.read(table).map_err(|number| {
             if self.lapse == Lapse::RefusalWrites && !table.is_empty() {
@@ -116,11 +151,10 @@ impl OnWords {
         if self.lapse == Lapse::ClockKept && state.holding().next().is_none() && state.clock > 0 {
             state.clock = before;
         }
-        layout::write(&state, table);
         if self.lapse == Lapse::OrderLost {
-            let holding: Vec<u8> = state.holding().map(|lane| lane.plan.number).collect();
-            (layout::ORDER..).zip(holding).for_each(|(at, lane)| layout::set_word(table, at, lane.into()));
+            state.lanes.iter_mut().for_each(|lane| lane.since = lane.plan.number.into());
         }
+        layout::write(&state, table);
         if self.lapse == Lapse::RingTurned {
             if let Some(lane) = state.holding().next() {
                 let at = layout::ring(lane.plan.number);

@@ -13,16 +13,14 @@ use compare::on_words::{lapses, Lapse, OnWords};
 use compare::rng::Rng;
 use compare::rules::State;
 use compare::setup;
+use compare::slots;
 
-/// Document 01's session up to its sets, word by word: lane 0 holds 1/1000 and 3/500 from place 15 of its ring on, lane 1 holds 2/1000 at place 4.
-/// Words that mean nothing are all ones.
+/// Document 01's session up to its sets, word by word: lane 0 holds 1/1000 and 3/500 from place 15 of its ring on, lane 1 holds 2/1000 at place 4. Each
+/// stands in list 0 of its group. Words that mean nothing are all ones.
 const SESSION: &[(usize, u64)] = &[
     (0, 0),
     (1, 0b11),
-    (2, 2),
     (4, 0),
-    (16, 0),
-    (17, 1),
     (80, 1_500 | 512 << 16 | 22 << 32 | 2_048 << 40),
     (81, 0),
     (82, 15 + 16 * 2),
@@ -32,17 +30,48 @@ const SESSION: &[(usize, u64)] = &[
     (336 + 15, 1 | 1_000 << 32),
     (336, 3 | 500 << 32),
     (352 + 4, 2 | 1_000 << 32),
+    (1_360, 1 << 22 | 1 << 23),
+    (1_361, 0),
+    (1_382, 0),
+    (1_383, 0),
+    (1_398, 1),
+    (1_399, 1),
 ];
+
+/// The rings of the two lists, 192 and 224: one lane in each, at place 63 where a first place of all ones leads.
+const RINGS: &[(usize, u8)] =
+    &[(11_776 + 192, 1), (11_776 + 224, 1), (12_288 + 64 * 192 + 63, 0), (12_288 + 64 * 224 + 63, 1)];
 
 fn session() -> Vec<u8> {
     let mut bytes = vec![0xFF; TABLE_SIZE];
     SESSION.iter().for_each(|(at, value)| layout::set_word(&mut bytes, *at, *value));
+    RINGS.iter().for_each(|(at, value)| bytes[*at] = *value);
+    bytes
+}
+
+fn changed(changes: &[(usize, u64)]) -> Vec<u8> {
+    let mut bytes = session();
+    changes.iter().for_each(|(at, value)| layout::set_word(&mut bytes, *at, *value));
     bytes
 }
 
 fn broken(changes: &[(usize, u64)]) -> Vec<Clause> {
-    let mut bytes = session();
-    changes.iter().for_each(|(at, value)| layout::set_word(&mut bytes, *at, *value));
+    layout::read(&changed(changes)).broken
+}
+
+/// The same, and the slot lists go along.
+fn filed(changes: &[(usize, u64)]) -> Vec<Clause> {
+    let mut bytes = changed(changes);
+    if let Some(state) = layout::read(&bytes).state {
+        slots::write(&state, &mut bytes);
+    }
+    layout::read(&bytes).broken
+}
+
+/// With bytes of the rings changed.
+fn spoiled(changes: &[(usize, u64)], spots: &[(usize, u8)]) -> Vec<Clause> {
+    let mut bytes = changed(changes);
+    spots.iter().for_each(|(at, value)| bytes[*at] = *value);
     layout::read(&bytes).broken
 }
 
@@ -65,28 +94,28 @@ fn each_clause_from_both_sides() {
     let slot = 1_u64 << 22;
     let end = (1_u64 << 62) + (1 << 42);
     // Both lanes far on, from the clock's last value; one below its end.
-    let far = |clock: u64, s0: u64, s1: u64| broken(&[(0, clock), (81, s0), (85, s1)]);
+    let far = |clock: u64, s0: u64, s1: u64| filed(&[(0, clock), (81, s0), (85, s1)]);
     let last = end - 1;
     assert_eq!(far(last, last, last), []);
     assert_eq!(far(end, end, end), [Clock]);
     // S of lane 0: V + 2s - 1 and V + 2s.
-    assert_eq!(broken(&[(81, 2 * slot - 1)]), []);
-    assert_eq!(broken(&[(81, 2 * slot)]), [StartAhead]);
+    assert_eq!(filed(&[(81, 2 * slot - 1)]), []);
+    assert_eq!(filed(&[(81, 2 * slot)]), [StartAhead]);
     // R of lane 0: V - 2s - 1,536,000 is too low, a slot more is not, and a clock one lower neither.
     let clock = 100 * slot + 1_536_000;
     assert_eq!(far(clock, 98 * slot + 7, clock), [StartBehind]);
     assert_eq!(far(clock, 99 * slot, clock), []);
     assert_eq!(far(clock - 1, 98 * slot, clock - 1), []);
     // Lane 1 idle, F = V + 2s - 1 and V + 2s.
-    let idle = |finish: u64| broken(&[(2, 1), (86, 4), (85, finish)]);
+    let idle = |finish: u64| filed(&[(86, 4), (85, finish)]);
     assert_eq!(idle(4 * slot - 1), []);
     assert_eq!(idle(4 * slot), [FinishAhead]);
     // Both lanes begin in the next slot.
-    assert_eq!(broken(&[(81, slot), (85, 2 * slot - 1)]), []);
-    assert_eq!(broken(&[(81, slot), (85, 2 * slot)]), [Eligible]);
+    assert_eq!(filed(&[(81, slot), (85, 2 * slot - 1)]), []);
+    assert_eq!(filed(&[(81, slot), (85, 2 * slot)]), [Eligible]);
     // Settings: weights sum to 1,024 and 1,025, longest 64 and 63, 1,500 and 1,501, no weight, a wrong c, a wrong group.
     let setting = |longest: u64, weight: u64, group: u64, c: u64| {
-        broken(&[(84, layout::setting_of(longest, weight, group, c)), (356, 64 << 32)])
+        filed(&[(84, layout::setting_of(longest, weight, group, c)), (356, 64 << 32)])
     };
     assert_eq!(setting(1_500, 512, 22, 2_048), []);
     assert_eq!(setting(1_500, 513, 22, 2_045), [WeightSum]);
@@ -106,31 +135,71 @@ fn each_clause_from_both_sides() {
     assert_eq!(broken(&[(336, 1 << 32)]), []);
     assert_eq!(broken(&[(336, 1_500 << 32)]), []);
     assert_eq!(broken(&[(336, 1_501 << 32)]), [Length]);
-    // The order: the other way round, one twice, one that is not there, one too few, one too many, more than fit.
-    assert_eq!(broken(&[(16, 1), (17, 0)]), []);
-    assert_eq!(broken(&[(16, 1)]), [TieOrder]);
-    assert_eq!(broken(&[(16, 2)]), [TieOrder]);
-    assert_eq!(broken(&[(17, 1 + 256)]), [TieOrder]);
-    assert_eq!(broken(&[(2, 1)]), [TieOrder]);
-    assert_eq!(broken(&[(2, 3), (18, 0)]), [TieOrder]);
-    assert_eq!(broken(&[(2, 65)]), [TieOrder]);
-    assert_eq!(broken(&[(2, 2 + (1 << 32))]), [TieOrder]);
     // No lane; a lane more whose words mean nothing.
-    assert_eq!(broken(&[(1, 0), (2, 0)]), [Lanes]);
+    assert_eq!(broken(&[(1, 0), (1_360, 0)]), [Lanes]);
     assert!(!broken(&[(1, 0b111)]).is_empty());
     // A byte short.
     assert_eq!(layout::read(&session()[..TABLE_SIZE - 1]).broken, [Long]);
 }
 
 #[test]
+fn each_clause_of_the_slot_lists() {
+    use Clause::*;
+    let slot = 1_u64 << 23;
+    // The rings' bytes: how many stand in lane 0's and lane 1's list, and the lanes themselves.
+    let (number0, number1) = (11_776 + 192, 11_776 + 224);
+    let (lane0, lane1) = (12_288 + 64 * 192 + 63, 12_288 + 64 * 224 + 63);
+    // A lane twice in a list; in a list of another group too; a lane that is none, is absent, or is idle.
+    assert_eq!(spoiled(&[], &[(number0, 2), (lane0 - 63, 0)]), [Lists]);
+    assert_eq!(spoiled(&[], &[(lane1, 0)]), [Lists]);
+    assert_eq!(spoiled(&[], &[(lane1, 64)]), [Lists]);
+    assert_eq!(spoiled(&[], &[(lane1, 1 + 64)]), [Lists]);
+    assert_eq!(spoiled(&[], &[(lane1, 2)]), [Lists]);
+    assert_eq!(broken(&[(86, 4)]), [Lists]);
+    // A lane left out with its group; a list of no lane, of 65 and of 255.
+    assert_eq!(broken(&[(1_360, 1 << 22)]), [Lists]);
+    assert_eq!(spoiled(&[], &[(number1, 0)]), [Marks, Lists]);
+    assert_eq!(spoiled(&[], &[(number1, 65)]), [Lists]);
+    assert_eq!(spoiled(&[], &[(number1, 255)]), [Lists]);
+    // Lane 1 in the next list, alone; with the start; with its S too, and there with a start 32 slots on.
+    let next: &[(usize, u8)] = &[(number1 + 1, 1), (lane1 + 64, 1)];
+    assert_eq!(spoiled(&[(1_399, 2)], next), [Lists]);
+    assert_eq!(spoiled(&[(1_399, 2), (1_383, slot)], next), [Lists, Starts]);
+    assert_eq!(spoiled(&[(1_399, 2), (1_383, slot), (85, slot)], next), []);
+    assert_eq!(spoiled(&[(1_399, 2), (1_383, slot + 32 * slot), (85, slot)], next), [Starts]);
+    // In both lists.
+    assert_eq!(spoiled(&[(1_399, 3)], next), [Lists]);
+    // A start off by a slot, and within its slot.
+    assert_eq!(broken(&[(1_383, slot)]), [Starts]);
+    assert_eq!(broken(&[(1_383, 1)]), [Starts]);
+    // Marks that no list and no group has: a list without a lane, bit 32, group 15 and 32, a group without a list.
+    assert_eq!(spoiled(&[(1_399, 3)], &[(number1 + 1, 0)]), [Marks]);
+    assert_eq!(broken(&[(1_399, 1 | 1 << 32)]), [Marks]);
+    assert_eq!(broken(&[(1_360, 1 << 15 | 1 << 22 | 1 << 23)]), [Marks]);
+    assert_eq!(broken(&[(1_360, 1 << 22 | 1 << 23 | 1 << 32)]), [Marks]);
+    assert_eq!(broken(&[(1_360, 1 << 22 | 1 << 23 | 1 << 24), (1_400, 0)]), [Marks]);
+    // What was taken off the clock: 2^31 is a multiple of 32 slots of these groups.
+    assert_eq!(broken(&[(1_361, 1 << 31)]), []);
+    assert_eq!(broken(&[(1_361, 31 << 31)]), []);
+    assert_eq!(broken(&[(1_361, 1 << 36)]), [Back]);
+    assert_eq!(broken(&[(1_361, 1)]), [Back]);
+}
+
+#[test]
 fn words_that_mean_nothing() {
-    for at in [3]
+    for at in [2, 3]
         .into_iter()
-        .chain(5..16)
-        .chain(18..80)
+        .chain(5..80)
         .chain([83, 87, 88, 335, 337, 350, 352, 355, 357, 368, 1_359])
+        .chain(1_362..1_376)
+        .chain([1_376, 1_381, 1_384, 1_391, 1_392, 1_397, 1_400, 1_407])
     {
         assert_eq!(broken(&[(at, 0)]), [], "word {at}");
+    }
+    // Bytes of rings without a mark, and places of a ring without a lane.
+    for at in [11_264, 11_264 + 193, 11_775, 11_776, 11_776 + 193, 12_287, 12_288, 12_288 + 64 * 192, 45_055]
+    {
+        assert_eq!(spoiled(&[], &[(at, 0)]), [], "byte {at}");
     }
 }
 
@@ -193,6 +262,7 @@ fn a_good_table_of_other_origin_may_lead_to_one_that_is_not() {
     let last = (1_u64 << 62) + (1 << 42) - 1;
     let mut bytes = session();
     [0, 81, 85].iter().for_each(|at| layout::set_word(&mut bytes, *at, last));
+    slots::write(&layout::read(&bytes).state.expect("contents"), &mut bytes);
     let mut state = layout::read(&bytes).good().expect("a good table");
     assert_eq!(state.answer(Call::Take).to_string(), "take 0 1 1000");
     layout::write(&state, &mut bytes);

@@ -6,7 +6,7 @@ table is what document 01 says it encodes, and a damaged one is only known to be
 """
 
 SPENT = 2**62
-SIZE = 10880
+SIZE = 45056
 LONG = SIZE + 64
 
 
@@ -340,7 +340,7 @@ def damaged():
     print("- never made")
     every(Bad())
     print("table kept")
-    for name in ["clock past its end", "tie order cut", "setting gone", "record of no length", "start too late"]:
+    for name in ["clock past its end", "slot list left out", "setting gone", "record of no length", "start too late"]:
         print("-", name)
         puts(setup())
         every(Bad())

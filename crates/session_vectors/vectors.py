@@ -10,7 +10,7 @@ what changed in stdout.
 import pathlib
 import random
 
-TABLE = 10880   # the fixed size of a table, docs/TABLE.md
+TABLE = 45056   # the fixed size of a table, docs/TABLE.md
 
 
 class No(Exception):

@@ -4,10 +4,11 @@
 //! - [`caller`] — lists of calls, each chosen with the table's present contents in view
 //! - [`sessions`] — sessions for the run and for the program
 //! - [`damage`] — faults in setups and sessions, field by field and byte by byte
-//! - [`tables`] — tables that no call made
+//! - [`tables`] — tables that no call made; [`slots`] — faults in their slot lists
 
 pub mod caller;
 pub mod damage;
 pub mod sessions;
 pub mod setups;
+pub mod slots;
 pub mod tables;

@@ -6,6 +6,7 @@ use crate::numbers::*;
 use crate::rng::Rng;
 use crate::rules::{Lane, Record, State};
 use crate::setup::LanePlan;
+use crate::slots;
 use std::collections::VecDeque;
 
 /// Bytes that no contents give a meaning: all the same, or random.
@@ -44,6 +45,9 @@ pub fn laid(rng: &mut Rng) -> Vec<u8> {
         }
     }
     let mut bytes = blank(rng);
+    // The clock was taken back by some multiple of 2^31, or never.
+    let back = rng.below(32) << 31;
+    set_word(&mut bytes, slots::BACK, rng.pick(&[0, back]));
     layout::write(&State::of(clock, framing, lanes), &mut bytes);
     bytes
 }
@@ -107,11 +111,27 @@ fn held(rng: &mut Rng, longest: u64) -> Record {
 
 /// One fault or change, told in words; some leave the table good, or even as it was.
 pub fn damage(rng: &mut Rng, bytes: &mut [u8]) -> String {
+    if rng.once_in(3) {
+        return super::slots::damage(rng, bytes);
+    }
+    let changed = lanes(rng, bytes);
+    // A lane's S and group decide where it stands: the lists go along or stay behind.
+    match layout::read(bytes).state {
+        Some(state) if rng.once_in(2) => {
+            slots::write(&state, bytes);
+            format!("{changed}, and the lists written anew")
+        }
+        _ => changed,
+    }
+}
+
+/// A change of the clock, of the lanes, or of a word that means nothing.
+fn lanes(rng: &mut Rng, bytes: &mut [u8]) -> String {
     let lanes: Vec<u8> = present(bytes).collect();
     let lane = if lanes.is_empty() || rng.once_in(12) { rng.below(64) as u8 } else { rng.pick(&lanes) };
     let holding: Vec<u8> = lanes.iter().copied().filter(|lane| word(bytes, ring(*lane)) >= 16).collect();
     let holder = if holding.is_empty() { lane } else { rng.pick(&holding) };
-    let (at, value) = match rng.below(15) {
+    let (at, value) = match rng.below(13) {
         0 => {
             let at = rng.index(WORDS);
             flipped(rng, bytes, at)
@@ -127,24 +147,27 @@ pub fn damage(rng: &mut Rng, bytes: &mut [u8]) -> String {
         4 => (CLOCK, clock_near(rng, bytes)),
         5 if rng.once_in(2) => full_ring(rng, bytes, holder),
         5 => (ring(holder), rng.below(16) + 16 * rng.pick(&[0, 1, 2, 14, 15, 16, 17, 18, 1 << 32, 1 << 59])),
-        6 => turn(rng, bytes, &lanes, &holding),
-        7 => (HOLDING, holding.len() as u64 + rng.below(3) - u64::from(!holding.is_empty())),
-        8 => (setting(lane), field_of_setting(rng, word(bytes, setting(lane)))),
-        9 => (setting(lane), setting_at_sum(rng, bytes, &lanes, lane)),
-        10 => {
+        6 => (setting(lane), field_of_setting(rng, word(bytes, setting(lane)))),
+        7 => (setting(lane), setting_at_sum(rng, bytes, &lanes, lane)),
+        8 => {
             let longest = word(bytes, setting(holder)) & 0xFFFF;
             let length = rng.pick(&[0, 1, longest, longest + 1, longest + 65_536, 1 << 31, (1 << 32) - 1]);
             (some_record(rng, bytes, holder), rng.below(1 << 32) | length << 32)
         }
-        11 => (clock_word(lane), clock_word_near(rng, bytes, lane)),
-        12 => {
+        9 => (clock_word(lane), clock_word_near(rng, bytes, lane)),
+        10 => {
             let any = rng.below(64) as u8;
             (PRESENT, word(bytes, PRESENT) ^ 1 << rng.pick(&[lane, holder, any]))
         }
-        13 => (FRAMING_WORD, framing_near(rng, word(bytes, FRAMING_WORD))),
+        11 => (FRAMING_WORD, framing_near(rng, word(bytes, FRAMING_WORD))),
         _ => {
-            let free =
-                [3, 5 + rng.index(11), 83 + 4 * rng.index(64), ORDER + 63, record(lane, rng.below(16))];
+            let free = [
+                2 + rng.index(2),
+                5 + rng.index(75),
+                83 + 4 * rng.index(64),
+                1_362 + rng.index(14),
+                record(lane, rng.below(16)),
+            ];
             (rng.pick(&free), rng.word())
         }
     };
@@ -154,13 +177,10 @@ pub fn damage(rng: &mut Rng, bytes: &mut [u8]) -> String {
 
 /// A word that means something.
 fn meaning(rng: &mut Rng, bytes: &[u8], lane: u8, holder: u8) -> usize {
-    let count = word(bytes, HOLDING).min(63) as usize;
     let words = [
         CLOCK,
         PRESENT,
-        HOLDING,
         FRAMING_WORD,
-        ORDER + rng.index(count + 1),
         setting(lane),
         clock_word(lane),
         clock_word(holder),
@@ -223,25 +243,6 @@ fn clock_near(rng: &mut Rng, bytes: &[u8]) -> u64 {
     let choice =
         [0, end - 1, end, 1 << 62, (1 << 62) - 1, clock.wrapping_sub(step), clock.wrapping_add(step)];
     rng.pick(&choice)
-}
-
-/// The tie order: two entries change places, one is repeated, or one is no holding lane's.
-fn turn(rng: &mut Rng, bytes: &mut [u8], lanes: &[u8], holding: &[u8]) -> (usize, u64) {
-    let count = holding.len().max(1);
-    let (one, two) = (ORDER + rng.index(count), ORDER + rng.index(count));
-    let (first, second) = (word(bytes, one), word(bytes, two));
-    match rng.below(4) {
-        0 => {
-            set_word(bytes, two, first);
-            (one, second)
-        }
-        1 => (one, second),
-        2 => (one, u64::from(lanes.first().copied().unwrap_or(0)) + rng.below(64)),
-        _ => {
-            let wide = rng.pick(&[64, 1 << 8, 1 << 32, 1 << 63]);
-            (one, first.wrapping_add(wide))
-        }
-    }
 }
 
 /// One number of a setting word at an edge, or beside what it was.

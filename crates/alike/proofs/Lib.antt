@@ -1,3 +1,4 @@
 pub mod Places
 pub mod SameChoice
 pub mod Alike
+pub mod Reached

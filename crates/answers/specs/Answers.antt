@@ -4,14 +4,15 @@
 --   Answers   the call is done, its line is written, and the request is counted
 --
 -- Assumes nothing.
-use Prim.Native.Nat.{ℕ, _+_, _*_}
+use Prim.Native.Nat.{ℕ, _+_}
 use mathlib.Core.Path.{_≡_}
 use mathlib.Core.List.{List}
 use lib.ListN.{drop}
 use Rattle.rules.specs.Calls.{Call, step}
 use Rattle.rules.proofs.AlwaysGood.{Reached}
-use Rattle.table.specs.Layout.{WORDS, Room, cells}
-use Rattle.table.specs.Means.{meant, Beside}
+use Rattle.table.specs.Layout.{SIZE, Room, cells}
+use Rattle.table.specs.Means.{meant, Beside, Listed}
+use Rattle.table.specs.Encodes.{Encodes}
 use Rattle.lines.specs.Line.{lineOf, Line}
 use Rattle.answers.specs.declared.Tally.{Tally}
 
@@ -19,12 +20,13 @@ use Rattle.answers.specs.declared.Tally.{Tally}
 pub record Made (t : List ℕ) : Type 0 where
   pub room : Room t
   pub beside : Beside (cells t)
+  pub listed : Listed t
   pub reached : Reached (meant t)
 
 pub record Answers (c : Call) (t t′ a a′ : List ℕ) (so-far r : Tally) : Type 0 where
   pub made : Made t′
-  pub state : meant t′ ≡ (step (meant t) c) .state
-  pub rest : drop (WORDS * 8) t′ ≡ drop (WORDS * 8) t
+  pub state : Encodes t′ ((step (meant t) c) .state)
+  pub rest : drop SIZE t′ ≡ drop SIZE t
   pub line : Line a a′ (so-far .next) (lineOf ((step (meant t) c) .reply)) (r .next)
   -- "Numbers 10 to 16 answer their request with a `no` line": whatever the reply is
   pub count : r .answered ≡ so-far .answered + 1

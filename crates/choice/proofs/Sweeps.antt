@@ -18,7 +18,7 @@ use Rattle.units.specs.declared.Clock.{Clock}
 use Rattle.rules.specs.declared.SetWords.{SetWords}
 use Rattle.rules.proofs.Bools.{and-parts, not-passed}
 use Rattle.rules.proofs.Word.{word-lt}
-use Rattle.choice.specs.Starts.{never, sortedInto, swept, Fits, AreWords}
+use Rattle.choice.specs.Sweep.{never, sortedInto, swept, Fits, AreWords}
 use Rattle.choice.specs.declared.Sweep.{Sweep}
 
 some-below : (p : ℕ → Bool) (n k : ℕ) → k < n → p k ≡ true → anyBelow p n ≡ true

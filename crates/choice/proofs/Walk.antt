@@ -74,24 +74,3 @@ set-some p (suc n) k h t =
 
 pub none-set : (p : ℕ → Bool) (n : ℕ) → wordOf p n ≡ 0 → (k : ℕ) → k < n → p k ≡ false
 none-set p n e k h = not-passed (p k) (λ t. omega (arith, e, set-some p n k h t))
-
--- ---- one more number at which the test passes
-
-pub word-same : (p q : ℕ → Bool) (n : ℕ) → ((k : ℕ) → k < n → p k ≡ q k) → wordOf p n ≡ wordOf q n
-unfolding wordOf
-word-same p q zero f = refl
-word-same p q (suc n) f = rw (f n (omega arith), word-same p q n (λ k h. f k (omega arith))) refl
-
-pub word-more : (p q : ℕ → Bool) (n i : ℕ) → i < n → p i ≡ false → q i ≡ true → ((k : ℕ) → (k ≡ i → ⊥) → p k ≡ q k) → wordOf p n + 2 ^ i ≡ wordOf q n
-unfolding wordOf
-word-more p q zero i h out in-it f = absurd (not-suc-le-zero h)
-word-more p q (suc n) i h out in-it f =
-    ⊎-elim
-    (λ (z : i ≡ n). simp (ap p (sym z) ∙ out, ap q (sym z) ∙ in-it) (omega (arith, word-same p q n (λ k l. f k (λ e. omega (arith, e, z))), ap (λ (x : ℕ). 2 ^ x) z)))
-    (λ (z : i < n). rw (f n (λ e. omega (arith, e))) (omega (arith, word-more p q n i z out in-it f)))
-    (eq-or-lt-of-le (le-of-suc-le-suc h))
-
--- one bit of a word of 32
-pub bit-small : (b : Bool) (i : ℕ) → i ≤ 31 → (if b then 2 ^ i else 0) ≤ 2 ^ 31
-bit-small true i h = pow-mono {i = i} {j = 31} h
-bit-small false i h = omega arith

@@ -13,8 +13,7 @@ use lib.ListN.{getD}
 use Rattle.units.specs.Plain.{if_then_else_, wordOf}
 use Rattle.rules.specs.State.{Lane}
 use Rattle.rules.specs.Sets.{groups, groupStart, heldStart, groupHolds}
-use Rattle.choice.specs.Starts.{never, noClock, AreStarts, swept}
-use Rattle.choice.specs.declared.Starts.{Starts}
+use Rattle.choice.specs.Sweep.{swept}
 use Rattle.choice.specs.declared.Sweep.{Sweep}
 use Rattle.choice.proofs.Walk.{few-zeros, highest-set, none-set}
 use Rattle.choice.proofs.Sweeps.{Swept, swept-skip, swept-group}
@@ -74,17 +73,3 @@ module _ (v : ℕ) (ls : List Lane) where
   -- no bit left: all groups are swept
   pub walk-end : (left : ℕ) (a : Sweep) → left ≡ 0 → Walked left a → Swept v ls 0 a
   walk-end left a e w = swept-down 0 (w .n) a (omega arith) (λ k p q. none-set (groupHolds ls) (w .n) (sym (w .left-is) ∙ e) k q) (w .done)
-
--- ---- from the array of starts
-
--- a group that holds records has its start there
-pub start-there : (ls : List Lane) (s : Starts) (i : ℕ) → AreStarts ls s → i < groups → groupHolds ls i ≡ true → groupStart ls i ≡ some (getD (s .at) i noClock .0)
-unfolding groupHolds heldStart
-start-there ls s i are small h = sym (are .start i small) ∙ go (eqb (getD (s .at) i noClock .0) never) (ap heldStart (are .start i small) ∙ h)
-  where
-    x : ℕ
-    x = getD (s .at) i noClock .0
-
-    go : (b : Bool) → heldStart (if b then none else some x) ≡ true → (if b then none else some x) ≡ some x
-    go true e = absurd (false≢true e)
-    go false e = refl

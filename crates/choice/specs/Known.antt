@@ -1,47 +1,36 @@
--- What the inner calls rest on, and what they find in a table.
+-- What the inner calls rest on, and what the choice finds.
 --
---   Known    a table known to be good: what the good-table test shows, and what every call from a fresh table keeps
---   Steady   what is left of that in the middle of a call, once a lane has its new S and before the clock moves
---   Stands   a holding lane's group and rounded start
---   Lowest   the least rounded start of the lanes that hold records, if any does
---   Chosen   the lane that the rules choose, if they choose one
+--   Known      a table known to be good: what the good-table test shows, and what every call from a fresh table keeps
+--   Standing   the lane that the rules choose, which stands first in the slot list of its group's start
+--   ChoiceIs   what the choice answers
 --
 -- Assumes nothing.
-use Prim.Native.Nat.{ℕ, _≤_, _<_, _^_}
+use Prim.Native.Nat.{ℕ, _≤_}
 use mathlib.Core.Path.{_≡_}
-use mathlib.Core.Bool.{true}
 use mathlib.Core.List.{List}
-use mathlib.Core.Option.{Option, none, some}
-use Rattle.units.specs.Plain.{if_then_else_, times}
-use Rattle.rules.specs.State.{Lane, group, startR, holds, laneAt}
+use mathlib.Core.Option.{none, some}
+use Rattle.rules.specs.Choice.{choose}
+use Rattle.rules.specs.BySets.{laneOf}
 use Rattle.rules.specs.Good.{Good}
-use Rattle.table.specs.Means.{meant, Sound}
-use Rattle.choice.specs.declared.Placed.{Placed}
-use Rattle.choice.specs.declared.Least.{Least}
-use Rattle.choice.specs.declared.Least.the-variants.{At, Nothing}
+use Rattle.slot_lists.specs.Lists.{listAt, startAt, listOf}
+use Rattle.filing.specs.Filing.{headOf}
+use Rattle.table.specs.Means.{meant, Sound, Listed}
+use Rattle.choice.specs.declared.Place.{Place}
 use Rattle.choice.specs.declared.Choice.{Choice}
 use Rattle.choice.specs.declared.Choice.the-variants.{Serve, Idle}
 
 pub record Known (t : List ℕ) : Type 0 where
   pub sound : Sound t
+  pub listed : Listed t
   pub good : Good (meant t)
 
-pub record Steady (t : List ℕ) : Type 0 where
-  pub sound : Sound t
-  pub named : (k : ℕ) → times k (meant t .order) ≡ (if holds (laneAt (meant t) k) then 1 else 0)
-  pub early : (k : ℕ) → holds (laneAt (meant t) k) ≡ true → laneAt (meant t) k .start < 2 ^ 63
-
-pub record Stands (l : Lane) (p : Placed) : Type 0 where
-  pub group : p .group ≡ group (l .given)
-  pub start : p .start .0 ≡ startR l
+pub record Standing (t : List ℕ) (p : Place) : Type 0 where
+  pub chosen : laneOf (choose (meant t)) ≡ some (p .lane)
   pub low : 16 ≤ p .group
   pub high : p .group ≤ 31
-  pub early : p .start .0 < 2 ^ 63
+  pub start : startAt t (p .group) ≡ some (p .start)
+  pub first : headOf (listAt t (p .group) (listOf t (p .group) (p .start))) ≡ some (p .lane)
 
-abbrev pub leastIs : Least → Option ℕ
-leastIs (At r) = some (r .0)
-leastIs Nothing = none
-
-abbrev pub choiceIs : Choice → Option ℕ
-choiceIs (Serve k) = some k
-choiceIs Idle = none
+abbrev pub ChoiceIs : List ℕ → Choice → Type 0
+ChoiceIs t (Serve p) = Standing t p
+ChoiceIs t Idle = none ≡ laneOf (choose (meant t))

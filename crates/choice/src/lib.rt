@@ -1,46 +1,31 @@
-// Which lane is served next, found as QFQ finds it, on a table known to be good: document 01, "Take" and "Sets".
+// Which lane is served next, and the four words of the group sets, on a table known to be good: document 01, "Take" and "Sets".
 //
-// Four steps: the groups' starts (`group_starts`: one pass over the holding lanes), the eligible-ready word from them (`set_words`), its first set bit
-// (`first_set`), and in that group the lane of least R that stands first in the tie order (`lane_at`). rules/specs/BySets.antt, `SameChoice`: that is the plain choice.
+// Both go by the groups' stored starts, at most sixteen, whatever the number of lanes. The group of least finish among those whose start V has reached is
+// served next (crate groups), and in it the lane that stands first in the slot list of the group's start: filing/proofs/Choose.antt says that this is the
+// plain choice.
 //
-// Units: starts and finishes are `Clock`; bit i of a word stands for group i.
+// Units: starts and finishes are `Clock` or its number; bit i of a word stands for group i.
 ghost use mathlib.Core.Path.{_≡_};
-ghost use mathlib.Core.Bool.{true, _&&_};
-ghost use mathlib.Core.Option.{some};
-ghost use Prim.Native.Nat.{_+_, _≤_, _<_, _^_};
-ghost use lib.Dec.{eqb};
-ghost use lib.Count.{trailingZeros};
-ghost use Rattle.units.specs.Plain.{if_then_else_};
-ghost use Rattle.rules.specs.State.{laneAt, holds};
-ghost use Rattle.rules.specs.Choice.{choose, leastOf};
-ghost use Rattle.rules.specs.BySets.{laneOf, laneOfGroup};
+ghost use Prim.Native.Nat.{_≤_, _<_, _^_};
 ghost use Rattle.table.specs.Means.{meant};
-ghost use Rattle.choice.specs.Known.{Known, Steady, Stands, leastIs, choiceIs};
-ghost use Rattle.choice.specs.Starts.{never, AreStarts, sortedInto, swept, Fits, AreWords};
+ghost use Rattle.choice.specs.Known.{Known, ChoiceIs};
+ghost use Rattle.choice.specs.Sweep.{sortedInto, swept, Fits, AreWords};
+use groups::NEVER;
+use groups::next_group;
 use rules::SetWords;
+use slot_lists::BACK;
+use slot_lists::GROUPS;
+use slot_lists::MAPS;
+use slot_lists::STARTS;
+use slot_lists::first;
+use slot_lists::list_number;
 use table::clock;
-use table::holding;
-use table::order_at;
-use table::row;
 use units::Clock;
 use units::before;
 use units::earlier;
 use units::not_after;
 use units::rounded_finish;
-use units::rounded_start;
-use units::same_time;
-
-// A holding lane's group and R.
-pub struct Placed {
-    pub group: u32,
-    pub start: Clock,
-}
-
-// The starts of the groups, by index; `NEVER` where a group holds no records. And the word of the groups that hold some.
-pub struct Starts {
-    pub at: [Clock; 32],
-    pub held: u64,
-}
+use words::word;
 
 // The four words so far, and the least finish of the eligible groups met; `NEVER` where there is none.
 pub struct Sweep {
@@ -48,50 +33,17 @@ pub struct Sweep {
     pub least: Clock,
 }
 
-pub enum Least {
-    At(Clock),
-    Nothing,
+// A lane that stands first in the slot list of its group's start.
+pub struct Place {
+    pub lane: usize,
+    pub group: u32,
+    pub start: u64,
 }
 
 // The lane to serve.
 pub enum Choice {
-    Serve(usize),
+    Serve(Place),
     Idle,
-}
-
-// Later than any start.
-const NEVER: u64 = 18446744073709551615;
-
-// The group and R of lane `k`, which holds records.
-pub fn place_of(t: &[u8], k: usize) -> Placed
-    requires { ⌜ Steady (now t) × (holds (laneAt (meant (now t)) k) ≡ true) ⌝ }
-    ensures { λ r. ⌜ Stands (laneAt (meant (now (t .entry))) k) r ⌝ }
-{
-    let l = row(t, k);
-    let group = l.group;
-    Placed {
-        group,
-        start: rounded_start(l.time, group),
-    }
-}
-
-// The least R of the lanes that hold records.
-pub fn least_start(t: &[u8]) -> Least
-    requires { ⌜ Steady (now t) ⌝ }
-    ensures { λ r. ⌜ leastIs r ≡ leastOf holds (meant (now (t .entry)) .lanes) ⌝ }
-{
-    let n = holding(t);
-    if n == 0 {
-        return Least::Nothing;
-    }
-    let mut least = Clock(NEVER);
-    let mut i = 0;
-    while i < n {
-        let p = place_of(t, order_at(t, i));
-        least = earlier(p.start, least);
-        i += 1;
-    }
-    Least::At(least)
 }
 
 // A group's bit in a set word.
@@ -100,42 +52,6 @@ fn group_bit(i: u32) -> u64
     ensures { λ r. ⌜ r ≡ 2 ^ i ⌝ }
 {
     1u64 << i
-}
-
-// The bit that a lane of group `i` adds to the word of the groups that hold, where `start` is the group's start so far: none once it has one.
-fn new_bit(start: Clock, i: u32) -> u64
-    requires { ⌜ i ≤ 31 ⌝ }
-    ensures { λ r. ⌜ r ≡ (if eqb (start .0) never then 2 ^ i else 0) ⌝ }
-{
-    if same_time(start, Clock(NEVER)) {
-        group_bit(i)
-    } else {
-        0
-    }
-}
-
-// The starts of the groups.
-pub fn group_starts(t: &[u8]) -> Starts
-    requires { ⌜ Known (now t) ⌝ }
-    ensures { λ r. ⌜ AreStarts (meant (now (t .entry)) .lanes) r ⌝ }
-{
-    let n = holding(t);
-    let mut found = Starts {
-        at: [Clock(NEVER); 32],
-        held: 0,
-    };
-    let mut i = 0;
-    while i < n {
-        let p = place_of(t, order_at(t, i));
-        let g = p.group as usize;
-        let start = p.start;
-        let so_far = found.at[g];
-        let least = earlier(start, so_far);
-        found.held += new_bit(so_far, p.group);
-        found.at[g] = least;
-        i += 1;
-    }
-    found
 }
 
 // Puts a group's bit into one of the four words.
@@ -179,9 +95,9 @@ fn sweep_group(start: Clock, v: Clock, i: u32, a: Sweep) -> Sweep
     }
 }
 
-// The four words from the groups' starts: the groups that hold records, from the highest down, by the set bits of their word.
-fn sweep_down(t: &[u8], s: Starts) -> SetWords
-    requires { ⌜ Known (now t) × AreStarts (meant (now t) .lanes) s ⌝ }
+// The four words of the group sets: the groups that hold records, from the highest down, by the set bits of their word.
+pub fn set_words(t: &[u8]) -> SetWords
+    requires { ⌜ Known (now t) ⌝ }
     ensures { λ r. ⌜ AreWords (meant (now (t .entry))) r ⌝ }
 {
     let v = clock(t);
@@ -194,74 +110,29 @@ fn sweep_down(t: &[u8], s: Starts) -> SetWords
         },
         least: Clock(NEVER),
     };
-    let mut left = s.held;
+    let mut left = word(t, GROUPS);
     while left != 0 {
         let i = 63 - u64::leading_zeros(left);
-        let start = s.at[i as usize];
-        a = sweep_group(start, v, i, a);
+        let start = word(t, STARTS + (i as usize));
+        a = sweep_group(Clock(start), v, i, a);
         left -= group_bit(i);
     }
     a.words
 }
 
-// The four words of the group sets.
-pub fn set_words(t: &[u8]) -> SetWords
-    requires { ⌜ Known (now t) ⌝ }
-    ensures { λ r. ⌜ AreWords (meant (now (t .entry))) r ⌝ }
-{
-    sweep_down(t, group_starts(t))
-}
-
-// The first set bit of a word that is not 0.
-fn first_set(w: u64) -> u32
-    requires { ⌜ 0 < w ⌝ }
-    ensures { λ r. ⌜ r ≡ trailingZeros 64 w ⌝ }
-{
-    u64::trailing_zeros(w)
-}
-
-// Whether a lane stands there.
-fn is_at(p: Placed, g: u32, start: Clock) -> bool
-    ensures { λ r. ⌜ r ≡ (eqb (p .group) g && eqb (p .start .0) (start .0)) ⌝ }
-{
-    if p.group == g {
-        same_time(p.start, start)
-    } else {
-        false
-    }
-}
-
-// The lane of group `g` with the rounded start `start` that stands first in the tie order.
-fn lane_at(t: &[u8], g: u32, start: Clock) -> Choice
-    requires { ⌜ Known (now t) ⌝ }
-    ensures { λ r. ⌜ choiceIs r ≡ laneOfGroup (meant (now (t .entry))) g (some (start .0)) ⌝ }
-{
-    let n = holding(t);
-    let mut i = 0;
-    while i < n {
-        let k = order_at(t, i);
-        let p = place_of(t, k);
-        if is_at(p, g, start) {
-            return Choice::Serve(k);
-        }
-        i += 1;
-    }
-    Choice::Idle
-}
-
 // The lane that take serves and look sees.
 pub fn chosen(t: &[u8]) -> Choice
     requires { ⌜ Known (now t) ⌝ }
-    ensures { λ r. ⌜ choiceIs r ≡ laneOf (choose (meant (now (t .entry)))) ⌝ }
+    ensures { λ r. ⌜ ChoiceIs (now (t .entry)) r ⌝ }
 {
-    let s = group_starts(t);
-    let words = sweep_down(t, s);
-    let er = words.er;
-    if er == 0 {
+    let v = clock(t);
+    let f = next_group(t, v.0);
+    if f.finish == NEVER {
         return Choice::Idle;
     }
-    let g = first_set(er);
-    let i = g as usize;
-    let start = s.at[i];
-    lane_at(t, g, start)
+    let group = f.group;
+    let start = f.start;
+    let list = list_number(start, word(t, BACK), group);
+    let lane = first(t, group, list, word(t, MAPS + (group as usize)));
+    Choice::Serve(Place { lane, group, start })
 }

@@ -7,10 +7,10 @@ use words::word;
 pub const FILL: u8 = 165;
 
 // Bytes of a table that is longer than the fixed size.
-pub const LONG: usize = 10944;
+pub const LONG: usize = 45120;
 
 fn cell(t: &[u8], i: usize) -> u64 {
-    if i < 1360 {
+    if i < 1408 {
         if t.len() >= scheduler::SIZE {
             return word(t, i);
         }
@@ -20,7 +20,7 @@ fn cell(t: &[u8], i: usize) -> u64 {
 
 // Writes a word behind the library's back.
 pub fn poke(t: &mut [u8], i: usize, v: u64) {
-    if i < 1360 {
+    if i < 1408 {
         if t.len() >= scheduler::SIZE {
             set_word(t, i, v);
         }

@@ -28,7 +28,7 @@ fn never_made() {
 pub fn damaged() {
     never_made();
     with_word(b"- clock past its end", 0, 4611690416473899008);
-    with_word(b"- tie order cut", 2, 1);
+    with_word(b"- slot list left out", 1360, 4194304);
     with_word(b"- setting gone", 84, 0);
     with_word(b"- record of no length", 352, 2);
     with_word(b"- start too late", 81, 8388608);

@@ -1,8 +1,12 @@
 pub mod RowIs
 pub mod Verdicts
 pub mod Waking
+pub mod Ends
+pub mod Putting
 pub mod Signed
 pub mod Replies
 pub mod Serving
+pub mod Handing
+pub mod Appending
 pub mod LagRange
 pub mod Still

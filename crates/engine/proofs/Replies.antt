@@ -9,7 +9,7 @@ use lib.IntN.{ℤ, subℕ}
 use borrow.Author.Tests.{lt-ltb, le-ltb}
 use Rattle.rules.specs.State.{anyHolds, Rec, State, firstOf, holds, laneAt, setupOf}
 use Rattle.rules.specs.Choice.{Candidate, choose}
-use Rattle.rules.specs.Calls.{restart, fresh, doRestart, Call, put, take, look, lag, lagged, lagOf, doLag, refused, Outcome, no, putRefusal, accept, accepted, ahead, putOf, doPut, Pick, pickFirst, pickOf, picked, takeOf, doTake, lookOf, doLook, step}
+use Rattle.rules.specs.Calls.{restart, fresh, doRestart, Call, put, take, look, lag, lagged, lagOf, doLag, refused, Outcome, no, putRefusal, accept, accepted, ahead, putOf, doPut, Pick, pickFirst, pickOf, picked, serve, takeOf, doTake, lookOf, doLook, step}
 use Rattle.rules.specs.Reads.{number, placeOf}
 use Rattle.rules.specs.declared.Refusal.{Refusal}
 use Rattle.rules.specs.declared.Answer.the-variants.{Restarted, Accepted, Taken, Seen, Refused}
@@ -20,19 +20,24 @@ use Rattle.rules.proofs.Moves.{idle-first}
 use Rattle.rules.proofs.Keep.{Picked, PickIs, pick-is, Allowed, PutOk, put-ok}
 use Rattle.rules.proofs.Chosen.{Choice, chosen}
 use Rattle.rules.proofs.BySets.{laneOf}
-use Rattle.table.specs.Means.{meant, Leaves}
+use Rattle.table.specs.Means.{meant}
+use Rattle.choice.specs.Known.{Known}
+use Rattle.engine.specs.Turns.{Holds, Turns}
+use Rattle.engine.proofs.Ends.{known-holds, step-encodes}
 use Rattle.engine.specs.Does.{Says, Does, Serves}
 
 -- ---- refusals
 
-pub leaves-same : (t : List ℕ) (s : State) → meant t ≡ s → Leaves t t s
-leaves-same t s e = record { state = e; beside = λ b. b; rest = refl }
-
 pub refusal-says : (c : Call) (t : List ℕ) (x : Refusal) → placeOf x ≡ none → step (meant t) c ≡ no (number x) (meant t) → Says c t (Refused x)
 refusal-says c t x p e = ap (refused (number x)) p ∙ sym (ap (λ (o : Outcome). o .reply) e)
 
-pub refusal-does : (c : Call) (t : List ℕ) (x : Refusal) → placeOf x ≡ none → step (meant t) c ≡ no (number x) (meant t) → Does c t (Refused x) t
-refusal-does c t x p e = record { says = refusal-says c t x p e; leaves = leaves-same t _ (sym (ap (λ (o : Outcome). o .state) e)); unchanged = refl }
+pub refusal-does : (c : Call) (t : List ℕ) (x : Refusal) → Known t → placeOf x ≡ none → step (meant t) c ≡ no (number x) (meant t) → Does c t (Refused x) t
+refusal-does c t x known p e = record {
+  says = refusal-says c t x p e;
+  encodes = step-encodes (meant t) c t (known .good) (subst (Holds t) (sym (ap (λ (o : Outcome). o .state) e)) (known-holds t known));
+  unchanged = refl;
+  rest = refl;
+}
 
 -- ---- put
 
@@ -47,11 +52,16 @@ put-accepted s j m n e = ap (putOf s j (record { mark = m; len = n })) (sym e)
 pub put-allowed : (s : State) (j n : ℕ) → none ≡ putRefusal s j n → Allowed s j n
 put-allowed s j n e = subst (PutOk s j n) (sym e) (put-ok s j n)
 
-pub put-does : (t u : List ℕ) (j m n a : ℕ) → none ≡ putRefusal (meant t) j n → Leaves t u (accept (meant t) j (record { mark = m; len = n })) → a ≡ ahead (meant t) j → Does (put j m n) t (Accepted a) u
+pub put-does : (t u : List ℕ) (j m n a : ℕ) → Known t → none ≡ putRefusal (meant t) j n → Turns t u (accept (meant t) j (record { mark = m; len = n })) → a ≡ ahead (meant t) j → Does (put j m n) t (Accepted a) u
 unfolding putOf
-put-does t u j m n a e l h =
+put-does t u j m n a known e l h =
     let o = put-accepted (meant t) j m n e in
-    record { says = ap accepted h ∙ sym (ap (λ (x : Outcome). x .reply) o); leaves = subst (Leaves t u) (sym (ap (λ (x : Outcome). x .state) o)) l; unchanged = tt }
+    record {
+      says = ap accepted h ∙ sym (ap (λ (x : Outcome). x .reply) o);
+      encodes = step-encodes (meant t) (put j m n) u (known .good) (subst (Holds u) (sym (ap (λ (x : Outcome). x .state) o)) (l .holds));
+      unchanged = tt;
+      rest = l .rest;
+    }
 
 -- ---- take and look
 
@@ -92,12 +102,17 @@ found s k e = go (choose s) refl e (pick-is s)
     go none ec q h = let z : _≡_ {A = ℕ} 0 1 = cc in absurd (omega arith)
     go (some c) ec q h = first c (firstOf (laneAt s (c .lane))) refl ec (cc) (subst (λ (o : Option Candidate). PickIs s (pickOf s o)) ec h)
 
-pub take-does : (t u : List ℕ) (r : Record) → Serves t r u → Does take t (Taken r) u
+served-state : (s : State) (p : Pick) → picked s ≡ some p → (step s take) .state ≡ serve s (p .lane) (p .first)
 unfolding step doTake takeOf
-take-does t u r s = record {
+served-state s p e = rw e
+
+pub take-does : (t u : List ℕ) (r : Record) → Known t → Serves t r u → Does take t (Taken r) u
+unfolding step doTake takeOf
+take-does t u r known s = record {
   says = rw (s .picks, s .lane, s .mark, s .size);
-  leaves = rw (s .picks) (s .leaves);
+  encodes = step-encodes (meant t) take u (known .good) (subst (Holds u) (sym (served-state (meant t) (s .pick) (s .picks))) (s .turns .holds));
   unchanged = tt;
+  rest = s .turns .rest;
 }
 
 pub look-says : (t : List ℕ) (r : Record) (p : Pick) → picked (meant t) ≡ some p → r .lane ≡ p .lane → r .mark ≡ p .first .mark → r .length .0 ≡ p .first .len → Says look t (Seen r)
@@ -135,6 +150,15 @@ pub restart-held : (s : State) → anyHolds (s .lanes) ≡ true → step s resta
 unfolding step doRestart
 restart-held s e = simp e
 
-pub restart-does : (t u : List ℕ) → anyHolds (meant t .lanes) ≡ false → Leaves t u (fresh (setupOf (meant t))) → Does restart t Restarted u
+restarted-state : (s : State) → anyHolds (s .lanes) ≡ false → (step s restart) .state ≡ fresh (setupOf s)
 unfolding step doRestart
-restart-does t u e l = record { says = simp e; leaves = simp e l; unchanged = tt }
+restarted-state s e = simp e
+
+pub restart-does : (t u : List ℕ) → Known t → anyHolds (meant t .lanes) ≡ false → Turns t u (fresh (setupOf (meant t))) → Does restart t Restarted u
+unfolding step doRestart
+restart-does t u known e l = record {
+  says = simp e;
+  encodes = step-encodes (meant t) restart u (known .good) (subst (Holds u) (sym (restarted-state (meant t) e)) (l .holds));
+  unchanged = tt;
+  rest = l .rest;
+}

@@ -22,7 +22,7 @@ use Rattle.choice.proofs.Held.{lanes-many}
 
 -- a lane that the setup does not have
 pub absent-lane : (t : List ℕ) (k : ℕ) → k < 64 → presentAt (cells t) k ≡ false → laneAt (meant t) k ≡ noLane
-absent-lane t k h e = lane-is (cells t) k h ∙ lane-absent (cells t) k e
+absent-lane t k h e = lane-is (cells t) _ k h ∙ lane-absent (cells t) k e
 
 pub far-lane : (t : List ℕ) (k : ℕ) → 64 ≤ k → laneAt (meant t) k ≡ noLane
 far-lane t k h = List·getD-eq-default (meant t .lanes) noLane {n = k} (omega (arith, lanes-many t))
@@ -74,7 +74,7 @@ module _ (t : List ℕ) (sound : Sound t) (k : ℕ) (small : k < 64) (here : pre
   l = laneAt (meant t) k
 
   is-timed : l ≡ timed (givenOf r) (r .time .0) q
-  is-timed = lane-is (cells t) k small ∙ lane-present (cells t) k here
+  is-timed = lane-is (cells t) _ k small ∙ lane-present (cells t) k here
 
   agrees : RowAgrees r
   agrees = sound .beside .rows k small here

@@ -1,145 +1,219 @@
--- A take's stores come to what the rules' `serve` gives. Assumes nothing.
-use Prim.Native.Nat.{ℕ, suc, _+_, _*_, _^_, _≤_, _<_, max}
-use native.Mathlib.Omega.{arith}
+-- The chosen lane before and after its first record is taken out of its ring. Assumes nothing.
 use mathlib.Core.Path.{_≡_, refl, sym, ap, subst, _∙_}
-use mathlib.Core.Bool.{Bool, true, false, false≢true}
-use mathlib.Core.List.{List, [], _∷_, _++_}
+use mathlib.Core.Bool.{Bool, true, false, not, false≢true}
 use mathlib.Core.Option.{Option, none, some}
-use lib.Dec.{ltb}
-use lib.ListN.{length, length-append}
-use borrow.Author.Tests.{ltb-true, ltb-false, lt-ltb, le-ltb}
+use Prim.Native.Nat.{ℕ, suc, _+_, _*_, _/_, _%_, _^_, _≤_, _<_}
+use mathlib.Core.List.{List, [], _∷_}
+use native.Mathlib.Omega.{arith}
+use lib.Dec.{eqb}
+use lib.ListN.{length, getD, drop, set}
+use borrow.Author.Tests.{eq-eqb, ne-eqb}
 use Rattle.units.specs.Numbers.{lineRate}
-use Rattle.units.specs.Plain.{if_then_else_, without}
-use Rattle.waiting.specs.Waiting.{Waiting, first, held, GoodWaiting}
-use Rattle.waiting.proofs.Laws.{first-fits, good-hand, held-hand, held-none}
-use Rattle.rules.proofs.Serve.{served-ind}
-use Rattle.rules.proofs.Queues.{served-waiting}
-use Rattle.rules.specs.State.{Rec, Lane, noLane, State, charge, some?, firstOf, holds, laneAt}
-use Rattle.rules.specs.Choice.{leastOf}
-use Rattle.rules.specs.Calls.{behind, served, settledAt, settled, serve, Pick, takeOf}
-use Rattle.rules.specs.Good.{Times}
-use Rattle.rules.proofs.Bools.{if-ind}
-use Rattle.rules.proofs.Lists.{set-all}
+use Rattle.units.specs.Plain.{times, without}
+use Rattle.waiting.specs.Waiting.{Waiting, first, held, laneDepth}
+use Rattle.waiting.proofs.Laws.{first-fits, good-hand, held-hand, held-none, held-most}
+use Rattle.rules.specs.State.{Rec, Setting, Lane, State, noLane, charge, some?, firstOf, holds, laneAt}
+use Rattle.rules.specs.Choice.{choose}
+use Rattle.rules.specs.Calls.{behind, served}
+use Rattle.rules.specs.Good.{Times, Good}
+use Rattle.rules.specs.BySets.{laneOf}
 use Rattle.rules.proofs.Lane.{charge-slot}
+use Rattle.rules.proofs.Lists.{set-cases}
 use Rattle.rules.proofs.Figures.{longest-at, slot-at}
-use Rattle.rules.proofs.Keep.{Picked}
-use Rattle.rules.proofs.Ties.{Tied, take-tied}
-use Rattle.table.specs.Means.{meant, Leaves, withClock, withLane, withOrder}
-use Rattle.table.specs.Layout.{cells, rowAt}
+use Rattle.rules.proofs.Serve.{served-ind}
+use Rattle.rules.proofs.Queues.{held-inside, served-waiting, served-given}
+use Rattle.table.specs.Layout.{WORDS, cells, rowAt}
+use Rattle.table.specs.Means.{givenOf, meant, Sound}
 use Rattle.table.specs.declared.LaneRow.{LaneRow}
-use Rattle.table.proofs.Rows.{holds-present}
 use Rattle.table.specs.declared.Entry.{Entry}
-use Rattle.table.proofs.Leave.{leaves-then, sound-after}
-use Rattle.table.proofs.Few.{room-held}
+use Rattle.table.proofs.Few.{few-good, room-held}
+use Rattle.table.proofs.Rows.{weight-present, holds-present}
 use Rattle.queue.specs.Queue.{waiting, First, Takes}
-use Rattle.choice.specs.Known.{Known, Steady}
-use Rattle.choice.proofs.Held.{Named, held-small, known-steady}
+use Rattle.choice.proofs.Held.{held-small}
 use Rattle.engine.proofs.RowIs.{RowIs, row-is}
-use Rattle.engine.proofs.Waking.{then-order}
+use Rattle.engine.proofs.Replies.{Found, found}
+use Rattle.slot_lists.specs.Lists.{backAt, listAt, startAt, listOf, Solid}
+use Rattle.filing.specs.Filing.{headOf, sift, inList, Agrees}
+use Rattle.filing.proofs.Sift.{length-sift, sift-without, without-none, times-sift}
+use Rattle.filing.proofs.Moves.{elsewhere}
+use Rattle.filing.proofs.Slots.{numbers-held}
+use Rattle.filing.proofs.KeepsTake.{old-in}
+use Rattle.lane_moves.specs.Moves.{Rooms}
+use Rattle.engine.specs.Turns.{Holds}
+use Rattle.table.proofs.Lists.{back-stays, lists-stay, starts-stay, solid-stays, agrees-stay}
 
-pub settled-some : (v : ℕ) (ls : List Lane) (x : ℕ) → some x ≡ leastOf holds ls → settled v ls ≡ max v x
-unfolding settled settledAt
-settled-some v ls x e =
-    ap (settledAt v) (sym e)
-    ∙ if-ind (λ (u : ℕ). u ≡ max v x) (ltb v x) x v (λ t. let lt = ltb-true v x t in omega arith) (λ t. let le = ltb-false v x t in omega arith)
+-- lane k is chosen, and stands first in the list of group g's start r
+pub record At (t : List ℕ) (s : State) (g r k : ℕ) : Type 0 where
+  pub holds : Holds t s
+  pub good : Good s
+  pub low : 16 ≤ g
+  pub high : g ≤ 31
+  pub start : startAt t g ≡ some r
+  pub first : headOf (listAt t g (listOf t g r)) ≡ some k
+  pub lane : laneOf (choose s) ≡ some k
 
-pub settled-none : (v : ℕ) (ls : List Lane) → none ≡ leastOf holds ls → settled v ls ≡ v
-unfolding settled settledAt
-settled-none v ls e = ap (settledAt v) (sym e)
+pub served-busy : (l : Lane) → holds (served l) ≡ true → (served l) .start ≡ l .finish
+served-busy l = served-ind (λ (m : Lane). holds m ≡ true → m .start ≡ l .finish) l (λ e t. absurd (false≢true (sym (ap some? e) ∙ t))) (λ r e t. refl)
 
--- ---- the chosen lane, before it is served
+served-idle : (l : Lane) → holds (served l) ≡ false → (served l) .finish ≡ l .finish
+served-idle l = served-ind (λ (m : Lane). holds m ≡ false → m .finish ≡ l .finish) l (λ e t. refl) (λ r e t. absurd (false≢true (sym t ∙ ap some? e)))
 
-module _ (t : List ℕ) (known : Known t) (p : Pick) (is : Picked (meant t) p) where
-  abbrev s : State
-  s = meant t
+-- a served lane's clock word is its old F
+served-time : (l : Lane) (r : LaneRow) → RowIs (served l) r → r .time .0 ≡ l .finish
+served-time l r is = go (holds (served l)) refl
+  where
+    go : (b : Bool) → holds (served l) ≡ b → r .time .0 ≡ l .finish
+    go true e = sym (is .busy e) ∙ served-busy l e
+    go false e = sym (is .idle e) ∙ served-idle l e
 
-  abbrev j : ℕ
-  j = p .lane
+module _ (t : List ℕ) (s : State) (g r k : ℕ) (a : At t s g r k) where
+  abbrev h : Holds t s
+  h = a .holds
 
-  abbrev l : Lane
-  l = laneAt s j
+  pub f : Found s k
+  f = found s k (a .lane)
 
-  pub pick-holds : holds l ≡ true
-  pick-holds = ap some? (is .is-first)
+  abbrev pub x : Rec
+  x = f .pick .first
 
-  pub pick-small : j < 64
-  pick-small = held-small t j pick-holds
+  pub is-first : firstOf (laneAt s k) ≡ some x
+  is-first = subst (λ (j : ℕ). firstOf (laneAt s j) ≡ some x) (f .lane) (f .is .is-first)
 
-  -- a record entry that is the lane's first is the one picked
-  pub pick-first : (e : Entry) → First l e → waiting e ≡ p .first
-  pick-first e h = let q : some (waiting e) ≡ some (p .first) = sym h ∙ is .is-first in cc
+  pub holds-k : holds (laneAt s k) ≡ true
+  holds-k = ap some? is-first
 
-  -- whether the lane holds more, by its count
-  pub pick-more : (n : ℕ) → held (l .waiting) ≡ n → ltb 1 n ≡ holds (served l)
-  pick-more n e = go (first (behind l)) refl
-    where
-      g : GoodWaiting (l .given .longest) (behind l)
-      g = good-hand (l .given .longest) (l .waiting) (known .good .waiting j)
+  same-lane : laneAt (meant t) k ≡ laneAt s k
+  same-lane = ap (λ (ls : List Lane). getD ls k noLane) (h .lanes)
 
-      one : held (l .waiting) ≡ suc (held (behind l))
-      one = held-hand (l .given .longest) (l .waiting) (p .first) (known .good .waiting j) (is .is-first)
+  pub lane-holds : holds (laneAt (meant t) k) ≡ true
+  lane-holds = ap holds same-lane ∙ holds-k
 
-      more : holds (served l) ≡ some? (first (behind l))
-      more = ap (λ (x : Waiting). some? (first x)) (served-waiting l)
+  pub lane-small : k < 64
+  lane-small = held-small t k lane-holds
 
-      go : (o : Option Rec) → first (behind l) ≡ o → ltb 1 n ≡ holds (served l)
-      go none h = le-ltb 1 n (omega (arith, one, held-none (l .given .longest) (behind l) g h)) ∙ sym (more ∙ ap some? h)
-      go (some r) h = lt-ltb 1 n (omega (arith, one, held-hand (l .given .longest) (behind l) r g h)) ∙ sym (more ∙ ap some? h)
+  pub lane-few : held (laneAt (meant t) k .waiting) ≤ laneDepth
+  lane-few = subst (λ (l : Lane). held (l .waiting) ≤ laneDepth) (sym same-lane) (held-most (laneAt s k .given .longest) (laneAt s k .waiting) (a .good .waiting k))
 
-  pub pick-row : (r : LaneRow) → r ≡ rowAt (cells t) j → RowIs l r
-  pick-row r e = subst (RowIs l) (sym e) (row-is t (known .sound) j pick-small (holds-present (cells t) j pick-small pick-holds))
+  -- what is read of its queue is its first record
+  pub seen-is : (e : Entry) → First (laneAt (meant t) k) e → waiting e ≡ x
+  seen-is e h = let q : some (waiting e) ≡ some x = sym h ∙ ap firstOf same-lane ∙ is-first in cc
 
-  times-is : Times (s .clock) l (some (p .first))
-  times-is = subst (Times (s .clock) l) (is .is-first) (known .good .numbers j)
+  fits : x .len ≤ laneAt s k .given .longest
+  fits = first-fits (laneAt s k .given .longest) (laneAt s k .waiting) x (a .good .waiting k) is-first .1
 
-  long : l .given .longest ≤ 1500
-  long = longest-at s (known .good .setup) j
+  times-is : Times (s .clock) (laneAt s k) (some x)
+  times-is = subst (Times (s .clock) (laneAt s k)) is-first (a .good .numbers k)
 
-  pub pick-fits : p .first .len ≤ l .given .longest
-  pick-fits = first-fits (l .given .longest) (l .waiting) (p .first) (known .good .waiting j) (is .is-first) .1
+  -- F of the chosen lane is small
+  pub finish-small : laneAt s k .finish < 2 ^ 63
+  finish-small = omega (arith, times-is .0, times-is .1, a .good .clock, charge-slot (laneAt s k .given) (x .len) fits, slot-at s (a .good .setup) k)
 
-  pub pick-short : p .first .len ≤ 1500
-  pick-short = omega (arith, pick-fits, long)
+  pub lane-finish : laneAt (meant t) k .finish < 2 ^ 64
+  lane-finish = subst (λ (l : Lane). l .finish < 2 ^ 64) (sym same-lane) (omega (arith, finish-small))
 
-  pub pick-finish : l .finish < 2 ^ 63
-  pick-finish = omega (arith, times-is .0, times-is .1, known .good .clock, slot-at s (known .good .setup) j, charge-slot (l .given) (p .first .len) pick-fits)
+  pub lane-row : (l : LaneRow) → l ≡ rowAt (cells t) k → RowIs (laneAt (meant t) k) l
+  lane-row l el = subst (RowIs (laneAt (meant t) k)) (sym el) (row-is t (h .sound) k lane-small (holds-present (cells t) _ k lane-small lane-holds))
 
-  -- ---- once it is served and has its place in the tie order
+  -- ---- once its first record is taken out
 
-  abbrev requeued : State
-  requeued = withOrder (withLane s j (served l)) (without j (s .order) ++ (if holds (served l) then j ∷ [] else []))
+  module _ (t₁ : List ℕ) (e : Entry) (taken : Takes t t₁ k e) (len : length t₁ ≡ length t) where
+    pub entry-is : waiting e ≡ x
+    entry-is = seen-is e (taken .first)
 
-  tail-few : (b : Bool) → length (without j (s .order) ++ (if b then j ∷ [] else [])) ≤ 64
-  tail-few true = omega (arith, length-append (without j (s .order)) (j ∷ []), room-held s (known .good) j pick-holds)
-  tail-few false = omega (arith, length-append (without j (s .order)) [], room-held s (known .good) j pick-holds)
+    pub short : e .length .0 ≤ 1500
+    short = omega (arith, ap (λ (z : Rec). z .len) entry-is, fits, longest-at s (a .good .setup) k)
 
-  served-early : holds (served l) ≡ true → (served l) .start < 2 ^ 63
-  served-early = served-ind (λ (m : Lane). holds m ≡ true → m .start < 2 ^ 63) l (λ e t. absurd (false≢true (sym (ap some? e) ∙ t))) (λ r e t. pick-finish)
+    -- V after it, before it settles
+    pub time-is : (l : LaneRow) → l ≡ rowAt (cells t) k → (v c z : ℕ) → v ≡ meant t .clock → c ≡ charge (givenOf l) (e .length .0) → z ≡ v + lineRate * c → z ≡ s .clock + lineRate * charge (laneAt s k .given) (x .len)
+    time-is l el v c z ev ec ez =
+        let row = lane-row l el in
+        let given : givenOf l ≡ laneAt s k .given = sym (row .given) ∙ ap (λ (y : Lane). y .given) same-lane in
+        let paid : c ≡ charge (laneAt s k .given) (x .len) = ec ∙ ap (λ (y : Setting). charge y (e .length .0)) given ∙ ap (λ (y : Rec). charge (laneAt s k .given) (y .len)) entry-is in
+        ez ∙ ap (λ (y : ℕ). y + lineRate * c) (ev ∙ h .clock) ∙ ap (λ (y : ℕ). s .clock + lineRate * y) paid
 
-  pub steady-after : (u : List ℕ) → Leaves t u requeued → length u ≡ length t → Steady u
-  unfolding Tied takeOf serve
-  steady-after u lv len = record {
-    sound = sound-after (known .sound) lv len (tail-few (holds (served l)));
-    named = subst Named (sym (lv .state)) (take-tied s (some p) is (known .good .order));
-    early = subst (λ (x : State). (k : ℕ) → holds (laneAt x k) ≡ true → laneAt x k .start < 2 ^ 63) (sym (lv .state))
-        (set-all (λ (m : Lane). holds m ≡ true → m .start < 2 ^ 63) (s .lanes) j (served l) noLane served-early (known-steady t known .early));
-  }
+    abbrev pub new : Lane
+    new = served (laneAt s k)
 
-  pub serve-is : (v : ℕ) → v ≡ s .clock + lineRate * charge (l .given) (p .first .len) → withClock requeued (settled v (requeued .lanes)) ≡ serve s j (p .first)
-  unfolding serve
-  serve-is v e = ap (λ (x : ℕ). withClock requeued (settled x (requeued .lanes))) e
+    pub lanes-after : meant t₁ .lanes ≡ set (s .lanes) k new
+    lanes-after =
+        ap (λ (y : State). y .lanes) (taken .leaves .state) ∙ ap (λ (l : Lane). set (meant t .lanes) k (served l)) same-lane
+        ∙ ap (λ (ls : List Lane). set ls k new) (h .lanes)
 
-  module _ (t₁ t₂ t₃ : List ℕ) (e : Entry) (more : Bool) (v : ℕ)
-      (taken : Takes t t₁ j e)
-      (queued : Leaves t₁ t₂ (withOrder (meant t₁) (without j (meant t₁ .order) ++ (if more then j ∷ [] else []))))
-      (more-is : more ≡ holds (served l))
-    where
-      pub requeued-leaves : Leaves t t₂ requeued
-      requeued-leaves =
-          subst (λ (b : Bool). Leaves t t₂ (withOrder (withLane s j (served l)) (without j (s .order) ++ (if b then j ∷ [] else [])))) more-is
-          (then-order t t₁ t₂ (withLane s j (served l)) (λ o. without j o ++ (if more then j ∷ [] else [])) (taken .leaves) queued)
+    bytes-stay : drop (WORDS * 8) t₁ ≡ drop (WORDS * 8) t
+    bytes-stay = taken .leaves .rest
 
-      pub served-leaves : Leaves t₂ t₃ (withClock (meant t₂) (settled v (meant t₂ .lanes))) → v ≡ s .clock + lineRate * charge (l .given) (p .first .len) → Leaves t t₃ (serve s j (p .first))
-      served-leaves clocked e =
-          subst (Leaves t t₃) (serve-is v e)
-          (leaves-then requeued-leaves (subst (λ (x : State). Leaves t₂ t₃ (withClock x (settled v (x .lanes)))) (requeued-leaves .state) clocked))
+    pub sound-after : Sound t₁
+    sound-after =
+        record {
+          room = omega (arith, h .sound .room, len);
+          beside = taken .leaves .beside (h .sound .beside);
+        }
+
+    pub inside : k < length (s .lanes)
+    inside = held-inside (s .lanes) k x is-first
+
+    lane-after : laneAt (meant t₁) k ≡ new
+    lane-after =
+        ap (λ (ls : List Lane). getD ls k noLane) lanes-after
+        ∙ set-cases (λ (m : Lane). m ≡ new) (s .lanes) k k new noLane inside (λ q. refl) (λ ne. absurd (ne refl))
+
+    row-after : RowIs new (rowAt (cells t₁) k)
+    row-after =
+        let weight : 0 < laneAt (meant t₁) k .given .weight = subst (λ (l : Lane). 0 < l .given .weight) (sym lane-after) (subst (λ (y : Setting). 0 < y .weight) (sym (served-given (laneAt s k))) (numbers-held s (a .good) k holds-k .weight-low)) in
+        subst (λ (l : Lane). RowIs l (rowAt (cells t₁) k)) lane-after (row-is t₁ sound-after k lane-small (weight-present (cells t₁) _ k lane-small weight))
+
+    pub time-after : rowAt (cells t₁) k .time .0 ≡ laneAt s k .finish
+    time-after = served-time (laneAt s k) (rowAt (cells t₁) k) row-after
+
+    pub more-after : not (eqb (rowAt (cells t₁) k .count) 0) ≡ holds new
+    more-after = go (first (behind (laneAt s k))) refl
+      where
+        n : ℕ
+        n = rowAt (cells t₁) k .count
+
+        count : held (behind (laneAt s k)) ≡ n
+        count = ap held (sym (served-waiting (laneAt s k))) ∙ row-after .held
+
+        more : holds new ≡ some? (first (behind (laneAt s k)))
+        more = ap (λ (w : Waiting). some? (first w)) (served-waiting (laneAt s k))
+
+        go : (o : Option Rec) → first (behind (laneAt s k)) ≡ o → not (eqb n 0) ≡ holds new
+        go none q =
+            let good = good-hand (laneAt s k .given .longest) (laneAt s k .waiting) (a .good .waiting k) in
+            ap not (eq-eqb n 0 (sym count ∙ held-none (laneAt s k .given .longest) (behind (laneAt s k)) good q)) ∙ sym (more ∙ ap some? q)
+        go (some y) q =
+            let good = good-hand (laneAt s k .given .longest) (laneAt s k .waiting) (a .good .waiting k) in
+            ap not (ne-eqb n 0 (λ z. omega (arith, z, count, held-hand (laneAt s k .given .longest) (behind (laneAt s k)) y good q))) ∙ sym (more ∙ ap some? q)
+
+    pub solid-after : Solid t₁
+    solid-after = solid-stays t t₁ bytes-stay (h .solid)
+
+    pub agrees₁ : Agrees (backAt t₁) (listAt t₁) (startAt t₁) s
+    agrees₁ = agrees-stay t t₁ bytes-stay s (h .agrees)
+
+    same-list : listOf t₁ g r ≡ listOf t g r
+    same-list = ap (λ (b : ℕ). (r + b) / 2 ^ g % 32) (back-stays t t₁ bytes-stay)
+
+    pub first₁ : headOf (listAt t₁ g (listOf t₁ g r)) ≡ some k
+    first₁ = ap (λ (b : ℕ). headOf (listAt t₁ g b)) same-list ∙ ap headOf (lists-stay t t₁ bytes-stay g (listOf t g r)) ∙ a .first
+
+    pub start₁ : startAt t₁ g ≡ some r
+    start₁ = starts-stay t t₁ bytes-stay g (a .low) ∙ a .start
+
+    pub some-after : 0 < length (listAt t₁ g (listOf t₁ g r))
+    some-after = go (listAt t₁ g (listOf t₁ g r)) first₁
+      where
+        go : (l : List ℕ) → headOf l ≡ some k → 0 < length l
+        go [] q = let z : _≡_ {A = ℕ} 0 1 = cc in absurd (omega arith)
+        go (y ∷ ys) q = omega arith
+
+    pub rooms-after : (c : ℕ) → c < 32 → Rooms t₁ g (listOf t₁ g r) c
+    rooms-after c hc = (
+      omega (arith, ap length (agrees₁ .filed g (listOf t₁ g r) (a .low) (a .high) (omega arith)), length-sift (λ j. inList (backAt t₁) g (listOf t₁ g r) (laneAt s j)) (s .order), few-good s (a .good)),
+      λ ne.
+          let p : ℕ → Bool = λ j. inList (backAt t₁) g c (laneAt s j) in
+          let out : p k ≡ false = elsewhere (backAt t₁) g (listOf t₁ g r) g c (laneAt s k) (old-in (backAt t₁) (solid-after .back-whole) s (a .good) (listAt t₁) (startAt t₁) agrees₁ k g r (a .low) (a .high) start₁ first₁ x is-first) (λ u v. ne v) in
+          let none-k : times k (sift p (s .order)) ≡ 0 = times-sift p k (s .order) ∙ simp out in
+          let same : sift p (without k (s .order)) ≡ sift p (s .order) = sift-without p k (s .order) ∙ without-none k (sift p (s .order)) none-k in
+          omega (arith, ap length (agrees₁ .filed g c (a .low) (a .high) hc), ap length same, length-sift p (without k (s .order)), room-held s (a .good) k holds-k),
+    )

@@ -5,7 +5,7 @@
 --
 -- Assumes nothing.
 use Prim.Native.Nat.{ℕ}
-use mathlib.Core.Path.{_≡_, refl, sym}
+use mathlib.Core.Path.{_≡_, refl, sym, subst}
 use mathlib.Core.List.{List}
 use Rattle.rules.specs.State.{State}
 use Rattle.rules.specs.Calls.{Call, look, sets, lag, Reply, accepted, taken, seen, words, lagged, restarted, refused, picked, doLook, doSets, step}
@@ -14,7 +14,9 @@ use Rattle.rules.specs.declared.Answer.{Answer}
 use Rattle.rules.proofs.Keep.{look-same, lag-same}
 use Rattle.table.specs.Means.{meant}
 use Rattle.engine.specs.Does.{Says, Unchanged, Does}
-use Rattle.engine.proofs.Replies.{leaves-same}
+use Rattle.choice.specs.Known.{Known}
+use Rattle.engine.specs.Turns.{Holds}
+use Rattle.engine.proofs.Ends.{known-holds, step-encodes}
 
 pub look-still : (s : State) → (step s look) .state ≡ s
 unfolding step doLook
@@ -37,5 +39,5 @@ same-bytes (lagged z) t = tt
 same-bytes restarted t = tt
 same-bytes (refused n p) t = refl
 
-pub looks-does : (c : Call) (t : List ℕ) (x : Answer) → (step (meant t) c) .state ≡ meant t → Says c t x → Does c t x t
-looks-does c t x e h = record { says = h; leaves = leaves-same t ((step (meant t) c) .state) (sym e); unchanged = same-bytes (reads x) t }
+pub looks-does : (c : Call) (t : List ℕ) (x : Answer) → Known t → (step (meant t) c) .state ≡ meant t → Says c t x → Does c t x t
+looks-does c t x known e h = record { says = h; encodes = step-encodes (meant t) c t (known .good) (subst (Holds t) (sym e) (known-holds t known)); unchanged = same-bytes (reads x) t; rest = refl }

@@ -1,37 +1,27 @@
 -- A put's stores come to what the rules' `accept` gives. Assumes nothing.
 use Prim.Native.Nat.{ℕ, _^_, _<_, max}
 use native.Mathlib.Omega.{arith}
-use mathlib.Core.Path.{_≡_, sym, ap, subst, _∙_}
+use mathlib.Core.Path.{_≡_, sym, ap, _∙_}
 use mathlib.Core.Bool.{true, false}
 use mathlib.Core.List.{List, [], _∷_, _++_}
 use lib.Dec.{ltb}
-use lib.ListN.{length}
+use lib.ListN.{set}
 use borrow.Author.Tests.{ltb-true, ltb-false}
 use Rattle.units.specs.Numbers.{roundDown}
 use Rattle.units.specs.Plain.{if_then_else_}
 use Rattle.rules.specs.State.{Rec, Lane, State, group, slot, startR, holds, laneAt, anyHolds}
 use Rattle.rules.specs.Calls.{appended, woken, accept}
-use Rattle.rules.proofs.Bools.{if-ind, not-passed}
+use Rattle.rules.proofs.Bools.{if-ind}
 use Rattle.rules.proofs.Claim.{in-range}
 use Rattle.rules.proofs.Keep.{Allowed}
 use Rattle.rules.proofs.Figures.{longest-at}
-use Rattle.rules.proofs.Live.{some-holds, holds-some}
 use Rattle.table.specs.Layout.{cells, rowAt}
-use Rattle.table.specs.Means.{meant, Leaves, withClock, withLane, withOrder}
+use Rattle.table.specs.Means.{meant, withClock, withLane}
 use Rattle.table.specs.declared.LaneRow.{LaneRow}
-use Rattle.table.proofs.Leave.{leaves-then}
 use Rattle.table.proofs.Rows.{weight-present}
 use Rattle.choice.specs.Known.{Known}
-use Rattle.choice.proofs.Held.{Named, named-holds, held-named, lanes-many}
+use Rattle.choice.proofs.Held.{lanes-many}
 use Rattle.engine.proofs.RowIs.{RowIs, row-is}
-
--- ---- one store after another
-
-pub then-order : (t t₁ t₂ : List ℕ) (s : State) (f : List ℕ → List ℕ) → Leaves t t₁ s → Leaves t₁ t₂ (withOrder (meant t₁) (f (meant t₁ .order))) → Leaves t t₂ (withOrder s (f (s .order)))
-then-order t t₁ t₂ s f a b = leaves-then a (subst (λ (x : State). Leaves t₁ t₂ (withOrder x (f (x .order)))) (a .state) b)
-
-pub then-clock : (t t₁ t₂ : List ℕ) (s : State) (v : ℕ) → Leaves t t₁ s → Leaves t₁ t₂ (withClock (meant t₁) v) → Leaves t t₂ (withClock s v)
-then-clock t t₁ t₂ s v a b = leaves-then a (subst (λ (x : State). Leaves t₁ t₂ (withClock x v)) (a .state) b)
 
 -- ---- a lane that a put is allowed to
 
@@ -40,18 +30,10 @@ module _ (t : List ℕ) (known : Known t) (k n : ℕ) (a : Allowed (meant t) k n
   put-small = omega (arith, in-range (meant t .lanes) k (a .has), lanes-many t)
 
   pub put-row : RowIs (laneAt (meant t) k) (rowAt (cells t) k)
-  put-row = row-is t (known .sound) k put-small (weight-present (cells t) k put-small (a .has))
+  put-row = row-is t (known .sound) k put-small (weight-present (cells t) _ k put-small (a .has))
 
   pub put-length : n < 2 ^ 32
   put-length = omega (arith, a .fits, longest-at (meant t) (known .good .setup) k)
-
--- ---- whether any lane holds a record
-
-pub none-held : (s : State) → Named s → length (s .order) ≡ 0 → anyHolds (s .lanes) ≡ false
-none-held s named e = not-passed (anyHolds (s .lanes)) (λ h. let x = some-holds (s .lanes) h in let i = held-named s named (x .0) (x .1) in omega (arith, i .1))
-
-pub some-held : (s : State) → Named s → 0 < length (s .order) → anyHolds (s .lanes) ≡ true
-some-held s named h = holds-some (s .lanes) _ (named-holds s named 0 h)
 
 -- ---- the two forms of `accept`
 
@@ -61,7 +43,7 @@ accept-busy s k r e = simp e
 
 module _ (s : State) (k : ℕ) (r : Rec) (e : holds (laneAt s k) ≡ false) where
   abbrev pub joined : State
-  joined = withOrder (withLane s k (woken (s .clock) (laneAt s k) r)) (s .order ++ (k ∷ []))
+  joined = record { clock = s .clock; lanes = set (s .lanes) k (woken (s .clock) (laneAt s k) r); order = s .order ++ (k ∷ []) }
 
   pub accept-beside : anyHolds (s .lanes) ≡ true → accept s k r ≡ joined
   unfolding accept

@@ -1,7 +1,7 @@
 -- What an inner call promises, on a table known to be good: it does what the rules do with the state that the table means.
 --
 --   Says     the answer reads as the rules' reply
---   Does     and the bytes after it mean the rules' state; a refusal leaves every byte
+--   Does     and the bytes after it encode the rules' state; a refusal leaves every byte
 --   Serves   a record is handed out
 --
 -- Assumes nothing.
@@ -10,12 +10,16 @@ use mathlib.Core.Path.{_≡_}
 use mathlib.Core.List.{List}
 use mathlib.Core.Option.{Option, none, some}
 use mathlib.Core.Bool.{false}
+use lib.ListN.{drop}
 use Rattle.rules.specs.State.{State, holds, laneAt}
 use Rattle.rules.specs.Calls.{Call, Reply, accepted, taken, seen, words, lagged, restarted, refused, Pick, picked, serve, step}
 use Rattle.rules.specs.Reads.{reads, number, placeOf}
 use Rattle.rules.specs.declared.Answer.{Answer}
 use Rattle.rules.specs.declared.Record.{Record}
-use Rattle.table.specs.Means.{meant, Leaves}
+use Rattle.table.specs.Layout.{SIZE}
+use Rattle.table.specs.Means.{meant}
+use Rattle.table.specs.Encodes.{Encodes}
+use Rattle.engine.specs.Turns.{Turns}
 use Rattle.engine.specs.declared.Verdict.{Verdict}
 use Rattle.engine.specs.declared.Verdict.the-variants.{Allowed, Refused}
 
@@ -34,8 +38,9 @@ Unchanged (refused n p) before after = after ≡ before
 
 pub record Does (c : Call) (before : List ℕ) (a : Answer) (after : List ℕ) : Type 0 where
   pub says : Says c before a
-  pub leaves : Leaves before after ((step (meant before) c) .state)
+  pub encodes : Encodes after ((step (meant before) c) .state)
   pub unchanged : Unchanged (reads a) before after
+  pub rest : drop SIZE after ≡ drop SIZE before
 
 -- a put's refusal, by its number
 abbrev pub verdictIs : Verdict → Option ℕ
@@ -47,14 +52,14 @@ abbrev pub Placeless : Verdict → Type 0
 Placeless Allowed = Unit {0}
 Placeless (Refused x) = placeOf x ≡ none
 
--- r is the record that the rules pick, and the bytes after mean the state in which it is served
+-- r is the record that the rules pick, and the table turns into the state in which it is served
 pub record Serves (before : List ℕ) (r : Record) (after : List ℕ) : Type 0 where
   pub pick : Pick
   pub picks : picked (meant before) ≡ some pick
   pub lane : r .lane ≡ pick .lane
   pub mark : r .mark ≡ pick .first .mark
   pub size : r .length .0 ≡ pick .first .len
-  pub leaves : Leaves before after (serve (meant before) (pick .lane) (pick .first))
+  pub turns : Turns before after (serve (meant before) (pick .lane) (pick .first))
 
 -- lane k holds no record
 abbrev pub Idle : State → ℕ → Type 0

@@ -1,34 +1,35 @@
 // The calls on a table known to be good: document 01, "The plain rules", worked in the table's own words.
 //
 // Each does what the rules do (specs/Does.antt) with the state that the table means. They rest on `Known`: what the good-table test shows, and what every
-// call from a fresh table keeps. The public calls, which test the table each time, are in `scheduler`.
+// call from a fresh table keeps. The public calls, which test the table each time, are in `scheduler`. None of put, take and look goes through the lanes:
+// what they cost does not grow with their number.
 //
 // Units: lengths are `Bytes`, times are `Clock`; only `lane_charge` and `line_charge` of `units` turn the first into the second.
 ghost use mathlib.Core.Path.{_≡_};
-ghost use mathlib.Core.List.{[], _∷_, _++_};
+ghost use mathlib.Core.Logic.{_⊎_};
 ghost use mathlib.Core.Option.{some};
-ghost use Prim.Native.Nat.{_<_, _^_};
+ghost use Prim.Native.Nat.{ℕ, _^_, _<_, _≤_};
+ghost use lib.Dec.{eqb};
 ghost use lib.IntN.{subℕ};
-ghost use lib.ListN.{length};
-ghost use Rattle.units.specs.Plain.{if_then_else_, without};
-ghost use Rattle.rules.specs.Choice.{choose};
 ghost use Rattle.rules.specs.Calls as Calls;
-ghost use Rattle.rules.specs.Calls.{accept, ahead, putRefusal, settled};
+ghost use Rattle.rules.specs.Calls.{accept, ahead, putRefusal};
 ghost use Rattle.rules.proofs.Keep.{Allowed};
-ghost use Rattle.rules.specs.BySets.{laneOf};
-ghost use Rattle.table.specs.Means.{meant, Sound, Leaves, withClock, withOrder};
+ghost use Rattle.table.specs.Layout.{Room};
+ghost use Rattle.table.specs.Means.{meant, Sound};
 ghost use Rattle.queue.specs.Queue.{waiting};
-ghost use Rattle.choice.specs.Known.{Known, Steady};
+ghost use Rattle.slot_lists.specs.Lists.{groupsAt, startAt, Solid};
+ghost use Rattle.lane_moves.specs.Moves.{never};
+ghost use Rattle.choice.specs.Known.{Known, Standing};
+ghost use Rattle.engine.specs.Turns.{Turns, Settled};
 ghost use Rattle.engine.specs.Does.{Says, Does, verdictIs, Placeless, Idle, Serves};
 use choice::Choice;
-use choice::Least;
+use choice::Place;
 use choice::chosen;
-use choice::least_start;
 use choice::set_words;
 use fresh::renew;
-use order::join;
-use order::leave;
-use order::move_last;
+use groups::settled_clock;
+use lane_moves::add;
+use lane_moves::refile;
 use queue::append;
 use queue::first;
 use queue::take_first;
@@ -36,12 +37,12 @@ use queue::wake;
 use rules::Answer;
 use rules::Record;
 use rules::Refusal;
+use slot_lists::GROUPS;
 use table::DEPTH;
 use table::Entry;
 use table::LaneRow;
 use table::charged;
 use table::clock;
-use table::holding;
 use table::present;
 use table::row;
 use table::set_clock;
@@ -52,6 +53,7 @@ use units::line_charge;
 use units::not_after;
 use units::plus;
 use units::rounded_start;
+use words::word;
 
 // Whether a put is allowed.
 pub enum Verdict {
@@ -91,27 +93,35 @@ fn put_verdict(t: &[u8], lane: u8, length: Bytes) -> Verdict
     Verdict::Allowed
 }
 
-// "S = the greater of F and V .. If no other lane holds a record and V is below R, then V = R."
+// Whether no lane holds records: no group has lanes.
+fn none_held(t: &[u8]) -> bool
+    requires { ⌜ Room (now t) ⌝ }
+    ensures { λ r. ⌜ r ≡ eqb (groupsAt (now (t .entry))) 0 ⌝ }
+{
+    word(t, GROUPS) == 0
+}
+
+// "S = the greater of F and V .. If no other lane holds a record and V is below R, then V = R." Lane `k` goes to the end of its slot's list.
 fn put_first(t: &mut [u8], k: usize, e: Entry)
     requires { ⌜ Known (now t) × Allowed (meant (now t)) k (e .length .0) × Idle (meant (now t)) k ⌝ }
-    ensures { λ _. ⌜ Leaves (now (t .entry)) (now (t .exit)) (accept (meant (now (t .entry))) k (waiting e)) ⌝ }
+    ensures { λ _. ⌜ Turns (now (t .entry)) (now (t .exit)) (accept (meant (now (t .entry))) k (waiting e)) ⌝ }
 {
     let l = row(t, k);
     let v = clock(t);
-    let alone = holding(t) == 0;
+    let alone = none_held(t);
     let start = later(l.time, v);
+    let group = l.group;
     wake(t, k, start, e);
-    join(t, k);
-    let r = rounded_start(start, l.group);
+    add(t, group, start.0, k);
     if alone {
-        set_clock(t, later(v, r));
+        set_clock(t, later(v, rounded_start(start, group)));
     }
 }
 
 // "Put appends the record." The answer: how many the lane held before.
 fn put_record(t: &mut [u8], k: usize, e: Entry) -> u64
     requires { ⌜ Known (now t) × Allowed (meant (now t)) k (e .length .0) ⌝ }
-    ensures { λ r. ⌜ Leaves (now (t .entry)) (now (t .exit)) (accept (meant (now (t .entry))) k (waiting e)) × (r ≡ ahead (meant (now (t .entry))) k) ⌝ }
+    ensures { λ r. ⌜ Turns (now (t .entry)) (now (t .exit)) (accept (meant (now (t .entry))) k (waiting e)) × (r ≡ ahead (meant (now (t .entry))) k) ⌝ }
 {
     let l = row(t, k);
     if l.count == 0 {
@@ -137,41 +147,32 @@ pub fn put(t: &mut [u8], lane: u8, mark: u32, length: Bytes) -> Answer
     }
 }
 
-// Lane `k` got a new S, or holds no more: it goes to the end of the tie order, or out of it.
-fn requeue(t: &mut [u8], k: usize, more: bool)
-    requires { ⌜ Sound (now t) × (length (without k (meant (now t) .order)) < 64) ⌝ }
-    ensures { λ _. ⌜ Leaves (now (t .entry)) (now (t .exit)) (withOrder (meant (now (t .entry))) (without k (meant (now (t .entry)) .order) ++ (if more then k ∷ [] else []))) ⌝ }
+// "Last, if records are held and no lane is eligible, V becomes the least R." `r` is the start of the group that was served, or later than any.
+fn settle(t: &mut [u8], v: Clock, r: u64)
+    requires { ⌜ Sound (now t) × Solid (now t) × ((i q : ℕ) → 16 ≤ i → i ≤ 31 → startAt (now t) i ≡ some q → q < 2 ^ 63) × (v .0 < never) × ((r ≡ never) ⊎ ((i : ℕ) × (16 ≤ i) × (i ≤ 31) × (startAt (now t) i ≡ some r))) ⌝ }
+    ensures { λ _. ⌜ Settled (now (t .entry)) (now (t .exit)) (v .0) ⌝ }
 {
-    if more {
-        move_last(t, k);
+    if r <= v.0 {
+        set_clock(t, v);
     } else {
-        leave(t, k);
+        let settled = settled_clock(t, v.0);
+        set_clock(t, Clock(settled));
     }
 }
 
-// "Last, if records are held and no lane is eligible, V becomes the least R."
-fn settle(t: &mut [u8], v: Clock)
-    requires { ⌜ Steady (now t) ⌝ }
-    ensures { λ _. ⌜ Leaves (now (t .entry)) (now (t .exit)) (withClock (meant (now (t .entry))) (settled (v .0) (meant (now (t .entry)) .lanes))) ⌝ }
-{
-    let least = least_start(t);
-    match least {
-        Least::At(r) => set_clock(t, later(v, r)),
-        Least::Nothing => set_clock(t, v),
-    }
-}
-
-// Hands out the first record of lane `k`, which was chosen.
-fn serve_lane(t: &mut [u8], k: usize) -> Record
-    requires { ⌜ Known (now t) × (laneOf (choose (meant (now t))) ≡ some k) ⌝ }
+// Hands out the first record of the chosen lane, which stands at `p`.
+fn serve_lane(t: &mut [u8], p: Place) -> Record
+    requires { ⌜ Known (now t) × Standing (now t) p ⌝ }
     ensures { λ r. ⌜ Serves (now (t .entry)) r (now (t .exit)) ⌝ }
 {
+    let k = p.lane;
     let l = row(t, k);
     let v = clock(t);
     let e = take_first(t, k);
-    requeue(t, k, 1 < l.count);
+    let next = row(t, k);
+    let r = refile(t, p.group, p.start, next.time.0, k, next.count != 0);
     let length = e.length;
-    settle(t, plus(v, line_charge(charged(l, length))));
+    settle(t, plus(v, line_charge(charged(l, length))), r);
     Record {
         lane: k as u8,
         mark: e.mark,
@@ -186,7 +187,7 @@ pub fn take(t: &mut [u8]) -> Answer
 {
     let choice = chosen(t);
     match choice {
-        Choice::Serve(k) => Answer::Taken(serve_lane(t, k)),
+        Choice::Serve(p) => Answer::Taken(serve_lane(t, p)),
         Choice::Idle => Answer::Refused(Refusal::NothingHeld),
     }
 }
@@ -198,7 +199,8 @@ pub fn look(t: &[u8]) -> Answer
 {
     let choice = chosen(t);
     match choice {
-        Choice::Serve(k) => {
+        Choice::Serve(p) => {
+            let k = p.lane;
             let e = first(t, k);
             let length = e.length;
             let record = Record {
@@ -253,7 +255,7 @@ pub fn restart(t: &mut [u8]) -> Answer
     requires { ⌜ Known (now t) ⌝ }
     ensures { λ r. ⌜ Does Calls.restart (now (t .entry)) r (now (t .exit)) ⌝ }
 {
-    if holding(t) != 0 {
+    if !none_held(t) {
         return Answer::Refused(Refusal::StillHolds);
     }
     renew(t);

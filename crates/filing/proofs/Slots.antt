@@ -11,9 +11,10 @@ use mathlib.Core.List.{List}
 use mathlib.Core.Option.{Option, none, some}
 use lib.ListN.{getD}
 use Rattle.units.proofs.Round.{round-div}
+use Rattle.waiting.specs.Waiting.{GoodWaiting}
 use Rattle.waiting.proofs.Laws.{first-fits}
 use Rattle.rules.specs.State.{Rec, Setting, Lane, State, group, slot, startR, firstOf, holds, laneAt, setupOf}
-use Rattle.rules.specs.Setup.{InNumbers, margin}
+use Rattle.rules.specs.Setup.{InNumbers, Setup, margin}
 use Rattle.rules.specs.Good.{Times, Good}
 use Rattle.rules.specs.Sets.{inGroup, groupStart}
 use Rattle.rules.proofs.Lane.{group-least}
@@ -68,6 +69,21 @@ no-less g a b h = elim (decLe a b) [ yes q ↦ q | no q ↦ absurd (omega (arith
     more : ¬ (a ≤ b) → b + 1 ≤ a
     more q = omega arith
 
+-- ---- a state of a setup
+
+module _ (s : State) (setup : Setup (setupOf s)) (waiting : (k : ℕ) → GoodWaiting (laneAt s k .given .longest) (laneAt s k .waiting)) where
+  pub numbers-in : (k : ℕ) → holds (laneAt s k) ≡ true → InNumbers (laneAt s k .given)
+  numbers-in k h =
+      let f = first-is (firstOf (laneAt s k)) h in
+      let fits = first-fits (laneAt s k .given .longest) (laneAt s k .waiting) (f .0) (waiting k) (f .1) in
+      ⊎-elim
+      (λ n. subst InNumbers (setting-lane s k) n)
+      (λ e. absurd (omega (arith, fits .0, fits .1, ap (λ (g : Setting). g .longest) (sym (setting-lane s k) ∙ e))))
+      (setup .each k)
+
+  pub group-in : (k : ℕ) → holds (laneAt s k) ≡ true → (16 ≤ group (laneAt s k .given)) × (group (laneAt s k .given) ≤ 31)
+  group-in k h = (group-least (laneAt s k .given) (numbers-in k h), group-at s setup k)
+
 -- ---- a good state
 
 module _ (s : State) (good : Good s) where
@@ -80,16 +96,10 @@ module _ (s : State) (good : Good s) where
 
   -- a lane that holds records is in the setup
   pub numbers-held : (k : ℕ) → holds (laneAt s k) ≡ true → InNumbers (laneAt s k .given)
-  numbers-held k h =
-      let f = first-is (firstOf (laneAt s k)) h in
-      let fits = first-fits (laneAt s k .given .longest) (laneAt s k .waiting) (f .0) (good .waiting k) (f .1) in
-      ⊎-elim
-      (λ n. subst InNumbers (setting-lane s k) n)
-      (λ e. absurd (omega (arith, fits .0, fits .1, ap (λ (g : Setting). g .longest) (sym (setting-lane s k) ∙ e))))
-      (good .setup .each k)
+  numbers-held = numbers-in s (good .setup) (good .waiting)
 
   pub group-held : (k : ℕ) → holds (laneAt s k) ≡ true → (16 ≤ group (laneAt s k .given)) × (group (laneAt s k .given) ≤ 31)
-  group-held k h = (group-least (laneAt s k .given) (numbers-held k h), group-at s (good .setup) k)
+  group-held = group-in s (good .setup) (good .waiting)
 
   -- two lanes of one group that hold records
   pub close : (B j k : ℕ) → Whole B → holds (laneAt s j) ≡ true → holds (laneAt s k) ≡ true → group (laneAt s j .given) ≡ group (laneAt s k .given)

@@ -10,11 +10,13 @@ use lib.Pow.{pow-pos}
 use lib.ListN.{length, getD, set, length-set}
 use lib.Seq.{getD-set-same, getD-set-other}
 use Rattle.words.specs.Bits.{bit}
-use Rattle.words.specs.Runs.{reads, tab, tabFrom}
+use Rattle.words.specs.Runs.{tab, tabFrom}
 use Rattle.words.proofs.Bits.{bit-above, bit-add-same, bit-add-other}
-use Rattle.words.proofs.Runs.{reads-ext, tab-ext, tab-set, eq-or-ne}
+use Rattle.words.proofs.Runs.{tab-ext, tab-set, eq-or-ne}
 use Rattle.rules.specs.State.{Setting, Lane, laneAt, noSetting}
 use Rattle.rules.specs.Calls.{idle, fresh}
+use Rattle.slot_lists.specs.Lists.{listAt}
+use Rattle.filing.specs.Filing.{inARow}
 use Rattle.table.specs.Layout.{presentWord, framingWord, laneWord, rowAt, rowOf, cells}
 use Rattle.table.specs.Means.{presentAt, ringOf, RowAgrees, laneOf, stateOf, meant, Beside, Sound, withLane}
 use Rattle.table.proofs.Footprint.{lane-kept, lane-is, row-kept}
@@ -28,34 +30,31 @@ use Rattle.fresh.proofs.Mixed.{mixed-none, map-tab}
 
 module _ (w : List ℕ) (h : ℕ) (len : length w ≡ 1360) where
   abbrev cleared : List ℕ
-  cleared = set (set (set w 0 0) 1 0) 2 0
+  cleared = set (set w 0 0) 1 0
 
   abbrev pub begun : List ℕ
   begun = set cleared framingWord h
 
-  clear-word : (i : ℕ) → i < 3 → getD cleared i 0 ≡ 0
-  clear-word zero b =
-      getD-set-other (set (set w 0 0) 1 0) 2 0 0 0 (omega arith) ∙ getD-set-other (set w 0 0) 1 0 0 0 (omega arith) ∙ getD-set-same w 0 0 0 (omega arith)
-  clear-word (suc zero) b =
-      getD-set-other (set (set w 0 0) 1 0) 2 1 0 0 (omega arith) ∙ getD-set-same (set w 0 0) 1 0 0 (rw length-set (omega arith))
-  clear-word (suc (suc i)) b =
+  clear-word : (i : ℕ) → i < 2 → getD cleared i 0 ≡ 0
+  clear-word zero b = getD-set-other (set w 0 0) 1 0 0 0 (omega arith) ∙ getD-set-same w 0 0 0 (omega arith)
+  clear-word (suc i) b =
       let e : i ≡ 0 = omega arith in
-      rw e (getD-set-same (set (set w 0 0) 1 0) 2 0 0 (rw (length-set, length-set) (omega arith)))
+      rw e (getD-set-same (set w 0 0) 1 0 0 (rw length-set (omega arith)))
 
-  zero-word : (i : ℕ) → i < 3 → getD begun i 0 ≡ 0
+  zero-word : (i : ℕ) → i < 2 → getD begun i 0 ≡ 0
   zero-word i b = getD-set-other cleared framingWord i h 0 (omega arith) ∙ clear-word i b
 
   pub begun-framing : getD begun framingWord 0 ≡ h
-  begun-framing = getD-set-same cleared framingWord h 0 (rw (length-set, length-set, length-set) (omega arith))
+  begun-framing = getD-set-same cleared framingWord h 0 (rw (length-set, length-set) (omega arith))
 
   none-present : (k : ℕ) → presentAt begun k ≡ false
   none-present k = bit-absent begun k (rw (zero-word 1 (omega arith)) (bit-above k 0 (pow-pos k)))
 
-  pub begun-state : stateOf begun ≡ fresh (upTo 0 [])
+  pub begun-state : stateOf begun [] ≡ fresh (upTo 0 [])
   unfolding stateOf fresh idle
   begun-state =
       let lanes : tab 64 (laneOf begun) ≡ map idle (upTo 0 []) = tab-ext 64 (laneOf begun) (λ i. idle noSetting) (λ i b. lane-absent begun i (none-present i)) ∙ sym (map-tab idle 64 (λ i. noSetting)) ∙ ap (map idle) (sym (mixed-none _ (λ i. noSetting))) in
-      rw (zero-word 0 (omega arith), zero-word 2 (omega arith), lanes)
+      rw (zero-word 0 (omega arith), lanes)
 
   pub begun-beside : Beside begun
   begun-beside = record { rows = λ k b p. absurd (false≢true (sym (none-present k) ∙ p)) }
@@ -65,7 +64,7 @@ module _ (w : List ℕ) (h : ℕ) (len : length w ≡ 1360) where
 by-weight : (t : List ℕ) (k : ℕ) (b : Bool) → presentAt (cells t) k ≡ b → Sound t → k < 64 → laneAt (meant t) k .given .weight ≡ 0 → b ≡ false
 by-weight t k false p s h e = refl
 by-weight t k true p s h e =
-    absurd (omega (arith, s .beside .rows k h p .numbers .weight-low, ap (λ (g : Setting). g .weight) (given-row (cells t) k p), ap (λ (l : Lane). l .given .weight) (lane-is (cells t) k h)))
+    absurd (omega (arith, s .beside .rows k h p .numbers .weight-low, ap (λ (g : Setting). g .weight) (given-row (cells t) k p), ap (λ (l : Lane). l .given .weight) (lane-is (cells t) (inARow (listAt t)) k h)))
 
 -- a lane of weight 0 is not in the setup
 pub weightless : (t : List ℕ) (k : ℕ) → Sound t → k < 64 → laneAt (meant t) k .given .weight ≡ 0 → bit k (getD (cells t) presentWord 0) ≡ 0
@@ -117,19 +116,17 @@ module _ (w : List ℕ) (k word : ℕ) (g : Setting) (len : length w ≡ 1360) (
   unfolding ringOf tab tabFrom
   lane-here = lane-present added k here ∙ rw (row-here, a .given 0 0) (sym (timed-idle g))
 
-  pub added-state : getD w 2 0 ≤ 64 → stateOf added ≡ withLane (stateOf w) k (idle g)
+  pub added-state : (o : List ℕ) → stateOf added o ≡ withLane (stateOf w o) k (idle g)
   unfolding stateOf
-  added-state few =
+  added-state o =
       let clock : getD added 0 0 ≡ getD w 0 0 = other 0 (omega arith) (λ p q. omega arith) in
-      let holding : getD added 2 0 ≡ getD w 2 0 = other 2 (omega arith) (λ p q. omega arith) in
-      let order : reads added 16 (getD w 2 0) ≡ reads w 16 (getD w 2 0) = reads-ext w added 16 (getD w 2 0) (λ i p q. other i (omega arith) (λ x y. omega arith)) in
       let lanes : tab 64 (laneOf added) ≡ set (tab 64 (laneOf w)) k (laneOf added k) = tab-set 64 k (laneOf w) (laneOf added) hk (λ j h ne. lane-kept w added j (record {
         present = elsewhere j ne;
         framing = other framingWord (omega arith) (λ x y. omega arith);
         row = λ i p q. other i (omega arith) (λ x y. omega arith);
         ring = λ i p q. other i (omega arith) (λ x y. omega arith);
       })) in
-      rw (clock, holding, order, lanes, lane-here)
+      rw (clock, lanes, lane-here)
 
   pub added-beside : Beside w → Beside added
   added-beside b =

@@ -8,6 +8,7 @@ use Rattle.rules.specs.Good.{Good}
 use Rattle.rules.proofs.AlwaysGood.{fresh-reached, reached-good}
 use Rattle.rules.specs.Calls.{fresh}
 use Rattle.table.specs.Layout.{Room}
+use Rattle.table.proofs.Lists.{empty-listed}
 use Rattle.good.specs.Table.{GoodTable}
 use Rattle.fresh.specs.Makes.{Makes}
 
@@ -17,4 +18,5 @@ fresh-good-table before after gs s room m =
       room = room;
       good = subst (λ (x : State). Good x) (sym (m .state)) (reached-good (fresh gs) (fresh-reached gs s));
       beside = m .beside;
+      listed = empty-listed after gs (m .state) (m .empty);
     }

@@ -11,12 +11,14 @@ use Rattle.words.proofs.Bits.{shift-one}
 use Rattle.words.proofs.Runs.{length-tab}
 use Rattle.rules.specs.State.{Setting, Lane, State, laneAt, noLane}
 use Rattle.rules.specs.Calls.{idle}
+use Rattle.slot_lists.specs.Lists.{listAt}
+use Rattle.filing.specs.Filing.{inARow}
 use Rattle.table.specs.Layout.{Now, cells, presentWord, framingWord, laneWord, rowAt, putRow}
 use Rattle.table.specs.Means.{Next, ringOf, givenOf, laneOf, stateOf, meant, Sound, Leaves, withLane}
 use Rattle.table.specs.declared.LaneRow.{LaneRow}
 use Rattle.table.proofs.Stores.{length-cells, now-then}
 use Rattle.table.proofs.Footprint.{lane-is}
-use Rattle.table.proofs.Leave.{sound-few, leave-lane, leaves-then}
+use Rattle.table.proofs.Leave.{meant-now, leave-lane, leaves-then}
 use Rattle.table.proofs.Next.{bit-present, bit-absent}
 use Rattle.table.proofs.Rows.{retimed, outside-row, lane-put, given-row, lane-absent, weight-present}
 use Rattle.table.proofs.Timed.{timed-idle}
@@ -43,7 +45,7 @@ module _ (t t₁ t₂ t₃ : List ℕ) (k word : ℕ) (g : Setting) (s : Sound t
       let n = now-then t′ presentWord (1 * 2 ^ k % 2 ^ 64 + lanes) so-far four in
       let words = n .words ∙ ap (set (set (set (set (cells t) (laneWord k) word) (laneWord k + 1) 0) (laneWord k + 2) 0) presentWord) word-is in
       record {
-        state = rw words (added-state (cells t) k word g (length-cells t) hk off a f (sound-few t s));
+        state = meant-now t t′ _ (record { words = words; rest = n .rest }) ∙ added-state (cells t) k word g (length-cells t) hk off a f (inARow (listAt t));
         beside = λ b. rw words (added-beside (cells t) k word g (length-cells t) hk off a f b);
         rest = n .rest;
       }
@@ -57,19 +59,20 @@ module _ (t t₁ t₂ t₃ : List ℕ) (k word : ℕ) (g : Setting) (s : Sound t
 
 -- ---- rest_lane
 
-rest-at : (t t′ : List ℕ) (k : ℕ) → Sound t → k < 64 → 0 < laneAt (meant t) k .given .weight → Now t t′ (putRow (cells t) k (retimed (rowAt (cells t) k) 0 0 0))
+rest-at : (t t′ : List ℕ) (k : ℕ) → k < 64 → 0 < laneAt (meant t) k .given .weight → Now t t′ (putRow (cells t) k (retimed (rowAt (cells t) k) 0 0 0))
     → Leaves t t′ (withLane (meant t) k (idle (laneAt (meant t) k .given)))
 unfolding ringOf tab tabFrom
-rest-at t t′ k s hk weight n =
+rest-at t t′ k hk weight n =
     let w = cells t in
-    let p = weight-present w k hk weight in
-    let given : laneAt (meant t) k .given ≡ givenOf (rowAt w k) = ap (λ (l : Lane). l .given) (lane-is w k hk) ∙ given-row w k p in
-    leave-lane t t′ (putRow w k (retimed (rowAt w k) 0 0 0)) k (idle (laneAt (meant t) k .given)) s hk n (outside-row w k (retimed (rowAt w k) 0 0 0)) (lane-put w k 0 0 0 (length-cells t) hk (omega arith) p ∙ sym (timed-idle (givenOf (rowAt w k))) ∙ ap idle (sym given))
+    let o = inARow (listAt t) in
+    let p = weight-present w o k hk weight in
+    let given : laneAt (meant t) k .given ≡ givenOf (rowAt w k) = ap (λ (l : Lane). l .given) (lane-is w o k hk) ∙ given-row w k p in
+    leave-lane t t′ (putRow w k (retimed (rowAt w k) 0 0 0)) k (idle (laneAt (meant t) k .given)) hk n (outside-row w k (retimed (rowAt w k) 0 0 0)) (lane-put w k 0 0 0 (length-cells t) hk (omega arith) p ∙ sym (timed-idle (givenOf (rowAt w k))) ∙ ap idle (sym given))
 
-pub rest-leaves : (t t′ : List ℕ) (k : ℕ) (l : LaneRow) → l ≡ rowAt (cells t) k → Sound t → k < 64 → 0 < laneAt (meant t) k .given .weight → Now t t′ (putRow (cells t) k (retimed l 0 0 0))
+pub rest-leaves : (t t′ : List ℕ) (k : ℕ) (l : LaneRow) → l ≡ rowAt (cells t) k → k < 64 → 0 < laneAt (meant t) k .given .weight → Now t t′ (putRow (cells t) k (retimed l 0 0 0))
     → Leaves t t′ (withLane (meant t) k (idle (laneAt (meant t) k .given)))
-rest-leaves t t′ k l e s hk weight n =
-    rest-at t t′ k s hk weight (subst (λ (l : LaneRow). Now t t′ (putRow (cells t) k (retimed l 0 0 0))) e n)
+rest-leaves t t′ k l e hk weight n =
+    rest-at t t′ k hk weight (subst (λ (l : LaneRow). Now t t′ (putRow (cells t) k (retimed l 0 0 0))) e n)
 
 -- ---- the lanes that the word of present lanes names
 
@@ -80,10 +83,10 @@ lanes-size t = length-tab 64 (laneOf (cells t))
 pub named-weight : (t : List ℕ) (k : ℕ) → Sound t → k < 64 → bit k (getD (cells t) presentWord 0) ≡ 1 → 0 < laneAt (meant t) k .given .weight
 named-weight t k s hk b =
     let p = bit-present (cells t) k b in
-    omega (arith, s .beside .rows k hk p .numbers .weight-low, ap (λ (g : Setting). g .weight) (given-row (cells t) k p), ap (λ (l : Lane). l .given .weight) (lane-is (cells t) k hk))
+    omega (arith, s .beside .rows k hk p .numbers .weight-low, ap (λ (g : Setting). g .weight) (given-row (cells t) k p), ap (λ (l : Lane). l .given .weight) (lane-is (cells t) (inARow (listAt t)) k hk))
 
 pub unnamed-lane : (t : List ℕ) (k : ℕ) → k < 64 → bit k (getD (cells t) presentWord 0) ≡ 0 → laneAt (meant t) k ≡ noLane
-unnamed-lane t k hk b = lane-is (cells t) k hk ∙ lane-absent (cells t) k (bit-absent (cells t) k b)
+unnamed-lane t k hk b = lane-is (cells t) (inARow (listAt t)) k hk ∙ lane-absent (cells t) k (bit-absent (cells t) k b)
 
 -- ---- the loop of `rest_lanes`
 

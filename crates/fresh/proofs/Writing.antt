@@ -1,4 +1,4 @@
--- The loop of `write`, and the last stores of `renew`. Assumes nothing.
+-- The loop of `write`, and what `begin` and `renew` leave. Assumes nothing.
 use mathlib.Core.Path.{_≡_, refl, sym, ap, subst, _∙_}
 use mathlib.Core.Logic.{_⊎_, ⊎-elim}
 use Prim.Native.Nat.{ℕ, zero, suc, _+_, _≤_, _<_}
@@ -6,28 +6,30 @@ use mathlib.Core.List.{List, []}
 use native.Mathlib.Decide.{decLt}
 use native.Mathlib.Nat.{pos-of-ne-zero}
 use native.Mathlib.Omega.{arith}
-use lib.ListN.{getD, set, List·getD-map, List·getD-eq-default}
-use lib.Seq.{getD-set-same, getD-set-other}
-use Rattle.words.specs.Runs.{reads}
+use lib.ListN.{getD, List·getD-map, List·getD-eq-default}
 use Rattle.rules.specs.State.{Setting, State, laneAt, setupOf, settingAt, noSetting}
 use Rattle.rules.specs.Setup.{InNumbers, Setup}
 use Rattle.rules.specs.Calls.{idle, fresh}
 use Rattle.rules.proofs.Figures.{framing-most}
-use Rattle.table.specs.Layout.{Room, Now, cells, holdingWord, framingWord, orderWord}
-use Rattle.table.specs.Means.{meant, Sound, Leaves, withLane, withOrder, withClock}
+use Rattle.slot_lists.specs.Lists.{listAt}
+use Rattle.slot_lists.specs.Changes.{Emptied}
+use Rattle.filing.specs.Filing.{inARow}
+use Rattle.table.specs.Layout.{Room, Now, cells, framingWord}
+use Rattle.table.specs.Means.{stateOf, meant, Beside, Sound, Leaves, withLane, withClock}
 use Rattle.table.proofs.Stores.{length-cells}
-use Rattle.table.proofs.Leave.{leave-order, leaves-then}
+use Rattle.table.proofs.Leave.{leaves-then}
+use Rattle.table.proofs.Lists.{cells-below, empty-stays, past-stays, row-empty}
 use Rattle.fresh.specs.Makes.{Makes, settings, FramedBy, upTo, restedTo}
 use Rattle.plan.specs.Read.{settingOf}
 use Rattle.plan.specs.declared.Lane as plan
 use Rattle.fresh.proofs.States.{up-none, up-more, up-skip, up-at, up-all, rested-all}
+use Rattle.fresh.proofs.Added.{begun, begun-state, begun-beside, begun-framing}
 use Rattle.fresh.proofs.Leaves.{lanes-size}
 
 -- ---- write
 
 pub makes-sound : (t₀ t : List ℕ) (gs : List Setting) → Room t → Makes t₀ t gs → Sound t
-unfolding fresh
-makes-sound t₀ t gs room m = record { room = room; few = rw (m .state) (omega arith); beside = m .beside }
+makes-sound t₀ t gs room m = record { room = room; beside = m .beside }
 
 abbrev pub none : plan.Lane
 none = record { weight = 0; longest = record { 0 = 0 }; framing = record { 0 = 0 } }
@@ -49,7 +51,7 @@ module _ (lanes : List plan.Lane) (t₀ t : List ℕ) (k : ℕ) (hk : k < 64) (m
   pub write-more : (t′ : List ℕ) → Leaves t t′ (withLane (meant t) k (idle (settingOf (getD lanes k none)))) → Makes t₀ t′ (upTo (k + 1) (settings lanes))
   write-more t′ l =
       let step : withLane (meant t) k (idle (settingOf (getD lanes k none))) ≡ fresh (upTo (k + 1) (settings lanes)) = ap (λ (s : State). withLane s k (idle (settingOf (getD lanes k none)))) (m .state) ∙ ap (λ (g : Setting). withLane (fresh (upTo k (settings lanes))) k (idle g)) (sym at) ∙ up-more (settings lanes) k hk in
-      record { state = l .state ∙ step; beside = l .beside (m .beside); rest = l .rest ∙ m .rest }
+      record { state = l .state ∙ step; beside = l .beside (m .beside); empty = empty-stays t t′ (l .rest) (m .empty); rest = past-stays t t′ (l .rest) ∙ m .rest }
 
   pub write-skip : Setup (settings lanes) → getD lanes k none .weight ≡ 0 → Makes t₀ t (upTo (k + 1) (settings lanes))
   write-skip s e =
@@ -57,7 +59,7 @@ module _ (lanes : List plan.Lane) (t₀ t : List ℕ) (k : ℕ) (hk : k < 64) (m
       (λ (n : InNumbers (settingAt (settings lanes) k)). absurd (omega (arith, n .weight-low, e, ap (λ (g : Setting). g .weight) at)))
       (λ (q : settingAt (settings lanes) k ≡ noSetting). q)
       (s .each k) in
-      record { state = m .state ∙ ap fresh (up-skip (settings lanes) k hk absent); beside = m .beside; rest = m .rest }
+      record { state = m .state ∙ ap fresh (up-skip (settings lanes) k hk absent); beside = m .beside; empty = m .empty; rest = m .rest }
 
 -- ---- the line's framing bytes
 
@@ -102,23 +104,43 @@ module _ (lanes : List plan.Lane) (s : Setup (settings lanes)) where
       framed-more t′ l = write-more lanes t₀ t k hk m t′ (subst (λ (g : Setting). Leaves t t′ (withLane (meant t) k (idle g))) (sym same) l)
 
 pub write-none : (lanes : List plan.Lane) (t₀ t : List ℕ) → Makes t₀ t (upTo 0 []) → Makes t t (upTo 0 (settings lanes))
-write-none lanes t₀ t m = record { state = m .state ∙ ap fresh (up-none (settings lanes)); beside = m .beside; rest = refl }
+write-none lanes t₀ t m = record { state = m .state ∙ ap fresh (up-none (settings lanes)); beside = m .beside; empty = m .empty; rest = refl }
 
 pub write-all : (lanes : List plan.Lane) (t t₀ t′ : List ℕ) (k : ℕ) → k ≡ 64 → Setup (settings lanes) → Makes t t₀ (upTo 0 []) → Makes t₀ t′ (upTo k (settings lanes)) → Makes t t′ (settings lanes)
 write-all lanes t t₀ t′ k e s a b =
-    record { state = b .state ∙ ap (λ (n : ℕ). fresh (upTo n (settings lanes))) e ∙ ap fresh (up-all (settings lanes) (s .size)); beside = b .beside; rest = b .rest ∙ a .rest }
+    record { state = b .state ∙ ap (λ (n : ℕ). fresh (upTo n (settings lanes))) e ∙ ap fresh (up-all (settings lanes) (s .size)); beside = b .beside; empty = b .empty; rest = b .rest ∙ a .rest }
 
--- ---- renew
+-- ---- begin and renew: the last store empties the lists
 
-pub no-order : (t t′ : List ℕ) → Now t t′ (set (cells t) holdingWord 0) → Leaves t t′ (withOrder (meant t) [])
-no-order t t′ n =
-    let w = cells t in
-    let other : (i : ℕ) → (i ≡ holdingWord → ⊥) → getD (set w holdingWord 0) i 0 ≡ getD w i 0 = λ i ne. getD-set-other w holdingWord i 0 0 ne in
-    leave-order t t′ (set w holdingWord 0) [] n (record { clock = other 0 (omega arith); present = other 1 (omega arith); framing = other framingWord (omega arith); above = λ i h. other i (omega arith) }) (ap (reads (set w holdingWord 0) orderWord) (getD-set-same w holdingWord 0 0 (omega (arith, length-cells t))))
+pub emptied-state : (t t′ : List ℕ) → Emptied t t′ → meant t′ ≡ stateOf (cells t) []
+emptied-state t t′ e = ap (λ (w : List ℕ). stateOf w (inARow (listAt t′))) (cells-below t t′ (e .below)) ∙ ap (stateOf (cells t)) (row-empty t′ (e .empty))
 
-pub renew-leaves : (t t₁ t₂ t′ : List ℕ) → Leaves t t₁ (restedTo 64 (meant t)) → Leaves t₁ t₂ (withClock (meant t₁) 0) → Now t₂ t′ (set (cells t₂) holdingWord 0) → Leaves t t′ (fresh (setupOf (meant t)))
+pub begin-makes : (t u t′ : List ℕ) (h : ℕ) → Now t u (begun (cells t) h (length-cells t)) → Emptied u t′ → Makes t t′ (upTo 0 []) × (getD (cells t′) framingWord 0 ≡ h)
+begin-makes t u t′ h n e =
+    let words = cells-below u t′ (e .below) ∙ n .words in (
+      record {
+        state = emptied-state u t′ e ∙ ap (λ (w : List ℕ). stateOf w []) (n .words) ∙ begun-state (cells t) h (length-cells t);
+        beside = subst Beside (sym words) (begun-beside (cells t) h (length-cells t));
+        empty = e .empty;
+        rest = e .rest ∙ past-stays t u (n .rest);
+      },
+      ap (λ (w : List ℕ). getD w framingWord 0) words ∙ begun-framing (cells t) h (length-cells t),
+    )
+
+abbrev withNoOrder : State → State
+withNoOrder s = record { clock = s .clock; lanes = s .lanes; order = [] }
+
+no-order : (t : List ℕ) → stateOf (cells t) [] ≡ withNoOrder (meant t)
+unfolding stateOf
+no-order t = refl
+
+pub renew-makes : (t t₁ t₂ t′ : List ℕ) → Sound t → Leaves t t₁ (restedTo 64 (meant t)) → Leaves t₁ t₂ (withClock (meant t₁) 0) → Emptied t₂ t′ → Makes t t′ (setupOf (meant t))
 unfolding fresh
-renew-leaves t t₁ t₂ t′ a b n =
-    let c = no-order t₂ t′ n in
-    let state : meant t′ ≡ withOrder (withClock (restedTo 64 (meant t)) 0) [] = c .state ∙ ap (λ (s : State). withOrder s []) (b .state ∙ ap (λ (s : State). withClock s 0) (a .state)) in
-    leaves-then (leaves-then a b) (record { state = state ∙ rw (rested-all (meant t) (lanes-size t)); beside = c .beside; rest = c .rest })
+renew-makes t t₁ t₂ t′ s a b e =
+    let c = leaves-then a b in
+    record {
+      state = emptied-state t₂ t′ e ∙ no-order t₂ ∙ ap withNoOrder (b .state ∙ ap (λ (s : State). withClock s 0) (a .state)) ∙ rw (rested-all (meant t) (lanes-size t));
+      beside = subst Beside (sym (cells-below t₂ t′ (e .below))) (c .beside (s .beside));
+      empty = e .empty;
+      rest = e .rest ∙ past-stays t t₂ (c .rest);
+    }

@@ -1,6 +1,6 @@
 -- What a fresh table is.
 --
---   Makes        the bytes are the fresh table of a list of settings, and those past the table are as they were
+--   Makes        the bytes are the fresh table of a list of settings, with empty slot lists, and those past the table are as they were
 --   settings     the settings of a list of given lanes
 --   FramedBy     each of the lanes has so many framing bytes
 --   mixed        64 elements: by one rule below k, by another from k on
@@ -10,7 +10,7 @@
 --
 -- Assumes nothing.
 use mathlib.Core.Path.{_≡_}
-use Prim.Native.Nat.{ℕ, _*_, _<_}
+use Prim.Native.Nat.{ℕ, _<_}
 use mathlib.Core.List.{List, map}
 use lib.Dec.{ltb}
 use lib.ListN.{drop}
@@ -18,7 +18,8 @@ use Rattle.words.specs.Runs.{tab}
 use Rattle.units.specs.Plain.{if_then_else_}
 use Rattle.rules.specs.State.{Setting, State, noSetting, settingAt, laneAt}
 use Rattle.rules.specs.Calls.{idle, fresh}
-use Rattle.table.specs.Layout.{WORDS, cells, rowOf}
+use Rattle.slot_lists.specs.Lists.{Empty}
+use Rattle.table.specs.Layout.{SIZE, cells, rowOf}
 use Rattle.table.specs.Means.{meant, Beside, RowAgrees, givenOf}
 use Rattle.plan.specs.Read.{settingOf}
 use Rattle.plan.specs.declared.Lane.{Lane}
@@ -27,7 +28,8 @@ use Rattle.plan.specs.declared.Lane.{Lane}
 pub record Makes (before after : List ℕ) (gs : List Setting) : Type 0 where
   pub state : meant after ≡ fresh gs
   pub beside : Beside (cells after)
-  pub rest : drop (WORDS * 8) after ≡ drop (WORDS * 8) before
+  pub empty : Empty after
+  pub rest : drop SIZE after ≡ drop SIZE before
 
 abbrev pub settings : List Lane → List Setting
 settings gs = map settingOf gs

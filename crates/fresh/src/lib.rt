@@ -1,22 +1,23 @@
 // Fresh tables: document 01's "Fresh: V = 0, each lane idle with F = 0" and "Restart gives the fresh table of the same setup".
 //
-// A fresh table is begun with no lane in it; then each lane of the setup is added. Words of lanes that are not in the setup, and places of a ring
-// that hold no record, are left as they stand: they mean nothing. The one division, for c, is made here.
+// A fresh table is begun with no lane in it and empty slot lists; then each lane of the setup is added. Words of lanes that are not in the setup, places
+// of a ring that hold no record, and the words and rings of a group that has no lanes are left as they stand: they mean nothing. The one division, for c,
+// is made here.
 ghost use mathlib.Core.Path.{_≡_};
 ghost use mathlib.Core.List.{[]};
 ghost use Prim.Native.Nat.{_+_, _*_, _<_, _≤_};
 ghost use lib.ListN.{getD};
 ghost use Rattle.rules.specs.State.{laneAt, setupOf};
 ghost use Rattle.rules.specs.Setup.{InNumbers, Setup};
-ghost use Rattle.rules.specs.Calls.{idle, fresh};
+ghost use Rattle.rules.specs.Calls.{idle};
 ghost use Rattle.table.specs.Layout.{Room, cells, framingWord};
 ghost use Rattle.table.specs.Means.{meant, Sound, Leaves, withLane};
 ghost use Rattle.fresh.specs.Makes.{Makes, SettingWord, settings, FramedBy, upTo, restedTo};
 use plan::Lane;
+use slot_lists::empty;
 use table::CLOCK;
 use table::FRAMING;
 use table::GROUP_UNIT;
-use table::HOLDING;
 use table::LANES;
 use table::LaneRow;
 use table::PRESENT;
@@ -64,8 +65,8 @@ pub fn begin(t: &mut [u8], h: Bytes)
 {
     set_cell(t, CLOCK, 0);
     set_cell(t, PRESENT, 0);
-    set_cell(t, HOLDING, 0);
     set_cell(t, FRAMING, h.0);
+    empty(t);
 }
 
 // Adds lane `k`, which is not in the setup yet: idle, with F = 0. The line has `h` framing bytes.
@@ -144,9 +145,9 @@ fn rest_lanes(t: &mut [u8])
 // Gives the fresh table of the same setup.
 pub fn renew(t: &mut [u8])
     requires { ⌜ Sound (now t) ⌝ }
-    ensures { λ _. ⌜ Leaves (now (t .entry)) (now (t .exit)) (fresh (setupOf (meant (now (t .entry))))) ⌝ }
+    ensures { λ _. ⌜ Makes (now (t .entry)) (now (t .exit)) (setupOf (meant (now (t .entry)))) ⌝ }
 {
     rest_lanes(t);
     set_clock(t, Clock(0));
-    set_cell(t, HOLDING, 0);
+    empty(t);
 }

@@ -1,5 +1,4 @@
 pub mod Rest
-pub mod Times
 pub mod Lanes
 pub mod Sums
 pub mod Whole

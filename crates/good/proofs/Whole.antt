@@ -10,10 +10,10 @@ use lib.Pow.{pow-pos, pow-mono}
 use lib.ListN.{length, getD, length-map, List·getD-eq-default}
 use Rattle.words.specs.Runs.{tab}
 use Rattle.words.proofs.Runs.{length-tab}
-use Rattle.units.specs.Plain.{if_then_else_, times, anyBelow, wordOf, count}
-use Rattle.waiting.specs.Waiting.{GoodWaiting}
+use Rattle.units.specs.Plain.{if_then_else_, anyBelow, wordOf, count}
+use Rattle.waiting.specs.Waiting.{GoodWaiting, first}
 use Rattle.waiting.proofs.Laws.{good-nothing}
-use Rattle.rules.specs.State.{Setting, settingAt, clockEdge, Lane, laneAt, firstOf, holds, eligible, noLane, noSetting, setupOf}
+use Rattle.rules.specs.State.{Setting, settingAt, clockEdge, Lane, group, laneAt, some?, firstOf, holds, eligible, noLane, noSetting, setupOf}
 use Rattle.rules.specs.Setup.{InNumbers, Setup, weights}
 use Rattle.rules.specs.Good.{Times}
 use Rattle.rules.proofs.Lane.{slot-pos}
@@ -22,11 +22,16 @@ use Rattle.rules.proofs.Figures.{framing-bound, framed-by}
 use Rattle.rules.proofs.SameSetup.{setting-lane}
 use Rattle.table.specs.Layout.{Room, cells, framingWord}
 use Rattle.table.specs.Means.{presentAt, laneOf, stateOf, meant}
-use Rattle.table.proofs.Footprint.{lane-is, reads-order}
-use Rattle.table.proofs.Rows.{lane-absent, given-row, row-framing}
+use Rattle.table.proofs.Footprint.{lane-is}
+use Rattle.table.proofs.Rows.{lane-present, lane-absent, holds-present, given-row, waiting-row, row-framing}
+use Rattle.table.proofs.Timed.{timed-start}
+use Rattle.slot_lists.specs.Lists.{listAt}
+use Rattle.filing.specs.Filing.{inARow}
+use Rattle.lists_test.specs.Stored.{Stored}
+use Rattle.lists_test.proofs.Meaning.{RowSays, stored-solid, stored-named, stored-agrees, agrees-stored}
 use Rattle.lane_test.specs.Says.{Says, LaneGood}
 use Rattle.words.specs.Bits.{bit}
-use Rattle.good.specs.Pass.{FoundSays, Ordered, sumTo, weightAt, holdsAt, eligibleAt}
+use Rattle.good.specs.Pass.{FoundSays, sumTo, weightAt, holdsAt, eligibleAt}
 use Rattle.good.specs.Table.{GoodTable}
 use Rattle.good.specs.declared.Found.{Found}
 use Rattle.words.proofs.Bits.{bit-above}
@@ -41,8 +46,8 @@ count-one false = refl
 
 -- ---- every number's lane
 
-module _ (w : List ℕ) where
-  pub far-lane : (k : ℕ) → 64 ≤ k → laneAt (stateOf w) k ≡ noLane
+module _ (w o : List ℕ) where
+  pub far-lane : (k : ℕ) → 64 ≤ k → laneAt (stateOf w o) k ≡ noLane
   unfolding stateOf
   far-lane k h = List·getD-eq-default (tab 64 (laneOf w)) noLane {n = k} (omega (arith, length-tab 64 (laneOf w)))
 
@@ -51,26 +56,26 @@ module _ (w : List ℕ) where
     present-or-not k h true e = f k h e
     present-or-not k h false e = subst P (sym (lane-absent w k e)) none
 
-    pub each-lane : (k : ℕ) → P (laneAt (stateOf w) k)
+    pub each-lane : (k : ℕ) → P (laneAt (stateOf w o) k)
     each-lane k =
         elim (decLt k 64) [
-          | yes h ↦ subst P (sym (lane-is w k h)) (present-or-not k h (presentAt w k) refl)
+          | yes h ↦ subst P (sym (lane-is w o k h)) (present-or-not k h (presentAt w k) refl)
           | no h ↦ subst P (sym (far-lane k (omega arith))) none
         ]
 
-  pub weights-are : weights (setupOf (stateOf w)) ≡ sumTo 64 (weightAt w)
+  pub weights-are : weights (setupOf (stateOf w o)) ≡ sumTo 64 (weightAt w)
   unfolding stateOf
   weights-are = sum-map (λ (g : Setting). g .weight) (λ (l : Lane). l .given) (tab 64 (laneOf w)) ∙ sum-tab (λ (l : Lane). l .given .weight) 64 (laneOf w)
 
-  setup-size : length (setupOf (stateOf w)) ≡ 64
+  setup-size : length (setupOf (stateOf w o)) ≡ 64
   unfolding stateOf
   setup-size = length-map (tab 64 (laneOf w)) (λ (l : Lane). l .given) ∙ length-tab 64 (laneOf w)
 
   -- the word of the holding lanes, bit by bit
-  held-bit : (k : ℕ) → bit k (wordOf (holdsAt w) 64) ≡ (if holds (laneAt (stateOf w) k) then 1 else 0)
+  held-bit : (k : ℕ) → bit k (wordOf (holdsAt w) 64) ≡ (if holds (laneAt (stateOf w o) k) then 1 else 0)
   held-bit k =
       elim (decLt k 64) [
-        | yes h ↦ word-bit (holdsAt w) 64 k h ∙ count-one (holdsAt w k) ∙ ap (λ (l : Lane). one (holds l)) (sym (lane-is w k h))
+        | yes h ↦ word-bit (holdsAt w) 64 k h ∙ count-one (holdsAt w k) ∙ ap (λ (l : Lane). one (holds l)) (sym (lane-is w o k h))
         | no h ↦ bit-above k (wordOf (holdsAt w) 64) (omega (arith, word-lt (holdsAt w) 64, pow-mono {i = 64} {j = k} (omega arith))) ∙ ap (λ (l : Lane). one (holds l)) (sym (far-lane k (omega arith)))
       ]
 
@@ -81,91 +86,114 @@ some-bit k zero e = absurd (omega (arith, bit-above k 0 (pow-pos k)))
 some-bit k (suc x) e = omega arith
 
 module _ (t : List ℕ) (v : ℕ) (f : Found) (clock : v ≡ meant t .clock) (s : FoundSays v (cells t) 64 f) where
+  abbrev row : List ℕ
+  row = inARow (listAt t)
+
   bit-held : (k : ℕ) → bit k (f .held) ≡ (if holds (laneAt (meant t) k) then 1 else 0)
-  bit-held k = ap (bit k) (s .held) ∙ held-bit (cells t) k
+  bit-held k = ap (bit k) (s .held) ∙ held-bit (cells t) row k
 
   weight-sum : weights (setupOf (meant t)) ≡ f .weights
-  weight-sum = weights-are (cells t) ∙ sym (s .weights)
+  weight-sum = weights-are (cells t) row ∙ sym (s .weights)
 
-  module _ (n : ℕ) (holding : n ≡ length (meant t .order)) where
-    -- from what the test found to a good table
-    module _ (room : Room t) (end : v < clockEdge) (framed : getD (cells t) framingWord 0 ≤ 64) (some : 0 < f .weights) (total : f .weights ≤ 1024) (live : 0 < f .held → f .eligible ≡ true) (ordered : Ordered (cells t) n (f .held)) where
-      in-setup : (k : ℕ) → k < 64 → presentAt (cells t) k ≡ true → InNumbers (laneOf (cells t) k .given) ⊎ (laneOf (cells t) k .given ≡ noSetting)
-      in-setup k h p = inl (subst InNumbers (sym (given-row (cells t) k p)) (s .lanes k h p .agrees .numbers))
+  in-row : meant t .order ≡ row
+  unfolding stateOf
+  in-row = refl
 
-      abbrev h : ℕ
-      h = getD (cells t) framingWord 0
+  -- what a holding lane's own words say, as the test of the lists reads them
+  row-says : (k : ℕ) → holds (laneAt (meant t) k) ≡ true → RowSays t (meant t) k
+  row-says k h =
+      elim (decLt k 64) [
+        | yes b ↦
+            let p = holds-present (cells t) row k b h in
+            let e = lane-is (cells t) row k b in
+            let lane = e ∙ lane-present (cells t) k p in
+            record {
+              small = b;
+              group = s .lanes k b p .agrees .grouped ∙ ap group (sym (ap (λ (l : Lane). l .given) e ∙ given-row (cells t) k p));
+              time = sym (ap (λ (l : Lane). l .start) lane ∙ timed-start _ _ _ (sym (ap some? (ap first (ap (λ (l : Lane). l .waiting) e ∙ waiting-row (cells t) k p))) ∙ h));
+            }
+        | no b ↦ absurd (false≢true (sym (ap holds (far-lane (cells t) row k (omega arith))) ∙ h))
+      ]
 
-      present-framing : (k : ℕ) → presentAt (cells t) k ≡ true → laneOf (cells t) k .given .framing ≡ h
-      present-framing k p = ap (λ (g : Setting). g .framing) (given-row (cells t) k p) ∙ row-framing (cells t) k
+  -- from what the test found to a good table
+  module _ (room : Room t) (end : v < clockEdge) (framed : getD (cells t) framingWord 0 ≤ 64) (some : 0 < f .weights) (total : f .weights ≤ 1024) (live : 0 < f .held → f .eligible ≡ true) (stored : Stored t (f .held)) where
+    in-setup : (k : ℕ) → k < 64 → presentAt (cells t) k ≡ true → InNumbers (laneOf (cells t) k .given) ⊎ (laneOf (cells t) k .given ≡ noSetting)
+    in-setup k h p = inl (subst InNumbers (sym (given-row (cells t) k p)) (s .lanes k h p .agrees .numbers))
 
-      most-framing : (k : ℕ) → settingAt (setupOf (meant t)) k .framing ≤ h
-      most-framing k =
-          subst (λ (g : Setting). g .framing ≤ h) (sym (setting-lane (meant t) k)) (each-lane (cells t) (λ (l : Lane). l .given .framing ≤ h) (omega arith) (λ k b p. omega (arith, present-framing k p)) k)
+    abbrev h : ℕ
+    h = getD (cells t) framingWord 0
 
-      same-framing : (k : ℕ) → 0 < settingAt (setupOf (meant t)) k .weight → settingAt (setupOf (meant t)) k .framing ≡ h
-      same-framing k =
-          subst (λ (g : Setting). 0 < g .weight → g .framing ≡ h) (sym (setting-lane (meant t) k)) (each-lane (cells t) (λ (l : Lane). 0 < l .given .weight → l .given .framing ≡ h) (λ w. absurd (omega arith)) (λ k b p w. present-framing k p) k)
+    present-framing : (k : ℕ) → presentAt (cells t) k ≡ true → laneOf (cells t) k .given .framing ≡ h
+    present-framing k p = ap (λ (g : Setting). g .framing) (given-row (cells t) k p) ∙ row-framing (cells t) k
 
-      setup : Setup (setupOf (meant t))
-      setup =
-          record {
-            size = setup-size (cells t);
-            each = λ k. subst (λ (g : Setting). InNumbers g ⊎ (g ≡ noSetting)) (sym (setting-lane (meant t) k)) (each-lane (cells t) (λ (l : Lane). InNumbers (l .given) ⊎ (l .given ≡ noSetting)) (inr refl) in-setup k);
-            some-lane = omega (arith, weight-sum);
-            total = omega (arith, weight-sum);
-            framing-high = omega (arith, framing-bound h (setupOf (meant t)) most-framing);
-            framed = framed-by h (setupOf (meant t)) most-framing same-framing;
-          }
+    most-framing : (k : ℕ) → settingAt (setupOf (meant t)) k .framing ≤ h
+    most-framing k =
+        subst (λ (g : Setting). g .framing ≤ h) (sym (setting-lane (meant t) k)) (each-lane (cells t) row (λ (l : Lane). l .given .framing ≤ h) (omega arith) (λ k b p. omega (arith, present-framing k p)) k)
 
-      eligible-lane : (k : ℕ) → holds (laneAt (meant t) k) ≡ true → (i : ℕ) × (eligible v (laneAt (meant t) i) ≡ true)
-      eligible-lane k h =
-          let bit-set : bit k (f .held) ≡ 1 = bit-held k ∙ ap one h in
-          let held : 0 < f .held = some-bit k (f .held) bit-set in
-          let x = any-some (eligibleAt v (cells t)) 64 (sym (s .eligible) ∙ live held) in
-          (x .0, ap (eligible v) (lane-is (cells t) (x .0) (x .1)) ∙ x .2)
+    same-framing : (k : ℕ) → 0 < settingAt (setupOf (meant t)) k .weight → settingAt (setupOf (meant t)) k .framing ≡ h
+    same-framing k =
+        subst (λ (g : Setting). 0 < g .weight → g .framing ≡ h) (sym (setting-lane (meant t) k)) (each-lane (cells t) row (λ (l : Lane). 0 < l .given .weight → l .given .framing ≡ h) (λ w. absurd (omega arith)) (λ k b p w. present-framing k p) k)
 
-      pub whole-good : GoodTable t
-      whole-good =
-          record {
-            room = room;
-            beside = record { rows = λ k h p. s .lanes k h p .agrees };
-            good = record {
-              setup = setup;
-              waiting = each-lane (cells t) (λ (l : Lane). GoodWaiting (l .given .longest) (l .waiting)) (good-nothing 0) (λ k h p. s .lanes k h p .waiting);
-              clock = omega (arith, clock);
-              numbers = λ k. subst (λ (v : ℕ). Times v (laneAt (meant t) k) (firstOf (laneAt (meant t) k))) clock (each-lane (cells t) (λ (l : Lane). Times v l (firstOf l)) (omega (arith, slot-pos noSetting)) (λ k h p. s .lanes k h p .numbers) k);
-              live = λ k h. subst (λ (v : ℕ). (i : ℕ) × (eligible v (laneAt (meant t) i) ≡ true)) clock (eligible-lane k h);
-              order = λ k. ap (times k) (sym (reads-order (cells t) n holding)) ∙ ordered k ∙ bit-held k;
-            };
-          }
+    setup : Setup (setupOf (meant t))
+    setup =
+        record {
+          size = setup-size (cells t) row;
+          each = λ k. subst (λ (g : Setting). InNumbers g ⊎ (g ≡ noSetting)) (sym (setting-lane (meant t) k)) (each-lane (cells t) row (λ (l : Lane). InNumbers (l .given) ⊎ (l .given ≡ noSetting)) (inr refl) in-setup k);
+          some-lane = omega (arith, weight-sum);
+          total = omega (arith, weight-sum);
+          framing-high = omega (arith, framing-bound h (setupOf (meant t)) most-framing);
+          framed = framed-by h (setupOf (meant t)) most-framing same-framing;
+        }
 
-    -- and back
-    module _ (g : GoodTable t) where
-      pub good-weights : (0 < f .weights) × (f .weights ≤ 1024)
-      good-weights = (omega (arith, weight-sum, g .good .setup .some-lane), omega (arith, weight-sum, g .good .setup .total))
+    eligible-lane : (k : ℕ) → holds (laneAt (meant t) k) ≡ true → (i : ℕ) × (eligible v (laneAt (meant t) i) ≡ true)
+    eligible-lane k h =
+        let bit-set : bit k (f .held) ≡ 1 = bit-held k ∙ ap one h in
+        let held : 0 < f .held = some-bit k (f .held) bit-set in
+        let x = any-some (eligibleAt v (cells t)) 64 (sym (s .eligible) ∙ live held) in
+        (x .0, ap (eligible v) (lane-is (cells t) row (x .0) (x .1)) ∙ x .2)
 
-      eligible-below : (i : ℕ) → eligible v (laneAt (meant t) i) ≡ true → anyBelow (eligibleAt v (cells t)) 64 ≡ true
-      unfolding eligible
-      eligible-below i e =
-          elim (decLt i 64) [
-            | yes h ↦ any-at (eligibleAt v (cells t)) 64 i h (ap (eligible v) (sym (lane-is (cells t) i h)) ∙ e)
-            | no h ↦ absurd (false≢true (ap (eligible v) (sym (far-lane (cells t) i (omega arith))) ∙ e))
-          ]
+    pub whole-good : GoodTable t
+    whole-good =
+        record {
+          room = room;
+          beside = record { rows = λ k h p. s .lanes k h p .agrees };
+          listed = record { solid = stored-solid t (meant t) (f .held) row-says bit-held in-row stored; agrees = stored-agrees t (meant t) (f .held) row-says bit-held in-row stored };
+          good = record {
+            setup = setup;
+            waiting = each-lane (cells t) row (λ (l : Lane). GoodWaiting (l .given .longest) (l .waiting)) (good-nothing 0) (λ k h p. s .lanes k h p .waiting);
+            clock = omega (arith, clock);
+            numbers = λ k. subst (λ (v : ℕ). Times v (laneAt (meant t) k) (firstOf (laneAt (meant t) k))) clock (each-lane (cells t) row (λ (l : Lane). Times v l (firstOf l)) (omega (arith, slot-pos noSetting)) (λ k h p. s .lanes k h p .numbers) k);
+            live = λ k h. subst (λ (v : ℕ). (i : ℕ) × (eligible v (laneAt (meant t) i) ≡ true)) clock (eligible-lane k h);
+            order = stored-named t (meant t) (f .held) row-says bit-held in-row stored;
+          };
+        }
 
-      pub good-live : 0 < f .held → f .eligible ≡ true
-      good-live h =
-          let x = word-some (holdsAt (cells t)) 64 (subst (λ (m : ℕ). 0 < m) (s .held) h) in
-          let y = g .good .live (x .0) (ap holds (lane-is (cells t) (x .0) (x .1)) ∙ x .2) in
-          s .eligible ∙ eligible-below (y .0) (subst (λ (v : ℕ). eligible v (laneAt (meant t) (y .0)) ≡ true) (sym clock) (y .1))
+  -- and back
+  module _ (g : GoodTable t) where
+    pub good-weights : (0 < f .weights) × (f .weights ≤ 1024)
+    good-weights = (omega (arith, weight-sum, g .good .setup .some-lane), omega (arith, weight-sum, g .good .setup .total))
 
-      pub good-ordered : Ordered (cells t) n (f .held)
-      good-ordered k = ap (times k) (reads-order (cells t) n holding) ∙ g .good .order k ∙ sym (bit-held k)
+    eligible-below : (i : ℕ) → eligible v (laneAt (meant t) i) ≡ true → anyBelow (eligibleAt v (cells t)) 64 ≡ true
+    unfolding eligible
+    eligible-below i e =
+        elim (decLt i 64) [
+          | yes h ↦ any-at (eligibleAt v (cells t)) 64 i h (ap (eligible v) (sym (lane-is (cells t) row i h)) ∙ e)
+          | no h ↦ absurd (false≢true (ap (eligible v) (sym (far-lane (cells t) row i (omega arith))) ∙ e))
+        ]
+
+    pub good-live : 0 < f .held → f .eligible ≡ true
+    good-live h =
+        let x = word-some (holdsAt (cells t)) 64 (subst (λ (m : ℕ). 0 < m) (s .held) h) in
+        let y = g .good .live (x .0) (ap holds (lane-is (cells t) row (x .0) (x .1)) ∙ x .2) in
+        s .eligible ∙ eligible-below (y .0) (subst (λ (v : ℕ). eligible v (laneAt (meant t) (y .0)) ≡ true) (sym clock) (y .1))
+
+    pub good-stored : Stored t (f .held)
+    good-stored = agrees-stored t (meant t) (f .held) row-says bit-held in-row (g .good) (g .listed .solid) (g .listed .agrees)
 
 -- a good table's lanes are good
 pub good-lanes : (t : List ℕ) (v : ℕ) → v ≡ meant t .clock → GoodTable t → (k : ℕ) → k < 64 → presentAt (cells t) k ≡ true → LaneGood v (cells t) k
 good-lanes t v clock g k h p =
-    let e = lane-is (cells t) k h in
+    let e = lane-is (cells t) (inARow (listAt t)) k h in
     record {
       agrees = g .beside .rows k h p;
       waiting = subst (λ (l : Lane). GoodWaiting (l .given .longest) (l .waiting)) e (g .good .waiting k);
@@ -189,7 +217,7 @@ good-framing t g =
       | yes q ↦ q
       | no q ↦
           let none : (k : ℕ) → k < 64 → presentAt (cells t) k ≡ true → ⊥ = λ k b p. omega (arith, g .beside .rows k b p .framing, row-framing (cells t) k) in
-          absurd (omega (arith, g .good .setup .some-lane, weights-are (cells t), sum-none (cells t) none 64 (omega arith)))
+          absurd (omega (arith, g .good .setup .some-lane, weights-are (cells t) (inARow (listAt t)), sum-none (cells t) none 64 (omega arith)))
     ]
 
 pub says-iff : {P Q : Type 0} (b : Bool) → (P → Q) → (Q → P) → Says b P → Says b Q

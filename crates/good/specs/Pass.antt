@@ -2,7 +2,6 @@
 --
 --   Noted      a lane's part in what is found
 --   FoundSays  what is found of the lanes below n: all are good; their weights' sum, the word of those that hold records, whether one is eligible
---   Ordered    a tie order names each lane of a word once, and no other
 --
 -- Assumes nothing.
 use mathlib.Core.Path.{_≡_}
@@ -10,12 +9,9 @@ use mathlib.Core.Bool.{Bool, true, _&&_, _||_}
 use Prim.Native.Nat.{ℕ, zero, suc, _+_, _^_, _<_}
 use mathlib.Core.List.{List}
 use lib.Dec.{leb, ltb}
-use Rattle.words.specs.Bits.{bit}
-use Rattle.words.specs.Runs.{reads}
 use Rattle.units.specs.Numbers.{roundDown}
-use Rattle.units.specs.Plain.{if_then_else_, times, anyBelow, wordOf}
+use Rattle.units.specs.Plain.{if_then_else_, anyBelow, wordOf}
 use Rattle.rules.specs.State.{holds, eligible}
-use Rattle.table.specs.Layout.{orderWord}
 use Rattle.table.specs.Means.{presentAt, laneOf}
 use Rattle.table.specs.declared.LaneRow.{LaneRow}
 use Rattle.lane_test.specs.Says.{LaneGood}
@@ -51,7 +47,3 @@ pub record FoundSays (v : ℕ) (w : List ℕ) (n : ℕ) (f : Found) : Type 0 whe
 unfoldable pub PassSays : ℕ → List ℕ → Pass → Type 0
 PassSays v w Bad = ((k : ℕ) → k < 64 → presentAt w k ≡ true → LaneGood v w k) → ⊥
 PassSays v w (Fine f) = FoundSays v w 64 f
-
--- "a tie order" of the lanes that a word names
-abbrev pub Ordered : List ℕ → ℕ → ℕ → Type 0
-Ordered w n held = (k : ℕ) → times k (reads w orderWord n) ≡ bit k held

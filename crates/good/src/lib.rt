@@ -2,32 +2,29 @@
 // (`GoodTable`, specs/Table.antt).
 //
 // One pass over the lanes that are in the setup and the records that they hold; lanes that are not in the setup cost nothing, for the word of
-// present lanes is walked by its set bits. Then the tie order, against the word of the lanes that were found to hold records.
+// present lanes is walked by its set bits. Then the slot lists, against the lanes' own words and the word of the lanes that were found to hold records
+// (crate `lists_test`).
 ghost use mathlib.Core.Path.{_≡_};
 ghost use mathlib.Core.Bool.{true};
 ghost use Prim.Native.Nat.{_+_, _^_, _<_, _≤_};
 ghost use lib.ListN.{getD};
 ghost use Rattle.table.specs.Layout.{Room, cells, framingWord};
 ghost use Rattle.lane_test.specs.Says.{Says};
-ghost use Rattle.good.specs.Pass.{Noted, PassSays, Ordered};
+ghost use Rattle.lists_test.specs.Stored.{Stored};
+ghost use Rattle.good.specs.Pass.{Noted, PassSays};
 ghost use Rattle.good.specs.Table.{GoodTable};
 use lane_test::lane_good;
+use lists_test::lists_good;
 use table::FRAMING;
-use table::LANES;
 use table::LaneRow;
-use table::ORDER;
 use table::PRESENT;
 use table::SIZE;
 use table::cell;
 use table::clock;
-use table::holding;
 use table::row;
 use units::Clock;
 use units::not_after;
 use units::rounded_start;
-
-// No lane has this number, nor a greater one.
-const NO_LANE: u64 = 64;
 
 // V stays below 2^62 + 2^42.
 const CLOCK_END: u64 = 4611690416473899008;
@@ -102,30 +99,6 @@ fn lanes_good(t: &[u8], v: Clock) -> Pass
     Pass::Fine(found)
 }
 
-// Whether the tie order, of `n` entries, names each lane of the word `held` once, and no other.
-fn order_good(t: &[u8], n: usize, held: u64) -> bool
-    requires { ⌜ Room (now t) × (n ≤ 64) ⌝ }
-    ensures { λ r. ⌜ Says r (Ordered (cells (now (t .entry))) n held) ⌝ }
-{
-    let mut seen: u64 = 0;
-    let mut i = 0;
-    while i < n {
-        let k = cell(t, ORDER + i);
-        if k >= NO_LANE {
-            return false;
-        }
-        if (seen >> (k as u32)) % 2 == 1 {
-            return false;
-        }
-        seen += 1u64 << (k as u32);
-        i += 1;
-    }
-    if seen != held {
-        return false;
-    }
-    true
-}
-
 // Whether a lane is eligible, if any holds records.
 fn live_good(f: Found) -> bool
     ensures { λ r. ⌜ Says r (0 < f .held → f .eligible ≡ true) ⌝ }
@@ -136,10 +109,10 @@ fn live_good(f: Found) -> bool
     f.eligible
 }
 
-// Whether what the pass found makes a good table: a setup, an eligible lane if any holds, and a tie order.
-fn found_good(t: &[u8], f: Found, n: usize) -> bool
-    requires { ⌜ Room (now t) × (n ≤ 64) ⌝ }
-    ensures { λ r. ⌜ Says r ((0 < f .weights) × (f .weights ≤ 1024) × (0 < f .held → f .eligible ≡ true) × Ordered (cells (now (t .entry))) n (f .held)) ⌝ }
+// Whether what the pass found makes a good table: a setup, an eligible lane if any holds, and slot lists of the lanes that hold records.
+fn found_good(t: &[u8], f: Found) -> bool
+    requires { ⌜ Room (now t) ⌝ }
+    ensures { λ r. ⌜ Says r ((0 < f .weights) × (f .weights ≤ 1024) × (0 < f .held → f .eligible ≡ true) × Stored (now (t .entry)) (f .held)) ⌝ }
 {
     if f.weights < 1 {
         return false;
@@ -151,8 +124,8 @@ fn found_good(t: &[u8], f: Found, n: usize) -> bool
     if !live {
         return false;
     }
-    let ordered = order_good(t, n, f.held);
-    if !ordered {
+    let listed = lists_good(t, f.held);
+    if !listed {
         return false;
     }
     true
@@ -169,16 +142,12 @@ pub fn good(t: &[u8]) -> bool
     if not_after(Clock(CLOCK_END), v) {
         return false;
     }
-    let n = holding(t);
-    if n > LANES {
-        return false;
-    }
     // One number for the whole table, so it is tested once, before the lanes.
     if cell(t, FRAMING) > MOST_FRAMING {
         return false;
     }
     match lanes_good(t, v) {
         Pass::Bad => false,
-        Pass::Fine(f) => found_good(t, f, n),
+        Pass::Fine(f) => found_good(t, f),
     }
 }

@@ -1,5 +1,5 @@
 -- The call of three bytes, the calls one after another, and the restart that they begin with. Assumes nothing.
-use Prim.Native.Nat.{ℕ, suc, _+_, _*_, _/_, _<_, _≤_}
+use Prim.Native.Nat.{ℕ, zero, suc, _+_, _*_, _/_, _<_, _≤_}
 use native.Mathlib.Omega.{arith}
 use mathlib.Core.Path.{_≡_, refl, sym, ap, subst, _∙_}
 use mathlib.Core.Bool.{Bool, true, false, false≢true}
@@ -16,13 +16,17 @@ use Rattle.rules.specs.Calls.{put, take, restart, Reply, accepted, taken, seen,
 use Rattle.rules.specs.Reads.{reads}
 use Rattle.rules.specs.declared.Answer.{Answer}
 use Rattle.rules.specs.declared.Answer.the-variants.{Accepted, Taken, Seen, Sets, Lag, Restarted, Refused}
-use Rattle.rules.proofs.AlwaysGood.{Reached, fresh-reached}
-use Rattle.table.specs.Layout.{WORDS}
+use Rattle.rules.proofs.AlwaysGood.{Reached, fresh-reached, step-reached, reached-good}
+use Rattle.alike.specs.Alike.{Alike}
+use Rattle.alike.proofs.Alike.{alike-refl, alike-sym, alike-trans, step-alike}
+use Rattle.alike.proofs.Reached.{alike-reached}
+use Rattle.table.specs.Layout.{SIZE}
 use Rattle.choice.specs.Known.{Known}
-use Rattle.table.specs.Means.{meant, Leaves}
+use Rattle.table.specs.Means.{meant}
+use Rattle.table.specs.Encodes.{Encodes}
 use Rattle.engine.specs.Does.{Does, Unchanged}
 use Rattle.answers.specs.Answers.{Made}
-use Rattle.answers.proofs.Made.{made-step}
+use Rattle.answers.proofs.Made.{made-step, encodes-step}
 use Rattle.good.specs.Table.{GoodTable}
 use Rattle.inner.specs.Works.{CALL, callAt, callsIn, worked, Leads, Works}
 
@@ -42,16 +46,19 @@ pub record So (calls t₀ t : List ℕ) (i : ℕ) : Type 0 where
 
 pub so-none : (calls t : List ℕ) → Made t → So calls t t 0
 unfolding worked
-so-none calls t m = record { made = m; leads = record { state = refl; beside = m .beside; rest = refl } }
+so-none calls t m = record { made = m; leads = record { table = record { room = m .room; alike = alike-refl (meant t); beside = m .beside; listed = m .listed }; rest = refl } }
 
 one-more : (i : ℕ) → suc i ≡ i + 1
 one-more i = omega arith
 
-pub so-more : (calls t₀ t u : List ℕ) (i : ℕ) → So calls t₀ t i → length u ≡ length t → Leaves t u ((step (meant t) (callAt calls (i * CALL))) .state) → So calls t₀ u (i + 1)
+pub so-more : (calls t₀ t u : List ℕ) (i : ℕ) (a : Answer) → So calls t₀ t i → Does (callAt calls (i * CALL)) t a u → So calls t₀ u (i + 1)
 unfolding worked
-so-more calls t₀ t u i s len l = record {
-  made = made-step t u (callAt calls (i * CALL)) (s .made) (omega (arith, len, s .made .room)) l;
-  leads = record { beside = l .beside (s .made .beside); state = l .state ∙ subst (λ (k : ℕ). (step (meant t) (callAt calls (i * CALL))) .state ≡ worked calls (meant t₀) k) (one-more i) (ap (λ (x : State). (step x (callAt calls (i * CALL))) .state) (s .leads .state)); rest = l .rest ∙ s .leads .rest };
+so-more calls t₀ t u i a s d = record {
+  made = made-step t u (callAt calls (i * CALL)) (s .made) (d .encodes);
+  leads = record {
+    table = subst (λ (k : ℕ). Encodes u (worked calls (meant t₀) k)) (one-more i) (encodes-step t u (callAt calls (i * CALL)) (worked calls (meant t₀) i) (s .made) (s .leads .table) (d .encodes));
+    rest = d .rest ∙ s .leads .rest;
+  };
 }
 
 pub so-all : (calls t₀ t : List ℕ) (i : ℕ) → i ≡ length calls / CALL → So calls t₀ t i → Leads t₀ t (worked calls (meant t₀) (callsIn calls))
@@ -76,22 +83,28 @@ restart-by s b e = ap (λ (x : Bool). if x then no 15 s else record { reply = re
 pub record Begun (t u : List ℕ) : Type 0 where
   pub made : Made u
   pub none-held : anyHolds (meant t .lanes) ≡ false
-  pub state : meant u ≡ fresh (setupOf (meant t))
-  pub rest : drop (WORDS * 8) u ≡ drop (WORDS * 8) t
+  pub alike : Alike (meant u) (fresh (setupOf (meant t)))
+  pub rest : drop SIZE u ≡ drop SIZE t
 
-pub begun : (t u : List ℕ) → Known t → length u ≡ length t → Does restart t Restarted u → Begun t u
+pub begun : (t u : List ℕ) → Known t → Does restart t Restarted u → Begun t u
 unfolding isRestarted
-begun t u k len d = go (anyHolds (meant t .lanes)) refl
+begun t u k d = go (anyHolds (meant t .lanes)) refl
   where
     go : (b : Bool) → anyHolds (meant t .lanes) ≡ b → Begun t u
     go true e = absurd (false≢true (sym (ap isRestarted (d .says ∙ ap (λ (o : Outcome). o .reply) (restart-by (meant t) true e)))))
     go false e =
-        let is : meant u ≡ fresh (setupOf (meant t)) = d .leaves .state ∙ ap (λ (o : Outcome). o .state) (restart-by (meant t) false e) in
+        let σ = fresh (setupOf (meant t)) in
+        let is : Encodes u σ = subst (Encodes u) (ap (λ (o : Outcome). o .state) (restart-by (meant t) false e)) (d .encodes) in
         record {
-          made = record { room = omega (arith, len, k .sound .room); beside = d .leaves .beside (k .sound .beside); reached = subst Reached (sym is) (fresh-reached _ (k .good .setup)) };
+          made = record {
+            room = is .room;
+            beside = is .beside;
+            listed = is .listed;
+            reached = alike-reached σ (meant u) (alike-sym (meant u) σ (is .alike)) (fresh-reached _ (k .good .setup));
+          };
           none-held = e;
-          state = is;
-          rest = d .leaves .rest;
+          alike = is .alike;
+          rest = d .rest;
         }
 
 -- The other arm of the match on what restart answers: any variant of `Answer` but the fifth, `Restarted`.
@@ -131,10 +144,29 @@ held-works calls t u a g o d =
       size = ap length (s .1);
     }
 
+worked-reached : (calls : List ℕ) (s : State) (n : ℕ) → Reached s → Reached (worked calls s n)
+unfolding worked
+worked-reached calls s zero r = r
+worked-reached calls s (suc n) r = step-reached (worked calls s n) (callAt calls (n * CALL)) (worked-reached calls s n r)
+
+-- calls from two states that are alike, the first of them one that calls reach, lead to states that are alike
+worked-alike : (calls : List ℕ) (s σ : State) (n : ℕ) → Reached s → Alike s σ → Alike (worked calls s n) (worked calls σ n)
+unfolding worked
+worked-alike calls s σ zero r a = a
+worked-alike calls s σ (suc n) r a = step-alike (worked calls s n) (worked calls σ n) (reached-good _ (worked-reached calls s n r)) (worked-alike calls s σ n r a) (callAt calls (n * CALL)) .state
+
 pub done-works : (calls t u v : List ℕ) → GoodTable t → Begun t u → length v ≡ length t → Leads u v (worked calls (meant u) (callsIn calls)) → Works calls t 0 v
 done-works calls t u v g b len l = record {
   not-good = λ h. absurd (h g);
   held = λ _ e. absurd (false≢true (sym (b .none-held) ∙ e));
-  done = λ _ _. (refl, record { state = l .state ∙ ap (λ (s : State). worked calls s (callsIn calls)) (b .state); beside = l .beside; rest = l .rest ∙ b .rest });
+  done = λ _ _. (refl, record {
+    table = record {
+      room = l .table .room;
+      alike = alike-trans (meant v) (worked calls (meant u) (callsIn calls)) (worked calls (fresh (setupOf (meant t))) (callsIn calls)) (l .table .alike) (worked-alike calls (meant u) (fresh (setupOf (meant t))) (callsIn calls) (b .made .reached) (b .alike));
+      beside = l .table .beside;
+      listed = l .table .listed;
+    };
+    rest = l .rest ∙ b .rest;
+  });
   size = len;
 }

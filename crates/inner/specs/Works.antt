@@ -18,8 +18,9 @@ use Rattle.fields.specs.Bytes.{byteAt, big}
 use Rattle.units.specs.Plain.{if_then_else_}
 use Rattle.rules.specs.State.{State, setupOf, anyHolds}
 use Rattle.rules.specs.Calls.{Call, put, take, fresh, step}
-use Rattle.table.specs.Layout.{WORDS, cells}
-use Rattle.table.specs.Means.{meant, Beside}
+use Rattle.table.specs.Layout.{SIZE}
+use Rattle.table.specs.Means.{meant}
+use Rattle.table.specs.Encodes.{Encodes}
 use Rattle.good.specs.Table.{GoodTable}
 
 abbrev pub CALL : ℕ
@@ -38,11 +39,10 @@ unfoldable pub worked : List ℕ → State → ℕ → State
 worked calls s zero = s
 worked calls s (suc n) = (step (worked calls s n) (callAt calls (n * CALL))) .state
 
--- The table means the state, what is stored beside it agrees, and the bytes past it are as they were.
+-- The table encodes the state, and the bytes past it are as they were.
 pub record Leads (before after : List ℕ) (s : State) : Type 0 where
-  pub state : meant after ≡ s
-  pub beside : Beside (cells after)
-  pub rest : drop (WORDS * 8) after ≡ drop (WORDS * 8) before
+  pub table : Encodes after s
+  pub rest : drop SIZE after ≡ drop SIZE before
 
 pub record Works (calls before : List ℕ) (r : ℕ) (after : List ℕ) : Type 0 where
   pub not-good : (GoodTable before → ⊥) → (r ≡ 10) × (after ≡ before)

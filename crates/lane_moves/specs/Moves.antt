@@ -14,7 +14,8 @@ use Prim.Native.Nat.{ℕ, _+_, _*_, _/_, _%_, _^_, _≤_, _<_}
 use mathlib.Core.List.{List, [], _∷_, _++_}
 use lib.ListN.{length, drop}
 use Rattle.rules.specs.Choice.{least}
-use Rattle.slot_lists.specs.Lists.{backAt, listAt, startAt, Solid}
+use Rattle.slot_lists.specs.Lists.{listAt, startAt, Solid}
+pub use Rattle.slot_lists.specs.Lists.{slotOf, listOf}
 use Rattle.slot_lists.specs.Changes.{Apart, Stored, Nearest}
 use Rattle.filing.specs.Filing.{Lists}
 use Rattle.filing.proofs.Moves.{Changed}
@@ -23,13 +24,6 @@ use Rattle.filing.proofs.Starts.{NextList}
 -- later than any start
 abbrev pub never : ℕ
 never = 18446744073709551615
-
--- the slot of a time in group g by the endless clock, and its list
-abbrev pub slotOf : List ℕ → ℕ → ℕ → ℕ
-slotOf t g x = (x + backAt t) / 2 ^ g
-
-abbrev pub listOf : List ℕ → ℕ → ℕ → ℕ
-listOf t g x = slotOf t g x % 32
 
 pub record Added (before after : List ℕ) (g s k : ℕ) : Type 0 where
   pub apart : Apart before after

@@ -9,6 +9,8 @@ use Rattle.units.proofs.PerByte.{rate-le}
 use Rattle.waiting.specs.Waiting.{head, first, held}
 use Rattle.rules.specs.State.{Lane, laneAt, firstOf, holds, some?, charge, rate}
 use Rattle.rules.specs.Calls.{appended, woken, served}
+use Rattle.slot_lists.specs.Lists.{listAt}
+use Rattle.filing.specs.Filing.{inARow}
 use Rattle.table.specs.Layout.{Now, cells, placeWord, rowAt, putRow, entryWord, entryOf}
 use Rattle.table.specs.Means.{presentAt, recOf, ringOf, givenOf, timed, stateOf, meant, Sound, Leaves, withLane}
 use Rattle.table.specs.declared.Entry.{Entry}
@@ -36,160 +38,164 @@ stage-place w k i e hk len =
     record { outside = outside-place w k i e; row = row-place w k i e hk; present = present-place w k i e; size = length-set w (placeWord k i) e ∙ len }
 
 -- then the row is stored, with the clock word x and n records from the place h on
-rewritten : (t t₁ t′ u : List ℕ) (k x h n : ℕ) → Sound t → k < 64 → h < 16 → presentAt (cells t) k ≡ true → Stage (cells t) u k → Now t t₁ u
+rewritten : (t t₁ t′ u : List ℕ) (k x h n : ℕ) → k < 64 → h < 16 → presentAt (cells t) k ≡ true → Stage (cells t) u k → Now t t₁ u
     → Now t₁ t′ (putRow (cells t₁) k (retimed (rowAt (cells t) k) x h n))
     → Leaves t t′ (withLane (meant t) k (timed (givenOf (rowAt (cells t) k)) x (ringOf u k h n)))
-rewritten t t₁ t′ u k x h n s hk small p g a b =
+rewritten t t₁ t′ u k x h n hk small p g a b =
     let v = putRow u k (retimed (rowAt u k) x h n) in
     let e : cells t′ ≡ v = b .words ∙ rw (a .words, g .row) in
-    leave-lane t t′ v k _ s hk (record { words = e; rest = b .rest ∙ a .rest }) (outside-trans (cells t) u v k (g .outside) (outside-row u k (retimed (rowAt u k) x h n)))
+    leave-lane t t′ v k _ hk (record { words = e; rest = b .rest ∙ a .rest }) (outside-trans (cells t) u v k (g .outside) (outside-row u k (retimed (rowAt u k) x h n)))
     (lane-put u k x h n (g .size) hk small (g .present ∙ p) ∙ rw (g .row))
 
 -- ---- a lane by its row
 
-module _ (w : List ℕ) (k : ℕ) (hk : k < 64) (p : presentAt w k ≡ true) where
-  lane-row : laneAt (stateOf w) k ≡ timed (givenOf (rowAt w k)) (rowAt w k .time .0) (ringOf w k (rowAt w k .head) (rowAt w k .count))
-  lane-row = lane-is w k hk ∙ lane-present w k p
+module _ (w o : List ℕ) (k : ℕ) (hk : k < 64) (p : presentAt w k ≡ true) where
+  lane-row : laneAt (stateOf w o) k ≡ timed (givenOf (rowAt w k)) (rowAt w k .time .0) (ringOf w k (rowAt w k .head) (rowAt w k .count))
+  lane-row = lane-is w o k hk ∙ lane-present w k p
 
-  first-of : firstOf (laneAt (stateOf w) k) ≡ head (ringOf w k (rowAt w k .head) (rowAt w k .count))
-  first-of = ap first (ap (λ (l : Lane). l .waiting) (lane-is w k hk) ∙ waiting-row w k p)
+  first-of : firstOf (laneAt (stateOf w o) k) ≡ head (ringOf w k (rowAt w k .head) (rowAt w k .count))
+  first-of = ap first (ap (λ (l : Lane). l .waiting) (lane-is w o k hk) ∙ waiting-row w k p)
 
-  count-of : held (laneAt (stateOf w) k .waiting) ≡ rowAt w k .count
-  count-of = ap (λ (l : Lane). held (l .waiting)) (lane-is w k hk) ∙ count-row w k p
+  count-of : held (laneAt (stateOf w o) k .waiting) ≡ rowAt w k .count
+  count-of = ap (λ (l : Lane). held (l .waiting)) (lane-is w o k hk) ∙ count-row w k p
 
-  holds-row : holds (laneAt (stateOf w) k) ≡ true → 0 < rowAt w k .count
+  holds-row : holds (laneAt (stateOf w o) k) ≡ true → 0 < rowAt w k .count
   holds-row h = omega (arith, one-held (ringOf w k (rowAt w k .head) (rowAt w k .count)) (sym (ap some? first-of) ∙ h), length-ring w k (rowAt w k .head) (rowAt w k .count))
 
-  idle-row : holds (laneAt (stateOf w) k) ≡ false → laneAt (stateOf w) k ≡ timed (givenOf (rowAt w k)) (rowAt w k .time .0) []
+  idle-row : holds (laneAt (stateOf w o) k) ≡ false → laneAt (stateOf w o) k ≡ timed (givenOf (rowAt w k)) (rowAt w k .time .0) []
   idle-row h = lane-row ∙ ap (timed (givenOf (rowAt w k)) (rowAt w k .time .0)) (none-held _ (sym (ap some? first-of) ∙ h))
 
 -- ---- append
 
-append-at : (t t₁ t′ : List ℕ) (k : ℕ) (e : Entry) → Sound t → k < 64 → e .mark < 2 ^ 32 → rowAt (cells t) k .head < 16 → holds (laneAt (meant t) k) ≡ true → held (laneAt (meant t) k .waiting) < 16
+append-at : (t t₁ t′ : List ℕ) (k : ℕ) (e : Entry) → k < 64 → e .mark < 2 ^ 32 → rowAt (cells t) k .head < 16 → holds (laneAt (meant t) k) ≡ true → held (laneAt (meant t) k .waiting) < 16
     → Now t t₁ (set (cells t) (placeWord k (rowAt (cells t) k .head + rowAt (cells t) k .count)) (entryWord e))
     → Now t₁ t′ (putRow (cells t₁) k (retimed (rowAt (cells t) k) (rowAt (cells t) k .time .0) (rowAt (cells t) k .head) (rowAt (cells t) k .count + 1)))
     → Leaves t t′ (withLane (meant t) k (appended (laneAt (meant t) k) (waiting e)))
-append-at t t₁ t′ k e s hk small top busy room a b =
+append-at t t₁ t′ k e hk small top busy room a b =
     let w = cells t in
+    let o = inARow (listAt t) in
     let l = rowAt w k in
-    let p = holds-present w k hk busy in
+    let p = holds-present w o k hk busy in
     let q = ringOf w k (l .head) (l .count) in
-    let r : l .count < 16 = omega (arith, count-of w k hk p) in
+    let r : l .count < 16 = omega (arith, count-of w o k hk p) in
     let ring : ringOf (set w (placeWord k (l .head + l .count)) (entryWord e)) k (l .head) (l .count + 1) ≡ q ++ waiting e ∷ [] = ring-snoc w k (l .head) (l .count) (entryWord e) (length-cells t) hk r ∙ rw (recOf-entryWord e small) in
-    let same : timed (givenOf l) (l .time .0) (ringOf (set w (placeWord k (l .head + l .count)) (entryWord e)) k (l .head) (l .count + 1)) ≡ appended (laneAt (meant t) k) (waiting e) = ap (timed (givenOf l) (l .time .0)) ring ∙ sym (timed-appended (givenOf l) (l .time .0) q (waiting e) (sym (ap some? (first-of w k hk p)) ∙ busy)) ∙ ap (λ (x : Lane). appended x (waiting e)) (sym (lane-row w k hk p)) in
-    rw (← same) (rewritten t t₁ t′ _ k _ _ _ s hk top p (stage-place w k (l .head + l .count) (entryWord e) hk (length-cells t)) a b)
+    let same : timed (givenOf l) (l .time .0) (ringOf (set w (placeWord k (l .head + l .count)) (entryWord e)) k (l .head) (l .count + 1)) ≡ appended (laneAt (meant t) k) (waiting e) = ap (timed (givenOf l) (l .time .0)) ring ∙ sym (timed-appended (givenOf l) (l .time .0) q (waiting e) (sym (ap some? (first-of w o k hk p)) ∙ busy)) ∙ ap (λ (x : Lane). appended x (waiting e)) (sym (lane-row w o k hk p)) in
+    rw (← same) (rewritten t t₁ t′ _ k _ _ _ hk top p (stage-place w k (l .head + l .count) (entryWord e) hk (length-cells t)) a b)
 
-pub append-leaves : (t t₁ t′ : List ℕ) (k : ℕ) (e : Entry) (l : LaneRow) → l ≡ rowAt (cells t) k → Sound t → k < 64 → e .mark < 2 ^ 32 → l .head < 16 → holds (laneAt (meant t) k) ≡ true → held (laneAt (meant t) k .waiting) < 16
+pub append-leaves : (t t₁ t′ : List ℕ) (k : ℕ) (e : Entry) (l : LaneRow) → l ≡ rowAt (cells t) k → k < 64 → e .mark < 2 ^ 32 → l .head < 16 → holds (laneAt (meant t) k) ≡ true → held (laneAt (meant t) k .waiting) < 16
     → Now t t₁ (set (cells t) (placeWord k (l .head + l .count)) (entryWord e))
     → Now t₁ t′ (putRow (cells t₁) k (retimed l (l .time .0) (l .head) (l .count + 1)))
     → Leaves t t′ (withLane (meant t) k (appended (laneAt (meant t) k) (waiting e)))
-append-leaves t t₁ t′ k e l q s hk small head held room a b =
+append-leaves t t₁ t′ k e l q hk small head held room a b =
     subst
     (λ (l : LaneRow). l .head < 16
     → Now t t₁ (set (cells t) (placeWord k (l .head + l .count)) (entryWord e))
     → Now t₁ t′ (putRow (cells t₁) k (retimed l (l .time .0) (l .head) (l .count + 1)))
     → Leaves t t′ (withLane (meant t) k (appended (laneAt (meant t) k) (waiting e))))
-    (sym q) (λ h x y. append-at t t₁ t′ k e s hk small h held room x y) head a b
+    (sym q) (λ h x y. append-at t t₁ t′ k e hk small h held room x y) head a b
 
 -- ---- wake
 
-wake-at : (t t₁ t′ : List ℕ) (k x : ℕ) (e : Entry) → Sound t → k < 64 → e .mark < 2 ^ 32 → rowAt (cells t) k .head < 16 → 0 < laneAt (meant t) k .given .weight → holds (laneAt (meant t) k) ≡ false
+wake-at : (t t₁ t′ : List ℕ) (k x : ℕ) (e : Entry) → k < 64 → e .mark < 2 ^ 32 → rowAt (cells t) k .head < 16 → 0 < laneAt (meant t) k .given .weight → holds (laneAt (meant t) k) ≡ false
     → x ≡ max (laneAt (meant t) k .finish) (meant t .clock)
     → Now t t₁ (set (cells t) (placeWord k (rowAt (cells t) k .head)) (entryWord e))
     → Now t₁ t′ (putRow (cells t₁) k (retimed (rowAt (cells t) k) x (rowAt (cells t) k .head) 1))
     → Leaves t t′ (withLane (meant t) k (woken (meant t .clock) (laneAt (meant t) k) (waiting e)))
 unfolding timed
-wake-at t t₁ t′ k x e s hk small head weight idle start a b =
+wake-at t t₁ t′ k x e hk small head weight idle start a b =
     let w = cells t in
+    let o = inARow (listAt t) in
     let l = rowAt w k in
-    let p = weight-present w k hk weight in
-    let lane = idle-row w k hk p idle in
+    let p = weight-present w o k hk weight in
+    let lane = idle-row w o k hk p idle in
     let ring : ringOf (set w (placeWord k (l .head)) (entryWord e)) k (l .head) 1 ≡ waiting e ∷ [] = ring-one w k (l .head) (entryWord e) (length-cells t) hk ∙ rw (recOf-entryWord e small) in
     let time : x ≡ max (l .time .0) (meant t .clock) = start ∙ ap (λ (y : Lane). max (y .finish) (meant t .clock)) lane in
     let same : timed (givenOf l) x (ringOf (set w (placeWord k (l .head)) (entryWord e)) k (l .head) 1) ≡ woken (meant t .clock) (laneAt (meant t) k) (waiting e) = ap (timed (givenOf l) x) ring ∙ ap (λ (y : ℕ). timed (givenOf l) y (waiting e ∷ [])) time ∙ sym (timed-woken (givenOf l) (meant t .clock) (l .time .0) (waiting e)) ∙ ap (λ (y : Lane). woken (meant t .clock) y (waiting e)) (sym lane) in
-    rw (← same) (rewritten t t₁ t′ _ k _ _ _ s hk head p (stage-place w k (l .head) (entryWord e) hk (length-cells t)) a b)
+    rw (← same) (rewritten t t₁ t′ _ k _ _ _ hk head p (stage-place w k (l .head) (entryWord e) hk (length-cells t)) a b)
 
-pub wake-leaves : (t t₁ t′ : List ℕ) (k x : ℕ) (e : Entry) (l : LaneRow) → l ≡ rowAt (cells t) k → Sound t → k < 64 → e .mark < 2 ^ 32 → l .head < 16 → 0 < laneAt (meant t) k .given .weight → holds (laneAt (meant t) k) ≡ false
+pub wake-leaves : (t t₁ t′ : List ℕ) (k x : ℕ) (e : Entry) (l : LaneRow) → l ≡ rowAt (cells t) k → k < 64 → e .mark < 2 ^ 32 → l .head < 16 → 0 < laneAt (meant t) k .given .weight → holds (laneAt (meant t) k) ≡ false
     → x ≡ max (laneAt (meant t) k .finish) (meant t .clock)
     → Now t t₁ (set (cells t) (placeWord k (l .head)) (entryWord e))
     → Now t₁ t′ (putRow (cells t₁) k (retimed l x (l .head) 1))
     → Leaves t t′ (withLane (meant t) k (woken (meant t .clock) (laneAt (meant t) k) (waiting e)))
-wake-leaves t t₁ t′ k x e l q s hk small head weight idle start a b =
+wake-leaves t t₁ t′ k x e l q hk small head weight idle start a b =
     subst
     (λ (l : LaneRow). l .head < 16
     → Now t t₁ (set (cells t) (placeWord k (l .head)) (entryWord e))
     → Now t₁ t′ (putRow (cells t₁) k (retimed l x (l .head) 1))
     → Leaves t t′ (withLane (meant t) k (woken (meant t .clock) (laneAt (meant t) k) (waiting e))))
-    (sym q) (λ h y z. wake-at t t₁ t′ k x e s hk small h weight idle start y z) head a b
+    (sym q) (λ h y z. wake-at t t₁ t′ k x e hk small h weight idle start y z) head a b
 
 -- ---- first, take_first
 
-module _ (w : List ℕ) (k : ℕ) (hk : k < 64) (held : holds (laneAt (stateOf w) k) ≡ true) where
+module _ (w o : List ℕ) (k : ℕ) (hk : k < 64) (held : holds (laneAt (stateOf w o) k) ≡ true) where
   -- the lane by its first record
-  first-row : laneAt (stateOf w) k ≡ timed (givenOf (rowAt w k)) (rowAt w k .time .0) (recOf (getD w (placeWord k (rowAt w k .head)) 0) ∷ ringOf w k ((rowAt w k .head + 1) % 16) (rowAt w k .count - 1))
+  first-row : laneAt (stateOf w o) k ≡ timed (givenOf (rowAt w k)) (rowAt w k .time .0) (recOf (getD w (placeWord k (rowAt w k .head)) 0) ∷ ringOf w k ((rowAt w k .head + 1) % 16) (rowAt w k .count - 1))
   first-row =
-      let p = holds-present w k hk held in
-      let n : rowAt w k .count ≡ suc (rowAt w k .count - 1) = omega (arith, holds-row w k hk p held) in
-      lane-row w k hk p ∙ ap (timed (givenOf (rowAt w k)) (rowAt w k .time .0)) (ap (ringOf w k (rowAt w k .head)) n ∙ ring-cons w k (rowAt w k .head) (rowAt w k .count - 1))
+      let p = holds-present w o k hk held in
+      let n : rowAt w k .count ≡ suc (rowAt w k .count - 1) = omega (arith, holds-row w o k hk p held) in
+      lane-row w o k hk p ∙ ap (timed (givenOf (rowAt w k)) (rowAt w k .time .0)) (ap (ringOf w k (rowAt w k .head)) n ∙ ring-cons w k (rowAt w k .head) (rowAt w k .count - 1))
 
-  pub first-is : First (laneAt (stateOf w) k) (entryOf (getD w (placeWord k (rowAt w k .head)) 0))
+  pub first-is : First (laneAt (stateOf w o) k) (entryOf (getD w (placeWord k (rowAt w k .head)) 0))
   unfolding timed
   first-is = rw first-row
 
-  pub finish-is : laneAt (stateOf w) k .finish ≡ rowAt w k .time .0 + charge (givenOf (rowAt w k)) (getD w (placeWord k (rowAt w k .head)) 0 / 2 ^ 32) * rate (givenOf (rowAt w k))
+  pub finish-is : laneAt (stateOf w o) k .finish ≡ rowAt w k .time .0 + charge (givenOf (rowAt w k)) (getD w (placeWord k (rowAt w k .head)) 0 / 2 ^ 32) * rate (givenOf (rowAt w k))
   unfolding timed
   finish-is = rw first-row
 
-  served-is : served (laneAt (stateOf w) k) ≡ timed (givenOf (rowAt w k)) (laneAt (stateOf w) k .finish) (ringOf w k ((rowAt w k .head + 1) % 16) (rowAt w k .count - 1))
+  served-is : served (laneAt (stateOf w o) k) ≡ timed (givenOf (rowAt w k)) (laneAt (stateOf w o) k .finish) (ringOf w k ((rowAt w k .head + 1) % 16) (rowAt w k .count - 1))
   unfolding timed
   served-is = rw first-row (timed-served (givenOf (rowAt w k)) (rowAt w k .time .0) _ _)
 
-take-at : (t t′ : List ℕ) (k : ℕ) → Sound t → k < 64 → rowAt (cells t) k .head < 16 → holds (laneAt (meant t) k) ≡ true
+take-at : (t t′ : List ℕ) (k : ℕ) → k < 64 → rowAt (cells t) k .head < 16 → holds (laneAt (meant t) k) ≡ true
     → Now t t′ (putRow (cells t) k (retimed (rowAt (cells t) k) (laneAt (meant t) k .finish) ((rowAt (cells t) k .head + 1) % 16) (rowAt (cells t) k .count - 1)))
     → Takes t t′ k (entryOf (getD (cells t) (placeWord k (rowAt (cells t) k .head)) 0))
-take-at t t′ k s hk head held b =
+take-at t t′ k hk head held b =
     let w = cells t in
+    let o = inARow (listAt t) in
     record {
-      first = first-is w k hk held;
-      leaves = rw (served-is w k hk held) (rewritten t t t′ w k _ _ _ s hk (omega arith) (holds-present w k hk held) (stage-none w k (length-cells t)) (record { words = refl; rest = refl }) b);
+      first = first-is w o k hk held;
+      leaves = rw (served-is w o k hk held) (rewritten t t t′ w k _ _ _ hk (omega arith) (holds-present w o k hk held) (stage-none w k (length-cells t)) (record { words = refl; rest = refl }) b);
     }
 
 -- what the code computes is F
 pub finish-row : (t : List ℕ) (k : ℕ) (l : LaneRow) (e : Entry) → l ≡ rowAt (cells t) k → e ≡ entryOf (getD (cells t) (placeWord k (l .head)) 0) → Sound t → k < 64 → holds (laneAt (meant t) k) ≡ true → l .time .0 + charge (givenOf l) (e .length .0) * l .rate .0 ≡ laneAt (meant t) k .finish
 finish-row t k l e q r s hk held =
     let w = cells t in
+    let o = inARow (listAt t) in
     let e₀ = entryOf (getD w (placeWord k (rowAt w k .head)) 0) in
-    let base : rowAt w k .time .0 + charge (givenOf (rowAt w k)) (e₀ .length .0) * rowAt w k .rate .0 ≡ laneAt (meant t) k .finish = rw (s .beside .rows k hk (holds-present w k hk held) .rated) (sym (finish-is w k hk held)) in
+    let base : rowAt w k .time .0 + charge (givenOf (rowAt w k)) (e₀ .length .0) * rowAt w k .rate .0 ≡ laneAt (meant t) k .finish = rw (s .beside .rows k hk (holds-present w o k hk held) .rated) (sym (finish-is w o k hk held)) in
     let over : (e : Entry) → e ≡ e₀ → rowAt w k .time .0 + charge (givenOf (rowAt w k)) (e .length .0) * rowAt w k .rate .0 ≡ laneAt (meant t) k .finish = λ e r. subst (λ (e : Entry). rowAt w k .time .0 + charge (givenOf (rowAt w k)) (e .length .0) * rowAt w k .rate .0 ≡ laneAt (meant t) k .finish) (sym r) base in
     subst (λ (l : LaneRow). e ≡ entryOf (getD w (placeWord k (l .head)) 0) → l .time .0 + charge (givenOf l) (e .length .0) * l .rate .0 ≡ laneAt (meant t) k .finish) (sym q) (over e) r
 
 -- the clock word x that the code stores is F
-pub take-leaves : (t t′ : List ℕ) (k x : ℕ) (l : LaneRow) (e : Entry) → l ≡ rowAt (cells t) k → e ≡ entryOf (getD (cells t) (placeWord k (l .head)) 0) → x ≡ laneAt (meant t) k .finish → Sound t → k < 64 → l .head < 16 → holds (laneAt (meant t) k) ≡ true
+pub take-leaves : (t t′ : List ℕ) (k x : ℕ) (l : LaneRow) (e : Entry) → l ≡ rowAt (cells t) k → e ≡ entryOf (getD (cells t) (placeWord k (l .head)) 0) → x ≡ laneAt (meant t) k .finish → k < 64 → l .head < 16 → holds (laneAt (meant t) k) ≡ true
     → Now t t′ (putRow (cells t) k (retimed l x ((l .head + 1) % 16) (l .count - 1)))
     → Takes t t′ k e
-take-leaves t t′ k x l e q r f s hk head held b =
+take-leaves t t′ k x l e q r f hk head held b =
     let w = cells t in
-    let base : (x : ℕ) → x ≡ laneAt (meant t) k .finish → rowAt w k .head < 16 → Now t t′ (putRow w k (retimed (rowAt w k) x ((rowAt w k .head + 1) % 16) (rowAt w k .count - 1))) → Takes t t′ k (entryOf (getD w (placeWord k (rowAt w k .head)) 0)) = λ x f h b. take-at t t′ k s hk h held (subst (λ (x : ℕ). Now t t′ (putRow w k (retimed (rowAt w k) x ((rowAt w k .head + 1) % 16) (rowAt w k .count - 1)))) f b) in
+    let base : (x : ℕ) → x ≡ laneAt (meant t) k .finish → rowAt w k .head < 16 → Now t t′ (putRow w k (retimed (rowAt w k) x ((rowAt w k .head + 1) % 16) (rowAt w k .count - 1))) → Takes t t′ k (entryOf (getD w (placeWord k (rowAt w k .head)) 0)) = λ x f h b. take-at t t′ k hk h held (subst (λ (x : ℕ). Now t t′ (putRow w k (retimed (rowAt w k) x ((rowAt w k .head + 1) % 16) (rowAt w k .count - 1)))) f b) in
     subst (λ (e : Entry). Takes t t′ k e) (sym r)
     (subst (λ (l : LaneRow). l .head < 16 → Now t t′ (putRow w k (retimed l x ((l .head + 1) % 16) (l .count - 1))) → Takes t t′ k (entryOf (getD w (placeWord k (l .head)) 0))) (sym q) (base x f) head b)
 
 pub first-leaves : (t : List ℕ) (k : ℕ) (l : LaneRow) (e : Entry) → l ≡ rowAt (cells t) k → e ≡ entryOf (getD (cells t) (placeWord k (l .head)) 0) → k < 64 → holds (laneAt (meant t) k) ≡ true → First (laneAt (meant t) k) e
 first-leaves t k l e q r hk held =
     subst (λ (e : Entry). First (laneAt (meant t) k) e) (sym r ∙ refl)
-    (subst (λ (l : LaneRow). First (laneAt (meant t) k) (entryOf (getD (cells t) (placeWord k (l .head)) 0))) (sym q) (first-is (cells t) k hk held))
+    (subst (λ (l : LaneRow). First (laneAt (meant t) k) (entryOf (getD (cells t) (placeWord k (l .head)) 0))) (sym q) (first-is (cells t) (inARow (listAt t)) k hk held))
 
 -- the bounds that the code needs
 pub room-row : (t : List ℕ) (k n : ℕ) (l : LaneRow) → l ≡ rowAt (cells t) k → k < 64 → holds (laneAt (meant t) k) ≡ true → held (laneAt (meant t) k .waiting) ≤ n → l .count ≤ n
 room-row t k n l q hk held h =
-    subst (λ (l : LaneRow). l .count ≤ n) (sym q) (omega (arith, count-of (cells t) k hk (holds-present (cells t) k hk held)))
+    subst (λ (l : LaneRow). l .count ≤ n) (sym q) (omega (arith, count-of (cells t) (inARow (listAt t)) k hk (holds-present (cells t) (inARow (listAt t)) k hk held)))
 
 pub some-row : (t : List ℕ) (k : ℕ) (l : LaneRow) → l ≡ rowAt (cells t) k → k < 64 → holds (laneAt (meant t) k) ≡ true → 0 < l .count
-some-row t k l q hk held = subst (λ (l : LaneRow). 0 < l .count) (sym q) (holds-row (cells t) k hk (holds-present (cells t) k hk held) held)
+some-row t k l q hk held = subst (λ (l : LaneRow). 0 < l .count) (sym q) (holds-row (cells t) (inARow (listAt t)) k hk (holds-present (cells t) (inARow (listAt t)) k hk held) held)
 
 pub rate-row : (t : List ℕ) (k : ℕ) (l : LaneRow) → l ≡ rowAt (cells t) k → Sound t → k < 64 → holds (laneAt (meant t) k) ≡ true → l .rate .0 ≤ 2 ^ 20
 rate-row t k l q s hk held =
-    subst (λ (l : LaneRow). l .rate .0 ≤ 2 ^ 20) (sym q) (omega (arith, s .beside .rows k hk (holds-present (cells t) k hk held) .rated, rate-le (rowAt (cells t) k .weight)))
+    subst (λ (l : LaneRow). l .rate .0 ≤ 2 ^ 20) (sym q) (omega (arith, s .beside .rows k hk (holds-present (cells t) (inARow (listAt t)) k hk held) .rated, rate-le (rowAt (cells t) k .weight)))
 
 pub framing-row : (t : List ℕ) (k : ℕ) (l : LaneRow) → l ≡ rowAt (cells t) k → Sound t → k < 64 → holds (laneAt (meant t) k) ≡ true → l .framing .0 ≤ 64
 framing-row t k l q s hk held =
-    subst (λ (l : LaneRow). l .framing .0 ≤ 64) (sym q) (s .beside .rows k hk (holds-present (cells t) k hk held) .framing)
+    subst (λ (l : LaneRow). l .framing .0 ≤ 64) (sym q) (s .beside .rows k hk (holds-present (cells t) (inARow (listAt t)) k hk held) .framing)

@@ -16,8 +16,13 @@ const COUNTS: usize = 11776;
 
 const PLACES: usize = 12288;
 
-// Places of a ring.
+// Rings, and places of a ring.
+const RINGS: usize = 512;
+
 const DEPTH: usize = 64;
+
+// The first byte past the rings.
+pub const END: usize = PLACES + DEPTH * RINGS;
 
 // The byte at `a`, as a number below 256.
 fn byte(t: &[u8], a: usize) -> usize

@@ -1,5 +1,5 @@
 -- The promises leave nothing of an answer open. Assumes nothing.
-use Prim.Native.Nat.{ℕ, _*_, _<_}
+use Prim.Native.Nat.{ℕ, _<_}
 use native.Mathlib.Decide.{decLe}
 use native.Mathlib.Omega.{arith}
 use mathlib.Core.Path.{_≡_, sym, ap, subst, _∙_}
@@ -13,7 +13,7 @@ use Rattle.alike.specs.Alike.{Alike}
 use Rattle.alike.proofs.Alike.{alike-refl, alike-sym, alike-trans}
 use Rattle.plan.specs.Read as plan
 use Rattle.plan.specs.Read.{readSetup}
-use Rattle.table.specs.Layout.{WORDS}
+use Rattle.table.specs.Layout.{SIZE}
 use Rattle.table.specs.Means.{meant}
 use Rattle.good.proofs.Encodes.{good-encodes}
 use Rattle.engine.specs.Does.{Unchanged}
@@ -25,7 +25,7 @@ use Rattle.scheduler.specs.One.{SameTable, OneAnswer, OneMaking}
 same-bytes : (t u u′ : List ℕ) → u ≡ t → u′ ≡ t → SameTable u u′
 same-bytes t u u′ e e′ =
     let q : u ≡ u′ = e ∙ sym e′ in
-    record { state = subst (λ (x : List ℕ). Alike (meant u) (meant x)) q (alike-refl (meant u)); rest = ap (drop (WORDS * 8)) q }
+    record { state = subst (λ (x : List ℕ). Alike (meant u) (meant x)) q (alike-refl (meant u)); rest = ap (drop SIZE) q }
 
 pub one-answer : OneAnswer
 unfolding OneAnswer
@@ -42,7 +42,7 @@ one-answer c t (inr n) a a′ u u′ p p′ =
 
 pub one-making : OneMaking
 unfolding OneMaking
-one-making setup t a a′ u u′ p p′ = elim (decLe (WORDS * 8) (length t)) [ yes h ↦ read-one (readSetup setup) (p .follows h) (p′ .follows h) | no h ↦ short-one (omega arith) ]
+one-making setup t a a′ u u′ p p′ = elim (decLe SIZE (length t)) [ yes h ↦ read-one (readSetup setup) (p .follows h) (p′ .follows h) | no h ↦ short-one (omega arith) ]
   where
     read-one : (r : plan.Reply) → Follows r t a u → Follows r t a′ u′ → (Make.reads a ≡ Make.reads a′) × SameTable u u′
     read-one (plan.refused n q) h h′ = (h .0 ∙ sym (h′ .0), same-bytes t u u′ (h .1) (h′ .1))
@@ -50,5 +50,5 @@ one-making setup t a a′ u u′ p p′ = elim (decLe (WORDS * 8) (length t)) [ 
         let σ = fresh gs in
         (h .0 ∙ sym (h′ .0), record { state = alike-trans (meant u) σ (meant u′) (h .1 .alike) (alike-sym (meant u′) σ (h′ .1 .alike)); rest = h .2 ∙ sym (h′ .2) })
 
-    short-one : length t < WORDS * 8 → (Make.reads a ≡ Make.reads a′) × SameTable u u′
+    short-one : length t < SIZE → (Make.reads a ≡ Make.reads a′) × SameTable u u′
     short-one q = let x = p .short q in let y = p′ .short q in (x .0 ∙ sym (y .0), same-bytes t u u′ (x .1) (y .1))

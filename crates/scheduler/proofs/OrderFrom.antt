@@ -36,7 +36,7 @@ record Kept (c : Call) (t : List ℕ) (a : Answer) (u : List ℕ) : Type 0 where
 module _ (c : Call) (t : List ℕ) (a : Answer) (u : List ℕ) (p : Step c t a u) (e : Encodes t (meant t)) where
   good-kept : Good (meant t) → Kept c t a u
   good-kept h =
-      let g : GoodTable t = record { room = e .room; good = h; beside = e .beside } in
+      let g : GoodTable t = record { room = e .room; good = h; beside = e .beside; listed = e .listed } in
       let s = meant t in
       let reply : reads a ≡ (step s c) .reply = p .reply g s e in
       let left = p .state g s e in
@@ -44,7 +44,7 @@ module _ (c : Call) (t : List ℕ) (a : Answer) (u : List ℕ) (p : Step c t a u
         fifo = λ k.
             subst (λ (r : Reply). heldOf t k ++ ofLane k (acceptedIn (record { call = c; reply = r })) ≡ ofLane k (sentIn r) ++ heldOf u k) (sym reply)
             (step-passed k s c .fifo (h .waiting) ∙ ap (λ (ls : List Lane). ofLane k (sentIn ((step s c) .reply)) ++ queueOf ((getD ls k noLane) .waiting) 0) (sym (left .alike .lanes)));
-        encodes = record { room = left .room; alike = alike-refl (meant u); beside = left .beside };
+        encodes = record { room = left .room; alike = alike-refl (meant u); beside = left .beside; listed = left .listed };
       }
 
   bad-kept : (GoodTable t → ⊥) → Kept c t a u

@@ -11,7 +11,7 @@ use Rattle.rules.specs.declared.Answer.{Answer}
 use Rattle.rules.specs.declared.Answer.the-variants.{Refused}
 use Rattle.rules.specs.declared.Refusal.the-variants.{NotGood}
 use Rattle.alike.specs.Alike.{Alike}
-use Rattle.alike.proofs.Alike.{step-alike}
+use Rattle.alike.proofs.Alike.{alike-trans, step-alike}
 use Rattle.table.specs.Means.{meant}
 use Rattle.choice.specs.Known.{Known}
 use Rattle.lane_test.specs.Says as test
@@ -31,7 +31,7 @@ found-bad true h e = absurd (false≢true e)
 found-bad false h e = h
 
 pub good-known : (t : List ℕ) → GoodTable t → Known t
-good-known t g = record { sound = good-sound t g; good = g .good }
+good-known t g = record { sound = good-sound t g; listed = g .listed; good = g .good }
 
 -- a table that is not good
 pub bad-step : (c : Call) (t : List ℕ) → (GoodTable t → ⊥) → Step c t (Refused NotGood) t
@@ -50,15 +50,16 @@ does-step c t a u g len d = record {
   not-good = λ b. absurd (b g);
   reply = λ _ s e. d .says ∙ step-alike (meant t) s (g .good) (e .alike) c .reply;
   state = λ _ s e. record {
-    room = omega (arith, e .room);
-    alike = subst (λ (x : State). Alike x ((step s c) .state)) (sym (d .leaves .state)) (step-alike (meant t) s (g .good) (e .alike) c .state);
-    beside = d .leaves .beside (e .beside);
+    room = d .encodes .room;
+    alike = alike-trans (meant u) ((step (meant t) c) .state) ((step s c) .state) (d .encodes .alike) (step-alike (meant t) s (g .good) (e .alike) c .state);
+    beside = d .encodes .beside;
+    listed = d .encodes .listed;
   };
   unchanged = d .unchanged;
-  rest = d .leaves .rest;
+  rest = d .rest;
   size = len;
 }
 
 -- the calls that change nothing
 pub says-step : (c : Call) (t : List ℕ) (a : Answer) → GoodTable t → (step (meant t) c) .state ≡ meant t → Says c t a → Step c t a t
-says-step c t a g e h = does-step c t a t g refl (looks-does c t a e h)
+says-step c t a g e h = does-step c t a t g refl (looks-does c t a (good-known t g) e h)

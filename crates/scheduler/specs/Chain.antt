@@ -7,7 +7,7 @@
 --   inForce   the setup in force after a list
 --
 -- Assumes nothing.
-use Prim.Native.Nat.{ℕ, _*_, _≤_}
+use Prim.Native.Nat.{ℕ, _≤_}
 use mathlib.Core.Path.{_≡_}
 use mathlib.Core.List.{List, [], _∷_, map}
 use lib.ListN.{length}
@@ -18,7 +18,7 @@ use Rattle.rules.specs.Reads.{reads}
 use Rattle.rules.specs.Runs.{Event, after, trace}
 use Rattle.rules.specs.declared.Answer.{Answer}
 use Rattle.plan.specs.Read.{read, readSetup}
-use Rattle.table.specs.Layout.{WORDS}
+use Rattle.table.specs.Layout.{SIZE}
 use Rattle.table.specs.Encodes.{Encodes}
 use Rattle.scheduler.specs.Step.{Step}
 use Rattle.scheduler.specs.Make.{MakeStep}
@@ -39,7 +39,7 @@ pub record Begins (gs : List Setting) (t : List ℕ) : Type 0 where
   pub lanes : ℕ
   pub at : ℕ
   pub reads-it : readSetup setup ≡ read gs lanes at
-  pub room : WORDS * 8 ≤ length before
+  pub room : SIZE ≤ length before
   pub makes : MakeStep setup before answer t
 
 -- The bytes t are a table that the list es led to, from the fresh table of the setup gs: the rules' own run of its calls from the fresh state gives its answers, and t

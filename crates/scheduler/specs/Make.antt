@@ -5,7 +5,7 @@
 --   MakeStep    the promise
 --
 -- Assumes nothing.
-use Prim.Native.Nat.{ℕ, _*_, _≤_, _<_}
+use Prim.Native.Nat.{ℕ, _≤_, _<_}
 use mathlib.Core.Path.{_≡_}
 use mathlib.Core.List.{List}
 use mathlib.Core.Option.{Option, some}
@@ -14,7 +14,7 @@ use Rattle.rules.specs.Calls.{fresh}
 use Rattle.rules.specs.Reads.{number, placeOf}
 use Rattle.plan.specs.Read as plan
 use Rattle.plan.specs.Read.{read, refused, readSetup}
-use Rattle.table.specs.Layout.{WORDS}
+use Rattle.table.specs.Layout.{SIZE}
 use Rattle.table.specs.Encodes.{Encodes}
 use Rattle.scheduler.specs.declared.Making.{Making}
 use Rattle.scheduler.specs.declared.Making.the-variants.{Made, Refused}
@@ -30,10 +30,10 @@ reads (Refused x) = notMade (number x) (placeOf x)
 -- Long enough, the setup decides: "Making: 7 first, then fields in order". "The fresh table of an accepted setup", or nothing is written.
 abbrev pub Follows : plan.Reply → List ℕ → Making → List ℕ → Type 0
 Follows (refused n p) before a after = (reads a ≡ notMade n p) × (after ≡ before)
-Follows (read gs n at) before a after = (reads a ≡ made n) × Encodes after (fresh gs) × (drop (WORDS * 8) after ≡ drop (WORDS * 8) before)
+Follows (read gs n at) before a after = (reads a ≡ made n) × Encodes after (fresh gs) × (drop SIZE after ≡ drop SIZE before)
 
 pub record MakeStep (setup before : List ℕ) (a : Making) (after : List ℕ) : Type 0 where
   -- "7: lent table shorter than the fixed size, on making one. Place 0."
-  pub short : length before < WORDS * 8 → (reads a ≡ notMade 7 (some 0)) × (after ≡ before)
-  pub follows : WORDS * 8 ≤ length before → Follows (readSetup setup) before a after
+  pub short : length before < SIZE → (reads a ≡ notMade 7 (some 0)) × (after ≡ before)
+  pub follows : SIZE ≤ length before → Follows (readSetup setup) before a after
   pub size : length after ≡ length before

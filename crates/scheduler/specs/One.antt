@@ -4,7 +4,7 @@
 --   OneMaking   two outcomes that `MakeStep` allows for the same setup on the same bytes
 --
 -- Bytes are a good table or are not: `good` (crate good) decides it for any. Assumes nothing.
-use Prim.Native.Nat.{ℕ, _*_}
+use Prim.Native.Nat.{ℕ}
 use mathlib.Core.Path.{_≡_}
 use mathlib.Core.Logic.{_⊎_}
 use mathlib.Core.List.{List}
@@ -13,7 +13,7 @@ use Rattle.rules.specs.Calls.{Call}
 use Rattle.rules.specs.Reads.{reads}
 use Rattle.rules.specs.declared.Answer.{Answer}
 use Rattle.alike.specs.Alike.{Alike}
-use Rattle.table.specs.Layout.{WORDS}
+use Rattle.table.specs.Layout.{SIZE}
 use Rattle.table.specs.Means.{meant}
 use Rattle.good.specs.Table.{GoodTable}
 use Rattle.scheduler.specs.Step.{Step}
@@ -24,7 +24,7 @@ use Rattle.scheduler.specs.declared.Making.{Making}
 -- the tables after two outcomes: their states are alike, and so are the bytes past the table
 pub record SameTable (u u′ : List ℕ) : Type 0 where
   pub state : Alike (meant u) (meant u′)
-  pub rest : drop (WORDS * 8) u ≡ drop (WORDS * 8) u′
+  pub rest : drop SIZE u ≡ drop SIZE u′
 
 unfoldable pub OneAnswer : Type 0
 OneAnswer =

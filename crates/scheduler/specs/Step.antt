@@ -1,6 +1,6 @@
 -- The promise of a public call, whole: for every slice, every argument and every answer, refusals included.
 -- Assumes nothing.
-use Prim.Native.Nat.{ℕ, _*_}
+use Prim.Native.Nat.{ℕ}
 use mathlib.Core.Path.{_≡_}
 use mathlib.Core.List.{List}
 use mathlib.Core.Option.{none}
@@ -9,7 +9,7 @@ use Rattle.rules.specs.State.{State}
 use Rattle.rules.specs.Calls.{Call, refused, step}
 use Rattle.rules.specs.Reads.{reads}
 use Rattle.rules.specs.declared.Answer.{Answer}
-use Rattle.table.specs.Layout.{WORDS}
+use Rattle.table.specs.Layout.{SIZE}
 use Rattle.table.specs.Encodes.{Encodes}
 use Rattle.good.specs.Table.{GoodTable}
 use Rattle.engine.specs.Does.{Unchanged}
@@ -25,5 +25,5 @@ pub record Step (c : Call) (before : List ℕ) (a : Answer) (after : List ℕ) :
   -- "A refusal changes no lent table."
   pub unchanged : Unchanged (reads a) before after
   -- "Bytes past the fixed size are never touched."
-  pub rest : drop (WORDS * 8) after ≡ drop (WORDS * 8) before
+  pub rest : drop SIZE after ≡ drop SIZE before
   pub size : length after ≡ length before

@@ -1,5 +1,5 @@
 -- The promise of a run leaves nothing of its result open. Assumes nothing.
-use Prim.Native.Nat.{ℕ, _*_}
+use Prim.Native.Nat.{ℕ}
 use mathlib.Core.Path.{_≡_, sym, ap, subst, _∙_}
 use mathlib.Core.List.{List}
 use mathlib.Core.Option.{Option, none, some}
@@ -7,16 +7,16 @@ use lib.ListN.{length, drop}
 use Rattle.rules.specs.State.{State}
 use Rattle.alike.specs.Alike.{Alike}
 use Rattle.alike.proofs.Alike.{alike-refl, alike-sym, alike-trans}
-use Rattle.table.specs.Layout.{WORDS}
+use Rattle.table.specs.Layout.{SIZE}
 use Rattle.table.specs.Means.{meant}
 use Rattle.walk.specs.Script.{runOf}
 use Rattle.walk.specs.Follows.{Table}
 use Rattle.session.specs.One.{OneRun}
 
-one-table : (t t₁ t₂ : List ℕ) (o : Option State) → Table t t₁ o → Table t t₂ o → Alike (meant t₁) (meant t₂) × (drop (WORDS * 8) t₁ ≡ drop (WORDS * 8) t₂)
+one-table : (t t₁ t₂ : List ℕ) (o : Option State) → Table t t₁ o → Table t t₂ o → Alike (meant t₁) (meant t₂) × (drop SIZE t₁ ≡ drop SIZE t₂)
 one-table t t₁ t₂ none h h′ =
     let q : t₁ ≡ t₂ = h ∙ sym h′ in
-    (subst (λ (x : List ℕ). Alike (meant t₁) (meant x)) q (alike-refl (meant t₁)), ap (drop (WORDS * 8)) q)
+    (subst (λ (x : List ℕ). Alike (meant t₁) (meant x)) q (alike-refl (meant t₁)), ap (drop SIZE) q)
 one-table t t₁ t₂ (some σ) h h′ =
     (alike-trans (meant t₁) σ (meant t₂) (h .encodes .alike) (alike-sym (meant t₂) σ (h′ .encodes .alike)), h .rest ∙ sym (h′ .rest))
 

@@ -16,7 +16,7 @@ use Rattle.rules.specs.Fair.{Demand3, TwoLanes}
 use Rattle.rules.proofs.Fair.{demand3, two-lanes}
 use Rattle.plan.specs.Read as plan
 use Rattle.plan.proofs.Accepted.{accepted}
-use Rattle.table.specs.Layout.{WORDS}
+use Rattle.table.specs.Layout.{SIZE}
 use Rattle.lines.specs.Line.{lineOf, lanesLine}
 use Rattle.requests.specs.Request.{Item, request, last, bad, itemAt}
 use Rattle.walk.specs.Script.{Walked, closing, next, walk, begun, script, nothing, runOf}
@@ -76,7 +76,7 @@ module _ (s : List ℕ) (limit : ℕ) (σ : State) where
 
 pub run-lists : RunLists
 unfolding RunLists runOf script
-run-lists s limit table area σ = go (ltb 1000 limit || ltb area (64 * (limit + 2))) (ltb table (WORDS * 8))
+run-lists s limit table area σ = go (ltb 1000 limit || ltb area (64 * (limit + 2))) (ltb table SIZE)
   where
     go : (a b : Bool) → (if a then nothing 17 none else (if b then nothing 7 (some 0) else begun s limit (plan.readPlan s 0))) .state ≡ some σ
         → Lists s limit (if a then nothing 17 none else (if b then nothing 7 (some 0) else begun s limit (plan.readPlan s 0)))

@@ -4,12 +4,12 @@
 --   OneRun    any two that `Ran` allows for the same input are
 --
 -- Assumes nothing.
-use Prim.Native.Nat.{ℕ, _*_}
+use Prim.Native.Nat.{ℕ}
 use mathlib.Core.Path.{_≡_}
 use mathlib.Core.List.{List}
 use lib.ListN.{drop}
 use Rattle.alike.specs.Alike.{Alike}
-use Rattle.table.specs.Layout.{WORDS}
+use Rattle.table.specs.Layout.{SIZE}
 use Rattle.table.specs.Means.{meant}
 use Rattle.walk.specs.Follows.{whyIs}
 use Rattle.session.specs.Ran.{Ran}
@@ -22,7 +22,7 @@ pub record SameRun (r r′ : RunResult) (a a′ t t′ : List ℕ) : Type 0 wher
   pub why : whyIs (r .why) ≡ whyIs (r′ .why)
   pub answers : a ≡ a′
   pub table : Alike (meant t) (meant t′)
-  pub rest : drop (WORDS * 8) t ≡ drop (WORDS * 8) t′
+  pub rest : drop SIZE t ≡ drop SIZE t′
 
 unfoldable pub OneRun : Type 0
 OneRun =

@@ -103,7 +103,7 @@ fn run(frames: &[u8], table: &mut [u8], area: &mut [u8]) {
 fn main() {
     let mut frames = io::large_buffer();
     let n = io::read_full(libc::STDIN_FILENO, &mut frames);
-    let mut table = [7u8; 10900];
+    let mut table = [7u8; 45076];
     let mut area = [7u8; 65000];
     run(&frames[..n], &mut table, &mut area);
 }

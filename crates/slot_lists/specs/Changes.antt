@@ -3,6 +3,7 @@
 --   Moved     one list was changed, m and m′ being the words of the group's lists before and after; no word is stored yet
 --   Apart     the words below this part, what was taken off the clock, and the bytes past the rings stay
 --   Stored    a group's words were stored
+--   Emptied   all groups were cleared
 --   Nearest   the first set bit of a word of 32 lists from one of them on, in circular order
 --   WithBit   a word with one bit set, or not
 --
@@ -18,7 +19,7 @@ use Rattle.units.specs.Plain.{if_then_else_}
 use Rattle.words.specs.Bits.{bit}
 use Rattle.words.specs.Words.{wordAt}
 use Rattle.rings.specs.Rings.{ringsFrom, ringsEnd, ringAt}
-use Rattle.slot_lists.specs.Lists.{listsFrom, ringNumber, groupsAt, backAt, mapOf, listIn, startAt, Fills}
+use Rattle.slot_lists.specs.Lists.{listsFrom, ringNumber, groupsAt, backAt, mapOf, listIn, startAt, Fills, Empty}
 
 pub record Moved (before after : List ℕ) (g m m′ b : ℕ) (l : List ℕ) : Type 0 where
   pub list : listIn after g m′ b ≡ l
@@ -44,6 +45,11 @@ pub record Stored (before after : List ℕ) (g m r : ℕ) : Type 0 where
   pub groups : (i : ℕ) → (i ≡ g → ⊥) → bit i (groupsAt after) ≡ bit i (groupsAt before)
   pub high : groupsAt before < 2 ^ 32 → groupsAt after < 2 ^ 32
   pub rings : (i : ℕ) → i < 512 → ringAt after i ≡ ringAt before i
+
+pub record Emptied (before after : List ℕ) : Type 0 where
+  pub empty : Empty after
+  pub below : (j : ℕ) → j < listsFrom → wordAt after j ≡ wordAt before j
+  pub rest : drop ringsEnd after ≡ drop ringsEnd before
 
 pub record WithBit (x k : ℕ) (on : Bool) (r : ℕ) : Type 0 where
   pub same : bit k r ≡ (if on then 1 else 0)

@@ -8,12 +8,14 @@
 --   listIn                 list b of group g, m being the word of the group's lists that have lanes
 --   listAt                 list b of group g
 --   startAt                the stored start of group g; none where the group's own bit is not set
+--   slotOf, listOf         the slot of a time in group g by the endless clock, and the number of its list
 --   Fills                  each list that a word marks has lanes
 --   Solid                  what is stored agrees with itself
+--   Empty                  no group has lanes, and nothing was taken off the clock
 --
 -- Assumes nothing.
 use mathlib.Core.Path.{_≡_}
-use Prim.Native.Nat.{ℕ, _+_, _-_, _*_, _%_, _^_, _≤_, _<_}
+use Prim.Native.Nat.{ℕ, _+_, _-_, _*_, _/_, _%_, _^_, _≤_, _<_}
 use mathlib.Core.List.{List, []}
 use mathlib.Core.Option.{Option, none, some}
 use lib.Dec.{eqb}
@@ -60,6 +62,12 @@ listAt t g b = listIn t g (mapOf t g) b
 unfoldable pub startAt : List ℕ → ℕ → Option ℕ
 startAt t g = if eqb (bit g (groupsAt t)) 1 then some (wordAt t (startWord g)) else none
 
+abbrev pub slotOf : List ℕ → ℕ → ℕ → ℕ
+slotOf t g x = (x + backAt t) / 2 ^ g
+
+abbrev pub listOf : List ℕ → ℕ → ℕ → ℕ
+listOf t g x = slotOf t g x % 32
+
 pub record Fills (t : List ℕ) (g m : ℕ) : Type 0 where
   pub narrow : m < 2 ^ 32
   pub filled : (b : ℕ) → b < 32 → bit b m ≡ 1 → 0 < length (ringAt t (ringNumber g b))
@@ -72,3 +80,8 @@ pub record Solid (t : List ℕ) : Type 0 where
   -- whole slots of every group; what matters of it is its remainder by 32 slots of the greatest
   pub back-whole : backAt t % 2 ^ 31 ≡ 0
   pub back-small : backAt t < 2 ^ 36
+
+-- the other words, and the rings, mean nothing then
+pub record Empty (t : List ℕ) : Type 0 where
+  pub groups : groupsAt t ≡ 0
+  pub back : backAt t ≡ 0

@@ -13,7 +13,7 @@ ghost use lib.ListN.{length, getD, drop};
 ghost use Rattle.words.specs.Bits.{bit};
 ghost use Rattle.rings.specs.Rings.{Long};
 ghost use Rattle.slot_lists.specs.Lists.{ringNumber, groupsAt, listIn, Fills};
-ghost use Rattle.slot_lists.specs.Changes.{Moved, Stored, Nearest};
+ghost use Rattle.slot_lists.specs.Changes.{Moved, Stored, Emptied, Nearest};
 use rings::begin;
 use rings::entry;
 use rings::pop;
@@ -113,4 +113,13 @@ pub fn clear_group(t: &mut [u8], g: u32, groups: u64)
     ensures { λ _. ⌜ Stored (now (t .entry)) (now (t .exit)) g 0 0 ⌝ }
 {
     set_word(t, GROUPS, groups - (1u64 << g));
+}
+
+// No group has lanes any more, whatever was stored; and nothing was taken off the clock.
+pub fn empty(t: &mut [u8])
+    requires { ⌜ Long (now t) ⌝ }
+    ensures { λ _. ⌜ Emptied (now (t .entry)) (now (t .exit)) ⌝ }
+{
+    set_word(t, GROUPS, 0);
+    set_word(t, BACK, 0);
 }

@@ -5,11 +5,11 @@ use mathlib.Core.List.{List}
 use native.Mathlib.Omega.{arith}
 use lib.ListN.{length, getD, set}
 use lib.Seq.{getD-set-same, getD-set-other}
-use Rattle.words.specs.Runs.{reads, tab}
-use Rattle.words.proofs.Runs.{reads-ext, length-reads, tab-ext, tab-set, getD-tab}
+use Rattle.words.specs.Runs.{tab}
+use Rattle.words.proofs.Runs.{tab-ext, tab-set, getD-tab}
 use Rattle.rules.specs.State.{noLane, laneAt}
-use Rattle.table.specs.Layout.{presentWord, holdingWord, framingWord, orderWord, laneWord, placeWord, rowAt, rowOf}
-use Rattle.table.specs.Means.{presentAt, recOf, ringOf, rowLane, laneOf, stateOf, RowAgrees, Beside, withClock, withLane, withOrder}
+use Rattle.table.specs.Layout.{presentWord, framingWord, laneWord, placeWord, rowAt, rowOf}
+use Rattle.table.specs.Means.{presentAt, recOf, ringOf, rowLane, laneOf, stateOf, RowAgrees, Beside, withClock, withLane}
 use Rattle.table.proofs.Stores.{rowOf-eq}
 
 -- words that agree on lane k
@@ -37,17 +37,9 @@ pub lane-kept : (w u : List ℕ) (k : ℕ) → SameLane w u k → laneOf u k ≡
 unfolding laneOf rowLane
 lane-kept w u k s = rw (s .present, row-kept w u k (s .framing) (s .row), ring-kept w u k _ _ (s .ring))
 
-pub lane-is : (w : List ℕ) (k : ℕ) → k < 64 → laneAt (stateOf w) k ≡ laneOf w k
+pub lane-is : (w o : List ℕ) (k : ℕ) → k < 64 → laneAt (stateOf w o) k ≡ laneOf w k
 unfolding stateOf
-lane-is w k h = getD-tab 64 k (laneOf w) noLane h
-
-pub order-is : (w : List ℕ) → length (stateOf w .order) ≡ getD w holdingWord 0
-unfolding stateOf
-order-is w = length-reads w 16 (getD w holdingWord 0)
-
-pub reads-order : (w : List ℕ) (n : ℕ) → n ≡ length (stateOf w .order) → reads w orderWord n ≡ stateOf w .order
-unfolding stateOf
-reads-order w n e = ap (reads w orderWord) (e ∙ order-is w)
+lane-is w o k h = getD-tab 64 k (laneOf w) noLane h
 
 -- ---- a change in one lane's words but its setting
 
@@ -56,19 +48,17 @@ pub record Outside (w u : List ℕ) (k : ℕ) : Type 0 where
 
 module _ (w u : List ℕ) (k : ℕ) (hk : k < 64) (o : Outside w u k) where
   -- leaves the state with that lane changed
-  pub lane-changed : getD w holdingWord 0 ≤ 64 → stateOf u ≡ withLane (stateOf w) k (laneOf u k)
+  pub lane-changed : (order : List ℕ) → stateOf u order ≡ withLane (stateOf w order) k (laneOf u k)
   unfolding stateOf
-  lane-changed few =
+  lane-changed order =
       let clock : getD u 0 0 ≡ getD w 0 0 = o .kept 0 (λ p q. omega arith) (λ p q. omega arith) in
-      let holding : getD u 2 0 ≡ getD w 2 0 = o .kept 2 (λ p q. omega arith) (λ p q. omega arith) in
-      let order : reads u 16 (getD w 2 0) ≡ reads w 16 (getD w 2 0) = reads-ext w u 16 (getD w 2 0) (λ i p q. o .kept i (λ x y. omega arith) (λ x y. omega arith)) in
       let lanes : tab 64 (laneOf u) ≡ set (tab 64 (laneOf w)) k (laneOf u k) = tab-set 64 k (laneOf w) (laneOf u) hk (λ j h ne. lane-kept w u j (record {
         present = present-kept w u j (o .kept 1 (λ p q. omega arith) (λ p q. omega arith));
         framing = o .kept framingWord (λ p q. omega arith) (λ p q. omega arith);
         row = λ i p q. o .kept i (λ x y. omega arith) (λ x y. omega arith);
         ring = λ i p q. o .kept i (λ x y. omega arith) (λ x y. omega arith);
       })) in
-      rw (clock, holding, order, lanes)
+      rw (clock, lanes)
 
 -- ---- what is stored beside the state
 
@@ -96,29 +86,18 @@ outside-settings w u k o =
       setting = λ j h. o .kept (laneWord j) (λ p q. omega arith) (λ p q. omega arith);
     }
 
--- ---- a change in the clock, or in the tie order's words
-
-pub record OutsideOrder (w u : List ℕ) : Type 0 where
-  pub clock : getD u 0 0 ≡ getD w 0 0
-  pub present : getD u 1 0 ≡ getD w 1 0
-  pub framing : getD u framingWord 0 ≡ getD w framingWord 0
-  pub above : (i : ℕ) → 80 ≤ i → getD u i 0 ≡ getD w i 0
+-- ---- a change in the clock
 
 lanes-kept : (w u : List ℕ) → getD u 1 0 ≡ getD w 1 0 → getD u framingWord 0 ≡ getD w framingWord 0 → ((i : ℕ) → 80 ≤ i → getD u i 0 ≡ getD w i 0) → tab 64 (laneOf u) ≡ tab 64 (laneOf w)
 lanes-kept w u e h f =
     tab-ext 64 (laneOf u) (laneOf w) (λ k b. lane-kept w u k (record { present = present-kept w u k e; framing = h; row = λ i p q. f i (omega arith); ring = λ i p q. f i (omega arith) }))
 
-pub order-changed : (w u : List ℕ) → OutsideOrder w u → stateOf u ≡ withOrder (stateOf w) (reads u 16 (getD u 2 0))
+pub clock-changed : (w o : List ℕ) (v : ℕ) → length w ≡ 1360 → stateOf (set w 0 v) o ≡ withClock (stateOf w o) v
 unfolding stateOf
-order-changed w u o = rw (o .clock, lanes-kept w u (o .present) (o .framing) (o .above))
-
-pub clock-changed : (w : List ℕ) (v : ℕ) → length w ≡ 1360 → getD w 2 0 ≤ 64 → stateOf (set w 0 v) ≡ withClock (stateOf w) v
-unfolding stateOf
-clock-changed w v len few =
+clock-changed w o v len =
     let other : (i : ℕ) → 0 < i → getD (set w 0 v) i 0 ≡ getD w i 0 = λ i h. getD-set-other w 0 i v 0 (omega arith) in
     let lanes : tab 64 (laneOf (set w 0 v)) ≡ tab 64 (laneOf w) = lanes-kept w (set w 0 v) (other 1 (omega arith)) (other framingWord (omega arith)) (λ i h. other i (omega arith)) in
-    let order : reads (set w 0 v) 16 (getD w 2 0) ≡ reads w 16 (getD w 2 0) = reads-ext w (set w 0 v) 16 (getD w 2 0) (λ i p q. other i (omega arith)) in
-    rw (getD-set-same w 0 v 0 (omega arith), lanes, other 2 (omega arith), order)
+    rw (getD-set-same w 0 v 0 (omega arith), lanes)
 
 pub clock-settings : (w : List ℕ) (v : ℕ) → SameSettings w (set w 0 v)
 clock-settings w v =

@@ -1,5 +1,6 @@
 pub mod Stores
 pub mod Footprint
+pub mod Lists
 pub mod Leave
 pub mod Rows
 pub mod Timed

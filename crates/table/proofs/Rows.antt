@@ -93,16 +93,16 @@ by-present w k true e h = refl
 by-present w k false e h = absurd (omega (arith, ap (λ (l : Lane). l .given .weight) (lane-absent w k e)))
 
 -- a lane with a weight is in the setup
-pub weight-present : (w : List ℕ) (k : ℕ) → k < 64 → 0 < laneAt (stateOf w) k .given .weight → presentAt w k ≡ true
-weight-present w k hk h = by-present w k (presentAt w k) refl (rw (lane-is w k hk) at h)
+pub weight-present : (w o : List ℕ) (k : ℕ) → k < 64 → 0 < laneAt (stateOf w o) k .given .weight → presentAt w k ≡ true
+weight-present w o k hk h = by-present w k (presentAt w k) refl (rw (lane-is w o k hk) at h)
 
 by-holds : (w : List ℕ) (k : ℕ) (b : Bool) → presentAt w k ≡ b → holds (laneOf w k) ≡ true → b ≡ true
 by-holds w k true e h = refl
 by-holds w k false e h = sym (ap holds (lane-absent w k e)) ∙ h
 
 -- and so is one that holds records
-pub holds-present : (w : List ℕ) (k : ℕ) → k < 64 → holds (laneAt (stateOf w) k) ≡ true → presentAt w k ≡ true
-holds-present w k hk h = by-holds w k (presentAt w k) refl (rw (lane-is w k hk) at h)
+pub holds-present : (w o : List ℕ) (k : ℕ) → k < 64 → holds (laneAt (stateOf w o) k) ≡ true → presentAt w k ≡ true
+holds-present w o k hk h = by-holds w k (presentAt w k) refl (rw (lane-is w o k hk) at h)
 
 -- ---- what its row says of a lane in the setup
 

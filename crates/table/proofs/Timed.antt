@@ -19,6 +19,12 @@ unfolding timed
 timed-waiting g x [] = refl
 timed-waiting g x (r ∷ rs) = refl
 
+-- a holding lane's clock word is its S
+pub timed-start : (g : Setting) (x : ℕ) (q : List Rec) → some? (head q) ≡ true → timed g x q .start ≡ x
+unfolding timed
+timed-start g x [] h = absurd (false≢true h)
+timed-start g x (r ∷ rs) h = refl
+
 -- put on a holding lane
 pub timed-appended : (g : Setting) (x : ℕ) (q : List Rec) (r : Rec) → some? (head q) ≡ true → appended (timed g x q) r ≡ timed g x (q ++ r ∷ [])
 unfolding timed appended enter

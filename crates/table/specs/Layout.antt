@@ -1,9 +1,10 @@
--- Where a table's parts lie, in 64-bit words (docs/TABLE.md), and what a store leaves.
+-- Where a table's parts lie (docs/TABLE.md), and what a store leaves. The first 1,360 words are single words, the lanes' rows and the rings of their
+-- records; behind them lie the slot lists (crate slot_lists).
 --
+--   SIZE, Room       the fixed size of a table, in bytes; bytes that are long enough for it
 --   placesWord       the first word of the rings' places
---   WORDS, Room      the number of words; bytes that are long enough for them
---   cells            the words of a table's bytes
---   Now              what a store leaves: the words, and the bytes past the table
+--   WORDS, cells     the number of the first part's words; the words themselves
+--   Now              what a store in the first part leaves: its words, and every byte behind it
 --   laneWord         the first of lane k's words: setting, clock, ring
 --   placeWord        the word of lane k's place i, i counted on past the ring's end
 --   framingWord      the word of h, the line's framing bytes
@@ -16,9 +17,17 @@ use Prim.Native.Nat.{ℕ, _+_, _*_, _/_, _%_, _^_, _≤_}
 use mathlib.Core.List.{List}
 use lib.ListN.{length, drop, getD, set}
 use Rattle.words.specs.Words.{wordsOf}
+use Rattle.rings.specs.Rings.{ringsEnd}
 use Rattle.rules.specs.State.{laneDepth}
 use Rattle.table.specs.declared.LaneRow.{LaneRow}
 use Rattle.table.specs.declared.Entry.{Entry}
+
+-- 45,056: the rings of the slot lists come last
+abbrev pub SIZE : ℕ
+SIZE = ringsEnd
+
+abbrev pub Room : List ℕ → Type 0
+Room t = SIZE ≤ length t
 
 -- the first word of the places, behind the 64 rows
 abbrev pub placesWord : ℕ
@@ -27,9 +36,6 @@ placesWord = 336
 -- 1,360
 abbrev pub WORDS : ℕ
 WORDS = placesWord + laneDepth * 64
-
-abbrev pub Room : List ℕ → Type 0
-Room t = WORDS * 8 ≤ length t
 
 unfoldable pub cells : List ℕ → List ℕ
 cells t = wordsOf WORDS t
@@ -46,15 +52,9 @@ clockWord = 0
 abbrev pub presentWord : ℕ
 presentWord = 1
 
-abbrev pub holdingWord : ℕ
-holdingWord = 2
-
 -- "a fixed number of framing bytes" that each record costs beside its own: one number for the whole table
 abbrev pub framingWord : ℕ
 framingWord = 4
-
-abbrev pub orderWord : ℕ
-orderWord = 16
 
 -- ---- a lane
 

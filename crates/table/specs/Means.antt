@@ -4,10 +4,12 @@
 --   Next        the next lane in the setup
 --   timed       a lane by its setting, its one clock word and its queue
 --   laneOf      lane k; one that is not in the setup means nothing, whatever its words hold
---   stateOf     the state
+--   stateOf     the state of the first part's words, with a tie order
+--   meant       the state of a table's bytes: the tie order is the slot lists, one behind the other
 --   Beside      what is stored beside the state: c and the group of each present lane; h within its numbers
---   Sound       what the inner functions rest on
---   Leaves      what a function leaves: a state, what is stored beside it, and the bytes past the table
+--   Listed      the slot lists and the groups' starts are those of the lanes
+--   Sound       what the inner functions rest on, in the middle of a call too
+--   Leaves      what a function that stores in the first part leaves: a state, what is stored beside it, and every byte behind that part
 --
 -- Assumes nothing.
 use mathlib.Core.Path.{_≡_}
@@ -15,14 +17,16 @@ use mathlib.Core.Bool.{Bool, true}
 use Prim.Native.Nat.{ℕ, _+_, _*_, _/_, _%_, _^_, _≤_, _<_}
 use mathlib.Core.List.{List, [], _∷_}
 use lib.Dec.{eqb}
-use lib.ListN.{length, drop, getD, set}
+use lib.ListN.{drop, getD, set}
 use Rattle.words.specs.Bits.{bit}
-use Rattle.words.specs.Runs.{reads, tab}
+use Rattle.words.specs.Runs.{tab}
 use Rattle.units.specs.Plain.{if_then_else_}
 use Rattle.waiting.specs.Waiting.{plain}
 use Rattle.rules.specs.State.{Rec, Setting, Lane, State, charge, rate, group, noLane}
 use Rattle.rules.specs.Setup.{InNumbers}
-use Rattle.table.specs.Layout.{WORDS, Room, cells, clockWord, presentWord, holdingWord, orderWord, placeWord, rowAt}
+use Rattle.slot_lists.specs.Lists.{backAt, listAt, startAt, Solid}
+use Rattle.filing.specs.Filing.{inARow, Agrees}
+use Rattle.table.specs.Layout.{WORDS, Room, cells, clockWord, presentWord, placeWord, rowAt}
 use Rattle.table.specs.declared.LaneRow.{LaneRow}
 
 unfoldable pub presentAt : List ℕ → ℕ → Bool
@@ -56,12 +60,12 @@ rowLane w k l = timed (givenOf l) (l .time .0) (ringOf w k (l .head) (l .count))
 unfoldable pub laneOf : List ℕ → ℕ → Lane
 laneOf w k = if presentAt w k then rowLane w k (rowAt w k) else noLane
 
-unfoldable pub stateOf : List ℕ → State
-stateOf w = record { clock = getD w clockWord 0; lanes = tab 64 (laneOf w); order = reads w orderWord (getD w holdingWord 0) }
+unfoldable pub stateOf : List ℕ → List ℕ → State
+stateOf w order = record { clock = getD w clockWord 0; lanes = tab 64 (laneOf w); order = order }
 
--- the state of a table's bytes
+-- No call looks at the order of two lanes of different lists, so any row of the lists will do (crate alike).
 abbrev pub meant : List ℕ → State
-meant t = stateOf (cells t)
+meant t = stateOf (cells t) (inARow (listAt t))
 
 -- ---- what is stored beside the state
 
@@ -75,12 +79,16 @@ pub record RowAgrees (l : LaneRow) : Type 0 where
 pub record Beside (w : List ℕ) : Type 0 where
   pub rows : (k : ℕ) → k < 64 → presentAt w k ≡ true → RowAgrees (rowAt w k)
 
+-- each lane that holds records stands in the list of its group and of the slot of its S, and in no other; each group's start is the least R of its lanes
+pub record Listed (t : List ℕ) : Type 0 where
+  pub solid : Solid t
+  pub agrees : Agrees (backAt t) (listAt t) (startAt t) (meant t)
+
 -- ---- contracts
 
--- the tie order keeps to its 64 places: a good state's does (proofs/Few.antt)
+-- A lane has its new S before it is moved to another list, so this does not ask for `Listed`.
 pub record Sound (t : List ℕ) : Type 0 where
   pub room : Room t
-  pub few : length (meant t .order) ≤ 64
   pub beside : Beside (cells t)
 
 pub record Leaves (before after : List ℕ) (s : State) : Type 0 where
@@ -95,6 +103,3 @@ withClock s v = record { clock = v; lanes = s .lanes; order = s .order }
 
 abbrev pub withLane : State → ℕ → Lane → State
 withLane s k l = record { clock = s .clock; lanes = set (s .lanes) k l; order = s .order }
-
-abbrev pub withOrder : State → List ℕ → State
-withOrder s o = record { clock = s .clock; lanes = s .lanes; order = o }

@@ -1,16 +1,18 @@
-// The lent table: a state of `rules` in 1,360 words of lent bytes (docs/TABLE.md).
+// The lent table: a state of `rules` in 45,056 lent bytes (docs/TABLE.md). This crate reads and stores its first 1,360 words: the clock, the lanes' rows
+// and the rings of their records. Behind them lie the slot lists, by which a table has its tie order: crates `slot_lists` and `filing`.
 //
-// Three views, each over the one below: bytes; words (`cells`), where a store is one `set`; and the state that the words mean (`stateOf`,
-// specs/Means.antt). `Encodes` (specs/Encodes.antt) says when bytes encode a state. Queues, the tie order, fresh tables and the good-table test are in
-// the crates beside this one: `queue`, `order`, `fresh`, `good`.
+// Three views, each over the one below: bytes; words (`cells`), where a store is one `set`; and the state that they mean (`meant`,
+// specs/Means.antt). `Encodes` (specs/Encodes.antt) says when bytes encode a state. Queues, fresh tables and the good-table test are in
+// the crates beside this one: `queue`, `fresh`, `good`.
 //
 // Units: lengths are `Bytes`, times are `Clock`, c is a `Rate`. These are inner functions: a `requires` says what the crates above keep.
 ghost use mathlib.Core.Path.{_≡_};
 ghost use Prim.Native.Nat.{_+_, _*_, _^_, _<_, _≤_};
-ghost use lib.ListN.{length, getD, set};
+ghost use lib.ListN.{getD, set};
 ghost use Rattle.table.specs.Layout.{Room, WORDS, Now, cells, rowAt, putRow, entryOf, entryWord, placeWord};
 ghost use Rattle.rules.specs.State.{charge};
 ghost use Rattle.table.specs.Means.{presentAt, Next, givenOf, meant, Sound, Leaves, withClock};
+use rings::END;
 use units::Bytes;
 use units::Clock;
 use units::Rate;
@@ -23,17 +25,12 @@ pub const LANES: usize = 64;
 // Each lane holds at most 16 records.
 pub const DEPTH: u64 = 16;
 
-// The words of the clock, of the present lanes, of the number of holding lanes, of the line's framing bytes, and the first ones of the tie order, the
-// rows and the rings.
+// The words of the clock, of the present lanes, of the line's framing bytes, and the first ones of the rows and the rings.
 pub const CLOCK: usize = 0;
 
 pub const PRESENT: usize = 1;
 
-pub const HOLDING: usize = 2;
-
 pub const FRAMING: usize = 4;
-
-pub const ORDER: usize = 16;
 
 pub const ROWS: usize = 80;
 
@@ -44,8 +41,8 @@ pub const ROW_WORDS: usize = 4;
 
 const RING_WORDS: usize = DEPTH as usize;
 
-// The fixed size of a table, in bytes: 1,360 words.
-pub const SIZE: usize = 8 * (PLACES + RING_WORDS * LANES);
+// The fixed size of a table, in bytes: 45,056, where the rings of the slot lists end.
+pub const SIZE: usize = END;
 
 // Where weight, group and c begin in a setting word, after longest.
 pub const WEIGHT_UNIT: u64 = 65536;
@@ -187,22 +184,6 @@ pub fn set_clock(t: &mut [u8], v: Clock)
     ensures { λ _. ⌜ Leaves (now (t .entry)) (now (t .exit)) (withClock (meant (now (t .entry))) (v .0)) ⌝ }
 {
     set_cell(t, CLOCK, v.0);
-}
-
-// How many lanes hold records.
-pub fn holding(t: &[u8]) -> usize
-    requires { ⌜ Room (now t) ⌝ }
-    ensures { λ r. ⌜ r ≡ length (meant (now (t .entry)) .order) ⌝ }
-{
-    cell(t, HOLDING) as usize
-}
-
-// The lane at place `i` of the tie order.
-pub fn order_at(t: &[u8], i: usize) -> usize
-    requires { ⌜ Sound (now t) × (i < length (meant (now t) .order)) ⌝ }
-    ensures { λ r. ⌜ r ≡ getD (meant (now (t .entry)) .order) i 0 ⌝ }
-{
-    cell(t, ORDER + i) as usize
 }
 
 // What a record of this length is charged for in this lane: its own length and the line's framing bytes.

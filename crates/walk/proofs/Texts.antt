@@ -10,22 +10,18 @@
 use Prim.Native.Nat.{ℕ, _+_, _*_, _≤_}
 use native.Mathlib.Nat.{zero-add}
 use native.Mathlib.Omega.{arith}
-use mathlib.Core.Path.{_≡_, refl, subst, _∙_}
+use mathlib.Core.Path.{_≡_, refl, _∙_}
 use mathlib.Core.List.{List, [], _++_}
 use lib.ListN.{length, drop, length-append}
 use lib.Seq.{sets-eq}
-use Rattle.rules.specs.State.{State, Setting}
+use Rattle.rules.specs.State.{Setting}
 use Rattle.rules.specs.Reads.{number, placeOf}
 use Rattle.rules.specs.declared.Refusal.{Refusal}
-use Rattle.alike.proofs.Alike.{alike-refl}
-use Rattle.alike.specs.Alike.{Alike}
 use Rattle.plan.specs.Read as plan
 use Rattle.table.specs.Means.{meant}
-use Rattle.table.specs.Encodes.{Encodes}
 use Rattle.fresh.specs.Makes.{Makes}
 use Rattle.lines.specs.Line.{noLine, lanesLine, endLine, Wrote, Line}
 use Rattle.lines.proofs.Writing.{wrote-both}
-use Rattle.answers.specs.Answers.{Made}
 use Rattle.walk.specs.Script as Script
 use Rattle.walk.specs.Script.{walk, closing, finished, script}
 use Rattle.walk.specs.Follows.{whyIs, Follows}
@@ -50,9 +46,6 @@ module _ {a a′ : List ℕ} {at n next : ℕ} where
     most = omega (arith, l .most, m .most, length-append (noLine (number x) (placeOf x)) (endLine n));
   }
 
-encodes : (t : List ℕ) (σ : State) → Made t → meant t ≡ σ → Encodes t σ
-encodes t σ m e = record { room = m .room; alike = subst (Alike (meant t)) e (alike-refl (meant t)); beside = m .beside }
-
 pub requested-is : (lanes : ℕ) {limit : ℕ} {t t′ a a₁ a₂ a₃ : List ℕ} {start end : ℕ} {r : Walked.Walked} {w : Script.Walked}
     → Line a a₁ 0 (lanesLine lanes) start → Walks limit t t′ a₁ a₂ start r w → Closes a₂ a₃ (r .next) (r .why) (r .answered) end → 64 * (limit + 2) ≤ length a
     → Follows t t′ a a₃ (record { answered = r .answered; written = end; why = r .why }) (finished lanes w)
@@ -66,7 +59,7 @@ requested-is lanes {limit} {t} {t′} {a} {a₁} {a₂} {a₃} {start} {end} {r}
       written = all .past ∙ zero-add (length text);
       why = k .why;
       answers = written a a₃ text all (omega (arith, all .past, c .wrote .past, c .most, k .fits));
-      table = record { encodes = encodes t′ (w .state) (k .made) (k .state); rest = k .rest };
+      table = record { encodes = k .encodes; rest = k .rest };
     }
 
 module _ (s : List ℕ) (limit : ℕ) where

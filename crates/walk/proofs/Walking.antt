@@ -11,19 +11,22 @@
 use Prim.Native.Nat.{ℕ, suc, _+_, _-_, _*_, _≤_, _<_}
 use native.Mathlib.Nat.{sub-zero, add-zero}
 use native.Mathlib.Omega.{arith}
-use mathlib.Core.Path.{_≡_, refl, sym, ap, _∙_}
+use mathlib.Core.Path.{_≡_, refl, sym, ap, subst, _∙_}
 use mathlib.Core.List.{List, [], _++_}
 use mathlib.Core.Option.{Option}
 use lib.ListN.{length, drop, length-append}
 use lib.Seq.{length-sets}
 use Rattle.rules.specs.State.{State}
-use Rattle.rules.specs.Calls.{Call, step}
-use Rattle.table.specs.Layout.{WORDS}
+use Rattle.rules.specs.Calls.{Call, Reply, step}
+use Rattle.table.specs.Layout.{SIZE}
+use Rattle.alike.proofs.Alike.{alike-refl}
 use Rattle.table.specs.Means.{meant}
-use Rattle.lines.specs.Line.{lineOf, Wrote}
+use Rattle.table.specs.Encodes.{Encodes}
+use Rattle.lines.specs.Line.{lineOf, Wrote, Line}
 use Rattle.lines.proofs.Writing.{wrote-both}
 use Rattle.requests.specs.Request.{request, last, bad, itemAt}
 use Rattle.answers.specs.Answers.{Made, Answers}
+use Rattle.answers.proofs.Made.{encodes-step, reply-step}
 use Rattle.answers.specs.declared.Tally.{Tally}
 use Rattle.walk.specs.Script.{atLimit, refusal, closed, walk}
 use Rattle.walk.specs.Follows.{whyIs}
@@ -54,19 +57,24 @@ module _ (s : List ℕ) (limit at n : ℕ) (lines : List ℕ) (σ : State) where
 
 pub record Stands (s : List ℕ) (from limit : ℕ) (t₀ a₀ : List ℕ) (start : ℕ) (t a : List ℕ) (at next n : ℕ) : Type 0 where
   pub lines : List ℕ
-  pub same : walk (limit - n) s at n lines (meant t) ≡ walk limit s from 0 [] (meant t₀)
+  -- the script's state, which the table encodes
+  pub state : State
+  pub same : walk (limit - n) s at n lines state ≡ walk limit s from 0 [] (meant t₀)
   pub wrote : Wrote a₀ a start lines next
   pub long : length lines ≤ 64 * n
+  pub encodes : Encodes t state
   pub made : Made t
-  pub rest : drop (WORDS * 8) t ≡ drop (WORDS * 8) t₀
+  pub rest : drop SIZE t ≡ drop SIZE t₀
   pub few : n ≤ limit
 
 pub stands-first : (s : List ℕ) (from limit : ℕ) (t a : List ℕ) (start : ℕ) → Made t → Stands s from limit t a start t a from start 0
 stands-first s from limit t a start m = record {
   lines = [];
+  state = meant t;
   same = rw sub-zero;
   wrote = record { is = refl; past = sym (add-zero start) };
   long = omega arith;
+  encodes = record { room = m .room; alike = alike-refl (meant t); beside = m .beside; listed = m .listed };
   made = m;
   rest = refl;
   few = omega arith;
@@ -90,17 +98,21 @@ module _ {s : List ℕ} {from limit : ℕ} {t₀ a₀ : List ℕ} {start : ℕ} 
 
   pub stands-next : n < limit → (c : Call) (at′ : ℕ) → itemAt s at ≡ request c at′ → {t′ a′ : List ℕ} {r : Tally} → Answers c t t′ a a′ (record { answered = n; next = next }) r
       → Stands s from limit t₀ a₀ start t′ a′ at′ (r .next) (r .answered)
-  stands-next l c at′ e x = rw (x .count) (record {
-    lines = i .lines ++ lineOf ((step (meant t) c) .reply);
-    same = rw (x .state) (sym (walk-request s limit at n (i .lines) (meant t) l c at′ e) ∙ i .same);
-    wrote = wrote-both (i .lines) (lineOf ((step (meant t) c) .reply)) (i .wrote) (x .line .wrote);
-    long = omega (arith, i .long, x .line .most, length-append (i .lines) (lineOf ((step (meant t) c) .reply)));
-    made = x .made;
-    rest = x .rest ∙ i .rest;
-    few = omega arith;
-  })
+  stands-next l c at′ e {t′} {a′} {r} x =
+      let line : Line a a′ next (lineOf ((step (i .state) c) .reply)) (r .next) = subst (λ (y : Reply). Line a a′ next (lineOf y) (r .next)) (reply-step t c (i .state) (i .made) (i .encodes)) (x .line) in
+      rw (x .count) (record {
+        lines = i .lines ++ lineOf ((step (i .state) c) .reply);
+        state = (step (i .state) c) .state;
+        same = sym (walk-request s limit at n (i .lines) (i .state) l c at′ e) ∙ i .same;
+        wrote = wrote-both (i .lines) (lineOf ((step (i .state) c) .reply)) (i .wrote) (line .wrote);
+        long = omega (arith, i .long, line .most, length-append (i .lines) (lineOf ((step (i .state) c) .reply)));
+        encodes = encodes-step t t′ c (i .state) (i .made) (i .encodes) (x .state);
+        made = x .made;
+        rest = x .rest ∙ i .rest;
+        few = omega arith;
+      })
 
-  pub stops : (w : Stop.Stop) → walk (limit - n) s at n (i .lines) (meant t) ≡ record { lines = i .lines; count = n; why = whyIs w; state = meant t }
+  pub stops : (w : Stop.Stop) → walk (limit - n) s at n (i .lines) (i .state) ≡ record { lines = i .lines; count = n; why = whyIs w; state = i .state }
       → next + 64 * lineCount w ≤ 64 * (limit + 2)
       → Walks limit t₀ t a₀ a start (record { answered = n; next = next; why = w }) (walk limit s from 0 [] (meant t₀))
-  stops w e f = rw (sym (i .same) ∙ e) (record { count = refl; why = refl; wrote = i .wrote; state = refl; made = i .made; rest = i .rest; fits = f })
+  stops w e f = rw (sym (i .same) ∙ e) (record { count = refl; why = refl; wrote = i .wrote; encodes = i .encodes; rest = i .rest; fits = f })

@@ -5,14 +5,14 @@
 --   Follows   the result, the answer area and the table are those of a script
 --
 -- Assumes nothing.
-use Prim.Native.Nat.{ℕ, _*_}
+use Prim.Native.Nat.{ℕ}
 use mathlib.Core.Path.{_≡_}
 use mathlib.Core.List.{List, _++_}
 use mathlib.Core.Option.{Option, none, some}
 use lib.ListN.{length, drop}
 use Rattle.rules.specs.State.{State}
 use Rattle.rules.specs.Reads.{number, placeOf}
-use Rattle.table.specs.Layout.{WORDS}
+use Rattle.table.specs.Layout.{SIZE}
 use Rattle.table.specs.Encodes.{Encodes}
 use Rattle.walk.specs.Script.{Why, atEnd, atLimit, refusal, Script}
 use Rattle.walk.specs.declared.Stop as Stop
@@ -26,7 +26,7 @@ whyIs (Stop.the-variants.Refused x) = refusal (number x) (placeOf x)
 -- "the run's table keeps what the answered requests made of it"; "Bytes past the fixed size are never touched"
 pub record Tabled (t t′ : List ℕ) (σ : State) : Type 0 where
   pub encodes : Encodes t′ σ
-  pub rest : drop (WORDS * 8) t′ ≡ drop (WORDS * 8) t
+  pub rest : drop SIZE t′ ≡ drop SIZE t
 
 -- "A refusal changes no lent table": every byte stays after 17, 7 or a refused setup
 abbrev pub Table : List ℕ → List ℕ → Option State → Type 0

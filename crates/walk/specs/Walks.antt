@@ -9,10 +9,9 @@ use Prim.Native.Nat.{ℕ, _+_, _*_, _≤_}
 use mathlib.Core.Path.{_≡_}
 use mathlib.Core.List.{List}
 use lib.ListN.{length, drop}
-use Rattle.table.specs.Layout.{WORDS}
-use Rattle.table.specs.Means.{meant}
+use Rattle.table.specs.Layout.{SIZE}
+use Rattle.table.specs.Encodes.{Encodes}
 use Rattle.lines.specs.Line.{Wrote}
-use Rattle.answers.specs.Answers.{Made}
 use Rattle.walk.specs.Script as Script
 use Rattle.walk.specs.Follows.{whyIs}
 use Rattle.walk.specs.declared.Stop as Stop
@@ -29,9 +28,8 @@ pub record Walks (limit : ℕ) (t t′ a a′ : List ℕ) (start : ℕ) (r : Wal
   pub count : r .answered ≡ w .count
   pub why : whyIs (r .why) ≡ w .why
   pub wrote : Wrote a a′ start (w .lines) (r .next)
-  pub state : meant t′ ≡ w .state
-  pub made : Made t′
-  pub rest : drop (WORDS * 8) t′ ≡ drop (WORDS * 8) t
+  pub encodes : Encodes t′ (w .state)
+  pub rest : drop SIZE t′ ≡ drop SIZE t
   pub fits : r .next + 64 * lineCount (r .why) ≤ 64 * (limit + 2)
 
 pub record Closes (a a′ : List ℕ) (at : ℕ) (why : Stop.Stop) (n next : ℕ) : Type 0 where

@@ -1,5 +1,5 @@
 -- A table that zf_make told as made begins a list. Assumes nothing.
-use Prim.Native.Nat.{ℕ, _*_, _≤_, _<_}
+use Prim.Native.Nat.{ℕ, _≤_, _<_}
 use native.Mathlib.Omega.{arith}
 use mathlib.Core.Path.{_≡_, refl, sym, ap, _∙_}
 use mathlib.Core.Logic.{_⊎_, inl, inr}
@@ -11,7 +11,7 @@ use Rattle.rules.specs.declared.Refusal.{Refusal}
 use Rattle.rules.specs.declared.Refusal.the-variants.{Cut, UnknownTag, WrongLength, OutOfOrder, OutsideNumbers, WeightsOver, TableShort, NotGood, NoLane, BadLength, LaneFull, ClockSpent, StillHolds, NothingHeld, RunBounds, InputLong}
 use Rattle.plan.specs.Read as plan
 use Rattle.plan.specs.Read.{readSetup}
-use Rattle.table.specs.Layout.{WORDS}
+use Rattle.table.specs.Layout.{SIZE}
 use Rattle.scheduler.specs.Make as making
 use Rattle.scheduler.specs.Make.{MakeStep}
 use Rattle.scheduler.specs.declared.Making.{Making}
@@ -41,7 +41,7 @@ number-not-0 RunBounds e = omega arith
 number-not-0 InputLong e = omega arith
 
 module _ (setup before t out out′ : List ℕ) (n : ℕ) (m : MakeStep setup before (Made n) t) (w : Spoken out (makeValues (making.made n)) out′) where
-  by-plan : WORDS * 8 ≤ length before → (y : plan.Reply) → readSetup setup ≡ y → making.Follows y before (Made n) t → Begun setup t out′
+  by-plan : SIZE ≤ length before → (y : plan.Reply) → readSetup setup ≡ y → making.Follows y before (Made n) t → Begun setup t out′
   by-plan h (plan.refused k p) e f = let is = f .0 in let z : _≡_ {A = ℕ} 0 1 = cc in absurd (omega arith)
   by-plan h (plan.read gs k at) e f =
       let is = f .0 in
@@ -54,7 +54,7 @@ module _ (setup before t out out′ : List ℕ) (n : ℕ) (m : MakeStep setup be
         led = by-make gs t (record { setup = setup; before = before; answer = Made n; lanes = k; at = at; reads-it = e; room = h; makes = m });
       }
 
-  by-room : (WORDS * 8 ≤ length before) ⊎ (length before < WORDS * 8) → Begun setup t out′
+  by-room : (SIZE ≤ length before) ⊎ (length before < SIZE) → Begun setup t out′
   by-room (inl h) = by-plan h (readSetup setup) refl (m .follows h)
   by-room (inr h) = let is = m .short h .0 in let z : _≡_ {A = ℕ} 0 1 = cc in absurd (omega arith)
 
@@ -63,7 +63,7 @@ unfolding HostMakes
 host-makes setup before t out out′ r x zero = go (le-or-lt 32 (length out))
   where
     made : (a : Making) → MakeStep setup before a t → r ≡ makeCode (making.reads a) → Spoken out (makeValues (making.reads a)) out′ → Begun setup t out′
-    made (Made n) m c w = by-room setup before t out out′ n m w (le-or-lt (WORDS * 8) (length before))
+    made (Made n) m c w = by-room setup before t out out′ n m w (le-or-lt SIZE (length before))
     made (Refused y) m c w = absurd (number-not-0 y (sym c ∙ zero))
 
     go : (32 ≤ length out) ⊎ (length out < 32) → Begun setup t out′

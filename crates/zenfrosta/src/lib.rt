@@ -6,13 +6,13 @@
 // The contracts are of slices, as Rust lends them: no area that is written overlaps another one of the call. Safe Rust cannot lend otherwise; a host in C can,
 // and nothing here finds it out, so include/zenfrosta.h asks it of the host.
 ghost use mathlib.Core.Path.{_≡_};
-ghost use Prim.Native.Nat.{_*_, _≤_};
+ghost use Prim.Native.Nat.{_≤_};
 ghost use mir.Syntax.{w64};
 ghost use mir.Val.{ofZ};
 ghost use lib.ListN.{length};
 ghost use Rattle.rules.specs.Calls as Calls;
 ghost use Rattle.rules.specs.Reads as Reads;
-ghost use Rattle.table.specs.Layout.{WORDS};
+ghost use Rattle.table.specs.Layout.{SIZE};
 ghost use Rattle.scheduler.specs.Make as Make;
 ghost use Rattle.walk.specs.Follows.{whyIs};
 ghost use Rattle.session.specs.Ran.{Ran};
@@ -190,7 +190,7 @@ fn tell(out: &mut [u8], x: Answer) -> u64
 // The fixed size of a table, in bytes.
 #[no_mangle]
 pub extern "C" fn zf_table_size() -> u64
-    ensures { λ r. ⌜ r ≡ WORDS * 8 ⌝ }
+    ensures { λ r. ⌜ r ≡ SIZE ⌝ }
 {
     scheduler::SIZE as u64
 }

@@ -11,7 +11,7 @@ mod boundary;
 pub use board::{board_size, Board, BoardRefusal, Handover, Kind, BOARD_SIZE, LINES};
 
 /// The fixed size of a table in bytes; bytes past it are never touched.
-pub const TABLE_SIZE: usize = 10_880;
+pub const TABLE_SIZE: usize = 45_056;
 
 /// The greatest limit of a run.
 pub const MOST_REQUESTS: u64 = 1_000;

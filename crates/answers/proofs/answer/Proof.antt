@@ -29,11 +29,11 @@ returns : tie.Need-returns
 returns c =
     let s = c .before .before .before .before .before .before .before .before .before .before .before in
     let k = c .before .before .before .before .before .before .before .call in
-    let m = made-step (s .args .t .now) (k .last .0) (callIs (s .args .q)) (s .pre .0) (omega (arith, k .kept .0, s .pre .0 .room)) (k .ensures .leaves) in
+    let m = made-step (s .args .t .now) (k .last .0) (callIs (s .args .q)) (s .pre .0) (k .ensures .encodes) in
     record {
       made = m;
-      state = k .ensures .leaves .state;
-      rest = k .ensures .leaves .rest;
+      state = k .ensures .encodes;
+      rest = k .ensures .rest;
       line = rw (k .ensures .says) at (c .before .before .before .put-answer .ensures);
       count = refl;
     }

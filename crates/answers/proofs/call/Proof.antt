@@ -57,19 +57,19 @@ same-length-3 : tie.Need-same-length-3
 same-length-3 c = search needs
 
 returns-3 : tie.Need-returns-3
-returns-3 c = rw (c .before .before .enum-told2 .given .1) (looks-does look (c .before .before .before .before .before .args .t .now) (c .look .result) (look-still _) (c .look .ensures))
+returns-3 c = rw (c .before .before .enum-told2 .given .1) (looks-does look (c .before .before .before .before .before .args .t .now) (c .look .result) (c .before .before .before .before .before .pre) (look-still _) (c .look .ensures))
 
 same-length-4 : tie.Need-same-length-4
 same-length-4 c = search needs
 
 returns-4 : tie.Need-returns-4
-returns-4 c = rw (c .before .before .enum-told3 .given .1) (looks-does sets (c .before .before .before .before .before .args .t .now) (c .sets .result) (sets-still _) (c .sets .ensures))
+returns-4 c = rw (c .before .before .enum-told3 .given .1) (looks-does sets (c .before .before .before .before .before .args .t .now) (c .sets .result) (c .before .before .before .before .before .pre) (sets-still _) (c .sets .ensures))
 
 same-length-5 : tie.Need-same-length-5
 same-length-5 c = search needs
 
 returns-5 : tie.Need-returns-5
-returns-5 c = rw (c .before .before .before .q2 .given .1) (looks-does (lag (c .before .before .before .q2 .given .0 .0)) (c .before .before .before .before .before .before .args .t .now) (c .lag .result) (lag-still _ (c .before .before .before .q2 .given .0 .0)) (c .lag .ensures))
+returns-5 c = rw (c .before .before .before .q2 .given .1) (looks-does (lag (c .before .before .before .q2 .given .0 .0)) (c .before .before .before .before .before .before .args .t .now) (c .lag .result) (c .before .before .before .before .before .before .pre) (lag-still _ (c .before .before .before .q2 .given .0 .0)) (c .lag .ensures))
 
 same-length-6 : tie.Need-same-length-6
 same-length-6 c = search needs

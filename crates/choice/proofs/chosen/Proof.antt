@@ -1,65 +1,110 @@
--- `chosen` meets its contract. Assumes nothing.
-use mathlib.Core.Path.{sym, ap, subst, _∙_}
-use Prim.Native.Nat.{ℕ, _<_}
-use native.Mathlib.Nat.{pos-of-ne-zero}
-use lib.Count.{trailingZeros}
+use mathlib.Core.Path.{_≡_, sym, ap, subst, _∙_}
+use Prim.Native.Nat.{ℕ, _+_, _/_, _%_, _^_, _<_}
+use mathlib.Core.List.{List}
+use native.Mathlib.Omega.{arith}
+use lib.ListN.{length, getD}
+use Rattle.slot_lists.specs.Lists.{listIn, listAt}
+use Rattle.slot_lists.proofs.Laws.{map-on, start-some}
 use Rattle.table.specs.Means.{meant}
-use Rattle.choice.proofs.First.{none-ready, first-index, found-lane}
+use Rattle.choice.proofs.Leading.{starts-early, found-none, found-at, list-some, found-head, found-lane}
 use borrow.Author.Needs.{needs}
 use Rattle.choice.proofs.chosen.Statement.{statement}
 use Rattle.choice.proofs.chosen.Tie as tie
 use Rattle.choice.proofs.chosen.Reads as reads
 use Rattle.choice.proofs.chosen.Lts as lts
-use Rattle.choice.proofs.first_set.Reads as first-set-reads
-use Rattle.choice.proofs.group_starts.Reads as group-starts-reads
-use Rattle.choice.proofs.lane_at.Reads as lane-at-reads
-use Rattle.choice.proofs.sweep_down.Reads as sweep-down-reads
+use Rattle.groups.proofs.next_group.Reads as next-group-reads
+use Rattle.slot_lists.proofs.first.Reads as first-reads
+use Rattle.slot_lists.proofs.list_number.Reads as list-number-reads
+use Rattle.table.proofs.clock.Reads as clock-reads
+use Rattle.words.proofs.word.Reads as word-reads
 
-group-starts-requires : tie.Need-group-starts-requires
-group-starts-requires c κs = search needs
+-- src/lib.rt:128:9
+clock-requires : tie.Need-clock-requires
+clock-requires c κs = search needs
 
-sweep-down-requires : tie.Need-sweep-down-requires
-sweep-down-requires c κs = search needs
+-- src/lib.rt:129:9
+next-group-requires : tie.Need-next-group-requires
+next-group-requires c κs =
+    let p = c .before .before .pre in
+    (p .sound .room, p .listed .solid, starts-early _ (meant _) (p .good) (p .listed .agrees))
 
+-- src/lib.rt:131:9
 returns : tie.Need-returns
 returns c =
-    let s = c .before .before .before .before in
-    none-ready (meant (s .args .t .now)) (s .pre .good) (sym (c .before .sweep-down .ensures .er) ∙ c .if1 .taken)
+    let p = c .before .before .before .before .before .pre in
+    found-none _ (meant _) (p .good) (p .listed .solid .back-whole) (p .listed .agrees) _ (c .before .before .before .clock .ensures) _ (c .before .before .next-group .ensures) (c .if1 .taken)
 
-first-set-requires : tie.Need-first-set-requires
-first-set-requires c κs = search needs
+-- src/lib.rt:135:35
+word-requires : tie.Need-word-requires
+word-requires c κs = search needs
 
-cast-i : tie.Need-cast-i
-cast-i c = search needs
+-- src/lib.rt:135:9
+list-number-requires : tie.Need-list-number-requires
+list-number-requires c κs =
+    let p = c .before .before .before .before .before .before .pre in
+    let a = found-at _ (meant _) (p .good) (p .listed .solid .back-whole) (p .listed .agrees) _ (c .before .before .before .before .clock .ensures) _ (c .before .before .before .next-group .ensures) (c .before .if1 .left) in
+    (a .small, omega (arith, c .word .ensures, p .listed .solid .back-small), a .high)
 
-mul-start : tie.Need-mul-start
-mul-start c = search needs
+-- src/lib.rt:136:54
+cast-word : tie.Need-cast-word
+cast-word c = search needs
 
-element-copy-out-start : tie.Need-element-copy-out-start
-element-copy-out-start c =
-    let s = c .before .before .before .before .before in
-    rw (c .first-set .ensures) (first-index (meant (s .args .t .now)) (s .pre .good) _ (c .before .before .sweep-down .ensures .er) (pos-of-ne-zero (c .before .if1 .left)))
+-- src/lib.rt:136:46
+add-word : tie.Need-add-word
+add-word c = search needs
 
-lane-at-requires : tie.Need-lane-at-requires
-lane-at-requires c κs = search needs
+-- src/lib.rt:136:38
+word-requires-2 : tie.Need-word-requires-2
+word-requires-2 c κs =
+    let p = c .before .before .before .before .before .before .before .pre in
+    let a = found-at _ (meant _) (p .good) (p .listed .solid .back-whole) (p .listed .agrees) _ (c .before .before .before .before .before .clock .ensures) _ (c .before .before .before .before .next-group .ensures) (c .before .before .if1 .left) in
+    omega (arith, p .sound .room, a .high)
 
+-- src/lib.rt:136:9
+first-requires : tie.Need-first-requires
+first-requires c κs =
+    let s = c .before .before .before .before .before .before .before .before in
+    let p = s .pre in
+    let t = s .args .t .now in
+    let f = c .before .before .before .before .before .next-group .result in
+    let g = f .group in
+    let a = found-at t (meant t) (p .good) (p .listed .solid .back-whole) (p .listed .agrees) _ (c .before .before .before .before .before .before .clock .ensures) f (c .before .before .before .before .before .next-group .ensures) (c .before .before .before .if1 .left) in
+    let em = c .word2 .ensures ∙ sym (map-on t g (start-some t g (f .start) (a .start) .0)) in
+    let eb = c .before .list-number .ensures .0 ∙ ap (λ (x : ℕ). (f .start + x) / 2 ^ g % 32) (c .before .before .word .ensures) in
+    let some-lane = list-some t (meant t) (p .good) (p .listed .solid .back-whole) (p .listed .agrees) _ (c .before .before .before .before .before .before .clock .ensures) f (c .before .before .before .before .before .next-group .ensures) a in
+    (p .sound .room, a .low, a .high, c .before .list-number .ensures .1, subst (λ (l : List ℕ). 0 < length l) (ap (λ (b : ℕ). listAt t g b) (sym eb) ∙ ap (λ (m : ℕ). listIn t g m (c .before .list-number .result)) (sym em)) some-lane)
+
+-- src/lib.rt:124:1
 returns-2 : tie.Need-returns-2
 returns-2 c =
-    let s = c .before .before .before .before .before .before .before in
-    let w = c .before .before .before .before .sweep-down .ensures .er in
-    let g = c .before .before .first-set .ensures ∙ ap (trailingZeros 64) w in
-    c .lane-at .ensures ∙ rw g (found-lane (meant (s .args .t .now)) (s .pre .good) _ (c .before .before .before .before .before .group-starts .ensures) (subst (λ (x : ℕ). 0 < x) w (pos-of-ne-zero (c .before .before .before .if1 .left))))
+    let s = c .before .before .before .before .before .before .before .before .before in
+    let p = s .pre in
+    let t = s .args .t .now in
+    let f = c .before .before .before .before .before .before .next-group .result in
+    let g = f .group in
+    let a = found-at t (meant t) (p .good) (p .listed .solid .back-whole) (p .listed .agrees) _ (c .before .before .before .before .before .before .before .clock .ensures) f (c .before .before .before .before .before .before .next-group .ensures) (c .before .before .before .before .if1 .left) in
+    let em = c .before .word2 .ensures ∙ sym (map-on t g (start-some t g (f .start) (a .start) .0)) in
+    let eb = c .before .before .list-number .ensures .0 ∙ ap (λ (x : ℕ). (f .start + x) / 2 ^ g % 32) (c .before .before .before .word .ensures) in
+    let e = c .first .ensures .0 ∙ ap (λ (m : ℕ). getD (listIn t g m (c .before .before .list-number .result)) 0 0) em ∙ ap (λ (b : ℕ). getD (listAt t g b) 0 0) eb in
+    record {
+      chosen = sym (found-lane t (meant t) (p .good) (p .listed .solid .back-whole) (p .listed .agrees) _ (c .before .before .before .before .before .before .before .clock .ensures) f (c .before .before .before .before .before .before .next-group .ensures) a _ e);
+      low = a .low;
+      high = a .high;
+      start = a .start;
+      first = found-head t (meant t) (p .good) (p .listed .solid .back-whole) (p .listed .agrees) _ (c .before .before .before .before .before .before .before .clock .ensures) f (c .before .before .before .before .before .before .next-group .ensures) a _ e;
+    }
 
 pub chosen-spec : {M : Type 1} → statement M
 chosen-spec =
     tie.close
     (tie.spec
-    group-starts-requires
-    sweep-down-requires
+    clock-requires
+    next-group-requires
     returns
-    first-set-requires
-    cast-i
-    mul-start
-    element-copy-out-start
-    lane-at-requires
+    word-requires
+    list-number-requires
+    cast-word
+    add-word
+    word-requires-2
+    first-requires
     returns-2)

@@ -2,7 +2,7 @@
 use mathlib.Core.Path.{_≡_, refl, sym, ap, _∙_}
 use mathlib.Core.Bool.{Bool}
 use lib.Dec.{leb, ltb}
-use Rattle.choice.specs.Starts.{sortedInto}
+use Rattle.choice.specs.Sweep.{sortedInto}
 use Rattle.choice.proofs.Sweeps.{swept-eligible, swept-not-yet}
 use borrow.Author.Needs.{needs}
 use Rattle.choice.proofs.sweep_group.Statement.{statement}

@@ -9,7 +9,7 @@ use Rattle.rules.specs.State.{Lane, laneAt}
 use Rattle.rules.specs.Calls.{lag}
 use Rattle.rules.specs.declared.Refusal.the-variants.{NoLane}
 use Rattle.table.specs.Means.{meant}
-use Rattle.choice.proofs.Held.{known-steady}
+use Rattle.choice.proofs.Held.{start-small}
 use Rattle.engine.proofs.RowIs.{RowIs, row-weighs, read-row, absent-lane, far-lane, count-idle, count-holds}
 use Rattle.engine.proofs.Replies.{refusal-says, lag-none, lag-busy, lag-idle, idle-small}
 use borrow.Author.Needs.{needs}
@@ -74,7 +74,7 @@ difference-requires-2 c κs =
     let s = a .before .before .before .before .before in
     let v = c .before .before .clock .ensures in
     let busy = count-holds (laneAt (meant (s .args .t .now)) (s .args .lane)) _ (s .pre .good .waiting (s .args .lane)) (row-known a .held) (pos-of-ne-zero (c .if3 .left)) in
-    let start = known-steady (s .args .t .now) (s .pre) .early (s .args .lane) busy in
+    let start = start-small (meant (s .args .t .now)) (s .pre .good) (s .args .lane) busy in
     (omega (arith, v, s .pre .good .clock, row-known a .busy busy, start), omega (arith, v, s .pre .good .clock, row-known a .busy busy, start))
 
 returns-4 : tie.Need-returns-4

@@ -1,16 +1,13 @@
--- `look` meets its contract. Assumes nothing.
 use mathlib.Core.Path.{_≡_, refl, sym, ap, subst, _∙_}
-use mathlib.Core.Bool.{true}
-use Prim.Native.Nat.{ℕ, _<_}
 use native.Mathlib.Omega.{arith}
-use Rattle.rules.specs.State.{Rec, holds, laneAt}
+use Rattle.rules.specs.State.{Rec}
 use Rattle.rules.specs.Calls.{look}
 use Rattle.rules.specs.declared.Refusal.the-variants.{NothingHeld}
-use Rattle.table.specs.Means.{meant, Sound}
-use Rattle.queue.specs.Queue.{First}
-use Rattle.choice.specs.Known.{choiceIs}
-use Rattle.engine.proofs.Replies.{found, look-says, look-none, refusal-says}
-use Rattle.engine.proofs.Serving.{pick-holds, pick-small, pick-first}
+use Rattle.table.specs.Means.{meant}
+use Rattle.choice.specs.Known.{ChoiceIs}
+use Rattle.engine.proofs.Replies.{look-says, look-none, refusal-says}
+use Rattle.engine.proofs.Serving.{f, lane-holds, lane-small, seen-is}
+use Rattle.engine.proofs.Handing.{at-chosen}
 use borrow.Author.Needs.{needs}
 use Rattle.engine.proofs.look.Statement.{statement}
 use Rattle.engine.proofs.look.Tie as tie
@@ -19,45 +16,47 @@ use Rattle.engine.proofs.look.Lts as lts
 use Rattle.choice.proofs.chosen.Reads as chosen-reads
 use Rattle.queue.proofs.first.Reads as first-reads
 
+-- src/lib.rt:200:9
 chosen-requires : tie.Need-chosen-requires
 chosen-requires c κs = search needs
 
+-- src/lib.rt:202:23
 enum-known-choice : tie.Need-enum-known-choice
 enum-known-choice c = search needs
 
+-- src/lib.rt:204:17
 first-requires : tie.Need-first-requires
 first-requires c κs =
     let s = c .before .before .before .before .before in
-    let t = s .args .t .now in
-    let f = found (meant t) _ (sym (c .before .before .before .chosen .ensures) ∙ ap choiceIs (c .before .choice .given .1)) in
-    let p = f .pick in
-    subst (λ (j : ℕ). Sound t × (j < 64) × (holds (laneAt (meant t) j) ≡ true)) (f .lane) (s .pre .sound, pick-small t (s .pre) p (f .is), pick-holds t (s .pre) p (f .is))
+    let a = at-chosen _ (s .pre) _ (subst (ChoiceIs _) (c .before .choice .given .1) (c .before .before .before .chosen .ensures)) in
+    (s .pre .sound, lane-small _ (meant _) _ _ _ a, lane-holds _ (meant _) _ _ _ a)
 
-cast-t8 : tie.Need-cast-t8
-cast-t8 c =
+-- src/lib.rt:207:23
+cast-t9 : tie.Need-cast-t9
+cast-t9 c =
     let s = c .before .before .before .before .before .before .before in
-    let t = s .args .t .now in
-    let f = found (meant t) _ (sym (c .before .before .before .before .before .chosen .ensures) ∙ ap choiceIs (c .before .before .before .choice .given .1)) in
-    let p = f .pick in
-    omega (arith, f .lane, pick-small t (s .pre) p (f .is))
+    let a = at-chosen _ (s .pre) _ (subst (ChoiceIs _) (c .before .before .before .choice .given .1) (c .before .before .before .before .before .chosen .ensures)) in
+    omega (arith, lane-small _ (meant _) _ _ _ a)
 
+-- src/lib.rt:213:41
 enum-told : tie.Need-enum-told
 enum-told c = search needs
 
+-- src/lib.rt:196:1
 returns : tie.Need-returns
 returns c =
     let s = c .before .before .before .before .before .before .before in
     let t = s .args .t .now in
-    let f = found (meant t) _ (sym (c .before .before .before .before .before .chosen .ensures) ∙ ap choiceIs (c .before .before .before .choice .given .1)) in
-    let p = f .pick in
-    let e = c .before .first .result in
-    let same = pick-first t (s .pre) p (f .is) e (subst (λ (j : ℕ). First (laneAt (meant t) j) e) (sym (f .lane)) (c .before .first .ensures)) in
-    look-says t _ p (f .picks) (sym (f .lane)) (ap (λ (r : Rec). r .mark) same) (ap (λ (r : Rec). r .len) same)
+    let a = at-chosen t (s .pre) _ (subst (ChoiceIs t) (c .before .before .before .choice .given .1) (c .before .before .before .before .before .chosen .ensures)) in
+    let w = f t (meant t) _ _ _ a in
+    let same = seen-is t (meant t) _ _ _ a (c .before .first .result) (c .before .first .ensures) in
+    look-says t _ (w .pick) (w .picks) (sym (w .lane)) (ap (λ (r : Rec). r .mark) same) (ap (λ (r : Rec). r .len) same)
 
+-- src/lib.rt:196:1
 returns-2 : tie.Need-returns-2
-returns-2 c = let s = c .before .before .before .before in refusal-says look (s .args .t .now) NothingHeld refl (look-none (meant (s .args .t .now)) (sym (ap choiceIs (c .enum-told .given .1)) ∙ c .before .before .chosen .ensures))
+returns-2 c = let s = c .before .before .before .before in refusal-says look (s .args .t .now) NothingHeld refl (look-none (meant (s .args .t .now)) (subst (ChoiceIs _) (c .enum-told .given .1) (c .before .before .chosen .ensures)))
 
 pub look-spec : {M : Type 1} → statement M
 look-spec =
     tie.close
-    (tie.spec chosen-requires enum-known-choice first-requires cast-t8 enum-told returns returns-2)
+    (tie.spec chosen-requires enum-known-choice first-requires cast-t9 enum-told returns returns-2)

@@ -34,7 +34,7 @@ returns c =
     let s = c .before .before .before .before .before .before in
     let v = c .before .before .before .put-verdict .ensures in
     let e = c .before .verdict .given .1 in
-    refusal-does (put _ _ _) (s .args .t .now) _ (subst Placeless e (v .1)) (put-refused (meant (s .args .t .now)) (s .args .lane) (s .args .mark) (s .args .length .0) _ (sym (ap verdictIs e) ∙ v .0))
+    refusal-does (put _ _ _) (s .args .t .now) _ (s .pre) (subst Placeless e (v .1)) (put-refused (meant (s .args .t .now)) (s .args .lane) (s .args .mark) (s .args .length .0) _ (sym (ap verdictIs e) ∙ v .0))
 
 same-length-2 : tie.Need-same-length-2
 same-length-2 c = search needs
@@ -42,7 +42,7 @@ same-length-2 c = search needs
 returns-2 : tie.Need-returns-2
 returns-2 c =
     let s = c .before .before .before .before .before .before .before .before .before in
-    put-does (s .args .t .now) _ (s .args .lane) (s .args .mark) (s .args .length .0) _ (sym (ap verdictIs (c .before .before .before .before .enum-told .given .1)) ∙ c .before .before .before .before .before .before .put-verdict .ensures .0) (c .before .before .put-record .ensures .0) (c .before .before .put-record .ensures .1)
+    put-does (s .args .t .now) _ (s .args .lane) (s .args .mark) (s .args .length .0) _ (s .pre) (sym (ap verdictIs (c .before .before .before .before .enum-told .given .1)) ∙ c .before .before .before .before .before .before .put-verdict .ensures .0) (c .before .before .put-record .ensures .0) (c .before .before .put-record .ensures .1)
 
 pub put-spec : {M : Type 1} → statement M
 put-spec =

@@ -1,28 +1,19 @@
 -- `put_first` meets its contract. Assumes nothing.
 use mathlib.Core.Path.{_≡_, sym, _∙_}
-use Prim.Native.Nat.{_<_, max}
-use native.Mathlib.Nat.{pos-of-ne-zero}
-use borrow.Author.Tests.{eqb-true, eqb-false}
-use mathlib.Core.List.{[], _∷_, _++_}
-use lib.ListN.{length, length-append}
-use Rattle.queue.specs.Queue.{waiting}
 use native.Mathlib.Omega.{arith}
-use Rattle.rules.specs.State.{laneAt, startR}
-use Rattle.rules.specs.Calls.{woken}
+use borrow.Author.Tests.{eqb-true, eqb-false}
 use Rattle.table.specs.Means.{meant}
-use Rattle.table.proofs.Leave.{sound-after}
-use Rattle.table.proofs.Few.{room-idle}
-use Rattle.engine.proofs.RowIs.{RowIs}
-use Rattle.engine.proofs.Waking.{put-small, put-row, put-length, then-order, then-clock, none-held, some-held, accept-beside, accept-alone, woken-start}
+use Rattle.engine.proofs.Ends.{known-holds}
+use Rattle.engine.proofs.Putting.{small, weight, idle-t, bytes, row, start-is, start-small, solid-after, room-after, sound₂, put-beside, put-alone}
 use borrow.Author.Needs.{needs}
 use Rattle.engine.proofs.put_first.Statement.{statement}
 use Rattle.engine.proofs.put_first.Tie as tie
 use Rattle.engine.proofs.put_first.Reads as reads
 use Rattle.engine.proofs.put_first.Lts as lts
-use Rattle.order.proofs.join.Reads as join-reads
+use Rattle.lane_moves.proofs.add.Reads as add-reads
+use Rattle.engine.proofs.none_held.Reads as none-held-reads
 use Rattle.queue.proofs.wake.Reads as wake-reads
 use Rattle.table.proofs.clock.Reads as clock-reads
-use Rattle.table.proofs.holding.Reads as holding-reads
 use Rattle.table.proofs.row.Reads as row-reads
 use Rattle.table.proofs.set_clock.Reads as set-clock-reads
 use Rattle.units.proofs.later.Reads as later-reads
@@ -30,90 +21,70 @@ use Rattle.units.proofs.rounded_start.Reads as rounded-start-reads
 
 row-requires : tie.Need-row-requires
 row-requires c κs =
-    let s = c .before .before in
-    (s .pre .0 .sound .room, put-small (s .args .t .now) (s .pre .0) (s .args .k) (s .args .e .length .0) (s .pre .1))
+    let p = c .before .before .pre in
+    (p .0 .sound .room, small _ (meant _) (known-holds _ (p .0)) (p .0 .good) _ (c .before .before .args .e) (p .1) (p .2))
 
 clock-requires : tie.Need-clock-requires
 clock-requires c κs = search needs
 
-holding-requires : tie.Need-holding-requires
-holding-requires c κs = search needs
+none-held-requires : tie.Need-none-held-requires
+none-held-requires c κs = search needs
 
 later-requires : tie.Need-later-requires
 later-requires c κs = search needs
 
 wake-requires : tie.Need-wake-requires
 wake-requires c κs =
-    let s = c .before .before .before .before .before .before .before .before .before in
-    let t = s .args .t .now in
-    let k = s .args .k in
-    let a = s .pre .1 in
-    let is : RowIs (laneAt (meant t) k) (c .before .before .before .before .before .before .row .result) = rw (c .before .before .before .before .before .before .row .ensures .0) (put-row t (s .pre .0) k (s .args .e .length .0) a) in (
-      s .pre .0 .sound,
-      put-small t (s .pre .0) k (s .args .e .length .0) a,
-      put-length t (s .pre .0) k (s .args .e .length .0) a,
-      a .has,
-      s .pre .2,
-      c .before .later .ensures ∙ rw (is .idle (s .pre .2), c .before .before .before .before .clock .ensures),
-    )
+    let p = c .before .before .before .before .before .before .before .before .before .pre in
+    let e = c .before .before .before .before .before .before .before .before .before .args .e in
+    (p .0 .sound, small _ (meant _) (known-holds _ (p .0)) (p .0 .good) _ e (p .1) (p .2), bytes _ (meant _) (known-holds _ (p .0)) (p .0 .good) _ e (p .1) (p .2), weight _ (meant _) (known-holds _ (p .0)) (p .0 .good) _ e (p .1) (p .2), idle-t _ (meant _) (known-holds _ (p .0)) (p .0 .good) _ e (p .1) (p .2), start-is _ (meant _) (known-holds _ (p .0)) (p .0 .good) _ e (p .1) (p .2) _ (c .before .before .before .before .before .before .row .ensures .0) _ _ (c .before .before .before .before .clock .ensures) (c .before .later .ensures))
 
-join-requires : tie.Need-join-requires
-join-requires c κs =
-    let s = c .before .before .before .before .before .before .before .before .before .before .before .before .before in
-    let t = s .args .t .now in
-    let w = c .before .before .before .wake in
-    let small = put-small t (s .pre .0) (s .args .k) (s .args .e .length .0) (s .pre .1) in
-    let room = room-idle (meant t) (s .pre .0 .good) (s .args .k) small (s .pre .2) in
-    (sound-after (s .pre .0 .sound) (w .ensures) (w .kept .0) (omega arith), rw (w .ensures .state) room)
+add-requires : tie.Need-add-requires
+add-requires c κs =
+    let p = c .before .before .before .before .before .before .before .before .before .before .before .before .before .pre in
+    let e = c .before .before .before .before .before .before .before .before .before .before .before .before .before .args .e in
+    let r = row _ (meant _) (known-holds _ (p .0)) (p .0 .good) _ e (p .1) (p .2) _ (c .before .before .before .before .before .before .before .before .before .before .row .ensures .0) in
+    let ey = start-is _ (meant _) (known-holds _ (p .0)) (p .0 .good) _ e (p .1) (p .2) _ (c .before .before .before .before .before .before .before .before .before .before .row .ensures .0) _ _ (c .before .before .before .before .before .before .before .before .clock .ensures) (c .before .before .before .before .before .later .ensures) in (
+      omega (arith, c .before .before .before .wake .kept .0, p .0 .sound .room),
+      solid-after _ (meant _) (known-holds _ (p .0)) (p .0 .good) _ e (p .1) (p .2) _ (c .before .before .before .wake .kept .0) (c .before .before .before .wake .ensures),
+      r .low,
+      r .high,
+      start-small _ (meant _) (known-holds _ (p .0)) (p .0 .good) _ e (p .1) (p .2) _ ey,
+      omega (arith, small _ (meant _) (known-holds _ (p .0)) (p .0 .good) _ e (p .1) (p .2)),
+      room-after _ (meant _) (known-holds _ (p .0)) (p .0 .good) _ e (p .1) (p .2) _ (c .before .before .before .wake .kept .0) (c .before .before .before .wake .ensures) _ _ (r .low) (r .high) (omega arith),
+    )
 
 rounded-start-requires : tie.Need-rounded-start-requires
 rounded-start-requires c κs =
-    let s = c .before .before .before .before .before .before .before .before .before .before .before .before .before .before .before .before in
-    rw (c .before .before .before .before .before .before .before .before .before .before .before .before .before .row .ensures .0) (put-row (s .args .t .now) (s .pre .0) (s .args .k) (s .args .e .length .0) (s .pre .1) .high)
+    let p = c .before .before .before .before .before .before .before .before .before .before .before .before .before .before .before .before .before .before .pre in
+    row _ (meant _) (known-holds _ (p .0)) (p .0 .good) _ (c .before .before .before .before .before .before .before .before .before .before .before .before .before .before .before .before .before .before .args .e) (p .1) (p .2) _ (c .before .before .before .before .before .before .before .before .before .before .before .before .before .before .before .row .ensures .0) .high
 
 later-requires-2 : tie.Need-later-requires-2
 later-requires-2 c κs = search needs
 
 set-clock-requires : tie.Need-set-clock-requires
 set-clock-requires c κs =
-    let s = c .before .before .before .before .before .before .before .before .before .before .before .before .before .before .before .before .before .before .before .before in
-    let t = s .args .t .now in
-    let w = c .before .before .before .before .before .before .before .before .before .before .wake in
-    let j = c .before .before .before .before .before .before .join in
-    let two = then-order t _ _ _ (λ o. o ++ (s .args .k ∷ [])) (w .ensures) (j .ensures) in
-    let room = room-idle (meant t) (s .pre .0 .good) (s .args .k) (put-small t (s .pre .0) (s .args .k) (s .args .e .length .0) (s .pre .1)) (s .pre .2) in
-    sound-after (s .pre .0 .sound) two (j .kept .0 ∙ w .kept .0) (omega (arith, length-append (meant t .order) (s .args .k ∷ [])))
+    let p = c .before .before .before .before .before .before .before .before .before .before .before .before .before .before .before .before .before .before .before .before .pre in
+    let e = c .before .before .before .before .before .before .before .before .before .before .before .before .before .before .before .before .before .before .before .before .args .e in
+    sound₂ _ (meant _) (known-holds _ (p .0)) (p .0 .good) _ e (p .1) (p .2) _ (c .before .before .before .before .before .before .before .before .before .before .wake .kept .0) (c .before .before .before .before .before .before .before .before .before .before .wake .ensures) _ (c .before .before .before .before .before .before .add .kept .0) _ (c .before .before .before .before .before .before .before .before .before .before .before .before .before .before .before .before .before .row .ensures .0) _ (start-is _ (meant _) (known-holds _ (p .0)) (p .0 .good) _ e (p .1) (p .2) _ (c .before .before .before .before .before .before .before .before .before .before .before .before .before .before .before .before .before .row .ensures .0) _ _ (c .before .before .before .before .before .before .before .before .before .before .before .before .before .before .before .clock .ensures) (c .before .before .before .before .before .before .before .before .before .before .before .before .later .ensures)) (c .before .before .before .before .before .before .add .ensures)
 
 same-length : tie.Need-same-length
 same-length c = search needs
 
 returns : tie.Need-returns
 returns c =
-    let s = c .before .before .before .before .before .before .before .before .before .before .before .before .before .before .before .before .before .before .before .before .before .before .before in
-    let t = s .args .t .now in
-    let w = c .before .before .before .before .before .before .before .before .before .before .before .before .before .wake in
-    let j = c .before .before .before .before .before .before .before .before .before .join in
-    let two = then-order t _ _ _ (λ o. o ++ (s .args .k ∷ [])) (w .ensures) (j .ensures) in
-    let v = c .before .before .before .before .before .before .before .before .before .before .before .before .before .before .before .before .before .before .clock .ensures in
-    let is : RowIs (laneAt (meant t) (s .args .k)) (c .before .before .before .before .before .before .before .before .before .before .before .before .before .before .before .before .before .before .before .before .row .result) = rw (c .before .before .before .before .before .before .before .before .before .before .before .before .before .before .before .before .before .before .before .before .row .ensures .0) (put-row t (s .pre .0) (s .args .k) (s .args .e .length .0) (s .pre .1)) in
-    let empty : length (meant t .order) ≡ 0 = sym (c .before .before .before .before .before .before .before .before .before .before .before .before .before .before .before .before .holding .ensures) ∙ eqb-true (c .before .before .before .before .before .before .before .before .before .before .before .before .before .before .before .before .holding .result) 0 (c .before .before .before .before .before .if1 .taken) in
-    let R = woken-start (meant t .clock) (laneAt (meant t) (s .args .k)) (c .before .before .before .before .before .before .before .before .before .before .before .before .before .before .before .before .before .before .before .before .row .result) (waiting (s .args .e)) is (s .pre .2) in
-    let x : c .before .before .before .later2 .result .0 ≡ max (meant t .clock) (startR (woken (meant t .clock) (laneAt (meant t) (s .args .k)) (waiting (s .args .e)))) = c .before .before .before .later2 .ensures ∙ rw (v, c .before .before .before .before .before .before .rounded-start .ensures .0, c .before .before .before .before .before .before .before .before .before .before .before .before .before .before .before .later .ensures, v, R) in
-    rw (accept-alone (meant t) (s .args .k) (waiting (s .args .e)) (s .pre .2) _ (none-held (meant t) (s .pre .0 .good .order) empty) x)
-    (then-clock t _ _ _ _ two (c .before .before .set-clock .ensures))
+    let e = c .before .before .before .before .before .before .before .before .before .before .before .before .before .before .before .before .before .before .before .before .before .before .before .args .e in
+    let p = c .before .before .before .before .before .before .before .before .before .before .before .before .before .before .before .before .before .before .before .before .before .before .before .pre in
+    put-alone _ (meant _) (known-holds _ (p .0)) (p .0 .good) _ e (p .1) (p .2) _ (c .before .before .before .before .before .before .before .before .before .before .before .before .before .wake .kept .0) (c .before .before .before .before .before .before .before .before .before .before .before .before .before .wake .ensures) _ (c .before .before .before .before .before .before .before .before .before .add .kept .0) _ (c .before .before .before .before .before .before .before .before .before .before .before .before .before .before .before .before .before .before .before .before .row .ensures .0) _ (start-is _ (meant _) (known-holds _ (p .0)) (p .0 .good) _ e (p .1) (p .2) _ (c .before .before .before .before .before .before .before .before .before .before .before .before .before .before .before .before .before .before .before .before .row .ensures .0) _ _ (c .before .before .before .before .before .before .before .before .before .before .before .before .before .before .before .before .before .before .clock .ensures) (c .before .before .before .before .before .before .before .before .before .before .before .before .before .before .before .later .ensures)) (c .before .before .before .before .before .before .before .before .before .add .ensures) _ _ _ (c .before .before .set-clock .kept .0) (eqb-true _ _ (sym (c .before .before .before .before .before .before .before .before .before .before .before .before .before .before .before .before .none-held .ensures) ∙ c .before .before .before .before .before .before .if1 .taken)) (c .before .before .before .later2 .ensures ∙ rw (c .before .before .before .before .rounded-start .ensures .0)) (c .before .before .before .before .before .before .before .before .before .before .before .before .before .before .before .before .before .before .clock .ensures) (c .before .before .set-clock .ensures)
 
 same-length-2 : tie.Need-same-length-2
 same-length-2 c = search needs
 
 returns-2 : tie.Need-returns-2
 returns-2 c =
-    let s = c .before .before .before .before .before .before .before .before .before .before .before .before .before .before .before .before .before .before in
-    let t = s .args .t .now in
-    let w = c .before .before .before .before .before .before .before .before .wake in
-    let j = c .before .before .before .before .join in
-    let two = then-order t _ _ _ (λ o. o ++ (s .args .k ∷ [])) (w .ensures) (j .ensures) in
-    let some : 0 < length (meant t .order) = pos-of-ne-zero (λ q. eqb-false (c .before .before .before .before .before .before .before .before .before .before .before .holding .result) 0 (c .if1 .left) (c .before .before .before .before .before .before .before .before .before .before .before .holding .ensures ∙ q)) in
-    rw (accept-beside (meant t) (s .args .k) (waiting (s .args .e)) (s .pre .2) (some-held (meant t) (s .pre .0 .good .order) some)) two
+    let e = c .before .before .before .before .before .before .before .before .before .before .before .before .before .before .before .before .before .args .e in
+    let p = c .before .before .before .before .before .before .before .before .before .before .before .before .before .before .before .before .before .pre in
+    put-beside _ (meant _) (known-holds _ (p .0)) (p .0 .good) _ e (p .1) (p .2) _ (c .before .before .before .before .before .before .before .wake .kept .0) (c .before .before .before .before .before .before .before .wake .ensures) _ (c .before .before .before .add .kept .0) _ (c .before .before .before .before .before .before .before .before .before .before .before .before .before .before .row .ensures .0) _ (start-is _ (meant _) (known-holds _ (p .0)) (p .0 .good) _ e (p .1) (p .2) _ (c .before .before .before .before .before .before .before .before .before .before .before .before .before .before .row .ensures .0) _ _ (c .before .before .before .before .before .before .before .before .before .before .before .before .clock .ensures) (c .before .before .before .before .before .before .before .before .before .later .ensures)) (c .before .before .before .add .ensures) (eqb-false _ _ (sym (c .before .before .before .before .before .before .before .before .before .before .none-held .ensures) ∙ c .if1 .left))
 
 pub put-first-spec : {M : Type 1} → statement M
 put-first-spec =
@@ -121,10 +92,10 @@ put-first-spec =
     (tie.spec
     row-requires
     clock-requires
-    holding-requires
+    none-held-requires
     later-requires
     wake-requires
-    join-requires
+    add-requires
     rounded-start-requires
     later-requires-2
     set-clock-requires

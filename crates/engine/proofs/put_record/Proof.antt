@@ -15,7 +15,8 @@ use Rattle.table.specs.declared.LaneRow.{LaneRow}
 use Rattle.choice.specs.Known.{Known}
 use Rattle.queue.specs.Queue.{waiting}
 use Rattle.engine.proofs.RowIs.{RowIs, count-idle, count-holds}
-use Rattle.engine.proofs.Waking.{put-small, put-row, put-length, accept-busy}
+use Rattle.engine.proofs.Waking.{put-small, put-row, put-length}
+use Rattle.engine.proofs.Appending.{append-turns}
 use borrow.Author.Needs.{needs}
 use Rattle.engine.proofs.put_record.Statement.{statement}
 use Rattle.engine.proofs.put_record.Tie as tie
@@ -69,7 +70,7 @@ returns-2 c =
     let t = s .args .t .now in
     let is : RowIs (laneAt (meant t) (s .args .k)) (c .before .before .before .before .before .before .row .result) = rw (c .before .before .before .before .before .before .row .ensures .0) (put-row t (s .pre .0) (s .args .k) (s .args .e .length .0) (s .pre .1)) in
     let r = c .before .before .before .before .before .before .row in (
-      rw (accept-busy (meant t) (s .args .k) (waiting (s .args .e)) (count-holds (laneAt (meant t) (s .args .k)) _ (s .pre .0 .good .waiting (s .args .k)) (is .held) (pos-of-ne-zero (c .before .before .before .before .if1 .left)))) (c .before .before .append .ensures),
+      append-turns t _ (s .args .k) (waiting (s .args .e)) (s .pre .0) (s .pre .1) (count-holds (laneAt (meant t) (s .args .k)) _ (s .pre .0 .good .waiting (s .args .k)) (is .held) (pos-of-ne-zero (c .before .before .before .before .if1 .left))) (c .before .before .append .kept .0) (c .before .before .append .ensures),
       counted t (s .pre .0) (s .args .k) (s .args .e .length .0) (s .pre .1) (r .result) (r .ensures .0),
     )
 

@@ -1,44 +1,51 @@
--- `restart` meets its contract. Assumes nothing.
 use mathlib.Core.Path.{refl, sym, _∙_}
-use native.Mathlib.Nat.{pos-of-ne-zero}
+use native.Mathlib.Omega.{arith}
+use borrow.Author.Tests.{eqb-true, eqb-false, not-true, not-false}
 use Rattle.rules.specs.Calls.{restart}
 use Rattle.rules.specs.declared.Refusal.the-variants.{StillHolds}
 use Rattle.table.specs.Means.{meant}
-use Rattle.engine.proofs.Waking.{none-held, some-held}
+use Rattle.engine.proofs.Ends.{known-holds, nobody, somebody}
+use Rattle.engine.proofs.Appending.{renew-turns}
 use Rattle.engine.proofs.Replies.{refusal-does, restart-held, restart-does}
 use borrow.Author.Needs.{needs}
 use Rattle.engine.proofs.restart.Statement.{statement}
 use Rattle.engine.proofs.restart.Tie as tie
 use Rattle.engine.proofs.restart.Reads as reads
 use Rattle.engine.proofs.restart.Lts as lts
+use Rattle.engine.proofs.none_held.Reads as none-held-reads
 use Rattle.fresh.proofs.renew.Reads as renew-reads
-use Rattle.table.proofs.holding.Reads as holding-reads
 
-holding-requires : tie.Need-holding-requires
-holding-requires c κs = search needs
+-- src/lib.rt:258:9
+none-held-requires : tie.Need-none-held-requires
+none-held-requires c κs = search needs
 
+-- src/lib.rt:259:9
 same-length : tie.Need-same-length
 same-length c = search needs
 
+-- src/lib.rt:259:9
 returns : tie.Need-returns
 returns c =
     let s = c .before .before .before .before in
-    let m = meant (s .args .t .now) in
-    refusal-does restart (s .args .t .now) StillHolds refl (restart-held m (some-held m (s .pre .good .order) (pos-of-ne-zero (λ e. c .if1 .taken (c .before .holding .ensures ∙ e)))))
+    let t = s .args .t .now in
+    refusal-does restart t StillHolds (s .pre) refl (restart-held (meant t) (somebody t (meant t) (known-holds t (s .pre)) (eqb-false _ _ (sym (c .before .none-held .ensures) ∙ not-true _ (c .if1 .taken)))))
 
+-- src/lib.rt:261:5
 renew-requires : tie.Need-renew-requires
 renew-requires c κs = search needs
 
+-- src/lib.rt:254:1
 same-length-2 : tie.Need-same-length-2
 same-length-2 c = search needs
 
+-- src/lib.rt:254:1
 returns-2 : tie.Need-returns-2
 returns-2 c =
     let s = c .before .before .before .before .before .before .before .before in
-    let m = meant (s .args .t .now) in
-    restart-does (s .args .t .now) _ (none-held m (s .pre .good .order) (sym (c .before .before .before .before .before .holding .ensures) ∙ c .before .before .before .before .if1 .left)) (c .before .before .renew .ensures)
+    let t = s .args .t .now in
+    restart-does t _ (s .pre) (nobody t (meant t) (known-holds t (s .pre)) (s .pre .good) (eqb-true _ _ (sym (c .before .before .before .before .before .none-held .ensures) ∙ not-false _ (c .before .before .before .before .if1 .left)))) (renew-turns t _ _ (omega (arith, s .pre .sound .room, c .before .before .renew .kept .0)) (c .before .before .renew .ensures))
 
 pub restart-spec : {M : Type 1} → statement M
 restart-spec =
     tie.close
-    (tie.spec holding-requires same-length returns renew-requires same-length-2 returns-2)
+    (tie.spec none-held-requires same-length returns renew-requires same-length-2 returns-2)

@@ -1,6 +1,5 @@
-use Rattle.table.proofs.Stores.{length-cells, now-then}
-use Rattle.table.specs.Layout.{cells}
-use Rattle.fresh.proofs.Added.{begun-state, begun-beside, begun-framing}
+use Rattle.table.proofs.Stores.{now-then}
+use Rattle.fresh.proofs.Writing.{begin-makes}
 use borrow.Author.Needs.{needs}
 use Rattle.fresh.proofs.begin.Statement.{statement}
 use Rattle.fresh.proofs.begin.Tie as tie
@@ -14,8 +13,8 @@ set-cell-requires-2 c κs = search needs
 set-cell-requires-3 : tie.Need-set-cell-requires-3
 set-cell-requires-3 c κs = search needs
 
-set-cell-requires-4 : tie.Need-set-cell-requires-4
-set-cell-requires-4 c κs = search needs
+empty-requires : tie.Need-empty-requires
+empty-requires c κs = search needs
 
 same-length : tie.Need-same-length
 same-length c = search needs
@@ -25,13 +24,11 @@ returns c =
     let s = c .before .before .before .before .before .before .before .before .before .before .before .before .before .before .before .before .before in
     let t = s .args .t .now in
     let h = s .args .h .0 in
-    let three = now-then _ _ _ (now-then _ _ _ (c .before .before .before .before .before .before .before .before .before .before .before .before .before .before .set-cell .ensures) (c .before .before .before .before .before .before .before .before .before .before .set-cell2 .ensures)) (c .before .before .before .before .before .before .set-cell3 .ensures) in
-    let n = now-then _ _ _ three (c .before .before .set-cell4 .ensures) in (
-      record { state = rw (n .words) (begun-state (cells t) h (length-cells t)); beside = rw (n .words) (begun-beside (cells t) h (length-cells t)); rest = n .rest },
-      rw (n .words) (begun-framing (cells t) h (length-cells t)),
-    )
+    let two = now-then _ _ _ (c .before .before .before .before .before .before .before .before .before .before .before .before .before .before .set-cell .ensures) (c .before .before .before .before .before .before .before .before .before .before .set-cell2 .ensures) in
+    let n = now-then _ _ _ two (c .before .before .before .before .before .before .set-cell3 .ensures) in
+    begin-makes t _ _ h n (c .before .before .empty .ensures)
 
 pub begin-spec : {M : Type 1} → statement M
 begin-spec =
     tie.close
-    (tie.spec set-cell-requires set-cell-requires-2 set-cell-requires-3 set-cell-requires-4 same-length returns)
+    (tie.spec set-cell-requires set-cell-requires-2 set-cell-requires-3 empty-requires same-length returns)

@@ -50,7 +50,7 @@ loop-again c =
     let r = c .before .before .before .rest-lane in
     let x = c .next-present2 .ensures in
     let after = rest-more (c .before .before .before .before .before .before .before .before .before .before .before .args .t .now) _ (c .before .before .before .before .before .before .before .before .cell .ensures) _ (l .k) (c .before .before .before .before .before .loop-test .taken) (l .inv .0) _ _ (r .ensures) x in
-    (after, sound-after (l .inv .1) (r .ensures) (r .kept .0) (rw (l .inv .0 .state) (c .before .before .before .before .before .before .before .before .before .before .before .pre .few)), r .kept .0 ∙ l .inv .2, x .ends, x .present)
+    (after, sound-after (l .inv .1) (r .ensures) (r .kept .0), r .kept .0 ∙ l .inv .2, x .ends, x .present)
 
 same-length : tie.Need-same-length Inv-loop μ-loop
 same-length c = c .before .loop .inv .2

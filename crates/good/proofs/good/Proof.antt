@@ -1,5 +1,4 @@
-use Rattle.good.proofs.Whole.{whole-good, good-weights, good-live, good-ordered, good-lanes, good-framing, says-iff}
-use Rattle.table.proofs.Few.{few-good}
+use Rattle.good.proofs.Whole.{whole-good, good-weights, good-live, good-stored, good-lanes, good-framing, says-iff}
 use Rattle.good.specs.declared.Pass.{Pass}
 use Rattle.good.specs.Pass.{PassSays}
 use lib.ListN.{getD}
@@ -26,23 +25,17 @@ returns-2 c =
     let v = c .before .before in
     λ g. omega (arith, is-not-after (2 ^ 62 + 2 ^ 42) (v .clock .result .0) (c .before .not-after .ensures) (c .if2 .taken), v .clock .ensures, g .good .clock)
 
-holding-requires : tie.Need-holding-requires
-holding-requires c κs = search needs
-
-returns-3 : tie.Need-returns-3
-returns-3 c = λ g. omega (arith, few-good _ (g .good), c .before .holding .ensures, c .if3 .taken)
-
 cell-requires : tie.Need-cell-requires
 cell-requires c κs = search needs
 
-returns-4 : tie.Need-returns-4
-returns-4 c = λ g. omega (arith, good-framing _ g, c .before .cell .ensures, c .if4 .taken)
+returns-3 : tie.Need-returns-3
+returns-3 c = λ g. omega (arith, good-framing _ g, c .before .cell .ensures, c .if3 .taken)
 
 lanes-good-requires : tie.Need-lanes-good-requires
 lanes-good-requires c κs =
-    let e = c .before .before .before .before in
+    let e = c .before .before in
     let v = e .before .before in
-    (v .before .if1 .left, omega (arith, is-after (2 ^ 62 + 2 ^ 42) (v .clock .result .0) (e .before .not-after .ensures) (e .if2 .left)), omega (arith, c .before .cell .ensures, c .if4 .left))
+    (v .before .if1 .left, omega (arith, is-after (2 ^ 62 + 2 ^ 42) (v .clock .result .0) (e .before .not-after .ensures) (e .if2 .left)), omega (arith, c .before .cell .ensures, c .if3 .left))
 
 enum-told : tie.Need-enum-told
 enum-told c = search needs
@@ -53,26 +46,24 @@ enum-known-f c = search needs
 found-good-requires : tie.Need-found-good-requires
 found-good-requires c κs = search needs
 
+returns-4 : tie.Need-returns-4
+unfolding PassSays
+returns-4 c =
+    let t = c .before .before .before .before .before .before .before .before .before .before .args .t .now in
+    let v = c .before .before .before .before .before .before .before .clock .result .0 in
+    λ g. (subst (λ (r : Pass). PassSays v (cells t) r) (c .enum-told .given .1) (c .before .before .lanes-good .ensures)) (good-lanes t v (c .before .before .before .before .before .before .before .clock .ensures) g)
+
 returns-5 : tie.Need-returns-5
 unfolding PassSays
 returns-5 c =
     let t = c .before .before .before .before .before .before .before .before .before .before .before .before .args .t .now in
     let v = c .before .before .before .before .before .before .before .before .before .clock .result .0 in
-    λ g. (subst (λ (r : Pass). PassSays v (cells t) r) (c .enum-told .given .1) (c .before .before .lanes-good .ensures)) (good-lanes t v (c .before .before .before .before .before .before .before .before .before .clock .ensures) g)
-
-returns-6 : tie.Need-returns-6
-unfolding PassSays
-returns-6 c =
-    let t = c .before .before .before .before .before .before .before .before .before .before .before .before .before .before .args .t .now in
-    let v = c .before .before .before .before .before .before .before .before .before .before .before .clock .result .0 in
-    let n = c .before .before .before .before .before .before .before .before .holding .result in
-    let clock = c .before .before .before .before .before .before .before .before .before .before .before .clock .ensures in
-    let holding = c .before .before .before .before .before .before .before .before .holding .ensures in
-    let framed : getD (cells t) framingWord 0 ≤ 64 = omega (arith, c .before .before .before .before .before .before .cell .ensures, c .before .before .before .before .before .if4 .left) in
+    let clock = c .before .before .before .before .before .before .before .before .before .clock .ensures in
+    let framed : getD (cells t) framingWord 0 ≤ 64 = omega (arith, c .before .before .before .before .before .before .cell .ensures, c .before .before .before .before .before .if3 .left) in
     let found = subst (λ (r : Pass). PassSays v (cells t) r) (c .before .before .f .given .1) (c .before .before .before .before .lanes-good .ensures) in
     says-iff (c .found-good .result)
-    (λ q. whole-good t v _ clock found n holding (c .before .before .before .before .before .before .before .before .before .before .before .before .if1 .left) (is-after (2 ^ 62 + 2 ^ 42) v (c .before .before .before .before .before .before .before .before .before .before .not-after .ensures) (c .before .before .before .before .before .before .before .before .before .if2 .left)) framed (q .0) (q .1) (q .2) (q .3))
-    (λ g. let sums = good-weights t v _ clock found n holding g in (sums .0, sums .1, good-live t v _ clock found n holding g, good-ordered t v _ clock found n holding g))
+    (λ q. whole-good t v _ clock found (c .before .before .before .before .before .before .before .before .before .before .if1 .left) (is-after (2 ^ 62 + 2 ^ 42) v (c .before .before .before .before .before .before .before .before .not-after .ensures) (c .before .before .before .before .before .before .before .if2 .left)) framed (q .0) (q .1) (q .2) (q .3))
+    (λ g. let sums = good-weights t v _ clock found g in (sums .0, sums .1, good-live t v _ clock found g, good-stored t v _ clock found g))
     (c .found-good .ensures)
 
 pub good-spec : {M : Type 1} → statement M
@@ -83,13 +74,11 @@ good-spec =
     clock-requires
     not-after-requires
     returns-2
-    holding-requires
-    returns-3
     cell-requires
-    returns-4
+    returns-3
     lanes-good-requires
     enum-told
     enum-known-f
     found-good-requires
-    returns-5
-    returns-6)
+    returns-4
+    returns-5)

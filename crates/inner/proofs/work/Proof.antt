@@ -37,7 +37,7 @@ loop-again : tie.Need-loop-again Inv-loop μ-loop
 loop-again c =
     let l = c .before .before .before .before .before .loop in
     let r = c .before .before .call in
-    (so-more _ _ _ _ _ (l .inv .0) (r .kept .0) (r .ensures .leaves), r .kept .0 ∙ l .inv .1, omega (arith, c .before .before .before .before .loop-test .taken))
+    (so-more _ _ _ _ _ _ (l .inv .0) (r .ensures), r .kept .0 ∙ l .inv .1, omega (arith, c .before .before .before .before .loop-test .taken))
 
 same-length : tie.Need-same-length Inv-loop μ-loop
 same-length c = c .before .loop .inv .1

@@ -18,7 +18,7 @@ table-good c = let g = c .before .before .before .before .before .good2 in found
 is-begun : (c : tie.After-enum-told) → Begun (c .before .before .before .before .before .before .before .before .before .before .before .args .table .now) (c .before .before .before .before .restart .last .0)
 is-begun c =
     let r = c .before .before .before .before .restart in
-    begun _ _ (good-known _ (table-good (c .before .before))) (r .kept .0) (subst (λ (a : Answer). Does restart (c .before .before .before .before .before .before .before .before .before .before .before .args .table .now) a (r .last .0)) (c .enum-told .given .1) (r .ensures))
+    begun _ _ (good-known _ (table-good (c .before .before))) (subst (λ (a : Answer). Does restart (c .before .before .before .before .before .before .before .before .before .before .before .args .table .now) a (r .last .0)) (c .enum-told .given .1) (r .ensures))
 
 -- ---- the needs
 

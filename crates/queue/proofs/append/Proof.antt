@@ -37,7 +37,7 @@ returns c =
     let s = c .before .before .before .before .before .before .before .before .before .before .before in
     let r = c .before .before .before .before .before .before .before .before .row in
     let small : s .args .e .mark < 2 ^ 32 = omega (arith, s .good) in
-    append-leaves (s .args .t .now) _ _ (s .args .k) (s .args .e) (r .result) (r .ensures .0) (s .pre .0) (s .pre .1) small (r .ensures .1) (s .pre .3) (s .pre .4) (c .before .before .before .before .before .before .set-record .ensures) (c .before .before .set-row .ensures)
+    append-leaves (s .args .t .now) _ _ (s .args .k) (s .args .e) (r .result) (r .ensures .0) (s .pre .1) small (r .ensures .1) (s .pre .3) (s .pre .4) (c .before .before .before .before .before .before .set-record .ensures) (c .before .before .set-row .ensures)
 
 pub append-spec : {M : Type 1} → statement M
 append-spec =

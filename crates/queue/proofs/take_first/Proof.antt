@@ -60,7 +60,7 @@ returns c =
     let e = c .before .before .before .before .before .before .before .before .record-at in
     let charge = c .before .before .before .before .before .before .before .charged .ensures .0 in
     let same : c .before .before .before .before .before .plus .result .0 ≡ laneAt (meant (s .args .t .now)) (s .args .k) .finish = c .before .before .before .before .before .plus .ensures ∙ ap (λ (x : ℕ). r .result .time .0 + x) (c .before .before .before .before .before .before .lane-charge .ensures ∙ ap (λ (x : ℕ). x * r .result .rate .0) charge) ∙ finish-row (s .args .t .now) (s .args .k) (r .result) (e .result) (r .ensures .0) (e .ensures .0) (s .pre .0) (s .pre .1) (s .pre .2) in
-    take-leaves (s .args .t .now) _ (s .args .k) (c .before .before .before .before .before .plus .result .0) (r .result) (e .result) (r .ensures .0) (e .ensures .0) same (s .pre .0) (s .pre .1) (r .ensures .1) (s .pre .2) (c .before .before .set-row .ensures)
+    take-leaves (s .args .t .now) _ (s .args .k) (c .before .before .before .before .before .plus .result .0) (r .result) (e .result) (r .ensures .0) (e .ensures .0) same (s .pre .1) (r .ensures .1) (s .pre .2) (c .before .before .set-row .ensures)
 
 pub take-first-spec : {M : Type 1} → statement M
 take-first-spec =

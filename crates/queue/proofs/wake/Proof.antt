@@ -24,7 +24,7 @@ returns c =
     let s = c .before .before .before .before .before .before .before .before .before .before .before in
     let r = c .before .before .before .before .before .before .before .before .row in
     let small : s .args .e .mark < 2 ^ 32 = omega (arith, s .good) in
-    wake-leaves (s .args .t .now) _ _ (s .args .k) (s .args .start .0) (s .args .e) (r .result) (r .ensures .0) (s .pre .0) (s .pre .1) small (r .ensures .1) (s .pre .3) (s .pre .4) (s .pre .5) (c .before .before .before .before .before .before .set-record .ensures) (c .before .before .set-row .ensures)
+    wake-leaves (s .args .t .now) _ _ (s .args .k) (s .args .start .0) (s .args .e) (r .result) (r .ensures .0) (s .pre .1) small (r .ensures .1) (s .pre .3) (s .pre .4) (s .pre .5) (c .before .before .before .before .before .before .set-record .ensures) (c .before .before .set-row .ensures)
 
 pub wake-spec : {M : Type 1} → statement M
 wake-spec =

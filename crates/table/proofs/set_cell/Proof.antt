@@ -1,6 +1,7 @@
 use mathlib.Core.Path.{ap, _∙_}
 use Prim.Native.Nat.{_*_}
 use lib.ListN.{drop}
+use native.Mathlib.Omega.{arith}
 use Rattle.words.specs.Words.{wordsOf}
 use Rattle.words.proofs.Laws.{wordsOf-putWord, drop-putWord}
 use Rattle.table.specs.Layout.{WORDS, cells}
@@ -20,7 +21,7 @@ returns c =
     let s = c .before .before .before .before .before in
     let e = c .before .before .set-word .ensures in
     record {
-      words = ap (wordsOf WORDS) e ∙ wordsOf-putWord WORDS (s .args .t .now) (s .args .i) (s .args .v) (s .pre .1) (s .pre .0) (s .fits .v .fits);
+      words = ap (wordsOf WORDS) e ∙ wordsOf-putWord WORDS (s .args .t .now) (s .args .i) (s .args .v) (s .pre .1) (omega (arith, s .pre .0)) (s .fits .v .fits);
       rest = ap (drop (WORDS * 8)) e ∙ drop-putWord WORDS (s .args .t .now) (s .args .i) (s .args .v) (s .pre .1);
     }
 

@@ -1,4 +1,7 @@
-use Rattle.table.proofs.Leave.{sound-few}
+use mathlib.Core.Path.{_∙_}
+use Rattle.slot_lists.specs.Lists.{listAt}
+use Rattle.filing.specs.Filing.{inARow}
+use Rattle.table.proofs.Leave.{meant-now}
 use Rattle.table.proofs.Footprint.{clock-changed, beside-kept, clock-settings}
 use Rattle.table.proofs.Stores.{length-cells}
 use Rattle.table.specs.Layout.{cells}
@@ -19,7 +22,7 @@ returns c =
     let v = s .args .v .0 in
     let n = c .before .before .set-cell .ensures in
     record {
-      state = rw (n .words) (clock-changed w v (length-cells (s .args .t .now)) (sound-few (s .args .t .now) (s .pre)));
+      state = meant-now (s .args .t .now) _ _ n ∙ clock-changed w (inARow (listAt (s .args .t .now))) v (length-cells (s .args .t .now));
       beside = λ b. rw (n .words) (beside-kept w _ (clock-settings w v) b);
       rest = n .rest;
     }
