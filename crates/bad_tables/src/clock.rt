@@ -1,6 +1,9 @@
 // V, S, F and R, and the framing bytes that move their edges.
 use base_table as base;
 
+// Where no good table's clock comes: 2^62 + 2^42.
+const CLOCK_END: u64 = 4611690416473899008;
+
 // Lane 1 with this S.
 fn late(name: &[u8], s: u64, start: u64, b: usize, map: u64) {
     let mut t = [0u8; base::SIZE];
@@ -10,8 +13,8 @@ fn late(name: &[u8], s: u64, start: u64, b: usize, map: u64) {
 }
 
 pub fn edges() {
-    base::rest(b"V at its last", 0, 4611690416473899007, 3, 0);
-    base::rest(b"V at its end", 0, 4611690416473899008, 3, 0);
+    base::rest(b"V at its last", 0, CLOCK_END - 1, 3, 0);
+    base::rest(b"V at its end", 0, CLOCK_END, 3, 0);
     late(b"S just below V + 2s", 16777215, 8388608, 1, 2);
     late(b"S at V + 2s", 16777216, 16777216, 2, 4);
 }

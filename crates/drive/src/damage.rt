@@ -4,6 +4,9 @@ use crate::calls;
 use crate::print;
 use crate::session;
 
+// Where no good table's clock comes: 2^62 + 2^42.
+const CLOCK_END: u64 = 4611690416473899008;
+
 // The session's table after its three puts, with word `i` changed.
 fn with_word(name: &[u8], i: usize, v: u64) {
     print::line(name);
@@ -27,7 +30,7 @@ fn never_made() {
 
 pub fn damaged() {
     never_made();
-    with_word(b"- clock past its end", 0, 4611690416473899008);
+    with_word(b"- clock past its end", 0, CLOCK_END);
     with_word(b"- slot list left out", 1360, 4194304);
     with_word(b"- setting gone", 84, 0);
     with_word(b"- record of no length", 352, 2);

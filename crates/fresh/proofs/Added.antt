@@ -17,7 +17,7 @@ use Rattle.rules.specs.State.{Setting, Lane, laneAt, noSetting}
 use Rattle.rules.specs.Calls.{idle, fresh}
 use Rattle.slot_lists.specs.Lists.{listAt}
 use Rattle.filing.specs.Filing.{inARow}
-use Rattle.table.specs.Layout.{presentWord, framingWord, laneWord, rowAt, rowOf, cells}
+use Rattle.table.specs.Layout.{WORDS, presentWord, framingWord, laneWord, rowAt, rowOf, cells}
 use Rattle.table.specs.Means.{presentAt, ringOf, RowAgrees, laneOf, stateOf, meant, Beside, Sound, withLane}
 use Rattle.table.proofs.Footprint.{lane-kept, lane-is, row-kept}
 use Rattle.table.proofs.Next.{bit-present, bit-absent}
@@ -28,7 +28,7 @@ use Rattle.fresh.proofs.Mixed.{mixed-none, map-tab}
 
 -- ---- begin
 
-module _ (w : List ℕ) (h : ℕ) (len : length w ≡ 1360) where
+module _ (w : List ℕ) (h : ℕ) (len : length w ≡ WORDS) where
   abbrev cleared : List ℕ
   cleared = set (set w 0 0) 1 0
 
@@ -73,14 +73,14 @@ weightless t k s h e =
     let no = eqb-false (bit k (getD (cells t) presentWord 0)) 1 (by-weight t k (presentAt (cells t) k) refl s h e) in
     omega (arith, no)
 
-module _ (w : List ℕ) (k word : ℕ) (g : Setting) (len : length w ≡ 1360) (hk : k < 64) (off : bit k (getD w presentWord 0) ≡ 0) (a : SettingWord g word) (f : getD w framingWord 0 ≡ g .framing) where
+module _ (w : List ℕ) (k word : ℕ) (g : Setting) (len : length w ≡ WORDS) (hk : k < 64) (off : bit k (getD w presentWord 0) ≡ 0) (a : SettingWord g word) (f : getD w framingWord 0 ≡ g .framing) where
   abbrev pub stored : List ℕ
   stored = set (set (set w (laneWord k) word) (laneWord k + 1) 0) (laneWord k + 2) 0
 
   abbrev pub added : List ℕ
   added = set stored presentWord (2 ^ k + getD w presentWord 0)
 
-  long : length stored ≡ 1360
+  long : length stored ≡ WORDS
   long = length-set (set (set w (laneWord k) word) (laneWord k + 1) 0) (laneWord k + 2) 0 ∙ length-set (set w (laneWord k) word) (laneWord k + 1) 0 ∙ length-set w (laneWord k) word ∙ len
 
   pub stored-other : (i : ℕ) → ((laneWord k ≤ i) → (i < laneWord k + 3) → ⊥) → getD stored i 0 ≡ getD w i 0

@@ -159,14 +159,17 @@ pub done-works : (calls t u v : List ℕ) → GoodTable t → Begun t u → leng
 done-works calls t u v g b len l = record {
   not-good = λ h. absurd (h g);
   held = λ _ e. absurd (false≢true (sym (b .none-held) ∙ e));
-  done = λ _ _. (refl, record {
-    table = record {
-      room = l .table .room;
-      alike = alike-trans (meant v) (worked calls (meant u) (callsIn calls)) (worked calls (fresh (setupOf (meant t))) (callsIn calls)) (l .table .alike) (worked-alike calls (meant u) (fresh (setupOf (meant t))) (callsIn calls) (b .made .reached) (b .alike));
-      beside = l .table .beside;
-      listed = l .table .listed;
-    };
-    rest = l .rest ∙ b .rest;
-  });
+  done = λ _ _. (
+    refl,
+    record {
+      table = record {
+        room = l .table .room;
+        alike = alike-trans (meant v) (worked calls (meant u) (callsIn calls)) (worked calls (fresh (setupOf (meant t))) (callsIn calls)) (l .table .alike) (worked-alike calls (meant u) (fresh (setupOf (meant t))) (callsIn calls) (b .made .reached) (b .alike));
+        beside = l .table .beside;
+        listed = l .table .listed;
+      };
+      rest = l .rest ∙ b .rest;
+    },
+  );
   size = len;
 }

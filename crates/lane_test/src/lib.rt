@@ -6,7 +6,7 @@ ghost use mathlib.Core.Path.{_≡_};
 ghost use mathlib.Core.Bool.{true};
 ghost use Prim.Native.Nat.{_+_, _*_, _^_, _<_, _≤_};
 ghost use Rattle.units.specs.Numbers.{perByte};
-ghost use Rattle.rules.specs.State.{group};
+ghost use Rattle.rules.specs.State.{group, laneDepth};
 ghost use Rattle.waiting.specs.Waiting.{Lengths};
 ghost use Rattle.table.specs.Layout.{Room, cells, rowAt};
 ghost use Rattle.table.specs.Means.{RowAgrees, givenOf, ringOf, presentAt};
@@ -125,7 +125,7 @@ fn time_good(l: LaneRow, v: Clock) -> bool
 
 // Whether each record of a lane's queue has a length of 1 to the lane's longest.
 fn lengths_good(t: &[u8], k: usize, l: LaneRow) -> bool
-    requires { ⌜ Room (now t) × (k < 64) × (l .head < 16) × (l .count ≤ 16) ⌝ }
+    requires { ⌜ Room (now t) × (k < 64) × (l .head < laneDepth) × (l .count ≤ laneDepth) ⌝ }
     ensures { λ r. ⌜ Says r (Lengths (givenOf l .longest) (ringOf (cells (now (t .entry))) k (l .head) (l .count))) ⌝ }
 {
     let head = l.head;
@@ -147,7 +147,7 @@ fn lengths_good(t: &[u8], k: usize, l: LaneRow) -> bool
 
 // Whether lane `k`, which is in the setup and has the row `l`, is good. The line's framing bytes are the whole table's, tested before its lanes.
 pub fn lane_good(t: &[u8], k: usize, l: LaneRow, v: Clock) -> bool
-    requires { ⌜ Room (now t) × (k < 64) × (presentAt (cells (now t)) k ≡ true) × (l ≡ rowAt (cells (now t)) k) × (l .head < 16) × (l .rate .0 < 2 ^ 24) × (v .0 < 2 ^ 63) × (l .framing .0 ≤ 64) ⌝ }
+    requires { ⌜ Room (now t) × (k < 64) × (presentAt (cells (now t)) k ≡ true) × (l ≡ rowAt (cells (now t)) k) × (l .head < laneDepth) × (l .rate .0 < 2 ^ 24) × (v .0 < 2 ^ 63) × (l .framing .0 ≤ 64) ⌝ }
     ensures { λ r. ⌜ Says r (LaneGood (v .0) (cells (now (t .entry))) k) ⌝ }
 {
     let agrees = setting_good(l);

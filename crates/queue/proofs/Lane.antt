@@ -7,11 +7,11 @@ use native.Mathlib.Omega.{arith}
 use lib.ListN.{length, set, length-set, getD}
 use Rattle.units.proofs.PerByte.{rate-le}
 use Rattle.waiting.specs.Waiting.{head, first, held}
-use Rattle.rules.specs.State.{Lane, laneAt, firstOf, holds, some?, charge, rate}
+use Rattle.rules.specs.State.{Lane, laneAt, laneDepth, firstOf, holds, some?, charge, rate}
 use Rattle.rules.specs.Calls.{appended, woken, served}
 use Rattle.slot_lists.specs.Lists.{listAt}
 use Rattle.filing.specs.Filing.{inARow}
-use Rattle.table.specs.Layout.{Now, cells, placeWord, rowAt, putRow, entryWord, entryOf}
+use Rattle.table.specs.Layout.{WORDS, Now, cells, placeWord, rowAt, putRow, entryWord, entryOf}
 use Rattle.table.specs.Means.{presentAt, recOf, ringOf, givenOf, timed, stateOf, meant, Sound, Leaves, withLane}
 use Rattle.table.specs.declared.Entry.{Entry}
 use Rattle.table.specs.declared.LaneRow.{LaneRow}
@@ -28,17 +28,17 @@ record Stage (w u : List ℕ) (k : ℕ) : Type 0 where
   outside : Outside w u k
   row : rowAt u k ≡ rowAt w k
   present : presentAt u k ≡ presentAt w k
-  size : length u ≡ 1360
+  size : length u ≡ WORDS
 
-stage-none : (w : List ℕ) (k : ℕ) → length w ≡ 1360 → Stage w w k
+stage-none : (w : List ℕ) (k : ℕ) → length w ≡ WORDS → Stage w w k
 stage-none w k len = record { outside = record { kept = λ i p q. refl }; row = refl; present = refl; size = len }
 
-stage-place : (w : List ℕ) (k i e : ℕ) → k < 64 → length w ≡ 1360 → Stage w (set w (placeWord k i) e) k
+stage-place : (w : List ℕ) (k i e : ℕ) → k < 64 → length w ≡ WORDS → Stage w (set w (placeWord k i) e) k
 stage-place w k i e hk len =
     record { outside = outside-place w k i e; row = row-place w k i e hk; present = present-place w k i e; size = length-set w (placeWord k i) e ∙ len }
 
 -- then the row is stored, with the clock word x and n records from the place h on
-rewritten : (t t₁ t′ u : List ℕ) (k x h n : ℕ) → k < 64 → h < 16 → presentAt (cells t) k ≡ true → Stage (cells t) u k → Now t t₁ u
+rewritten : (t t₁ t′ u : List ℕ) (k x h n : ℕ) → k < 64 → h < laneDepth → presentAt (cells t) k ≡ true → Stage (cells t) u k → Now t t₁ u
     → Now t₁ t′ (putRow (cells t₁) k (retimed (rowAt (cells t) k) x h n))
     → Leaves t t′ (withLane (meant t) k (timed (givenOf (rowAt (cells t) k)) x (ringOf u k h n)))
 rewritten t t₁ t′ u k x h n hk small p g a b =
@@ -67,7 +67,7 @@ module _ (w o : List ℕ) (k : ℕ) (hk : k < 64) (p : presentAt w k ≡ true) w
 
 -- ---- append
 
-append-at : (t t₁ t′ : List ℕ) (k : ℕ) (e : Entry) → k < 64 → e .mark < 2 ^ 32 → rowAt (cells t) k .head < 16 → holds (laneAt (meant t) k) ≡ true → held (laneAt (meant t) k .waiting) < 16
+append-at : (t t₁ t′ : List ℕ) (k : ℕ) (e : Entry) → k < 64 → e .mark < 2 ^ 32 → rowAt (cells t) k .head < laneDepth → holds (laneAt (meant t) k) ≡ true → held (laneAt (meant t) k .waiting) < laneDepth
     → Now t t₁ (set (cells t) (placeWord k (rowAt (cells t) k .head + rowAt (cells t) k .count)) (entryWord e))
     → Now t₁ t′ (putRow (cells t₁) k (retimed (rowAt (cells t) k) (rowAt (cells t) k .time .0) (rowAt (cells t) k .head) (rowAt (cells t) k .count + 1)))
     → Leaves t t′ (withLane (meant t) k (appended (laneAt (meant t) k) (waiting e)))
@@ -77,18 +77,18 @@ append-at t t₁ t′ k e hk small top busy room a b =
     let l = rowAt w k in
     let p = holds-present w o k hk busy in
     let q = ringOf w k (l .head) (l .count) in
-    let r : l .count < 16 = omega (arith, count-of w o k hk p) in
+    let r : l .count < laneDepth = omega (arith, count-of w o k hk p) in
     let ring : ringOf (set w (placeWord k (l .head + l .count)) (entryWord e)) k (l .head) (l .count + 1) ≡ q ++ waiting e ∷ [] = ring-snoc w k (l .head) (l .count) (entryWord e) (length-cells t) hk r ∙ rw (recOf-entryWord e small) in
     let same : timed (givenOf l) (l .time .0) (ringOf (set w (placeWord k (l .head + l .count)) (entryWord e)) k (l .head) (l .count + 1)) ≡ appended (laneAt (meant t) k) (waiting e) = ap (timed (givenOf l) (l .time .0)) ring ∙ sym (timed-appended (givenOf l) (l .time .0) q (waiting e) (sym (ap some? (first-of w o k hk p)) ∙ busy)) ∙ ap (λ (x : Lane). appended x (waiting e)) (sym (lane-row w o k hk p)) in
     rw (← same) (rewritten t t₁ t′ _ k _ _ _ hk top p (stage-place w k (l .head + l .count) (entryWord e) hk (length-cells t)) a b)
 
-pub append-leaves : (t t₁ t′ : List ℕ) (k : ℕ) (e : Entry) (l : LaneRow) → l ≡ rowAt (cells t) k → k < 64 → e .mark < 2 ^ 32 → l .head < 16 → holds (laneAt (meant t) k) ≡ true → held (laneAt (meant t) k .waiting) < 16
+pub append-leaves : (t t₁ t′ : List ℕ) (k : ℕ) (e : Entry) (l : LaneRow) → l ≡ rowAt (cells t) k → k < 64 → e .mark < 2 ^ 32 → l .head < laneDepth → holds (laneAt (meant t) k) ≡ true → held (laneAt (meant t) k .waiting) < laneDepth
     → Now t t₁ (set (cells t) (placeWord k (l .head + l .count)) (entryWord e))
     → Now t₁ t′ (putRow (cells t₁) k (retimed l (l .time .0) (l .head) (l .count + 1)))
     → Leaves t t′ (withLane (meant t) k (appended (laneAt (meant t) k) (waiting e)))
 append-leaves t t₁ t′ k e l q hk small head held room a b =
     subst
-    (λ (l : LaneRow). l .head < 16
+    (λ (l : LaneRow). l .head < laneDepth
     → Now t t₁ (set (cells t) (placeWord k (l .head + l .count)) (entryWord e))
     → Now t₁ t′ (putRow (cells t₁) k (retimed l (l .time .0) (l .head) (l .count + 1)))
     → Leaves t t′ (withLane (meant t) k (appended (laneAt (meant t) k) (waiting e))))
@@ -96,7 +96,7 @@ append-leaves t t₁ t′ k e l q hk small head held room a b =
 
 -- ---- wake
 
-wake-at : (t t₁ t′ : List ℕ) (k x : ℕ) (e : Entry) → k < 64 → e .mark < 2 ^ 32 → rowAt (cells t) k .head < 16 → 0 < laneAt (meant t) k .given .weight → holds (laneAt (meant t) k) ≡ false
+wake-at : (t t₁ t′ : List ℕ) (k x : ℕ) (e : Entry) → k < 64 → e .mark < 2 ^ 32 → rowAt (cells t) k .head < laneDepth → 0 < laneAt (meant t) k .given .weight → holds (laneAt (meant t) k) ≡ false
     → x ≡ max (laneAt (meant t) k .finish) (meant t .clock)
     → Now t t₁ (set (cells t) (placeWord k (rowAt (cells t) k .head)) (entryWord e))
     → Now t₁ t′ (putRow (cells t₁) k (retimed (rowAt (cells t) k) x (rowAt (cells t) k .head) 1))
@@ -113,14 +113,14 @@ wake-at t t₁ t′ k x e hk small head weight idle start a b =
     let same : timed (givenOf l) x (ringOf (set w (placeWord k (l .head)) (entryWord e)) k (l .head) 1) ≡ woken (meant t .clock) (laneAt (meant t) k) (waiting e) = ap (timed (givenOf l) x) ring ∙ ap (λ (y : ℕ). timed (givenOf l) y (waiting e ∷ [])) time ∙ sym (timed-woken (givenOf l) (meant t .clock) (l .time .0) (waiting e)) ∙ ap (λ (y : Lane). woken (meant t .clock) y (waiting e)) (sym lane) in
     rw (← same) (rewritten t t₁ t′ _ k _ _ _ hk head p (stage-place w k (l .head) (entryWord e) hk (length-cells t)) a b)
 
-pub wake-leaves : (t t₁ t′ : List ℕ) (k x : ℕ) (e : Entry) (l : LaneRow) → l ≡ rowAt (cells t) k → k < 64 → e .mark < 2 ^ 32 → l .head < 16 → 0 < laneAt (meant t) k .given .weight → holds (laneAt (meant t) k) ≡ false
+pub wake-leaves : (t t₁ t′ : List ℕ) (k x : ℕ) (e : Entry) (l : LaneRow) → l ≡ rowAt (cells t) k → k < 64 → e .mark < 2 ^ 32 → l .head < laneDepth → 0 < laneAt (meant t) k .given .weight → holds (laneAt (meant t) k) ≡ false
     → x ≡ max (laneAt (meant t) k .finish) (meant t .clock)
     → Now t t₁ (set (cells t) (placeWord k (l .head)) (entryWord e))
     → Now t₁ t′ (putRow (cells t₁) k (retimed l x (l .head) 1))
     → Leaves t t′ (withLane (meant t) k (woken (meant t .clock) (laneAt (meant t) k) (waiting e)))
 wake-leaves t t₁ t′ k x e l q hk small head weight idle start a b =
     subst
-    (λ (l : LaneRow). l .head < 16
+    (λ (l : LaneRow). l .head < laneDepth
     → Now t t₁ (set (cells t) (placeWord k (l .head)) (entryWord e))
     → Now t₁ t′ (putRow (cells t₁) k (retimed l x (l .head) 1))
     → Leaves t t′ (withLane (meant t) k (woken (meant t .clock) (laneAt (meant t) k) (waiting e))))
@@ -130,7 +130,7 @@ wake-leaves t t₁ t′ k x e l q hk small head weight idle start a b =
 
 module _ (w o : List ℕ) (k : ℕ) (hk : k < 64) (held : holds (laneAt (stateOf w o) k) ≡ true) where
   -- the lane by its first record
-  first-row : laneAt (stateOf w o) k ≡ timed (givenOf (rowAt w k)) (rowAt w k .time .0) (recOf (getD w (placeWord k (rowAt w k .head)) 0) ∷ ringOf w k ((rowAt w k .head + 1) % 16) (rowAt w k .count - 1))
+  first-row : laneAt (stateOf w o) k ≡ timed (givenOf (rowAt w k)) (rowAt w k .time .0) (recOf (getD w (placeWord k (rowAt w k .head)) 0) ∷ ringOf w k ((rowAt w k .head + 1) % laneDepth) (rowAt w k .count - 1))
   first-row =
       let p = holds-present w o k hk held in
       let n : rowAt w k .count ≡ suc (rowAt w k .count - 1) = omega (arith, holds-row w o k hk p held) in
@@ -144,12 +144,12 @@ module _ (w o : List ℕ) (k : ℕ) (hk : k < 64) (held : holds (laneAt (stateOf
   unfolding timed
   finish-is = rw first-row
 
-  served-is : served (laneAt (stateOf w o) k) ≡ timed (givenOf (rowAt w k)) (laneAt (stateOf w o) k .finish) (ringOf w k ((rowAt w k .head + 1) % 16) (rowAt w k .count - 1))
+  served-is : served (laneAt (stateOf w o) k) ≡ timed (givenOf (rowAt w k)) (laneAt (stateOf w o) k .finish) (ringOf w k ((rowAt w k .head + 1) % laneDepth) (rowAt w k .count - 1))
   unfolding timed
   served-is = rw first-row (timed-served (givenOf (rowAt w k)) (rowAt w k .time .0) _ _)
 
-take-at : (t t′ : List ℕ) (k : ℕ) → k < 64 → rowAt (cells t) k .head < 16 → holds (laneAt (meant t) k) ≡ true
-    → Now t t′ (putRow (cells t) k (retimed (rowAt (cells t) k) (laneAt (meant t) k .finish) ((rowAt (cells t) k .head + 1) % 16) (rowAt (cells t) k .count - 1)))
+take-at : (t t′ : List ℕ) (k : ℕ) → k < 64 → rowAt (cells t) k .head < laneDepth → holds (laneAt (meant t) k) ≡ true
+    → Now t t′ (putRow (cells t) k (retimed (rowAt (cells t) k) (laneAt (meant t) k .finish) ((rowAt (cells t) k .head + 1) % laneDepth) (rowAt (cells t) k .count - 1)))
     → Takes t t′ k (entryOf (getD (cells t) (placeWord k (rowAt (cells t) k .head)) 0))
 take-at t t′ k hk head held b =
     let w = cells t in
@@ -170,14 +170,14 @@ finish-row t k l e q r s hk held =
     subst (λ (l : LaneRow). e ≡ entryOf (getD w (placeWord k (l .head)) 0) → l .time .0 + charge (givenOf l) (e .length .0) * l .rate .0 ≡ laneAt (meant t) k .finish) (sym q) (over e) r
 
 -- the clock word x that the code stores is F
-pub take-leaves : (t t′ : List ℕ) (k x : ℕ) (l : LaneRow) (e : Entry) → l ≡ rowAt (cells t) k → e ≡ entryOf (getD (cells t) (placeWord k (l .head)) 0) → x ≡ laneAt (meant t) k .finish → k < 64 → l .head < 16 → holds (laneAt (meant t) k) ≡ true
-    → Now t t′ (putRow (cells t) k (retimed l x ((l .head + 1) % 16) (l .count - 1)))
+pub take-leaves : (t t′ : List ℕ) (k x : ℕ) (l : LaneRow) (e : Entry) → l ≡ rowAt (cells t) k → e ≡ entryOf (getD (cells t) (placeWord k (l .head)) 0) → x ≡ laneAt (meant t) k .finish → k < 64 → l .head < laneDepth → holds (laneAt (meant t) k) ≡ true
+    → Now t t′ (putRow (cells t) k (retimed l x ((l .head + 1) % laneDepth) (l .count - 1)))
     → Takes t t′ k e
 take-leaves t t′ k x l e q r f hk head held b =
     let w = cells t in
-    let base : (x : ℕ) → x ≡ laneAt (meant t) k .finish → rowAt w k .head < 16 → Now t t′ (putRow w k (retimed (rowAt w k) x ((rowAt w k .head + 1) % 16) (rowAt w k .count - 1))) → Takes t t′ k (entryOf (getD w (placeWord k (rowAt w k .head)) 0)) = λ x f h b. take-at t t′ k hk h held (subst (λ (x : ℕ). Now t t′ (putRow w k (retimed (rowAt w k) x ((rowAt w k .head + 1) % 16) (rowAt w k .count - 1)))) f b) in
+    let base : (x : ℕ) → x ≡ laneAt (meant t) k .finish → rowAt w k .head < laneDepth → Now t t′ (putRow w k (retimed (rowAt w k) x ((rowAt w k .head + 1) % laneDepth) (rowAt w k .count - 1))) → Takes t t′ k (entryOf (getD w (placeWord k (rowAt w k .head)) 0)) = λ x f h b. take-at t t′ k hk h held (subst (λ (x : ℕ). Now t t′ (putRow w k (retimed (rowAt w k) x ((rowAt w k .head + 1) % laneDepth) (rowAt w k .count - 1)))) f b) in
     subst (λ (e : Entry). Takes t t′ k e) (sym r)
-    (subst (λ (l : LaneRow). l .head < 16 → Now t t′ (putRow w k (retimed l x ((l .head + 1) % 16) (l .count - 1))) → Takes t t′ k (entryOf (getD w (placeWord k (l .head)) 0))) (sym q) (base x f) head b)
+    (subst (λ (l : LaneRow). l .head < laneDepth → Now t t′ (putRow w k (retimed l x ((l .head + 1) % laneDepth) (l .count - 1))) → Takes t t′ k (entryOf (getD w (placeWord k (l .head)) 0))) (sym q) (base x f) head b)
 
 pub first-leaves : (t : List ℕ) (k : ℕ) (l : LaneRow) (e : Entry) → l ≡ rowAt (cells t) k → e ≡ entryOf (getD (cells t) (placeWord k (l .head)) 0) → k < 64 → holds (laneAt (meant t) k) ≡ true → First (laneAt (meant t) k) e
 first-leaves t k l e q r hk held =

@@ -10,8 +10,8 @@ use lib.Seq.{getD-set-same, getD-set-other}
 use Rattle.words.specs.Runs.{tab, tabFrom}
 use Rattle.words.proofs.Runs.{tab-ext, tab-snoc, tab-cons}
 use Rattle.waiting.specs.Waiting.{head}
-use Rattle.rules.specs.State.{Rec, some?}
-use Rattle.table.specs.Layout.{placeWord, entryWord}
+use Rattle.rules.specs.State.{Rec, some?, laneDepth}
+use Rattle.table.specs.Layout.{WORDS, placeWord, entryWord}
 use Rattle.table.specs.Means.{recOf, ringOf}
 use Rattle.table.specs.declared.Entry.{Entry}
 use Rattle.queue.specs.Queue.{waiting}
@@ -24,7 +24,7 @@ recOf-entryWord e h =
     rw (low, high)
 
 -- one more at the end
-pub ring-snoc : (w : List ℕ) (k h n e : ℕ) → length w ≡ 1360 → k < 64 → n < 16 → ringOf (set w (placeWord k (h + n)) e) k h (n + 1) ≡ ringOf w k h n ++ recOf e ∷ []
+pub ring-snoc : (w : List ℕ) (k h n e : ℕ) → length w ≡ WORDS → k < 64 → n < laneDepth → ringOf (set w (placeWord k (h + n)) e) k h (n + 1) ≡ ringOf w k h n ++ recOf e ∷ []
 unfolding ringOf
 ring-snoc w k h n e len hk small =
     let u = set w (placeWord k (h + n)) e in
@@ -33,17 +33,17 @@ ring-snoc w k h n e len hk small =
     tab-snoc n (λ i. recOf (getD u (placeWord k (h + i)) 0)) ∙ rw (same, last)
 
 -- the only one
-pub ring-one : (w : List ℕ) (k h e : ℕ) → length w ≡ 1360 → k < 64 → ringOf (set w (placeWord k h) e) k h 1 ≡ recOf e ∷ []
+pub ring-one : (w : List ℕ) (k h e : ℕ) → length w ≡ WORDS → k < 64 → ringOf (set w (placeWord k h) e) k h 1 ≡ recOf e ∷ []
 unfolding ringOf tab tabFrom
 ring-one w k h e len hk =
     rw (add-zero, getD-set-same w (placeWord k h) e 0 (omega arith))
 
 -- the first, and those behind it
-pub ring-cons : (w : List ℕ) (k h n : ℕ) → ringOf w k h (suc n) ≡ recOf (getD w (placeWord k h) 0) ∷ ringOf w k ((h + 1) % 16) n
+pub ring-cons : (w : List ℕ) (k h n : ℕ) → ringOf w k h (suc n) ≡ recOf (getD w (placeWord k h) 0) ∷ ringOf w k ((h + 1) % laneDepth) n
 unfolding ringOf
 ring-cons w k h n =
-    let next : (i : ℕ) → placeWord k (h + suc i) ≡ placeWord k ((h + 1) % 16 + i) = λ i. omega arith in
-    tab-cons n (λ i. recOf (getD w (placeWord k (h + i)) 0)) (λ i. recOf (getD w (placeWord k ((h + 1) % 16 + i)) 0)) (λ i. ap (λ (p : ℕ). recOf (getD w p 0)) (next i))
+    let next : (i : ℕ) → placeWord k (h + suc i) ≡ placeWord k ((h + 1) % laneDepth + i) = λ i. omega arith in
+    tab-cons n (λ i. recOf (getD w (placeWord k (h + i)) 0)) (λ i. recOf (getD w (placeWord k ((h + 1) % laneDepth + i)) 0)) (λ i. ap (λ (p : ℕ). recOf (getD w p 0)) (next i))
     ∙ rw add-zero
 
 pub none-held : (q : List Rec) → some? (head q) ≡ false → q ≡ []

@@ -7,8 +7,8 @@ use lib.ListN.{length, getD, set}
 use lib.Seq.{getD-set-same, getD-set-other}
 use Rattle.words.specs.Runs.{tab}
 use Rattle.words.proofs.Runs.{tab-ext, tab-set, getD-tab}
-use Rattle.rules.specs.State.{noLane, laneAt}
-use Rattle.table.specs.Layout.{presentWord, framingWord, laneWord, placeWord, rowAt, rowOf}
+use Rattle.rules.specs.State.{noLane, laneAt, laneDepth}
+use Rattle.table.specs.Layout.{WORDS, placesWord, presentWord, framingWord, laneWord, placeWord, rowAt, rowOf}
 use Rattle.table.specs.Means.{presentAt, recOf, ringOf, rowLane, laneOf, stateOf, RowAgrees, Beside, withClock, withLane}
 use Rattle.table.proofs.Stores.{rowOf-eq}
 
@@ -17,7 +17,7 @@ pub record SameLane (w u : List ℕ) (k : ℕ) : Type 0 where
   pub present : presentAt u k ≡ presentAt w k
   pub framing : getD u framingWord 0 ≡ getD w framingWord 0
   pub row : (i : ℕ) → laneWord k ≤ i → i < laneWord k + 3 → getD u i 0 ≡ getD w i 0
-  pub ring : (i : ℕ) → 336 + 16 * k ≤ i → i < 336 + 16 * k + 16 → getD u i 0 ≡ getD w i 0
+  pub ring : (i : ℕ) → placesWord + laneDepth * k ≤ i → i < placesWord + laneDepth * k + laneDepth → getD u i 0 ≡ getD w i 0
 
 pub present-kept : (w u : List ℕ) (k : ℕ) → getD u presentWord 0 ≡ getD w presentWord 0 → presentAt u k ≡ presentAt w k
 unfolding presentAt
@@ -28,7 +28,7 @@ unfolding rowAt
 row-kept w u k h s =
     rowOf-eq _ _ _ _ _ _ _ _ h (s (laneWord k) (omega arith) (omega arith)) (s (laneWord k + 1) (omega arith) (omega arith)) (s (laneWord k + 2) (omega arith) (omega arith))
 
-pub ring-kept : (w u : List ℕ) (k h n : ℕ) → ((i : ℕ) → 336 + 16 * k ≤ i → i < 336 + 16 * k + 16 → getD u i 0 ≡ getD w i 0) → ringOf u k h n ≡ ringOf w k h n
+pub ring-kept : (w u : List ℕ) (k h n : ℕ) → ((i : ℕ) → placesWord + laneDepth * k ≤ i → i < placesWord + laneDepth * k + laneDepth → getD u i 0 ≡ getD w i 0) → ringOf u k h n ≡ ringOf w k h n
 unfolding ringOf
 ring-kept w u k h n s =
     tab-ext n _ _ (λ i p. ap recOf (s (placeWord k (h + i)) (omega arith) (omega arith)))
@@ -44,7 +44,7 @@ lane-is w o k h = getD-tab 64 k (laneOf w) noLane h
 -- ---- a change in one lane's words but its setting
 
 pub record Outside (w u : List ℕ) (k : ℕ) : Type 0 where
-  pub kept : (i : ℕ) → ((laneWord k + 1 ≤ i) → (i < laneWord k + 3) → ⊥) → ((336 + 16 * k ≤ i) → (i < 336 + 16 * k + 16) → ⊥) → getD u i 0 ≡ getD w i 0
+  pub kept : (i : ℕ) → ((laneWord k + 1 ≤ i) → (i < laneWord k + 3) → ⊥) → ((placesWord + laneDepth * k ≤ i) → (i < placesWord + laneDepth * k + laneDepth) → ⊥) → getD u i 0 ≡ getD w i 0
 
 module _ (w u : List ℕ) (k : ℕ) (hk : k < 64) (o : Outside w u k) where
   -- leaves the state with that lane changed
@@ -92,7 +92,7 @@ lanes-kept : (w u : List ℕ) → getD u 1 0 ≡ getD w 1 0 → getD u framingWo
 lanes-kept w u e h f =
     tab-ext 64 (laneOf u) (laneOf w) (λ k b. lane-kept w u k (record { present = present-kept w u k e; framing = h; row = λ i p q. f i (omega arith); ring = λ i p q. f i (omega arith) }))
 
-pub clock-changed : (w o : List ℕ) (v : ℕ) → length w ≡ 1360 → stateOf (set w 0 v) o ≡ withClock (stateOf w o) v
+pub clock-changed : (w o : List ℕ) (v : ℕ) → length w ≡ WORDS → stateOf (set w 0 v) o ≡ withClock (stateOf w o) v
 unfolding stateOf
 clock-changed w o v len =
     let other : (i : ℕ) → 0 < i → getD (set w 0 v) i 0 ≡ getD w i 0 = λ i h. getD-set-other w 0 i v 0 (omega arith) in

@@ -7,12 +7,12 @@ use mathlib.Core.List.{List}
 use native.Mathlib.Omega.{arith}
 use lib.ListN.{length, getD, set, length-set}
 use lib.Seq.{getD-set-same, getD-set-other}
-use Rattle.table.specs.Layout.{presentWord, framingWord, laneWord, placeWord, rowAt, putRow}
+use Rattle.table.specs.Layout.{WORDS, presentWord, framingWord, laneWord, placeWord, rowAt, putRow}
 use Rattle.table.specs.Means.{presentAt, ringOf, givenOf, timed, rowLane, laneOf, stateOf}
 use Rattle.table.specs.declared.LaneRow.{LaneRow}
 use Rattle.words.proofs.Runs.{length-tab}
 use Rattle.waiting.specs.Waiting.{plain, held}
-use Rattle.rules.specs.State.{Lane, laneAt, holds, noLane}
+use Rattle.rules.specs.State.{Lane, laneAt, holds, noLane, laneDepth}
 use Rattle.table.proofs.Timed.{timed-given, timed-waiting}
 use Rattle.table.proofs.Footprint.{Outside, present-kept, row-kept, ring-kept, lane-is}
 
@@ -26,7 +26,7 @@ unfolding putRow
 outside-row w k l =
     record {
       kept = λ i p q.
-          getD-set-other (set w (laneWord k + 1) (l .time .0)) (laneWord k + 2) i (l .head + 16 * l .count) 0 (λ e. p (omega arith) (omega arith))
+          getD-set-other (set w (laneWord k + 1) (l .time .0)) (laneWord k + 2) i (l .head + laneDepth * l .count) 0 (λ e. p (omega arith) (omega arith))
           ∙ getD-set-other w (laneWord k + 1) i (l .time .0) 0 (λ e. p (omega arith) (omega arith));
     }
 
@@ -39,16 +39,16 @@ outside-place w k i e = record { kept = λ j p q. getD-set-other w (placeWord k 
 abbrev pub retimed : LaneRow → ℕ → ℕ → ℕ → LaneRow
 retimed l x h n = record { longest = l .longest; framing = l .framing; weight = l .weight; group = l .group; rate = l .rate; time = record { 0 = x }; head = h; count = n }
 
-pub row-put : (w : List ℕ) (k x h n : ℕ) → length w ≡ 1360 → k < 64 → h < 16 → rowAt (putRow w k (retimed (rowAt w k) x h n)) k ≡ retimed (rowAt w k) x h n
+pub row-put : (w : List ℕ) (k x h n : ℕ) → length w ≡ WORDS → k < 64 → h < laneDepth → rowAt (putRow w k (retimed (rowAt w k) x h n)) k ≡ retimed (rowAt w k) x h n
 unfolding rowAt putRow
 row-put w k x h n len hk small =
     let u = set w (laneWord k + 1) x in
-    let zeroth : getD (set u (laneWord k + 2) (h + 16 * n)) framingWord 0 ≡ getD w framingWord 0 = getD-set-other u (laneWord k + 2) framingWord (h + 16 * n) 0 (omega arith) ∙ getD-set-other w (laneWord k + 1) framingWord x 0 (omega arith) in
-    let first : getD (set u (laneWord k + 2) (h + 16 * n)) (laneWord k) 0 ≡ getD w (laneWord k) 0 = getD-set-other u (laneWord k + 2) (laneWord k) (h + 16 * n) 0 (omega arith) ∙ getD-set-other w (laneWord k + 1) (laneWord k) x 0 (omega arith) in
-    let second : getD (set u (laneWord k + 2) (h + 16 * n)) (laneWord k + 1) 0 ≡ x = getD-set-other u (laneWord k + 2) (laneWord k + 1) (h + 16 * n) 0 (omega arith) ∙ getD-set-same w (laneWord k + 1) x 0 (omega arith) in
-    let third : getD (set u (laneWord k + 2) (h + 16 * n)) (laneWord k + 2) 0 ≡ h + 16 * n = getD-set-same u (laneWord k + 2) (h + 16 * n) 0 (rw length-set (omega arith)) in
-    let low : (h + 16 * n) % 16 ≡ h = omega arith in
-    let high : (h + 16 * n) / 16 ≡ n = omega arith in
+    let zeroth : getD (set u (laneWord k + 2) (h + laneDepth * n)) framingWord 0 ≡ getD w framingWord 0 = getD-set-other u (laneWord k + 2) framingWord (h + laneDepth * n) 0 (omega arith) ∙ getD-set-other w (laneWord k + 1) framingWord x 0 (omega arith) in
+    let first : getD (set u (laneWord k + 2) (h + laneDepth * n)) (laneWord k) 0 ≡ getD w (laneWord k) 0 = getD-set-other u (laneWord k + 2) (laneWord k) (h + laneDepth * n) 0 (omega arith) ∙ getD-set-other w (laneWord k + 1) (laneWord k) x 0 (omega arith) in
+    let second : getD (set u (laneWord k + 2) (h + laneDepth * n)) (laneWord k + 1) 0 ≡ x = getD-set-other u (laneWord k + 2) (laneWord k + 1) (h + laneDepth * n) 0 (omega arith) ∙ getD-set-same w (laneWord k + 1) x 0 (omega arith) in
+    let third : getD (set u (laneWord k + 2) (h + laneDepth * n)) (laneWord k + 2) 0 ≡ h + laneDepth * n = getD-set-same u (laneWord k + 2) (h + laneDepth * n) 0 (rw length-set (omega arith)) in
+    let low : (h + laneDepth * n) % laneDepth ≡ h = omega arith in
+    let high : (h + laneDepth * n) / laneDepth ≡ n = omega arith in
     rw (zeroth, first, second, third, low, high)
 
 pub present-put : (w : List ℕ) (k : ℕ) (l : LaneRow) → presentAt (putRow w k l) k ≡ presentAt w k
@@ -58,10 +58,10 @@ present-put w k l =
 ring-put : (w : List ℕ) (k h n : ℕ) (l : LaneRow) → k < 64 → ringOf (putRow w k l) k h n ≡ ringOf w k h n
 unfolding putRow
 ring-put w k h n l hk =
-    ring-kept w (putRow w k l) k h n (λ i p q. getD-set-other (set w (laneWord k + 1) (l .time .0)) (laneWord k + 2) i (l .head + 16 * l .count) 0 (omega arith) ∙ getD-set-other w (laneWord k + 1) i (l .time .0) 0 (omega arith))
+    ring-kept w (putRow w k l) k h n (λ i p q. getD-set-other (set w (laneWord k + 1) (l .time .0)) (laneWord k + 2) i (l .head + laneDepth * l .count) 0 (omega arith) ∙ getD-set-other w (laneWord k + 1) i (l .time .0) 0 (omega arith))
 
 -- the lane, once its row is stored
-pub lane-put : (w : List ℕ) (k x h n : ℕ) → length w ≡ 1360 → k < 64 → h < 16 → presentAt w k ≡ true → laneOf (putRow w k (retimed (rowAt w k) x h n)) k ≡ timed (givenOf (rowAt w k)) x (ringOf w k h n)
+pub lane-put : (w : List ℕ) (k x h n : ℕ) → length w ≡ WORDS → k < 64 → h < laneDepth → presentAt w k ≡ true → laneOf (putRow w k (retimed (rowAt w k) x h n)) k ≡ timed (givenOf (rowAt w k)) x (ringOf w k h n)
 unfolding laneOf rowLane
 lane-put w k x h n len hk small p =
     rw (present-put w k (retimed (rowAt w k) x h n), p, row-put w k x h n len hk small, ring-put w k h n (retimed (rowAt w k) x h n) hk)

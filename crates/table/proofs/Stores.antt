@@ -6,7 +6,7 @@ use lib.ListN.{length, set}
 use Rattle.words.proofs.Laws.{length-wordsOf}
 use Rattle.table.specs.Layout.{WORDS, Now, cells, rowOf}
 
-pub length-cells : (t : List ℕ) → length (cells t) ≡ 1360
+pub length-cells : (t : List ℕ) → length (cells t) ≡ WORDS
 unfolding cells
 length-cells t = length-wordsOf WORDS t
 

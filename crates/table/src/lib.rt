@@ -10,7 +10,7 @@ ghost use mathlib.Core.Path.{_≡_};
 ghost use Prim.Native.Nat.{_+_, _*_, _^_, _<_, _≤_};
 ghost use lib.ListN.{getD, set};
 ghost use Rattle.table.specs.Layout.{Room, WORDS, Now, cells, rowAt, putRow, entryOf, entryWord, placeWord};
-ghost use Rattle.rules.specs.State.{charge};
+ghost use Rattle.rules.specs.State.{charge, laneDepth};
 ghost use Rattle.table.specs.Means.{presentAt, Next, givenOf, meant, Sound, Leaves, withClock};
 use rings::END;
 use units::Bytes;
@@ -96,7 +96,7 @@ pub fn set_cell(t: &mut [u8], i: usize, v: u64)
 // Lane `k`'s words, taken apart, with the line's framing bytes.
 pub fn row(t: &[u8], k: usize) -> LaneRow
     requires { ⌜ Room (now t) × (k < 64) ⌝ }
-    ensures { λ r. ⌜ (r ≡ rowAt (cells (now (t .entry))) k) × (r .head < 16) × (r .rate .0 < 2 ^ 24) ⌝ }
+    ensures { λ r. ⌜ (r ≡ rowAt (cells (now (t .entry))) k) × (r .head < laneDepth) × (r .rate .0 < 2 ^ 24) ⌝ }
 {
     let base = ROWS + ROW_WORDS * k;
     let setting = cell(t, base);
@@ -117,7 +117,7 @@ pub fn row(t: &[u8], k: usize) -> LaneRow
 
 // Stores lane `k`'s clock word and ring. Its setting stays as the setup gave it.
 pub fn set_row(t: &mut [u8], k: usize, l: LaneRow)
-    requires { ⌜ Room (now t) × (k < 64) × (l .head < 16) × (l .count ≤ 16) ⌝ }
+    requires { ⌜ Room (now t) × (k < 64) × (l .head < laneDepth) × (l .count ≤ laneDepth) ⌝ }
     ensures { λ _. ⌜ Now (now (t .entry)) (now (t .exit)) (putRow (cells (now (t .entry))) k l) ⌝ }
 {
     let base = ROWS + ROW_WORDS * k;

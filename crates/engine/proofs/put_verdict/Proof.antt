@@ -1,11 +1,10 @@
 -- `put_verdict` meets its contract. Assumes nothing.
 use mathlib.Core.Path.{refl, sym, ap, _∙_}
-use Prim.Native.Nat.{_^_}
 use native.Mathlib.Nat.{pos-of-ne-zero}
 use native.Mathlib.Omega.{arith}
 use borrow.Author.Tests.{not-true}
 use Rattle.units.proofs.Compare.{is-not-after, is-after}
-use Rattle.rules.specs.State.{Lane, laneAt}
+use Rattle.rules.specs.State.{clockSpent, Lane, laneAt}
 use Rattle.table.specs.Means.{meant}
 use Rattle.engine.proofs.RowIs.{RowIs, row-weighs, read-row, absent-lane, far-lane}
 use Rattle.engine.proofs.Verdicts.{no-lane, empty-record, too-long, lane-full, clock-spent, allowed}
@@ -66,12 +65,12 @@ not-after-requires c κs = search needs
 returns-6 : tie.Need-returns-6
 returns-6 c =
     let a = c .before .before .before .before .before .before .before .before .before .before in
-    (clock-spent _ _ _ (row-weighs _ _ (row-known a)) (pos-of-ne-zero (c .before .before .before .before .before .before .before .before .if3 .left)) (rw (row-known a .given) (c .before .before .before .before .before .if4 .left)) (omega (arith, row-known a .held, c .before .before .before .if5 .left)) (omega (arith, c .before .before .clock .ensures, is-not-after (2 ^ 62) (c .before .before .clock .result .0) (c .before .not-after .ensures) (c .if6 .taken))), refl)
+    (clock-spent _ _ _ (row-weighs _ _ (row-known a)) (pos-of-ne-zero (c .before .before .before .before .before .before .before .before .if3 .left)) (rw (row-known a .given) (c .before .before .before .before .before .if4 .left)) (omega (arith, row-known a .held, c .before .before .before .if5 .left)) (omega (arith, c .before .before .clock .ensures, is-not-after clockSpent (c .before .before .clock .result .0) (c .before .not-after .ensures) (c .if6 .taken))), refl)
 
 returns-7 : tie.Need-returns-7
 returns-7 c =
     let a = c .before .before .before .before .before .before .before .before .before .before in
-    (allowed _ _ _ (row-weighs _ _ (row-known a)) (pos-of-ne-zero (c .before .before .before .before .before .before .before .before .if3 .left)) (rw (row-known a .given) (c .before .before .before .before .before .if4 .left)) (omega (arith, row-known a .held, c .before .before .before .if5 .left)) (omega (arith, c .before .before .clock .ensures, is-after (2 ^ 62) (c .before .before .clock .result .0) (c .before .not-after .ensures) (c .if6 .left))), tt)
+    (allowed _ _ _ (row-weighs _ _ (row-known a)) (pos-of-ne-zero (c .before .before .before .before .before .before .before .before .if3 .left)) (rw (row-known a .given) (c .before .before .before .before .before .if4 .left)) (omega (arith, row-known a .held, c .before .before .before .if5 .left)) (omega (arith, c .before .before .clock .ensures, is-after clockSpent (c .before .before .clock .result .0) (c .before .not-after .ensures) (c .if6 .left))), tt)
 
 pub put-verdict-spec : {M : Type 1} → statement M
 put-verdict-spec =

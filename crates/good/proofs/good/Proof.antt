@@ -2,6 +2,7 @@ use Rattle.good.proofs.Whole.{whole-good, good-weights, good-live, good
 use Rattle.good.specs.declared.Pass.{Pass}
 use Rattle.good.specs.Pass.{PassSays}
 use lib.ListN.{getD}
+use Rattle.rules.specs.State.{clockEdge}
 use Rattle.table.specs.Layout.{cells, framingWord}
 use mathlib.Core.Path.{subst}
 use native.Mathlib.Omega.{arith}
@@ -23,7 +24,7 @@ not-after-requires c κs = search needs
 returns-2 : tie.Need-returns-2
 returns-2 c =
     let v = c .before .before in
-    λ g. omega (arith, is-not-after (2 ^ 62 + 2 ^ 42) (v .clock .result .0) (c .before .not-after .ensures) (c .if2 .taken), v .clock .ensures, g .good .clock)
+    λ g. omega (arith, is-not-after clockEdge (v .clock .result .0) (c .before .not-after .ensures) (c .if2 .taken), v .clock .ensures, g .good .clock)
 
 cell-requires : tie.Need-cell-requires
 cell-requires c κs = search needs
@@ -35,7 +36,7 @@ lanes-good-requires : tie.Need-lanes-good-requires
 lanes-good-requires c κs =
     let e = c .before .before in
     let v = e .before .before in
-    (v .before .if1 .left, omega (arith, is-after (2 ^ 62 + 2 ^ 42) (v .clock .result .0) (e .before .not-after .ensures) (e .if2 .left)), omega (arith, c .before .cell .ensures, c .if3 .left))
+    (v .before .if1 .left, omega (arith, is-after clockEdge (v .clock .result .0) (e .before .not-after .ensures) (e .if2 .left)), omega (arith, c .before .cell .ensures, c .if3 .left))
 
 enum-told : tie.Need-enum-told
 enum-told c = search needs
@@ -62,7 +63,7 @@ returns-5 c =
     let framed : getD (cells t) framingWord 0 ≤ 64 = omega (arith, c .before .before .before .before .before .before .cell .ensures, c .before .before .before .before .before .if3 .left) in
     let found = subst (λ (r : Pass). PassSays v (cells t) r) (c .before .before .f .given .1) (c .before .before .before .before .lanes-good .ensures) in
     says-iff (c .found-good .result)
-    (λ q. whole-good t v _ clock found (c .before .before .before .before .before .before .before .before .before .before .if1 .left) (is-after (2 ^ 62 + 2 ^ 42) v (c .before .before .before .before .before .before .before .before .not-after .ensures) (c .before .before .before .before .before .before .before .if2 .left)) framed (q .0) (q .1) (q .2) (q .3))
+    (λ q. whole-good t v _ clock found (c .before .before .before .before .before .before .before .before .before .before .if1 .left) (is-after clockEdge v (c .before .before .before .before .before .before .before .before .not-after .ensures) (c .before .before .before .before .before .before .before .if2 .left)) framed (q .0) (q .1) (q .2) (q .3))
     (λ g. let sums = good-weights t v _ clock found g in (sums .0, sums .1, good-live t v _ clock found g, good-stored t v _ clock found g))
     (c .found-good .ensures)
 

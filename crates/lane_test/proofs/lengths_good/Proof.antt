@@ -1,6 +1,7 @@
 use Rattle.lane_test.proofs.Lane.{InLength, ring-length, ring-lengths}
 use Rattle.table.specs.declared.Entry.{Entry}
 use Rattle.table.specs.Means.{givenOf}
+use Rattle.rules.specs.State.{laneDepth}
 use Rattle.table.specs.Layout.{cells, placeWord}
 use lib.ListN.{getD}
 use borrow.Author.Count.{below-none, below-more}
@@ -13,7 +14,7 @@ use Rattle.lane_test.proofs.lengths_good.Tie as tie
 
 abbrev Inv-loop : tie.InvT-loop
 Inv-loop t k head count longest i₀ i =
-    (i ≤ count) × (count ≤ 16) × (head < 16) × ((j : ℕ) → j < i → InLength longest (getD (cells t) (placeWord k (head + j)) 0 / 2 ^ 32))
+    (i ≤ count) × (count ≤ laneDepth) × (head < laneDepth) × ((j : ℕ) → j < i → InLength longest (getD (cells t) (placeWord k (head + j)) 0 / 2 ^ 32))
 
 abbrev μ-loop : tie.MeasureT-loop
 μ-loop t k head count longest i₀ i = count - i

@@ -1,4 +1,5 @@
-use Prim.Native.Nat.{_^_, _<_}
+use Prim.Native.Nat.{_-_, _^_, _<_}
+use Rattle.rules.specs.State.{laneDepth}
 use Rattle.queue.proofs.Lane.{append-leaves, room-row}
 use native.Mathlib.Omega.{arith}
 use borrow.Author.Needs.{needs}
@@ -12,7 +13,7 @@ add-set-record : tie.Need-add-set-record
 add-set-record c =
     let s = c .before .before .before .before in
     let r = c .before .row in
-    omega (arith, room-row (s .args .t .now) (s .args .k) 15 (r .result) (r .ensures .0) (s .pre .1) (s .pre .3) (omega (arith, s .pre .4)))
+    omega (arith, room-row (s .args .t .now) (s .args .k) (laneDepth - 1) (r .result) (r .ensures .0) (s .pre .1) (s .pre .3) (omega (arith, s .pre .4)))
 
 set-record-requires : tie.Need-set-record-requires
 set-record-requires c κs = search needs
@@ -21,13 +22,13 @@ add-next : tie.Need-add-next
 add-next c =
     let s = c .before .before .before .before .before .before .before in
     let r = c .before .before .before .before .row in
-    omega (arith, room-row (s .args .t .now) (s .args .k) 15 (r .result) (r .ensures .0) (s .pre .1) (s .pre .3) (omega (arith, s .pre .4)))
+    omega (arith, room-row (s .args .t .now) (s .args .k) (laneDepth - 1) (r .result) (r .ensures .0) (s .pre .1) (s .pre .3) (omega (arith, s .pre .4)))
 
 set-row-requires : tie.Need-set-row-requires
 set-row-requires c κs =
     let s = c .before .before .before .before .before .before .before .before in
     let r = c .before .before .before .before .before .row in
-    (omega (arith, c .before .before .before .set-record .kept .0, s .pre .0 .room), s .pre .1, r .ensures .1, omega (arith, room-row (s .args .t .now) (s .args .k) 15 (r .result) (r .ensures .0) (s .pre .1) (s .pre .3) (omega (arith, s .pre .4))))
+    (omega (arith, c .before .before .before .set-record .kept .0, s .pre .0 .room), s .pre .1, r .ensures .1, omega (arith, room-row (s .args .t .now) (s .args .k) (laneDepth - 1) (r .result) (r .ensures .0) (s .pre .1) (s .pre .3) (omega (arith, s .pre .4))))
 
 same-length : tie.Need-same-length
 same-length c = search needs

@@ -1,6 +1,6 @@
 use Rattle.queue.proofs.Lane.{take-leaves, finish-row, room-row, some-row, rate-row, framing-row}
 use Rattle.table.specs.Means.{meant}
-use Rattle.rules.specs.State.{laneAt}
+use Rattle.rules.specs.State.{laneAt, laneDepth}
 use mathlib.Core.Path.{_≡_, _∙_, ap}
 use Prim.Native.Nat.{ℕ, _+_, _*_}
 use native.Mathlib.Omega.{arith}
@@ -48,7 +48,7 @@ set-row-requires : tie.Need-set-row-requires
 set-row-requires c κs =
     let s = c .before .before .before .before .before .before .before .before .before .before in
     let r = c .before .before .before .before .before .before .before .row in
-    (s .pre .0 .room, s .pre .1, omega arith, omega (arith, room-row (s .args .t .now) (s .args .k) 16 (r .result) (r .ensures .0) (s .pre .1) (s .pre .2) (s .pre .3)))
+    (s .pre .0 .room, s .pre .1, omega arith, omega (arith, room-row (s .args .t .now) (s .args .k) laneDepth (r .result) (r .ensures .0) (s .pre .1) (s .pre .2) (s .pre .3)))
 
 same-length : tie.Need-same-length
 same-length c = search needs
