@@ -2,7 +2,8 @@
 use mathlib.Core.Path.{_≡_, refl, sym, ap, subst, _∙_}
 use mathlib.Core.Option.{Option, none, some}
 use mathlib.Core.Logic.{_⊎_, inl, inr}
-use Prim.Native.Nat.{ℕ, _+_, _*_, _/_, _%_, _^_, _≤_, _<_}
+use Prim.Native.Nat.{ℕ, _+_, _-_, _*_, _/_, _%_, _^_, _≤_, _<_}
+use native.Mathlib.Nat.{mod-eq-of-lt}
 use mathlib.Core.List.{List, [], _∷_}
 use native.Mathlib.Omega.{arith}
 use lib.ListN.{length, getD}
@@ -59,7 +60,14 @@ module _ (t : List ℕ) (s : State) (good : Good s) (whole : Whole (backAt t)) (
         go (inr h) = h
 
     module _ (h : LeadsAt (startAt t) v 64 f) where
-      least-group : LeastGroup (startAt t) (s .clock) (f .group) (f .start)
+      -- the start, from the finish
+      pub two-slots : 2 * 2 ^ (f .group) % 2 ^ 64 ≡ 2 * 2 ^ (f .group)
+      two-slots = mod-eq-of-lt (omega (arith, pow-mono {i = f .group} {j = 31} (h .high)))
+
+      pub start-is : f .finish - 2 * 2 ^ (f .group) % 2 ^ 64 ≡ h .from
+      start-is = omega (arith, h .sum, two-slots)
+
+      least-group : LeastGroup (startAt t) (s .clock) (f .group) (h .from)
       least-group =
           record {
             low = h .low;
@@ -70,15 +78,15 @@ module _ (t : List ℕ) (s : State) (good : Good s) (whole : Whole (backAt t)) (
             lowest = λ i q lo hi z le e. h .lowest i q lo hi (omega arith) z (omega (arith, clock)) (h .sum ∙ e);
           }
 
-      pub list-some : 0 < length (listAt t (f .group) (listOf t (f .group) (f .start)))
-      list-some = front-some (f .group) (f .start) (h .low) (h .high) (h .start)
+      pub list-some : 0 < length (listAt t (f .group) (listOf t (f .group) (h .from)))
+      list-some = front-some (f .group) (h .from) (h .low) (h .high) (h .start)
 
-      pub found-head : (k : ℕ) → k ≡ getD (listAt t (f .group) (listOf t (f .group) (f .start))) 0 0 → headOf (listAt t (f .group) (listOf t (f .group) (f .start))) ≡ some k
-      found-head k e = head (listAt t (f .group) (listOf t (f .group) (f .start))) list-some e
+      pub found-head : (k : ℕ) → k ≡ getD (listAt t (f .group) (listOf t (f .group) (h .from))) 0 0 → headOf (listAt t (f .group) (listOf t (f .group) (h .from))) ≡ some k
+      found-head k e = head (listAt t (f .group) (listOf t (f .group) (h .from))) list-some e
         where
           head : (l : List ℕ) → 0 < length l → k ≡ getD l 0 0 → headOf l ≡ some k
           head [] n e = absurd (omega arith)
           head (x ∷ xs) n e = ap some (sym e)
 
-      pub found-lane : (k : ℕ) → k ≡ getD (listAt t (f .group) (listOf t (f .group) (f .start))) 0 0 → some k ≡ laneOf (choose s)
-      found-lane k e = sym (found-head k e) ∙ choice-is (backAt t) whole s good (listAt t) (startAt t) ag (f .group) (f .start) least-group
+      pub found-lane : (k : ℕ) → k ≡ getD (listAt t (f .group) (listOf t (f .group) (h .from))) 0 0 → some k ≡ laneOf (choose s)
+      found-lane k e = sym (found-head k e) ∙ choice-is (backAt t) whole s good (listAt t) (startAt t) ag (f .group) (h .from) least-group

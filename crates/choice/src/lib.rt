@@ -131,7 +131,7 @@ pub fn chosen(t: &[u8]) -> Choice
         return Choice::Idle;
     }
     let group = f.group;
-    let start = f.start;
+    let start = f.finish - (2u64 << group);
     let list = list_number(start, word(t, BACK), group);
     let lane = first(t, group, list, word(t, MAPS + (group as usize)));
     Choice::Serve(Place { lane, group, start })

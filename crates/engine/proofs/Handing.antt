@@ -38,15 +38,15 @@ use Rattle.filing.proofs.Slots.{low-unique, group-held}
 use Rattle.filing.proofs.Starts.{Named, Grouped}
 use Rattle.filing.proofs.LeastStart.{LeastStart, group-of, least-all}
 use Rattle.groups.specs.Front.{Settles, stays, nothing, jumps}
-use Rattle.lane_moves.specs.Moves.{never, Refiled}
+use Rattle.lane_moves.specs.Moves.{never, Tells, Refiled}
 use Rattle.lane_moves.proofs.Rules.{refile-agrees}
 use Rattle.choice.specs.Known.{Known, Standing}
 use Rattle.choice.specs.declared.Place.{Place}
-use Rattle.engine.specs.Turns.{Holds, Turns, Settled}
+use Rattle.engine.specs.Turns.{Holds, Turns, Reaching, Settled}
 use Rattle.engine.specs.Does.{Serves}
 use Rattle.engine.proofs.Ends.{lanes-same, known-holds}
 use Rattle.table.proofs.Lists.{cells-apart, solid-stays, agrees-stay, past-stays}
-use Rattle.engine.proofs.Serving.{At, f, x, is-first, holds-k, finish-small, served-busy, entry-is, lanes-after, sound-after, inside, time-after, more-after, solid-after, agrees₁, first₁, start₁}
+use Rattle.engine.proofs.Serving.{At, f, x, is-first, holds-k, finish-small, served-busy, entry-is, lanes-after, sound-after, inside, solid-after, agrees₁, first₁, start₁}
 
 -- ---- where the clock settles
 
@@ -79,7 +79,7 @@ settles-is s starts st grouped v r (jumps m lt) = settled-at v r (leastOf holds 
 -- ---- once the lane has its new list
 
 module _ (t : List ℕ) (s : State) (g r k : ℕ) (a : At t s g r k) (t₁ : List ℕ) (e : Entry) (taken : Takes t t₁ k e) (len : length t₁ ≡ length t)
-    (t₂ : List ℕ) (l : LaneRow) (el : l ≡ rowAt (cells t₁) k) (len₂ : length t₂ ≡ length t₁) (n : ℕ) (re : Refiled t₁ t₂ g r (l .time .0) k (not (eqb (l .count) 0)) n) where
+    (t₂ : List ℕ) (y : ℕ) (ey : y ≡ laneAt s k .finish) (m : Bool) (em : m ≡ holds (served (laneAt s k))) (len₂ : length t₂ ≡ length t₁) (n : ℕ) (re : Refiled t₁ t₂ g r y k m n) where
   abbrev pub u : State
   u = serve s k (x t s g r k a)
 
@@ -99,9 +99,9 @@ module _ (t : List ℕ) (s : State) (g r k : ℕ) (a : At t s g r k) (t₁ : Lis
 
   agrees₂ : Agrees (backAt t₂) (listAt t₂) (startAt t₂) u
   agrees₂ =
-      let re′ : Refiled t₁ t₂ g r (laneAt s k .finish) k (not (eqb (rowAt (cells t₁) k .count) 0)) n = subst (λ (y : ℕ). Refiled t₁ t₂ g r y k (not (eqb (rowAt (cells t₁) k .count) 0)) n) (time-after t s g r k a t₁ e taken len) (subst (λ (y : LaneRow). Refiled t₁ t₂ g r (y .time .0) k (not (eqb (y .count) 0)) n) el re) in
+      let re′ : Refiled t₁ t₂ g r (laneAt s k .finish) k m n = subst (λ (z : ℕ). Refiled t₁ t₂ g r z k m n) ey re in
       subst (λ (b : ℕ). Agrees b (listAt t₂) (startAt t₂) u) (sym (re .apart .back))
-      (refile-agrees s (a .good) t₁ t₂ (solid-after t s g r k a t₁ e taken len .back-whole) (agrees₁ t s g r k a t₁ e taken len) k g r (a .low) (a .high) (start₁ t s g r k a t₁ e taken len) (first₁ t s g r k a t₁ e taken len) (x t s g r k a) (is-first t s g r k a) named _ (more-after t s g r k a t₁ e taken len) n re′)
+      (refile-agrees s (a .good) t₁ t₂ (solid-after t s g r k a t₁ e taken len .back-whole) (agrees₁ t s g r k a t₁ e taken len) k g r (a .low) (a .high) (start₁ t s g r k a t₁ e taken len) (first₁ t s g r k a t₁ e taken len) (x t s g r k a) (is-first t s g r k a) named m em n re′)
 
   pub sound₂ : Sound t₂
   sound₂ =
@@ -130,13 +130,13 @@ module _ (t : List ℕ) (s : State) (g r k : ℕ) (a : At t s g r k) (t₁ : Lis
           let same : y ≡ q = cc in
           omega (arith, same, low .start, each (λ (m : Lane). holds m ≡ true → startR m < 2 ^ 63) new-early (λ j hj. held-early s (a .good) j hj) (low .at) (in-group i (laneAt u (low .at)) (low .is) .0))
 
-  -- the start that `refile` answers
-  pub start-now : (n ≡ never) ⊎ ((i : ℕ) × (16 ≤ i) × (i ≤ 31) × (startAt t₂ i ≡ some n))
-  start-now = go (re .now)
+  -- what `refile` answers
+  pub start-now : (v : ℕ) → r ≤ v → (n ≡ never) ⊎ Reaching t₂ v n
+  start-now v le = go (re .now)
     where
-      go : (n ≡ never) ⊎ (startAt t₂ g ≡ some n) → (n ≡ never) ⊎ ((i : ℕ) × (16 ≤ i) × (i ≤ 31) × (startAt t₂ i ≡ some n))
+      go : (n ≡ never) ⊎ ((q : ℕ) × (startAt t₂ g ≡ some q) × Tells r q n) → (n ≡ never) ⊎ Reaching t₂ v n
       go (inl z) = inl z
-      go (inr z) = inr (g, a .low, a .high, z)
+      go (inr z) = inr (record { group = g; at = z .0; low = a .low; high = a .high; start = z .1; reached = z .2 v le })
 
   -- ---- and the clock its new time
 
@@ -159,9 +159,9 @@ module _ (t : List ℕ) (s : State) (g r k : ℕ) (a : At t s g r k) (t₁ : Lis
   past-after t₃ v st = past-stays t₂ t₃ (st .leaves .rest) ∙ re .apart .rest ∙ past-stays t t₁ (taken .leaves .rest)
 
 -- the group that was served is eligible still
-pub settled-stays : (t t′ : List ℕ) (v r : ℕ) → v < never → r ≤ v → (r ≡ never) ⊎ ((i : ℕ) × (16 ≤ i) × (i ≤ 31) × (startAt t i ≡ some r)) → Leaves t t′ (withClock (meant t) v) → Settled t t′ v
+pub settled-stays : (t t′ : List ℕ) (v r : ℕ) → v < never → r ≤ v → (r ≡ never) ⊎ Reaching t v r → Leaves t t′ (withClock (meant t) v) → Settled t t′ v
 settled-stays t t′ v r small le (inl e) lv = absurd (omega arith)
-settled-stays t t′ v r small le (inr p) lv = record { clock = v; is = stays (p .0) r (p .1) (p .2) (p .3) le refl; leaves = lv }
+settled-stays t t′ v r small le (inr p) lv = record { clock = v; is = stays (p .group) (p .at) (p .low) (p .high) (p .start) (p .reached le) refl; leaves = lv }
 
 -- the chosen lane, of the state that the table means
 pub at-chosen : (t : List ℕ) (known : Known t) (p : Place) → Standing t p → At t (meant t) (p .group) (p .start) (p .lane)
@@ -169,7 +169,7 @@ at-chosen t known p st = record { holds = known-holds t known; good = known .goo
 
 -- what was handed out
 module _ (t : List ℕ) (g r k : ℕ) (a : At t (meant t) g r k) (t₁ : List ℕ) (e : Entry) (taken : Takes t t₁ k e) (len : length t₁ ≡ length t)
-    (t₂ : List ℕ) (l : LaneRow) (el : l ≡ rowAt (cells t₁) k) (len₂ : length t₂ ≡ length t₁) (n : ℕ) (re : Refiled t₁ t₂ g r (l .time .0) k (not (eqb (l .count) 0)) n) where
+    (t₂ : List ℕ) (y : ℕ) (ey : y ≡ laneAt (meant t) k .finish) (m : Bool) (em : m ≡ holds (served (laneAt (meant t) k))) (len₂ : length t₂ ≡ length t₁) (n : ℕ) (re : Refiled t₁ t₂ g r y k m n) where
   pub handed : (t₃ : List ℕ) (v : ℕ) (rec : Record) → length t₃ ≡ length t₂ → v ≡ meant t .clock + lineRate * charge (laneAt (meant t) k .given) (x t (meant t) g r k a .len) → Settled t₂ t₃ v
       → rec .lane ≡ k → rec .mark ≡ e .mark → rec .length .0 ≡ e .length .0 → Serves t rec t₃
   handed t₃ v rec len₃ ev st p q d =
@@ -182,7 +182,7 @@ module _ (t : List ℕ) (g r k : ℕ) (a : At t (meant t) g r k) (t₁ : List �
         mark = q ∙ ap (λ (y : Rec). y .mark) same;
         size = d ∙ ap (λ (y : Rec). y .len) same;
         turns = record {
-          holds = subst (λ (j : ℕ). Holds t₃ (serve (meant t) j (x t (meant t) g r k a))) (sym (w .lane)) (holds-after t (meant t) g r k a t₁ e taken len t₂ l el len₂ n re t₃ v len₃ ev st);
-          rest = past-after t (meant t) g r k a t₁ e taken len t₂ l el len₂ n re t₃ v st;
+          holds = subst (λ (j : ℕ). Holds t₃ (serve (meant t) j (x t (meant t) g r k a))) (sym (w .lane)) (holds-after t (meant t) g r k a t₁ e taken len t₂ y ey m em len₂ n re t₃ v len₃ ev st);
+          rest = past-after t (meant t) g r k a t₁ e taken len t₂ y ey m em len₂ n re t₃ v st;
         };
       }

@@ -5,18 +5,21 @@ use mathlib.Core.Option.{Option, none, some}
 use Prim.Native.Nat.{ℕ, suc, _+_, _*_, _/_, _%_, _^_, _≤_, _<_}
 use mathlib.Core.List.{List, [], _∷_}
 use native.Mathlib.Omega.{arith}
-use lib.Dec.{eqb}
+use lib.Dec.{ltb}
 use lib.ListN.{length, getD, drop, set}
-use borrow.Author.Tests.{eq-eqb, ne-eqb}
+use borrow.Author.Tests.{lt-ltb, le-ltb}
 use Rattle.units.specs.Numbers.{lineRate}
 use Rattle.units.specs.Plain.{times, without}
-use Rattle.waiting.specs.Waiting.{Waiting, first, held, laneDepth}
+use Rattle.waiting.specs.Waiting.{Waiting, GoodWaiting, first, held, laneDepth}
 use Rattle.waiting.proofs.Laws.{first-fits, good-hand, held-hand, held-none, held-most}
-use Rattle.rules.specs.State.{Rec, Setting, Lane, State, noLane, charge, some?, firstOf, holds, laneAt}
+use Rattle.rules.specs.State.{Rec, Setting, Lane, State, noLane, charge, rate, startR, some?, firstOf, holds, laneAt}
 use Rattle.rules.specs.Choice.{choose}
 use Rattle.rules.specs.Calls.{behind, served}
 use Rattle.rules.specs.Good.{Times, Good}
 use Rattle.rules.specs.BySets.{laneOf}
+use Rattle.rules.specs.Sets.{inGroup}
+use Rattle.rules.proofs.Lowest.{LowOf, LowestOf}
+use Rattle.rules.proofs.GroupRule.{is-in-group, group-low}
 use Rattle.rules.proofs.Lane.{charge-slot}
 use Rattle.rules.proofs.Lists.{set-cases}
 use Rattle.rules.proofs.Figures.{longest-at, slot-at}
@@ -35,7 +38,7 @@ use Rattle.engine.proofs.Replies.{Found, found}
 use Rattle.slot_lists.specs.Lists.{backAt, listAt, startAt, listOf, Solid}
 use Rattle.filing.specs.Filing.{headOf, sift, inList, Agrees}
 use Rattle.filing.proofs.Sift.{length-sift, sift-without, without-none, times-sift}
-use Rattle.filing.proofs.Moves.{elsewhere}
+use Rattle.filing.proofs.Moves.{stands, elsewhere}
 use Rattle.filing.proofs.Slots.{numbers-held}
 use Rattle.filing.proofs.KeepsTake.{old-in}
 use Rattle.lane_moves.specs.Moves.{Rooms}
@@ -54,17 +57,6 @@ pub record At (t : List ℕ) (s : State) (g r k : ℕ) : Type 0 where
 
 pub served-busy : (l : Lane) → holds (served l) ≡ true → (served l) .start ≡ l .finish
 served-busy l = served-ind (λ (m : Lane). holds m ≡ true → m .start ≡ l .finish) l (λ e t. absurd (false≢true (sym (ap some? e) ∙ t))) (λ r e t. refl)
-
-served-idle : (l : Lane) → holds (served l) ≡ false → (served l) .finish ≡ l .finish
-served-idle l = served-ind (λ (m : Lane). holds m ≡ false → m .finish ≡ l .finish) l (λ e t. refl) (λ r e t. absurd (false≢true (sym t ∙ ap some? e)))
-
--- a served lane's clock word is its old F
-served-time : (l : Lane) (r : LaneRow) → RowIs (served l) r → r .time .0 ≡ l .finish
-served-time l r is = go (holds (served l)) refl
-  where
-    go : (b : Bool) → holds (served l) ≡ b → r .time .0 ≡ l .finish
-    go true e = sym (is .busy e) ∙ served-busy l e
-    go false e = sym (is .idle e) ∙ served-idle l e
 
 module _ (t : List ℕ) (s : State) (g r k : ℕ) (a : At t s g r k) where
   abbrev h : Holds t s
@@ -98,6 +90,16 @@ module _ (t : List ℕ) (s : State) (g r k : ℕ) (a : At t s g r k) where
   pub seen-is : (e : Entry) → First (laneAt (meant t) k) e → waiting e ≡ x
   seen-is e h = let q : some (waiting e) ≡ some x = sym h ∙ ap firstOf same-lane ∙ is-first in cc
 
+  -- V has reached the start of its group
+  pub start-reached : r ≤ s .clock
+  start-reached =
+      let in-it = old-in (backAt t) (h .solid .back-whole) s (a .good) (listAt t) (startAt t) (h .agrees) k g r (a .low) (a .high) (a .start) (a .first) x is-first in
+      let st = stands (backAt t) g (listOf t g r) (laneAt s k) in-it in
+      let low : LowestOf (inGroup g) (s .lanes) r = subst (LowOf (inGroup g) (s .lanes)) (sym (h .agrees .started g (a .low) (a .high)) ∙ a .start) (group-low (s .lanes) g) in
+      let mine : inGroup g (laneAt s k) ≡ true = subst (λ (i : ℕ). inGroup i (laneAt s k) ≡ true) (st .grp) (is-in-group (laneAt s k) (st .held)) in
+      let may : startR (laneAt s k) ≤ s .clock = subst (λ (j : ℕ). startR (laneAt s j) ≤ s .clock) (f .lane) (f .is .start) in
+      omega (arith, low .bound k mine)
+
   fits : x .len ≤ laneAt s k .given .longest
   fits = first-fits (laneAt s k .given .longest) (laneAt s k .waiting) x (a .good .waiting k) is-first .1
 
@@ -123,13 +125,15 @@ module _ (t : List ℕ) (s : State) (g r k : ℕ) (a : At t s g r k) where
     pub short : e .length .0 ≤ 1500
     short = omega (arith, ap (λ (z : Rec). z .len) entry-is, fits, longest-at s (a .good .setup) k)
 
+    -- what it is charged, by its row
+    paid : (l : LaneRow) → l ≡ rowAt (cells t) k → (c : ℕ) → c ≡ charge (givenOf l) (e .length .0) → c ≡ charge (laneAt s k .given) (x .len)
+    paid l el c ec =
+        let given : givenOf l ≡ laneAt s k .given = sym (lane-row l el .given) ∙ ap (λ (y : Lane). y .given) same-lane in
+        ec ∙ ap (λ (y : Setting). charge y (e .length .0)) given ∙ ap (λ (y : Rec). charge (laneAt s k .given) (y .len)) entry-is
+
     -- V after it, before it settles
     pub time-is : (l : LaneRow) → l ≡ rowAt (cells t) k → (v c z : ℕ) → v ≡ meant t .clock → c ≡ charge (givenOf l) (e .length .0) → z ≡ v + lineRate * c → z ≡ s .clock + lineRate * charge (laneAt s k .given) (x .len)
-    time-is l el v c z ev ec ez =
-        let row = lane-row l el in
-        let given : givenOf l ≡ laneAt s k .given = sym (row .given) ∙ ap (λ (y : Lane). y .given) same-lane in
-        let paid : c ≡ charge (laneAt s k .given) (x .len) = ec ∙ ap (λ (y : Setting). charge y (e .length .0)) given ∙ ap (λ (y : Rec). charge (laneAt s k .given) (y .len)) entry-is in
-        ez ∙ ap (λ (y : ℕ). y + lineRate * c) (ev ∙ h .clock) ∙ ap (λ (y : ℕ). s .clock + lineRate * y) paid
+    time-is l el v c z ev ec ez = ez ∙ ap (λ (y : ℕ). y + lineRate * c) (ev ∙ h .clock) ∙ ap (λ (y : ℕ). s .clock + lineRate * y) (paid l el c ec)
 
     abbrev pub new : Lane
     new = served (laneAt s k)
@@ -152,38 +156,33 @@ module _ (t : List ℕ) (s : State) (g r k : ℕ) (a : At t s g r k) where
     pub inside : k < length (s .lanes)
     inside = held-inside (s .lanes) k x is-first
 
-    lane-after : laneAt (meant t₁) k ≡ new
-    lane-after =
-        ap (λ (ls : List Lane). getD ls k noLane) lanes-after
-        ∙ set-cases (λ (m : Lane). m ≡ new) (s .lanes) k k new noLane inside (λ q. refl) (λ ne. absurd (ne refl))
+    -- its F, by its row
+    pub finish-is : (l : LaneRow) → l ≡ rowAt (cells t) k → (c z : ℕ) → c ≡ charge (givenOf l) (e .length .0) → z ≡ l .time .0 + c * l .rate .0 → z ≡ laneAt s k .finish
+    finish-is l el c z ec ez =
+        let row = lane-row l el in
+        let time : l .time .0 ≡ laneAt s k .start = sym (row .busy lane-holds) ∙ ap (λ (y : Lane). y .start) same-lane in
+        let rated : l .rate .0 ≡ rate (laneAt s k .given) = row .rated ∙ ap (λ (y : Lane). rate (y .given)) same-lane in
+        ez ∙ ap (λ (y : ℕ). y + c * l .rate .0) time ∙ ap (λ (y : ℕ). laneAt s k .start + c * y) rated ∙ ap (λ (y : ℕ). laneAt s k .start + y * rate (laneAt s k .given)) (paid l el c ec) ∙ sym (times-is .0)
 
-    row-after : RowIs new (rowAt (cells t₁) k)
-    row-after =
-        let weight : 0 < laneAt (meant t₁) k .given .weight = subst (λ (l : Lane). 0 < l .given .weight) (sym lane-after) (subst (λ (y : Setting). 0 < y .weight) (sym (served-given (laneAt s k))) (numbers-held s (a .good) k holds-k .weight-low)) in
-        subst (λ (l : Lane). RowIs l (rowAt (cells t₁) k)) lane-after (row-is t₁ sound-after k lane-small (weight-present (cells t₁) _ k lane-small weight))
-
-    pub time-after : rowAt (cells t₁) k .time .0 ≡ laneAt s k .finish
-    time-after = served-time (laneAt s k) (rowAt (cells t₁) k) row-after
-
-    pub more-after : not (eqb (rowAt (cells t₁) k .count) 0) ≡ holds new
-    more-after = go (first (behind (laneAt s k))) refl
+    -- whether it holds more, by its row
+    pub more-is : (l : LaneRow) → l ≡ rowAt (cells t) k → ltb 1 (l .count) ≡ holds new
+    more-is l el = go (first (behind (laneAt s k))) refl
       where
         n : ℕ
-        n = rowAt (cells t₁) k .count
+        n = l .count
 
-        count : held (behind (laneAt s k)) ≡ n
-        count = ap held (sym (served-waiting (laneAt s k))) ∙ row-after .held
+        many : n ≡ suc (held (behind (laneAt s k)))
+        many = sym (lane-row l el .held) ∙ ap (λ (y : Lane). held (y .waiting)) same-lane ∙ held-hand (laneAt s k .given .longest) (laneAt s k .waiting) x (a .good .waiting k) is-first
 
         more : holds new ≡ some? (first (behind (laneAt s k)))
         more = ap (λ (w : Waiting). some? (first w)) (served-waiting (laneAt s k))
 
-        go : (o : Option Rec) → first (behind (laneAt s k)) ≡ o → not (eqb n 0) ≡ holds new
-        go none q =
-            let good = good-hand (laneAt s k .given .longest) (laneAt s k .waiting) (a .good .waiting k) in
-            ap not (eq-eqb n 0 (sym count ∙ held-none (laneAt s k .given .longest) (behind (laneAt s k)) good q)) ∙ sym (more ∙ ap some? q)
-        go (some y) q =
-            let good = good-hand (laneAt s k .given .longest) (laneAt s k .waiting) (a .good .waiting k) in
-            ap not (ne-eqb n 0 (λ z. omega (arith, z, count, held-hand (laneAt s k .given .longest) (behind (laneAt s k)) y good q))) ∙ sym (more ∙ ap some? q)
+        good : GoodWaiting (laneAt s k .given .longest) (behind (laneAt s k))
+        good = good-hand (laneAt s k .given .longest) (laneAt s k .waiting) (a .good .waiting k)
+
+        go : (o : Option Rec) → first (behind (laneAt s k)) ≡ o → ltb 1 n ≡ holds new
+        go none q = le-ltb 1 n (omega (arith, many, held-none (laneAt s k .given .longest) (behind (laneAt s k)) good q)) ∙ sym (more ∙ ap some? q)
+        go (some y) q = lt-ltb 1 n (omega (arith, many, held-hand (laneAt s k .given .longest) (behind (laneAt s k)) y good q)) ∙ sym (more ∙ ap some? q)
 
     pub solid-after : Solid t₁
     solid-after = solid-stays t t₁ bytes-stay (h .solid)

@@ -2,12 +2,14 @@
 --
 --   Holds     clock and lanes are the state's, and the slot lists agree with it
 --   Turns     the table holds a state then, and the bytes past the table are as they were
+--   Reaching  some group's start is reached, or r is later than the clock
 --   Settled   what the clock became
 --
 -- Assumes nothing.
-use Prim.Native.Nat.{ℕ}
+use Prim.Native.Nat.{ℕ, _≤_}
 use mathlib.Core.Path.{_≡_}
 use mathlib.Core.List.{List}
+use mathlib.Core.Option.{some}
 use lib.ListN.{drop}
 use Rattle.rules.specs.State.{State}
 use Rattle.table.specs.Layout.{SIZE}
@@ -26,6 +28,15 @@ pub record Holds (t : List ℕ) (s : State) : Type 0 where
 pub record Turns (before after : List ℕ) (s : State) : Type 0 where
   pub holds : Holds after s
   pub rest : drop SIZE after ≡ drop SIZE before
+
+-- a group whose start the clock v has reached if r is at most v
+pub record Reaching (t : List ℕ) (v r : ℕ) : Type 0 where
+  pub group : ℕ
+  pub at : ℕ
+  pub low : 16 ≤ group
+  pub high : group ≤ 31
+  pub start : startAt t group ≡ some at
+  pub reached : r ≤ v → at ≤ v
 
 pub record Settled (before after : List ℕ) (v : ℕ) : Type 0 where
   pub clock : ℕ

@@ -20,7 +20,7 @@ ghost use Rattle.queue.specs.Queue.{waiting};
 ghost use Rattle.slot_lists.specs.Lists.{groupsAt, startAt, Solid};
 ghost use Rattle.lane_moves.specs.Moves.{never};
 ghost use Rattle.choice.specs.Known.{Known, Standing};
-ghost use Rattle.engine.specs.Turns.{Turns, Settled};
+ghost use Rattle.engine.specs.Turns.{Turns, Reaching, Settled};
 ghost use Rattle.engine.specs.Does.{Says, Does, verdictIs, Placeless, Idle, Serves};
 use choice::Choice;
 use choice::Place;
@@ -48,6 +48,7 @@ use table::row;
 use table::set_clock;
 use units::Bytes;
 use units::Clock;
+use units::lane_charge;
 use units::later;
 use units::line_charge;
 use units::not_after;
@@ -93,14 +94,6 @@ fn put_verdict(t: &[u8], lane: u8, length: Bytes) -> Verdict
     Verdict::Allowed
 }
 
-// Whether no lane holds records: no group has lanes.
-fn none_held(t: &[u8]) -> bool
-    requires { ⌜ Room (now t) ⌝ }
-    ensures { λ r. ⌜ r ≡ eqb (groupsAt (now (t .entry))) 0 ⌝ }
-{
-    word(t, GROUPS) == 0
-}
-
 // "S = the greater of F and V .. If no other lane holds a record and V is below R, then V = R." Lane `k` goes to the end of its slot's list.
 fn put_first(t: &mut [u8], k: usize, e: Entry)
     requires { ⌜ Known (now t) × Allowed (meant (now t)) k (e .length .0) × Idle (meant (now t)) k ⌝ }
@@ -108,12 +101,12 @@ fn put_first(t: &mut [u8], k: usize, e: Entry)
 {
     let l = row(t, k);
     let v = clock(t);
-    let alone = none_held(t);
+    let groups = word(t, GROUPS);
     let start = later(l.time, v);
     let group = l.group;
     wake(t, k, start, e);
-    add(t, group, start.0, k);
-    if alone {
+    add(t, groups, group, start.0, k);
+    if groups == 0 {
         set_clock(t, later(v, rounded_start(start, group)));
     }
 }
@@ -147,9 +140,9 @@ pub fn put(t: &mut [u8], lane: u8, mark: u32, length: Bytes) -> Answer
     }
 }
 
-// "Last, if records are held and no lane is eligible, V becomes the least R." `r` is the start of the group that was served, or later than any.
+// "Last, if records are held and no lane is eligible, V becomes the least R." `r` is at most V only if some group's start is.
 fn settle(t: &mut [u8], v: Clock, r: u64)
-    requires { ⌜ Sound (now t) × Solid (now t) × ((i q : ℕ) → 16 ≤ i → i ≤ 31 → startAt (now t) i ≡ some q → q < 2 ^ 63) × (v .0 < never) × ((r ≡ never) ⊎ ((i : ℕ) × (16 ≤ i) × (i ≤ 31) × (startAt (now t) i ≡ some r))) ⌝ }
+    requires { ⌜ Sound (now t) × Solid (now t) × ((i q : ℕ) → 16 ≤ i → i ≤ 31 → startAt (now t) i ≡ some q → q < 2 ^ 63) × (v .0 < never) × ((r ≡ never) ⊎ Reaching (now t) (v .0) r) ⌝ }
     ensures { λ _. ⌜ Settled (now (t .entry)) (now (t .exit)) (v .0) ⌝ }
 {
     if r <= v.0 {
@@ -169,10 +162,11 @@ fn serve_lane(t: &mut [u8], p: Place) -> Record
     let l = row(t, k);
     let v = clock(t);
     let e = take_first(t, k);
-    let next = row(t, k);
-    let r = refile(t, p.group, p.start, next.time.0, k, next.count != 0);
     let length = e.length;
-    settle(t, plus(v, line_charge(charged(l, length))), r);
+    let charge = charged(l, length);
+    let finish = plus(l.time, lane_charge(charge, l.rate));
+    let r = refile(t, p.group, p.start, finish.0, k, 1 < l.count);
+    settle(t, plus(v, line_charge(charge)), r);
     Record {
         lane: k as u8,
         mark: e.mark,
@@ -248,6 +242,14 @@ pub fn lag(t: &[u8], lane: u8) -> Answer
         return Answer::Lag(difference(v, later(l.time, v)));
     }
     Answer::Lag(difference(v, l.time))
+}
+
+// Whether no lane holds records: no group has lanes.
+fn none_held(t: &[u8]) -> bool
+    requires { ⌜ Room (now t) ⌝ }
+    ensures { λ r. ⌜ r ≡ eqb (groupsAt (now (t .entry))) 0 ⌝ }
+{
+    word(t, GROUPS) == 0
 }
 
 // Restart: the fresh table of the same setup.

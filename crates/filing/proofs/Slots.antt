@@ -1,9 +1,9 @@
 -- The slots of a good state's lanes: those of one group lie within 29 of each other, so that 32 lists tell them apart. Assumes nothing.
 use Prim.Native.Nat.{ℕ, _+_, _-_, _*_, _/_, _%_, _^_, _≤_, _<_}
-use native.Mathlib.Nat.{mul-le-mul-right, div-mul-le-self, add-mul-div-right}
+use native.Mathlib.Nat.{mul-le-mul-right, div-mul-le-self}
 use native.Mathlib.Omega.{arith}
 use native.Mathlib.Decide.{decLe}
-use lib.Pow.{pow-mono, pow-pos, shl-shr, split, mod-mod-pow}
+use lib.Pow.{pow-mono, pow-pos, shl-shr}
 use mathlib.Core.Path.{_≡_, refl, sym, ap, subst, _∙_}
 use mathlib.Core.Bool.{Bool, true, false, _&&_, false≢true}
 use mathlib.Core.Logic.{_⊎_, inl, inr, ⊎-elim}
@@ -11,6 +11,7 @@ use mathlib.Core.List.{List}
 use mathlib.Core.Option.{Option, none, some}
 use lib.ListN.{getD}
 use Rattle.units.proofs.Round.{round-div}
+use Rattle.units.proofs.Whole.{whole-slots, slot-part}
 use Rattle.waiting.specs.Waiting.{GoodWaiting}
 use Rattle.waiting.proofs.Laws.{first-fits}
 use Rattle.rules.specs.State.{Rec, Setting, Lane, State, group, slot, startR, firstOf, holds, laneAt, setupOf}
@@ -32,17 +33,6 @@ low-unique p ls (some r) none a b = absurd (false≢true (sym (b (a .at)) ∙ a 
 low-unique p ls (some r) (some q) a b = ap some (omega (arith, a .bound (b .at) (b .is), b .bound (a .at) (a .is), a .start, b .start))
 
 -- ---- what was taken off the clock
-
--- whole slots of every group
-pub whole-slots : (B g : ℕ) → Whole B → g ≤ 31 → B / 2 ^ g * 2 ^ g ≡ B
-whole-slots B g w h =
-    let e : 31 - g + g ≡ 31 = omega arith in
-    let left : B % 2 ^ g ≡ 0 % 2 ^ g = sym (mod-mod-pow B (31 - g) g) ∙ ap (λ (n : ℕ). B % 2 ^ n % 2 ^ g) e ∙ ap (λ (n : ℕ). n % 2 ^ g) w in
-    omega (arith, split B g, left, split 0 g)
-
--- so a slot's number is that by the clock, and as many more for every lane of the group
-pub slot-part : (B g x : ℕ) → Whole B → g ≤ 31 → (x + B) / 2 ^ g ≡ x / 2 ^ g + B / 2 ^ g
-slot-part B g x w h = ap (λ (b : ℕ). (x + b) / 2 ^ g) (sym (whole-slots B g w h)) ∙ add-mul-div-right x (B / 2 ^ g) (pow-pos g)
 
 -- R by the slot
 pub start-slot : (B g : ℕ) (l : Lane) → Whole B → g ≤ 31 → group (l .given) ≡ g → startR l + B ≡ slotAt B l * 2 ^ g

@@ -2,22 +2,19 @@
 use mathlib.Core.Path.{_≡_, refl, sym, ap, subst, _∙_}
 use mathlib.Core.Logic.{_⊎_, inl, inr}
 use mathlib.Core.Bool.{Bool, true, false, false≢true}
-use Prim.Native.Nat.{ℕ, zero, suc, _+_, _^_, _≤_, _<_}
+use Prim.Native.Nat.{ℕ, zero, suc, _≤_, _<_}
 use mathlib.Core.List.{List}
 use native.Mathlib.Omega.{arith}
 use native.Mathlib.Decide.{decLt, decLe}
-use lib.Pow.{pow-pos, pow-mono}
-use lib.ListN.{length, getD, length-map, List·getD-eq-default}
-use Rattle.words.specs.Runs.{tab}
-use Rattle.words.proofs.Runs.{length-tab}
-use Rattle.units.specs.Plain.{if_then_else_, anyBelow, wordOf, count}
+use lib.Pow.{pow-pos}
+use lib.ListN.{getD}
+use Rattle.units.specs.Plain.{if_then_else_, anyBelow}
 use Rattle.waiting.specs.Waiting.{GoodWaiting, first}
 use Rattle.waiting.proofs.Laws.{good-nothing}
-use Rattle.rules.specs.State.{Setting, settingAt, clockEdge, Lane, group, laneAt, some?, firstOf, holds, eligible, noLane, noSetting, setupOf}
+use Rattle.rules.specs.State.{Setting, settingAt, clockEdge, Lane, group, laneAt, some?, firstOf, holds, eligible, noSetting, setupOf}
 use Rattle.rules.specs.Setup.{InNumbers, Setup, weights}
 use Rattle.rules.specs.Good.{Times}
 use Rattle.rules.proofs.Lane.{slot-pos}
-use Rattle.rules.proofs.Word.{word-lt, word-bit}
 use Rattle.rules.proofs.Figures.{framing-bound, framed-by}
 use Rattle.rules.proofs.SameSetup.{setting-lane}
 use Rattle.table.specs.Layout.{Room, cells, framingWord}
@@ -28,58 +25,17 @@ use Rattle.table.proofs.Timed.{timed-start}
 use Rattle.slot_lists.specs.Lists.{listAt}
 use Rattle.filing.specs.Filing.{inARow}
 use Rattle.lists_test.specs.Stored.{Stored}
-use Rattle.lists_test.proofs.Meaning.{RowSays, stored-solid, stored-named, stored-agrees, agrees-stored}
+use Rattle.lists_test.proofs.InARow.{RowSays}
+use Rattle.lists_test.proofs.Meaning.{stored-solid, stored-named, stored-agrees}
+use Rattle.lists_test.proofs.Exact.{agrees-stored}
 use Rattle.lane_test.specs.Says.{Says, LaneGood}
 use Rattle.words.specs.Bits.{bit}
 use Rattle.good.specs.Pass.{FoundSays, sumTo, weightAt, holdsAt, eligibleAt}
 use Rattle.good.specs.Table.{GoodTable}
 use Rattle.good.specs.declared.Found.{Found}
 use Rattle.words.proofs.Bits.{bit-above}
-use Rattle.good.proofs.Sums.{sum-map, sum-tab, any-some, any-at, word-some}
-
-abbrev one : Bool → ℕ
-one b = if b then 1 else 0
-
-count-one : (b : Bool) → count b ≡ one b
-count-one true = refl
-count-one false = refl
-
--- ---- every number's lane
-
-module _ (w o : List ℕ) where
-  pub far-lane : (k : ℕ) → 64 ≤ k → laneAt (stateOf w o) k ≡ noLane
-  unfolding stateOf
-  far-lane k h = List·getD-eq-default (tab 64 (laneOf w)) noLane {n = k} (omega (arith, length-tab 64 (laneOf w)))
-
-  module _ (P : Lane → Type 0) (none : P noLane) (f : (k : ℕ) → k < 64 → presentAt w k ≡ true → P (laneOf w k)) where
-    present-or-not : (k : ℕ) → k < 64 → (b : Bool) → presentAt w k ≡ b → P (laneOf w k)
-    present-or-not k h true e = f k h e
-    present-or-not k h false e = subst P (sym (lane-absent w k e)) none
-
-    pub each-lane : (k : ℕ) → P (laneAt (stateOf w o) k)
-    each-lane k =
-        elim (decLt k 64) [
-          | yes h ↦ subst P (sym (lane-is w o k h)) (present-or-not k h (presentAt w k) refl)
-          | no h ↦ subst P (sym (far-lane k (omega arith))) none
-        ]
-
-  pub weights-are : weights (setupOf (stateOf w o)) ≡ sumTo 64 (weightAt w)
-  unfolding stateOf
-  weights-are = sum-map (λ (g : Setting). g .weight) (λ (l : Lane). l .given) (tab 64 (laneOf w)) ∙ sum-tab (λ (l : Lane). l .given .weight) 64 (laneOf w)
-
-  setup-size : length (setupOf (stateOf w o)) ≡ 64
-  unfolding stateOf
-  setup-size = length-map (tab 64 (laneOf w)) (λ (l : Lane). l .given) ∙ length-tab 64 (laneOf w)
-
-  -- the word of the holding lanes, bit by bit
-  held-bit : (k : ℕ) → bit k (wordOf (holdsAt w) 64) ≡ (if holds (laneAt (stateOf w o) k) then 1 else 0)
-  held-bit k =
-      elim (decLt k 64) [
-        | yes h ↦ word-bit (holdsAt w) 64 k h ∙ count-one (holdsAt w k) ∙ ap (λ (l : Lane). one (holds l)) (sym (lane-is w o k h))
-        | no h ↦ bit-above k (wordOf (holdsAt w) 64) (omega (arith, word-lt (holdsAt w) 64, pow-mono {i = 64} {j = k} (omega arith))) ∙ ap (λ (l : Lane). one (holds l)) (sym (far-lane k (omega arith)))
-      ]
-
--- ---- from the test to a good table
+use Rattle.good.proofs.Every.{one, far-lane, each-lane, weights-are, setup-size, held-bit}
+use Rattle.good.proofs.Sums.{any-some, any-at, word-some}
 
 some-bit : (k x : ℕ) → bit k x ≡ 1 → 0 < x
 some-bit k zero e = absurd (omega (arith, bit-above k 0 (pow-pos k)))

@@ -36,6 +36,7 @@ module _ (starts : ℕ → Option ℕ) where
           low = h .low;
           high = h .high;
           below = omega (arith, h .below);
+          from = h .from;
           start = h .start;
           small = h .small;
           sum = h .sum;
@@ -63,6 +64,7 @@ module _ (starts : ℕ → Option ℕ) where
             low = l .low;
             high = l .high;
             below = omega (arith, l .below);
+            from = l .from;
             start = l .start;
             small = l .small;
             sum = l .sum;
@@ -78,6 +80,7 @@ module _ (starts : ℕ → Option ℕ) where
             low = lo;
             high = hi;
             below = omega arith;
+            from = r;
             start = here;
             small = small;
             sum = refl;
@@ -93,6 +96,7 @@ module _ (starts : ℕ → Option ℕ) where
             low = l .low;
             high = l .high;
             below = omega (arith, l .below);
+            from = l .from;
             start = l .start;
             small = l .small;
             sum = l .sum;

@@ -8,14 +8,15 @@ use mathlib.Core.List.{List}
 use Prim.Native.Nat.{ℕ, _+_, _-_, _^_, _≤_, _<_}
 use native.Mathlib.Omega.{arith}
 use native.Mathlib.Decide.{decLt}
+use lib.Bits.{bitAnd, and-le-r}
 use lib.Count.{trailingZeros}
 use lib.Pow.{pow-pos}
 use Rattle.words.specs.Bits.{bit}
 use Rattle.words.specs.Words.{wordAt}
 use Rattle.words.proofs.Bits.{low-set, low-below, bit-above}
+use Rattle.words.proofs.Cleared.{cleared}
 use Rattle.words.proofs.Runs.{eq-or-ne}
 use Rattle.slot_lists.specs.Lists.{groupsAt, startWord, startAt, Solid}
-use Rattle.slot_lists.proofs.Bits.{bit-has, bit-off}
 use Rattle.slot_lists.proofs.Laws.{start-on, start-off}
 
 pub record Left (groups left n : ℕ) : Type 0 where
@@ -44,23 +45,21 @@ module _ (groups left n : ℕ) (l : Left groups left n) (some-left : left ≡ 0 
   pub absent : (i : ℕ) → n ≤ i → i < next → bit i groups ≡ 0
   absent i p q = sym (l .same i p) ∙ low .1 i q
 
-  pub some-power : 2 ^ next ≤ left
-  some-power = bit-has next left (low .0) .0
-
-  pub power-pos : 0 < 2 ^ next
-  power-pos = pow-pos next
-
-  pub left-less : Left groups (left - 2 ^ next) (next + 1)
+  -- its lowest set bit is done
+  pub left-less : Left groups (bitAnd left (left - 1)) (next + 1)
   left-less =
-      let w = bit-off left next (low .0) in
+      let w = cleared 64 left (omega arith) fits in
       record {
         gone = λ i h.
             ⊎-elim
-            (λ (e : i ≡ next). ap (λ (j : ℕ). bit j (left - 2 ^ next)) e ∙ w .same)
-            (λ (ne : i ≡ next → ⊥). w .others i (λ q. ne (sym q)) ∙ low .1 i (omega (arith, ne)))
+            (λ (e : i ≡ next). ap (λ (j : ℕ). bit j (bitAnd left (left - 1))) e ∙ w .gone)
+            (λ (ne : i ≡ next → ⊥). w .stays i ne ∙ low .1 i (omega (arith, ne)))
             (eq-or-ne i next);
-        same = λ i h. w .others i (λ q. omega arith) ∙ l .same i (omega (arith, on));
+        same = λ i h. w .stays i (λ q. omega arith) ∙ l .same i (omega (arith, on));
       }
+
+  pub less : bitAnd left (left - 1) < left
+  less = omega (arith, and-le-r left (left - 1))
 
 -- no bit is left
 pub none-left : (groups left n : ℕ) → Left groups left n → left ≡ 0 → (i : ℕ) → n ≤ i → bit i groups ≡ 0

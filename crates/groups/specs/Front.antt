@@ -19,7 +19,7 @@ abbrev pub never : ℕ
 never = 18446744073709551615
 
 abbrev pub front : ℕ → ℕ → Front
-front g r = record { group = g; start = r; finish = r + 2 * 2 ^ g }
+front g r = record { group = g; finish = r + 2 * 2 ^ g }
 
 abbrev pub preferred : Front → ℕ → ℕ → ℕ → Front
 preferred f g r v = if ltb v r then f else if ltb (r + 2 * 2 ^ g) (f .finish) then front g r else f
@@ -28,10 +28,12 @@ pub record LeadsAt (starts : ℕ → Option ℕ) (v n : ℕ) (f : Front) : Type 
   pub low : 16 ≤ f .group
   pub high : f .group ≤ 31
   pub below : f .group < n
-  pub start : starts (f .group) ≡ some (f .start)
-  pub small : f .start < 2 ^ 63
-  pub sum : f .finish ≡ f .start + 2 * 2 ^ (f .group)
-  pub reached : f .start ≤ v
+  -- the group's start
+  pub from : ℕ
+  pub start : starts (f .group) ≡ some from
+  pub small : from < 2 ^ 63
+  pub sum : f .finish ≡ from + 2 * 2 ^ (f .group)
+  pub reached : from ≤ v
   pub finish : (i q : ℕ) → 16 ≤ i → i ≤ 31 → i < n → starts i ≡ some q → q ≤ v → f .finish ≤ q + 2 * 2 ^ i
   pub lowest : (i q : ℕ) → 16 ≤ i → i ≤ 31 → i < n → starts i ≡ some q → q ≤ v → f .finish ≡ q + 2 * 2 ^ i → f .group ≤ i
 

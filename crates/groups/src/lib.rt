@@ -11,10 +11,9 @@ use slot_lists::GROUPS;
 use slot_lists::STARTS;
 use words::word;
 
-// A group, its start, and its finish: start + 2s. The finish is `NEVER` where no group was found.
+// A group, and its finish: start + 2s. The finish is `NEVER` where no group was found.
 pub struct Front {
     pub group: u32,
-    pub start: u64,
     pub finish: u64,
 }
 
@@ -31,11 +30,7 @@ fn prefer(f: Front, g: u32, start: u64, v: u64) -> Front
     }
     let finish = start + (2u64 << g);
     if finish < f.finish {
-        return Front {
-            group: g,
-            start,
-            finish,
-        };
+        return Front { group: g, finish };
     }
     f
 }
@@ -47,7 +42,6 @@ pub fn next_group(t: &[u8], v: u64) -> Front
 {
     let mut best = Front {
         group: 0,
-        start: 0,
         finish: NEVER,
     };
     let mut left = word(t, GROUPS);
@@ -55,7 +49,7 @@ pub fn next_group(t: &[u8], v: u64) -> Front
         let g = u64::trailing_zeros(left);
         let start = word(t, STARTS + (g as usize));
         best = prefer(best, g, start, v);
-        left -= 1u64 << g;
+        left = left & (left - 1);
     }
     best
 }
@@ -81,7 +75,7 @@ pub fn settled_clock(t: &[u8], v: u64) -> u64
             return v;
         }
         found = earlier(start, found);
-        left -= 1u64 << g;
+        left = left & (left - 1);
     }
     if found == NEVER {
         return v;

@@ -18,11 +18,12 @@ use Rattle.words.proofs.Runs.{eq-or-ne}
 use Rattle.rules.specs.Choice.{least}
 use Rattle.slot_lists.specs.Lists.{backWord, startWord, ringNumber, groupsAt, mapOf, listIn, listAt, startAt, Solid}
 use Rattle.slot_lists.specs.Changes.{Moved, Apart, Stored, Nearest}
+use Rattle.slot_lists.proofs.Store.{stored-then}
 use Rattle.slot_lists.proofs.Laws.{list-on, list-off, list-some, some-bit, start-on, start-off}
 use Rattle.filing.specs.Filing.{Lists}
 use Rattle.filing.proofs.Moves.{Changed}
 use Rattle.filing.proofs.Starts.{NextList}
-use Rattle.lane_moves.specs.Moves.{never, slotOf, listOf, Added, Onward, nowhere, onto, Closing, empty, moved-on, Refiled}
+use Rattle.lane_moves.specs.Moves.{never, slotOf, listOf, Added, Onward, nowhere, onto, Tells, Closing, empty, onward, Refiled}
 use Rattle.lane_moves.proofs.Views.{under, under-here, own-changed, Nearly, solid-nearly, same-start, moved-changed, moved-nearly, moved-apart, stored-solid, then-stored}
 
 apart-then : (t u v : List ℕ) → Apart t u → Apart u v → Apart t v
@@ -43,16 +44,27 @@ rooms-after t u g m m′ b c em v hc pos most other =
     (λ (ne : c ≡ b → ⊥). rw (v .others c hc ne) (omega (arith, other ne, ap (λ (n : ℕ). length (listIn t g n c)) em)))
     (eq-or-ne c b)
 
+-- ---- a group's words, one after the other
+
+pub marked : (t u : List ℕ) (g m x : ℕ) → 0 < m → Stored t u g m x → (bit g (groupsAt u) ≡ 1) × (0 < mapOf u g)
+marked t u g m x pos w = (w .group ∙ rw (ne-eqb m 0 (λ z. omega arith)), rw (w .map) pos)
+
+pub then-start : (t u w : List ℕ) (g m x r : ℕ) → Stored t u g m x → Stored u w g (mapOf u g) r → Stored t w g m r
+then-start t u w g m x r a b = stored-then t u w g m r x a (subst (λ (n : ℕ). Stored u w g n r) (a .map) b)
+
 -- ---- the start of a group that a lane joins
 
 pub start-first : (t : List ℕ) (g r : ℕ) → (bit g (groupsAt t) ≡ 1 → ⊥) → some r ≡ least r (startAt t g)
 start-first t g r e = sym (ap (least r) (start-off t g e))
 
-pub start-old : (t : List ℕ) (g r x : ℕ) → bit g (groupsAt t) ≡ 1 → x ≡ wordAt t (startWord g) → x < r → some x ≡ least r (startAt t g)
-start-old t g r x e ex h = sym (ap (least r) (start-on t g e ∙ ap some (sym ex)) ∙ rw (lt-leb r x h))
+pub start-old : (t : List ℕ) (g r x : ℕ) → bit g (groupsAt t) ≡ 1 → x ≡ wordAt t (startWord g) → x ≤ r → some x ≡ least r (startAt t g)
+start-old t g r x e ex h =
+    sym
+    (ap (least r) (start-on t g e ∙ ap some (sym ex))
+    ∙ ⊎-elim (λ (q : x ≡ r). rw (le-leb r x (omega arith)) (ap some (sym q))) (λ (ne : x ≡ r → ⊥). rw (lt-leb r x (omega (arith, ne)))) (eq-or-ne x r))
 
-pub start-new : (t : List ℕ) (g r x : ℕ) → bit g (groupsAt t) ≡ 1 → x ≡ wordAt t (startWord g) → r ≤ x → some r ≡ least r (startAt t g)
-start-new t g r x e ex h = sym (ap (least r) (start-on t g e ∙ ap some (sym ex)) ∙ rw (le-leb r x h))
+pub start-new : (t : List ℕ) (g r x : ℕ) → bit g (groupsAt t) ≡ 1 → x ≡ wordAt t (startWord g) → r < x → some r ≡ least r (startAt t g)
+start-new t g r x e ex h = sym (ap (least r) (start-on t g e ∙ ap some (sym ex)) ∙ rw (le-leb r x (omega arith)))
 
 module _ (t : List ℕ) (g : ℕ) (solid : Solid t) (lo : 16 ≤ g) (hi : g ≤ 31) (m₀ : ℕ) (em : m₀ ≡ mapOf t g) where
   nearly : Nearly t g m₀
@@ -83,16 +95,16 @@ module _ (t : List ℕ) (g : ℕ) (solid : Solid t) (lo : 16 ≤ g) (hi : g ≤ 
   -- where the group's words were stored
   pub closed : (u t′ : List ℕ) (m r b x : ℕ) → Closing u t′ g m r b x → (y : ℕ) × Stored u t′ g m y
   closed u t′ m r b x (empty z e w) = (0, subst (λ (n : ℕ). Stored u t′ g n 0) (sym z) w)
-  closed u t′ m r b x (moved-on d pos n e w) = (x, w)
+  closed u t′ m r b x (onward d q pos n e tl w) = (q, w)
 
-  closed-now : (u t′ : List ℕ) (m r b x : ℕ) → Closing u t′ g m r b x → (x ≡ never) ⊎ (startAt t′ g ≡ some x)
+  closed-now : (u t′ : List ℕ) (m r b x : ℕ) → Closing u t′ g m r b x → (x ≡ never) ⊎ ((q : ℕ) × (startAt t′ g ≡ some q) × Tells r q x)
   closed-now u t′ m r b x (empty z e w) = inl e
-  closed-now u t′ m r b x (moved-on d pos n e w) = inr (w .start ∙ rw (ne-eqb m 0 (λ z. omega arith)))
+  closed-now u t′ m r b x (onward d q pos n e tl w) = inr (q, w .start ∙ rw (ne-eqb m 0 (λ z. omega arith)), tl)
 
   closed-onward : (u t′ : List ℕ) (m r b x slot : ℕ) → b ≡ slot % 32 → Solid t′ → Closing u t′ g m r b x → Onward t′ g r slot
   closed-onward u t′ m r b x slot eb s (empty z e w) =
       nowhere (λ c h. list-off t′ g (mapOf t′ g) c (λ q. omega (arith, q, ap (bit c) (w .map), bit-above c 0 (pow-pos c)))) (w .start)
-  closed-onward u t′ m r b x slot eb s (moved-on d pos n e w) =
+  closed-onward u t′ m r b x slot eb s (onward d q pos n e tl w) =
       onto d
       (record {
         near = n .near;
@@ -102,7 +114,7 @@ module _ (t : List ℕ) (g : ℕ) (solid : Solid t) (lo : 16 ≤ g) (hi : g ≤ 
             rw (list-on t′ g (mapOf t′ g) ((slot + d) % 32) on) (s .fills g lo hi .filled ((slot + d) % 32) (omega arith) on);
         none-before = λ j h.
             let at : (b + j) % 32 ≡ (slot + j) % 32 = omega arith in
-            list-off t′ g (mapOf t′ g) ((slot + j) % 32) (λ q. omega (arith, q, ap (bit ((slot + j) % 32)) (w .map), subst (λ (c : ℕ). bit c m ≡ 0) at (n .none-before j h)));
+            list-off t′ g (mapOf t′ g) ((slot + j) % 32) (λ one. omega (arith, one, ap (bit ((slot + j) % 32)) (w .map), subst (λ (c : ℕ). bit c m ≡ 0) at (n .none-before j h)));
       })
       (w .start ∙ rw (ne-eqb m 0 (λ z. omega arith)) (ap some e))
 

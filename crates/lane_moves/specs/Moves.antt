@@ -2,6 +2,7 @@
 --
 --   Added      a lane that was in no list got its S
 --   Onward     a group's start is the next list that has lanes, or the group has none
+--   Tells      whether the clock has reached a group's start
 --   Closing    a group's words were stored after a lane left
 --   Refiled    the first lane of a group's start was served
 --
@@ -37,16 +38,20 @@ pub data Onward (t : List ℕ) (g r slot : ℕ) : Type 0 where
   nowhere : ((b : ℕ) → b < 32 → listAt t g b ≡ []) → startAt t g ≡ none → Onward t g r slot
   onto : (d : ℕ) → NextList (listAt t) g slot d → startAt t g ≡ some (r + d * 2 ^ g) → Onward t g r slot
 
--- m is the word of the group's lists, b the list of its old start r; the new start is x
+-- q is the group's start, r its old one: of a clock that had reached r, x tells whether it has reached q
+abbrev pub Tells : ℕ → ℕ → ℕ → Type 0
+Tells r q x = (v : ℕ) → r ≤ v → x ≤ v → q ≤ v
+
+-- m is the word of the group's lists, b the list of its old start r
 pub data Closing (before after : List ℕ) (g m r b x : ℕ) : Type 0 where
   empty : m ≡ 0 → x ≡ never → Stored before after g 0 0 → Closing before after g m r b x
-  moved-on : (d : ℕ) → 0 < m → Nearest m b d → x ≡ r + d * 2 ^ g → Stored before after g m x → Closing before after g m r b x
+  onward : (d q : ℕ) → 0 < m → Nearest m b d → q ≡ r + d * 2 ^ g → Tells r q x → Stored before after g m q → Closing before after g m r b x
 
 -- the list c of the new S has room, also where it is the list b that the lane leaves
 abbrev pub Rooms : List ℕ → ℕ → ℕ → ℕ → Type 0
 Rooms t g b c = (length (listAt t g b) ≤ 64) × ((c ≡ b → ⊥) → length (listAt t g c) < 64)
 
--- x is the group's start after it, or never
+-- x tells whether the clock has reached the group's start after it; never where the group has none
 pub record Refiled (before after : List ℕ) (g start s k : ℕ) (more : Bool) (x : ℕ) : Type 0 where
   pub apart : Apart before after
   -- the lists after the lane left
@@ -57,4 +62,4 @@ pub record Refiled (before after : List ℕ) (g start s k : ℕ) (more : Bool) (
   pub onward : Onward after g start (slotOf before g start)
   pub starts : (i : ℕ) → 16 ≤ i → i ≤ 31 → (i ≡ g → ⊥) → startAt after i ≡ startAt before i
   pub solid : Solid after
-  pub now : (x ≡ never) ⊎ (startAt after g ≡ some x)
+  pub now : (x ≡ never) ⊎ ((q : ℕ) × (startAt after g ≡ some q) × Tells start q x)

@@ -1,2 +1,7 @@
-pub mod Walks
+pub mod WordBits
+pub mod RingWalk
+pub mod ListWalk
+pub mod GroupWalk
+pub mod InARow
 pub mod Meaning
+pub mod Exact

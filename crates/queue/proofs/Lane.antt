@@ -5,13 +5,14 @@ use Prim.Native.Nat.{ℕ, suc, _+_, _-_, _*_, _/_, _%_, _^_, _≤_, _<_, max}
 use mathlib.Core.List.{List, [], _∷_, _++_}
 use native.Mathlib.Omega.{arith}
 use lib.ListN.{length, set, length-set, getD}
+use lib.Seq.{getD-set-other, set-getD}
 use Rattle.units.proofs.PerByte.{rate-le}
 use Rattle.waiting.specs.Waiting.{head, first, held}
 use Rattle.rules.specs.State.{Lane, laneAt, laneDepth, firstOf, holds, some?, charge, rate}
 use Rattle.rules.specs.Calls.{appended, woken, served}
 use Rattle.slot_lists.specs.Lists.{listAt}
 use Rattle.filing.specs.Filing.{inARow}
-use Rattle.table.specs.Layout.{WORDS, Now, cells, placeWord, rowAt, putRow, entryWord, entryOf}
+use Rattle.table.specs.Layout.{WORDS, Now, cells, placesWord, laneWord, placeWord, rowAt, putRow, putRing, entryWord, entryOf}
 use Rattle.table.specs.Means.{presentAt, recOf, ringOf, givenOf, timed, stateOf, meant, Sound, Leaves, withLane}
 use Rattle.table.specs.declared.Entry.{Entry}
 use Rattle.table.specs.declared.LaneRow.{LaneRow}
@@ -67,11 +68,21 @@ module _ (w o : List ℕ) (k : ℕ) (hk : k < 64) (p : presentAt w k ≡ true) w
 
 -- ---- append
 
+-- the ring stored alone: the clock word stays, also behind the store of a record
+ring-now : (t t₁ t′ : List ℕ) (k i v h n : ℕ) → k < 64 → placesWord ≤ i → Now t t₁ (set (cells t) i v) → Now t₁ t′ (putRing (cells t₁) k h n)
+    → Now t₁ t′ (putRow (cells t₁) k (retimed (rowAt (cells t) k) (rowAt (cells t) k .time .0) h n))
+unfolding putRow rowAt
+ring-now t t₁ t′ k i v h n hk hi a b =
+    let time : getD (cells t₁) (laneWord k + 1) 0 ≡ getD (cells t) (laneWord k + 1) 0 = ap (λ (w : List ℕ). getD w (laneWord k + 1) 0) (a .words) ∙ getD-set-other (cells t) i (laneWord k + 1) v 0 (λ e. omega arith) in
+    let same : set (cells t₁) (laneWord k + 1) (getD (cells t) (laneWord k + 1) 0) ≡ cells t₁ = ap (set (cells t₁) (laneWord k + 1)) (sym time) ∙ set-getD (cells t₁) (laneWord k + 1) 0 in
+    record { words = b .words ∙ ap (λ (w : List ℕ). putRing w k h n) (sym same); rest = b .rest }
+
 append-at : (t t₁ t′ : List ℕ) (k : ℕ) (e : Entry) → k < 64 → e .mark < 2 ^ 32 → rowAt (cells t) k .head < laneDepth → holds (laneAt (meant t) k) ≡ true → held (laneAt (meant t) k .waiting) < laneDepth
     → Now t t₁ (set (cells t) (placeWord k (rowAt (cells t) k .head + rowAt (cells t) k .count)) (entryWord e))
-    → Now t₁ t′ (putRow (cells t₁) k (retimed (rowAt (cells t) k) (rowAt (cells t) k .time .0) (rowAt (cells t) k .head) (rowAt (cells t) k .count + 1)))
+    → Now t₁ t′ (putRing (cells t₁) k (rowAt (cells t) k .head) (rowAt (cells t) k .count + 1))
     → Leaves t t′ (withLane (meant t) k (appended (laneAt (meant t) k) (waiting e)))
-append-at t t₁ t′ k e hk small top busy room a b =
+append-at t t₁ t′ k e hk small top busy room a b₁ =
+    let b = ring-now t t₁ t′ k _ _ _ _ hk (omega arith) a b₁ in
     let w = cells t in
     let o = inARow (listAt t) in
     let l = rowAt w k in
@@ -84,13 +95,13 @@ append-at t t₁ t′ k e hk small top busy room a b =
 
 pub append-leaves : (t t₁ t′ : List ℕ) (k : ℕ) (e : Entry) (l : LaneRow) → l ≡ rowAt (cells t) k → k < 64 → e .mark < 2 ^ 32 → l .head < laneDepth → holds (laneAt (meant t) k) ≡ true → held (laneAt (meant t) k .waiting) < laneDepth
     → Now t t₁ (set (cells t) (placeWord k (l .head + l .count)) (entryWord e))
-    → Now t₁ t′ (putRow (cells t₁) k (retimed l (l .time .0) (l .head) (l .count + 1)))
+    → Now t₁ t′ (putRing (cells t₁) k (l .head) (l .count + 1))
     → Leaves t t′ (withLane (meant t) k (appended (laneAt (meant t) k) (waiting e)))
 append-leaves t t₁ t′ k e l q hk small head held room a b =
     subst
     (λ (l : LaneRow). l .head < laneDepth
     → Now t t₁ (set (cells t) (placeWord k (l .head + l .count)) (entryWord e))
-    → Now t₁ t′ (putRow (cells t₁) k (retimed l (l .time .0) (l .head) (l .count + 1)))
+    → Now t₁ t′ (putRing (cells t₁) k (l .head) (l .count + 1))
     → Leaves t t′ (withLane (meant t) k (appended (laneAt (meant t) k) (waiting e))))
     (sym q) (λ h x y. append-at t t₁ t′ k e hk small h held room x y) head a b
 

@@ -16,6 +16,7 @@ use table::charged;
 use table::record_at;
 use table::row;
 use table::set_record;
+use table::set_ring;
 use table::set_row;
 use units::Clock;
 use units::lane_charge;
@@ -30,9 +31,7 @@ pub fn append(t: &mut [u8], k: usize, e: Entry)
     let head = l.head;
     let count = l.count;
     set_record(t, k, head + count, e);
-    let mut next = l;
-    next.count = count + 1;
-    set_row(t, k, next);
+    set_ring(t, k, head, count + 1);
 }
 
 // Puts the first record into lane `k`, which is in the setup and idle. `start` is its S: the greater of F and V.

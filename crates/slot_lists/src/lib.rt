@@ -12,7 +12,8 @@ ghost use Prim.Native.Nat.{_+_, _/_, _%_, _^_, _<_, _≤_};
 ghost use lib.ListN.{length, getD, drop};
 ghost use Rattle.words.specs.Bits.{bit};
 ghost use Rattle.rings.specs.Rings.{Long};
-ghost use Rattle.slot_lists.specs.Lists.{ringNumber, groupsAt, listIn, Fills};
+ghost use Rattle.words.specs.Words.{wordAt};
+ghost use Rattle.slot_lists.specs.Lists.{startWord, ringNumber, groupsAt, mapOf, listIn, Fills};
 ghost use Rattle.slot_lists.specs.Changes.{Moved, Stored, Emptied, Nearest};
 use rings::begin;
 use rings::entry;
@@ -39,10 +40,10 @@ const TWICE: u64 = 4294967296;
 
 // The number of the list for a time in group `g`, `back` being what was taken off the clock.
 pub fn list_number(time: u64, back: u64, g: u32) -> u32
-    requires { ⌜ (time < 2 ^ 63) × (back < 2 ^ 36) × (g ≤ 31) ⌝ }
+    requires { ⌜ (time < 2 ^ 63) × (back < 2 ^ 36) × (back % 2 ^ 31 ≡ 0) × (g ≤ 31) ⌝ }
     ensures { λ r. ⌜ (r ≡ (time + back) / 2 ^ g % 32) × (r < 32) ⌝ }
 {
-    (((time + back) >> g) % LISTS) as u32
+    (((time >> g) + (back >> g)) % LISTS) as u32
 }
 
 // The ring of a list.
@@ -94,17 +95,31 @@ pub fn nearest(map: u64, b: u32) -> u32
     u64::trailing_zeros(twice >> b)
 }
 
-// Stores the words of group `g`, which has lanes; `groups` is the word of the groups that had.
-pub fn set_group(t: &mut [u8], g: u32, groups: u64, map: u64, start: u64)
-    requires { ⌜ Long (now t) × (16 ≤ g) × (g ≤ 31) × (groups ≡ groupsAt (now t)) × (0 < map) ⌝ }
+// Stores the words of group `g`, which had no lanes; `groups` is the word of the groups that had.
+pub fn open_group(t: &mut [u8], g: u32, groups: u64, map: u64, start: u64)
+    requires { ⌜ Long (now t) × (16 ≤ g) × (g ≤ 31) × (groups ≡ groupsAt (now t)) × (bit g groups ≡ 0) × (0 < map) ⌝ }
     ensures { λ _. ⌜ Stored (now (t .entry)) (now (t .exit)) g map start ⌝ }
 {
     let i = g as usize;
     set_word(t, MAPS + i, map);
     set_word(t, STARTS + i, start);
-    if (groups >> g) % 2 == 0 {
-        set_word(t, GROUPS, groups + (1u64 << g));
-    }
+    set_word(t, GROUPS, groups + (1u64 << g));
+}
+
+// Stores the word of the lists of group `g`, which had lanes and has some.
+pub fn set_lists(t: &mut [u8], g: u32, map: u64)
+    requires { ⌜ Long (now t) × (16 ≤ g) × (g ≤ 31) × (bit g (groupsAt (now t)) ≡ 1) × (0 < map) ⌝ }
+    ensures { λ _. ⌜ Stored (now (t .entry)) (now (t .exit)) g map (wordAt (now (t .entry)) (startWord g)) ⌝ }
+{
+    set_word(t, MAPS + (g as usize), map);
+}
+
+// Stores the start of group `g`, which has lanes.
+pub fn set_start(t: &mut [u8], g: u32, start: u64)
+    requires { ⌜ Long (now t) × (16 ≤ g) × (g ≤ 31) × (bit g (groupsAt (now t)) ≡ 1) × (0 < mapOf (now t) g) ⌝ }
+    ensures { λ _. ⌜ Stored (now (t .entry)) (now (t .exit)) g (mapOf (now (t .entry)) g) start ⌝ }
+{
+    set_word(t, STARTS + (g as usize), start);
 }
 
 // Group `g`, which had lanes, has none any more.

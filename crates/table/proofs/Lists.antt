@@ -13,7 +13,7 @@ use Rattle.rules.specs.Calls.{fresh}
 use Rattle.table.specs.Layout.{SIZE, WORDS, cells}
 use Rattle.table.specs.Means.{meant, Listed}
 use Rattle.rings.specs.Rings.{headByte, countByte, placeByte, ringOf, ringAt}
-use Rattle.slot_lists.specs.Lists.{listsFrom, groupsWord, backWord, startWord, mapWord, ringNumber, backAt, mapOf, listIn, listAt, startAt, Fills, Solid, Empty}
+use Rattle.slot_lists.specs.Lists.{listsFrom, groupsWord, backWord, startWord, mapWord, ringNumber, groupsAt, backAt, mapOf, listIn, listAt, startAt, Fills, Solid, Empty}
 use Rattle.slot_lists.proofs.Emptied.{no-list, no-start, empty-solid}
 use Rattle.slot_lists.specs.Changes.{Apart}
 use Rattle.filing.specs.Filing.{flat, inARow, Agrees}
@@ -48,6 +48,9 @@ module _ (t u : List ℕ) (rest : drop (WORDS * 8) u ≡ drop (WORDS * 8) t) whe
   map : (g : ℕ) → mapOf u g ≡ mapOf t g
   unfolding mapOf
   map g = rw (word groupsWord (omega arith), word (mapWord g) (omega arith))
+
+  pub groups-stay : groupsAt u ≡ groupsAt t
+  groups-stay = word groupsWord (omega arith)
 
   pub back-stays : backAt u ≡ backAt t
   back-stays = word backWord (omega arith)

@@ -83,6 +83,10 @@ rowAt w k = rowOf (getD w framingWord 0) (getD w (laneWord k) 0) (getD w (laneWo
 unfoldable pub putRow : List ℕ → ℕ → LaneRow → List ℕ
 putRow w k l = set (set w (laneWord k + 1) (l .time .0)) (laneWord k + 2) (l .head + laneDepth * l .count)
 
+-- the words with lane k's ring changed alone
+abbrev pub putRing : List ℕ → ℕ → ℕ → ℕ → List ℕ
+putRing w k head count = set w (laneWord k + 2) (head + laneDepth * count)
+
 -- ---- a record
 
 abbrev pub entryOf : ℕ → Entry

@@ -9,7 +9,7 @@
 ghost use mathlib.Core.Path.{_≡_};
 ghost use Prim.Native.Nat.{_+_, _*_, _^_, _<_, _≤_};
 ghost use lib.ListN.{getD, set};
-ghost use Rattle.table.specs.Layout.{Room, WORDS, Now, cells, rowAt, putRow, entryOf, entryWord, placeWord};
+ghost use Rattle.table.specs.Layout.{Room, WORDS, Now, cells, rowAt, putRow, putRing, entryOf, entryWord, placeWord};
 ghost use Rattle.rules.specs.State.{charge, laneDepth};
 ghost use Rattle.table.specs.Means.{presentAt, Next, givenOf, meant, Sound, Leaves, withClock};
 use rings::END;
@@ -123,6 +123,14 @@ pub fn set_row(t: &mut [u8], k: usize, l: LaneRow)
     let base = ROWS + ROW_WORDS * k;
     set_cell(t, base + 1, l.time.0);
     set_cell(t, base + 2, l.head + DEPTH * l.count);
+}
+
+// Stores lane `k`'s ring alone.
+pub fn set_ring(t: &mut [u8], k: usize, head: u64, count: u64)
+    requires { ⌜ Room (now t) × (k < 64) × (head < laneDepth) × (count ≤ laneDepth) ⌝ }
+    ensures { λ _. ⌜ Now (now (t .entry)) (now (t .exit)) (putRing (cells (now (t .entry))) k head count) ⌝ }
+{
+    set_cell(t, ROWS + ROW_WORDS * k + 2, head + DEPTH * count);
 }
 
 // The record at place `i` of lane `k`'s ring, `i` counted on past the ring's end.

@@ -53,28 +53,11 @@ reads-same (v ∷ vs) l a h =
 
 -- ---- a run, by its elements
 
-pub length-reads : (l : List ℕ) (a n : ℕ) → length (reads l a n) ≡ n
-length-reads l a zero = refl
-length-reads l a (suc n) = ap suc (length-reads l (suc a) n)
-
-pub getD-reads : (l : List ℕ) (a n j : ℕ) → j < n → getD (reads l a n) j 0 ≡ getD l (a + j) 0
-getD-reads l a zero j h = absurd (omega arith)
-getD-reads l a (suc n) zero h = rw add-zero
-getD-reads l a (suc n) (suc j) h = getD-reads l (suc a) n j (omega arith) ∙ ap (λ (i : ℕ). getD l i 0) (omega arith)
-
 -- lists that agree there have the same run
 pub reads-ext : (l m : List ℕ) (a n : ℕ) → ((i : ℕ) → a ≤ i → i < a + n → getD m i 0 ≡ getD l i 0) → reads m a n ≡ reads l a n
 reads-ext l m a zero h = refl
 reads-ext l m a (suc n) h =
     rw (h a (omega arith) (omega arith), reads-ext l m (suc a) n (λ i p q. h i (omega arith) (omega arith)))
-
--- one more at the end
-reads-suc : (l : List ℕ) (a n : ℕ) → reads l a (suc n) ≡ reads l a n ++ getD l (a + n) 0 ∷ []
-reads-suc l a zero = rw add-zero
-reads-suc l a (suc n) = rw (add-suc, ← suc-add) (ap (λ (r : List ℕ). getD l a 0 ∷ r) (reads-suc l (suc a) n))
-
-pub reads-snoc : (l : List ℕ) (a n : ℕ) → reads l a (n + 1) ≡ reads l a n ++ getD l (a + n) 0 ∷ []
-reads-snoc l a n = ap (reads l a) (add-one n) ∙ reads-suc l a n
 
 -- ---- lists made by a rule
 

@@ -3,23 +3,16 @@ use mathlib.Core.Path.{sym}
 use borrow.Author.Needs.{needs}
 use Rattle.base_table.proofs.part.Statement.{statement}
 use Rattle.base_table.proofs.part.Tie as tie
-use Rattle.base_table.proofs.part.Reads as reads
-use Rattle.base_table.proofs.part.Lts as lts
-use Rattle.base_table.proofs.say.Reads as say-reads
 
--- src/lib.rt
 slice-aggregate-say : tie.Need-slice-aggregate-say
 slice-aggregate-say c = sym (length-take-le (c .before .before .before .before .args .n) (c .before .before .before .before .args .t .now) (c .before .if1 .taken))
 
--- src/lib.rt
 say-requires : tie.Need-say-requires
 say-requires c κs = search needs
 
--- src/lib.rt
 returns : tie.Need-returns
 returns c = search needs
 
--- src/lib.rt
 returns-2 : tie.Need-returns-2
 returns-2 c = search needs
 

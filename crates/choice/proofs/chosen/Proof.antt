@@ -1,12 +1,15 @@
+-- `chosen` meets its contract. Assumes nothing.
 use mathlib.Core.Path.{_≡_, sym, ap, subst, _∙_}
-use Prim.Native.Nat.{ℕ, _+_, _/_, _%_, _^_, _<_}
+use mathlib.Core.Option.{some}
+use Prim.Native.Nat.{ℕ, _+_, _-_, _*_, _/_, _%_, _^_, _<_}
 use mathlib.Core.List.{List}
 use native.Mathlib.Omega.{arith}
 use lib.ListN.{length, getD}
-use Rattle.slot_lists.specs.Lists.{listIn, listAt}
+use Rattle.slot_lists.specs.Lists.{listIn, listAt, listOf}
 use Rattle.slot_lists.proofs.Laws.{map-on, start-some}
+use Rattle.filing.specs.Filing.{headOf}
 use Rattle.table.specs.Means.{meant}
-use Rattle.choice.proofs.Leading.{starts-early, found-none, found-at, list-some, found-head, found-lane}
+use Rattle.choice.proofs.Leading.{starts-early, found-none, found-at, two-slots, start-is, list-some, found-head, found-lane}
 use borrow.Author.Needs.{needs}
 use Rattle.choice.proofs.chosen.Statement.{statement}
 use Rattle.choice.proofs.chosen.Tie as tie
@@ -18,80 +21,88 @@ use Rattle.slot_lists.proofs.list_number.Reads as list-number-reads
 use Rattle.table.proofs.clock.Reads as clock-reads
 use Rattle.words.proofs.word.Reads as word-reads
 
--- src/lib.rt:128:9
 clock-requires : tie.Need-clock-requires
 clock-requires c κs = search needs
 
--- src/lib.rt:129:9
 next-group-requires : tie.Need-next-group-requires
 next-group-requires c κs =
     let p = c .before .before .pre in
     (p .sound .room, p .listed .solid, starts-early _ (meant _) (p .good) (p .listed .agrees))
 
--- src/lib.rt:131:9
 returns : tie.Need-returns
 returns c =
     let p = c .before .before .before .before .before .pre in
     found-none _ (meant _) (p .good) (p .listed .solid .back-whole) (p .listed .agrees) _ (c .before .before .before .clock .ensures) _ (c .before .before .next-group .ensures) (c .if1 .taken)
 
--- src/lib.rt:135:35
+cast-start : tie.Need-cast-start
+cast-start c = search needs
+
+shl-start : tie.Need-shl-start
+shl-start c =
+    let p = c .before .before .before .before .before .pre in
+    let a = found-at _ (meant _) (p .good) (p .listed .solid .back-whole) (p .listed .agrees) _ (c .before .before .before .clock .ensures) _ (c .before .before .next-group .ensures) (c .if1 .left) in
+    omega (arith, a .high)
+
+sub-start : tie.Need-sub-start
+sub-start c =
+    let p = c .before .before .before .before .before .before .pre in
+    let a = found-at _ (meant _) (p .good) (p .listed .solid .back-whole) (p .listed .agrees) _ (c .before .before .before .before .clock .ensures) _ (c .before .before .before .next-group .ensures) (c .before .if1 .left) in
+    omega (arith, a .sum, two-slots _ (meant _) (p .good) (p .listed .solid .back-whole) (p .listed .agrees) _ (c .before .before .before .before .clock .ensures) _ (c .before .before .before .next-group .ensures) a)
+
 word-requires : tie.Need-word-requires
 word-requires c κs = search needs
 
--- src/lib.rt:135:9
 list-number-requires : tie.Need-list-number-requires
 list-number-requires c κs =
-    let p = c .before .before .before .before .before .before .pre in
-    let a = found-at _ (meant _) (p .good) (p .listed .solid .back-whole) (p .listed .agrees) _ (c .before .before .before .before .clock .ensures) _ (c .before .before .before .next-group .ensures) (c .before .if1 .left) in
-    (a .small, omega (arith, c .word .ensures, p .listed .solid .back-small), a .high)
+    let p = c .before .before .before .before .before .before .before .pre in
+    let a = found-at _ (meant _) (p .good) (p .listed .solid .back-whole) (p .listed .agrees) _ (c .before .before .before .before .before .clock .ensures) _ (c .before .before .before .before .next-group .ensures) (c .before .before .if1 .left) in
+    let e = start-is _ (meant _) (p .good) (p .listed .solid .back-whole) (p .listed .agrees) _ (c .before .before .before .before .before .clock .ensures) _ (c .before .before .before .before .next-group .ensures) a in
+    (omega (arith, e, a .small), omega (arith, c .word .ensures, p .listed .solid .back-small), ap (λ (x : ℕ). x % 2 ^ 31) (c .word .ensures) ∙ p .listed .solid .back-whole, a .high)
 
--- src/lib.rt:136:54
 cast-word : tie.Need-cast-word
 cast-word c = search needs
 
--- src/lib.rt:136:46
 add-word : tie.Need-add-word
 add-word c = search needs
 
--- src/lib.rt:136:38
 word-requires-2 : tie.Need-word-requires-2
 word-requires-2 c κs =
-    let p = c .before .before .before .before .before .before .before .pre in
-    let a = found-at _ (meant _) (p .good) (p .listed .solid .back-whole) (p .listed .agrees) _ (c .before .before .before .before .before .clock .ensures) _ (c .before .before .before .before .next-group .ensures) (c .before .before .if1 .left) in
+    let p = c .before .before .before .before .before .before .before .before .pre in
+    let a = found-at _ (meant _) (p .good) (p .listed .solid .back-whole) (p .listed .agrees) _ (c .before .before .before .before .before .before .clock .ensures) _ (c .before .before .before .before .before .next-group .ensures) (c .before .before .before .if1 .left) in
     omega (arith, p .sound .room, a .high)
 
--- src/lib.rt:136:9
 first-requires : tie.Need-first-requires
 first-requires c κs =
-    let s = c .before .before .before .before .before .before .before .before in
-    let p = s .pre in
-    let t = s .args .t .now in
-    let f = c .before .before .before .before .before .next-group .result in
-    let g = f .group in
-    let a = found-at t (meant t) (p .good) (p .listed .solid .back-whole) (p .listed .agrees) _ (c .before .before .before .before .before .before .clock .ensures) f (c .before .before .before .before .before .next-group .ensures) (c .before .before .before .if1 .left) in
-    let em = c .word2 .ensures ∙ sym (map-on t g (start-some t g (f .start) (a .start) .0)) in
-    let eb = c .before .list-number .ensures .0 ∙ ap (λ (x : ℕ). (f .start + x) / 2 ^ g % 32) (c .before .before .word .ensures) in
-    let some-lane = list-some t (meant t) (p .good) (p .listed .solid .back-whole) (p .listed .agrees) _ (c .before .before .before .before .before .before .clock .ensures) f (c .before .before .before .before .before .next-group .ensures) a in
-    (p .sound .room, a .low, a .high, c .before .list-number .ensures .1, subst (λ (l : List ℕ). 0 < length l) (ap (λ (b : ℕ). listAt t g b) (sym eb) ∙ ap (λ (m : ℕ). listIn t g m (c .before .list-number .result)) (sym em)) some-lane)
-
--- src/lib.rt:124:1
-returns-2 : tie.Need-returns-2
-returns-2 c =
     let s = c .before .before .before .before .before .before .before .before .before in
     let p = s .pre in
     let t = s .args .t .now in
     let f = c .before .before .before .before .before .before .next-group .result in
     let g = f .group in
     let a = found-at t (meant t) (p .good) (p .listed .solid .back-whole) (p .listed .agrees) _ (c .before .before .before .before .before .before .before .clock .ensures) f (c .before .before .before .before .before .before .next-group .ensures) (c .before .before .before .before .if1 .left) in
-    let em = c .before .word2 .ensures ∙ sym (map-on t g (start-some t g (f .start) (a .start) .0)) in
-    let eb = c .before .before .list-number .ensures .0 ∙ ap (λ (x : ℕ). (f .start + x) / 2 ^ g % 32) (c .before .before .before .word .ensures) in
+    let e₀ = start-is t (meant t) (p .good) (p .listed .solid .back-whole) (p .listed .agrees) _ (c .before .before .before .before .before .before .before .clock .ensures) f (c .before .before .before .before .before .before .next-group .ensures) a in
+    let em = c .word2 .ensures ∙ sym (map-on t g (start-some t g (a .from) (a .start) .0)) in
+    let eb = c .before .list-number .ensures .0 ∙ ap (λ (y : ℕ). (y + c .before .before .word .result) / 2 ^ g % 32) e₀ ∙ ap (λ (x : ℕ). (a .from + x) / 2 ^ g % 32) (c .before .before .word .ensures) in
+    let some-lane = list-some t (meant t) (p .good) (p .listed .solid .back-whole) (p .listed .agrees) _ (c .before .before .before .before .before .before .before .clock .ensures) f (c .before .before .before .before .before .before .next-group .ensures) a in
+    (p .sound .room, a .low, a .high, c .before .list-number .ensures .1, subst (λ (l : List ℕ). 0 < length l) (ap (λ (b : ℕ). listAt t g b) (sym eb) ∙ ap (λ (m : ℕ). listIn t g m (c .before .list-number .result)) (sym em)) some-lane)
+
+returns-2 : tie.Need-returns-2
+returns-2 c =
+    let s = c .before .before .before .before .before .before .before .before .before .before in
+    let p = s .pre in
+    let t = s .args .t .now in
+    let f = c .before .before .before .before .before .before .before .next-group .result in
+    let g = f .group in
+    let a = found-at t (meant t) (p .good) (p .listed .solid .back-whole) (p .listed .agrees) _ (c .before .before .before .before .before .before .before .before .clock .ensures) f (c .before .before .before .before .before .before .before .next-group .ensures) (c .before .before .before .before .before .if1 .left) in
+    let e₀ = start-is t (meant t) (p .good) (p .listed .solid .back-whole) (p .listed .agrees) _ (c .before .before .before .before .before .before .before .before .clock .ensures) f (c .before .before .before .before .before .before .before .next-group .ensures) a in
+    let em = c .before .word2 .ensures ∙ sym (map-on t g (start-some t g (a .from) (a .start) .0)) in
+    let eb = c .before .before .list-number .ensures .0 ∙ ap (λ (y : ℕ). (y + c .before .before .before .word .result) / 2 ^ g % 32) e₀ ∙ ap (λ (x : ℕ). (a .from + x) / 2 ^ g % 32) (c .before .before .before .word .ensures) in
     let e = c .first .ensures .0 ∙ ap (λ (m : ℕ). getD (listIn t g m (c .before .before .list-number .result)) 0 0) em ∙ ap (λ (b : ℕ). getD (listAt t g b) 0 0) eb in
     record {
-      chosen = sym (found-lane t (meant t) (p .good) (p .listed .solid .back-whole) (p .listed .agrees) _ (c .before .before .before .before .before .before .before .clock .ensures) f (c .before .before .before .before .before .before .next-group .ensures) a _ e);
+      chosen = sym (found-lane t (meant t) (p .good) (p .listed .solid .back-whole) (p .listed .agrees) _ (c .before .before .before .before .before .before .before .before .clock .ensures) f (c .before .before .before .before .before .before .before .next-group .ensures) a _ e);
       low = a .low;
       high = a .high;
-      start = a .start;
-      first = found-head t (meant t) (p .good) (p .listed .solid .back-whole) (p .listed .agrees) _ (c .before .before .before .before .before .before .before .clock .ensures) f (c .before .before .before .before .before .before .next-group .ensures) a _ e;
+      start = a .start ∙ ap some (sym e₀);
+      first = ap (λ (y : ℕ). headOf (listAt t g (listOf t g y))) e₀ ∙ found-head t (meant t) (p .good) (p .listed .solid .back-whole) (p .listed .agrees) _ (c .before .before .before .before .before .before .before .before .clock .ensures) f (c .before .before .before .before .before .before .before .next-group .ensures) a _ e;
     }
 
 pub chosen-spec : {M : Type 1} → statement M
@@ -101,6 +112,9 @@ chosen-spec =
     clock-requires
     next-group-requires
     returns
+    cast-start
+    shl-start
+    sub-start
     word-requires
     list-number-requires
     cast-word

@@ -1,3 +1,4 @@
+-- `set_words` meets its contract. Assumes nothing.
 use mathlib.Core.Path.{_≡_, refl, sym, ap, _∙_}
 use mathlib.Core.Option.{some}
 use Prim.Native.Nat.{ℕ, _-_}
@@ -29,35 +30,27 @@ Inv-loop t v a₀ left₀ a left = Walked (meant t .clock) (meant t .lanes) left
 abbrev μ-loop : tie.MeasureT-loop
 μ-loop t v a₀ left₀ a left = left
 
--- src/lib.rt:103:9
 clock-requires : tie.Need-clock-requires Inv-loop μ-loop
 clock-requires c κs = c .before .pre .sound .room
 
--- src/lib.rt:113:9
 word-requires : tie.Need-word-requires Inv-loop μ-loop
 word-requires c κs = omega (arith, c .before .before .pre .sound .room)
 
--- src/lib.rt:114:5
 loop-holds : tie.Need-loop-holds Inv-loop μ-loop
 loop-holds c = record { n = groups; few = le-refl groups; left-is = c .word .ensures ∙ held-word _ (c .before .before .before .pre); done = swept-none _ _ }
 
--- src/lib.rt:115:17
 sub-i : tie.Need-sub-i Inv-loop μ-loop
 sub-i c = walk-next _ _ (c .before .loop .left) (c .before .loop .a) (omega arith) (c .before .loop .inv) .zeros
 
--- src/lib.rt:116:39
 cast-word : tie.Need-cast-word Inv-loop μ-loop
 cast-word c = omega arith
 
--- src/lib.rt:116:29
 add-word : tie.Need-add-word Inv-loop μ-loop
 add-word c = omega arith
 
--- src/lib.rt:116:13
 word-requires-2 : tie.Need-word-requires-2 Inv-loop μ-loop
 word-requires-2 c κs = omega (arith, walk-next _ _ (c .before .loop .left) (c .before .loop .a) (omega arith) (c .before .loop .inv) .small, c .before .before .before .before .before .pre .sound .room)
 
--- src/lib.rt:117:9
 sweep-group-requires : tie.Need-sweep-group-requires Inv-loop μ-loop
 sweep-group-requires c κs =
     let s = c .before .before .before .before .before .before in
@@ -67,26 +60,22 @@ sweep-group-requires c κs =
     let r = start-there (s .args .t .now) (s .pre) i (x .is) ∙ ap some (sym (c .word2 .ensures)) in
     (start-early (meant (s .args .t .now)) (s .pre .good) i _ r, omega (arith, x .small), swept-fits _ _ i (l .a) (x .done) (x .small))
 
--- src/lib.rt:118:17
 group-bit-requires : tie.Need-group-bit-requires Inv-loop μ-loop
 group-bit-requires c κs =
     let l = c .before .before .before .loop in
     omega (arith, walk-next _ _ (l .left) (l .a) (omega arith) (l .inv) .small)
 
--- src/lib.rt:118:9
 sub-left : tie.Need-sub-left Inv-loop μ-loop
 sub-left c =
     let l = c .before .before .before .before .loop in
     let x = walk-next _ _ (l .left) (l .a) (omega arith) (l .inv) in
     omega (arith, c .group-bit .ensures, x .rest)
 
--- src/lib.rt:114:5
 loop-less : tie.Need-loop-less Inv-loop μ-loop
 loop-less c =
     let l = c .before .before .before .before .loop in
     omega (arith, c .group-bit .ensures, pow-mono {i = 0} {j = 63 - leadingZeros 64 (l .left)} (omega arith))
 
--- src/lib.rt:114:5
 loop-again : tie.Need-loop-again Inv-loop μ-loop
 loop-again c =
     let s = c .before .before .before .before .before .before .before .before in
@@ -99,7 +88,6 @@ loop-again c =
     let e : c .before .sweep-group .result ≡ swept start (m .clock) i (l .a) = c .before .sweep-group .ensures ∙ ap (λ (v : ℕ). swept start v i (l .a)) (c .before .before .before .before .before .before .clock .ensures) in
     rw (c .group-bit .ensures, e) (walk-on (m .clock) (m .lanes) (l .left) i start (l .a) x r (start-early m (s .pre .good) i start r))
 
--- src/lib.rt:99:1
 returns : tie.Need-returns Inv-loop μ-loop
 returns c =
     let l = c .before .before .loop in

@@ -1,3 +1,4 @@
+-- `sorted` meets its contract. Assumes nothing.
 use borrow.Author.Needs.{needs}
 use Rattle.choice.proofs.sorted.Statement.{statement}
 use Rattle.choice.proofs.sorted.Tie as tie

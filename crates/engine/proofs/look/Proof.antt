@@ -1,3 +1,4 @@
+-- `look` meets its contract. Assumes nothing.
 use mathlib.Core.Path.{_≡_, refl, sym, ap, subst, _∙_}
 use native.Mathlib.Omega.{arith}
 use Rattle.rules.specs.State.{Rec}
@@ -16,33 +17,27 @@ use Rattle.engine.proofs.look.Lts as lts
 use Rattle.choice.proofs.chosen.Reads as chosen-reads
 use Rattle.queue.proofs.first.Reads as first-reads
 
--- src/lib.rt:200:9
 chosen-requires : tie.Need-chosen-requires
 chosen-requires c κs = search needs
 
--- src/lib.rt:202:23
 enum-known-choice : tie.Need-enum-known-choice
 enum-known-choice c = search needs
 
--- src/lib.rt:204:17
 first-requires : tie.Need-first-requires
 first-requires c κs =
     let s = c .before .before .before .before .before in
     let a = at-chosen _ (s .pre) _ (subst (ChoiceIs _) (c .before .choice .given .1) (c .before .before .before .chosen .ensures)) in
     (s .pre .sound, lane-small _ (meant _) _ _ _ a, lane-holds _ (meant _) _ _ _ a)
 
--- src/lib.rt:207:23
 cast-t9 : tie.Need-cast-t9
 cast-t9 c =
     let s = c .before .before .before .before .before .before .before in
     let a = at-chosen _ (s .pre) _ (subst (ChoiceIs _) (c .before .before .before .choice .given .1) (c .before .before .before .before .before .chosen .ensures)) in
     omega (arith, lane-small _ (meant _) _ _ _ a)
 
--- src/lib.rt:213:41
 enum-told : tie.Need-enum-told
 enum-told c = search needs
 
--- src/lib.rt:196:1
 returns : tie.Need-returns
 returns c =
     let s = c .before .before .before .before .before .before .before in
@@ -52,7 +47,6 @@ returns c =
     let same = seen-is t (meant t) _ _ _ a (c .before .first .result) (c .before .first .ensures) in
     look-says t _ (w .pick) (w .picks) (sym (w .lane)) (ap (λ (r : Rec). r .mark) same) (ap (λ (r : Rec). r .len) same)
 
--- src/lib.rt:196:1
 returns-2 : tie.Need-returns-2
 returns-2 c = let s = c .before .before .before .before in refusal-says look (s .args .t .now) NothingHeld refl (look-none (meant (s .args .t .now)) (subst (ChoiceIs _) (c .enum-told .given .1) (c .before .before .chosen .ensures)))
 

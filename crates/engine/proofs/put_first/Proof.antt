@@ -1,8 +1,8 @@
 -- `put_first` meets its contract. Assumes nothing.
 use mathlib.Core.Path.{_≡_, sym, _∙_}
 use native.Mathlib.Omega.{arith}
-use borrow.Author.Tests.{eqb-true, eqb-false}
 use Rattle.table.specs.Means.{meant}
+use Rattle.table.proofs.Lists.{groups-stay}
 use Rattle.engine.proofs.Ends.{known-holds}
 use Rattle.engine.proofs.Putting.{small, weight, idle-t, bytes, row, start-is, start-small, solid-after, room-after, sound₂, put-beside, put-alone}
 use borrow.Author.Needs.{needs}
@@ -11,7 +11,7 @@ use Rattle.engine.proofs.put_first.Tie as tie
 use Rattle.engine.proofs.put_first.Reads as reads
 use Rattle.engine.proofs.put_first.Lts as lts
 use Rattle.lane_moves.proofs.add.Reads as add-reads
-use Rattle.engine.proofs.none_held.Reads as none-held-reads
+use Rattle.words.proofs.word.Reads as word-reads
 use Rattle.queue.proofs.wake.Reads as wake-reads
 use Rattle.table.proofs.clock.Reads as clock-reads
 use Rattle.table.proofs.row.Reads as row-reads
@@ -27,8 +27,8 @@ row-requires c κs =
 clock-requires : tie.Need-clock-requires
 clock-requires c κs = search needs
 
-none-held-requires : tie.Need-none-held-requires
-none-held-requires c κs = search needs
+word-requires : tie.Need-word-requires
+word-requires c κs = search needs
 
 later-requires : tie.Need-later-requires
 later-requires c κs = search needs
@@ -47,6 +47,7 @@ add-requires c κs =
     let ey = start-is _ (meant _) (known-holds _ (p .0)) (p .0 .good) _ e (p .1) (p .2) _ (c .before .before .before .before .before .before .before .before .before .before .row .ensures .0) _ _ (c .before .before .before .before .before .before .before .before .clock .ensures) (c .before .before .before .before .before .later .ensures) in (
       omega (arith, c .before .before .before .wake .kept .0, p .0 .sound .room),
       solid-after _ (meant _) (known-holds _ (p .0)) (p .0 .good) _ e (p .1) (p .2) _ (c .before .before .before .wake .kept .0) (c .before .before .before .wake .ensures),
+      c .before .before .before .before .before .before .word .ensures ∙ sym (groups-stay _ _ (c .before .before .before .wake .ensures .rest)),
       r .low,
       r .high,
       start-small _ (meant _) (known-holds _ (p .0)) (p .0 .good) _ e (p .1) (p .2) _ ey,
@@ -75,7 +76,7 @@ returns : tie.Need-returns
 returns c =
     let e = c .before .before .before .before .before .before .before .before .before .before .before .before .before .before .before .before .before .before .before .before .before .before .before .args .e in
     let p = c .before .before .before .before .before .before .before .before .before .before .before .before .before .before .before .before .before .before .before .before .before .before .before .pre in
-    put-alone _ (meant _) (known-holds _ (p .0)) (p .0 .good) _ e (p .1) (p .2) _ (c .before .before .before .before .before .before .before .before .before .before .before .before .before .wake .kept .0) (c .before .before .before .before .before .before .before .before .before .before .before .before .before .wake .ensures) _ (c .before .before .before .before .before .before .before .before .before .add .kept .0) _ (c .before .before .before .before .before .before .before .before .before .before .before .before .before .before .before .before .before .before .before .before .row .ensures .0) _ (start-is _ (meant _) (known-holds _ (p .0)) (p .0 .good) _ e (p .1) (p .2) _ (c .before .before .before .before .before .before .before .before .before .before .before .before .before .before .before .before .before .before .before .before .row .ensures .0) _ _ (c .before .before .before .before .before .before .before .before .before .before .before .before .before .before .before .before .before .before .clock .ensures) (c .before .before .before .before .before .before .before .before .before .before .before .before .before .before .before .later .ensures)) (c .before .before .before .before .before .before .before .before .before .add .ensures) _ _ _ (c .before .before .set-clock .kept .0) (eqb-true _ _ (sym (c .before .before .before .before .before .before .before .before .before .before .before .before .before .before .before .before .none-held .ensures) ∙ c .before .before .before .before .before .before .if1 .taken)) (c .before .before .before .later2 .ensures ∙ rw (c .before .before .before .before .rounded-start .ensures .0)) (c .before .before .before .before .before .before .before .before .before .before .before .before .before .before .before .before .before .before .clock .ensures) (c .before .before .set-clock .ensures)
+    put-alone _ (meant _) (known-holds _ (p .0)) (p .0 .good) _ e (p .1) (p .2) _ (c .before .before .before .before .before .before .before .before .before .before .before .before .before .wake .kept .0) (c .before .before .before .before .before .before .before .before .before .before .before .before .before .wake .ensures) _ (c .before .before .before .before .before .before .before .before .before .add .kept .0) _ (c .before .before .before .before .before .before .before .before .before .before .before .before .before .before .before .before .before .before .before .before .row .ensures .0) _ (start-is _ (meant _) (known-holds _ (p .0)) (p .0 .good) _ e (p .1) (p .2) _ (c .before .before .before .before .before .before .before .before .before .before .before .before .before .before .before .before .before .before .before .before .row .ensures .0) _ _ (c .before .before .before .before .before .before .before .before .before .before .before .before .before .before .before .before .before .before .clock .ensures) (c .before .before .before .before .before .before .before .before .before .before .before .before .before .before .before .later .ensures)) (c .before .before .before .before .before .before .before .before .before .add .ensures) _ _ _ (c .before .before .set-clock .kept .0) (sym (c .before .before .before .before .before .before .before .before .before .before .before .before .before .before .before .before .word .ensures) ∙ c .before .before .before .before .before .before .if1 .taken) (c .before .before .before .later2 .ensures ∙ rw (c .before .before .before .before .rounded-start .ensures .0)) (c .before .before .before .before .before .before .before .before .before .before .before .before .before .before .before .before .before .before .clock .ensures) (c .before .before .set-clock .ensures)
 
 same-length-2 : tie.Need-same-length-2
 same-length-2 c = search needs
@@ -84,7 +85,7 @@ returns-2 : tie.Need-returns-2
 returns-2 c =
     let e = c .before .before .before .before .before .before .before .before .before .before .before .before .before .before .before .before .before .args .e in
     let p = c .before .before .before .before .before .before .before .before .before .before .before .before .before .before .before .before .before .pre in
-    put-beside _ (meant _) (known-holds _ (p .0)) (p .0 .good) _ e (p .1) (p .2) _ (c .before .before .before .before .before .before .before .wake .kept .0) (c .before .before .before .before .before .before .before .wake .ensures) _ (c .before .before .before .add .kept .0) _ (c .before .before .before .before .before .before .before .before .before .before .before .before .before .before .row .ensures .0) _ (start-is _ (meant _) (known-holds _ (p .0)) (p .0 .good) _ e (p .1) (p .2) _ (c .before .before .before .before .before .before .before .before .before .before .before .before .before .before .row .ensures .0) _ _ (c .before .before .before .before .before .before .before .before .before .before .before .before .clock .ensures) (c .before .before .before .before .before .before .before .before .before .later .ensures)) (c .before .before .before .add .ensures) (eqb-false _ _ (sym (c .before .before .before .before .before .before .before .before .before .before .none-held .ensures) ∙ c .if1 .left))
+    put-beside _ (meant _) (known-holds _ (p .0)) (p .0 .good) _ e (p .1) (p .2) _ (c .before .before .before .before .before .before .before .wake .kept .0) (c .before .before .before .before .before .before .before .wake .ensures) _ (c .before .before .before .add .kept .0) _ (c .before .before .before .before .before .before .before .before .before .before .before .before .before .before .row .ensures .0) _ (start-is _ (meant _) (known-holds _ (p .0)) (p .0 .good) _ e (p .1) (p .2) _ (c .before .before .before .before .before .before .before .before .before .before .before .before .before .before .row .ensures .0) _ _ (c .before .before .before .before .before .before .before .before .before .before .before .before .clock .ensures) (c .before .before .before .before .before .before .before .before .before .later .ensures)) (c .before .before .before .add .ensures) (λ z. c .if1 .left (c .before .before .before .before .before .before .before .before .before .before .word .ensures ∙ z))
 
 pub put-first-spec : {M : Type 1} → statement M
 put-first-spec =
@@ -92,7 +93,7 @@ put-first-spec =
     (tie.spec
     row-requires
     clock-requires
-    none-held-requires
+    word-requires
     later-requires
     wake-requires
     add-requires

@@ -1,3 +1,4 @@
+-- `restart` meets its contract. Assumes nothing.
 use mathlib.Core.Path.{refl, sym, _∙_}
 use native.Mathlib.Omega.{arith}
 use borrow.Author.Tests.{eqb-true, eqb-false, not-true, not-false}
@@ -15,30 +16,24 @@ use Rattle.engine.proofs.restart.Lts as lts
 use Rattle.engine.proofs.none_held.Reads as none-held-reads
 use Rattle.fresh.proofs.renew.Reads as renew-reads
 
--- src/lib.rt:258:9
 none-held-requires : tie.Need-none-held-requires
 none-held-requires c κs = search needs
 
--- src/lib.rt:259:9
 same-length : tie.Need-same-length
 same-length c = search needs
 
--- src/lib.rt:259:9
 returns : tie.Need-returns
 returns c =
     let s = c .before .before .before .before in
     let t = s .args .t .now in
     refusal-does restart t StillHolds (s .pre) refl (restart-held (meant t) (somebody t (meant t) (known-holds t (s .pre)) (eqb-false _ _ (sym (c .before .none-held .ensures) ∙ not-true _ (c .if1 .taken)))))
 
--- src/lib.rt:261:5
 renew-requires : tie.Need-renew-requires
 renew-requires c κs = search needs
 
--- src/lib.rt:254:1
 same-length-2 : tie.Need-same-length-2
 same-length-2 c = search needs
 
--- src/lib.rt:254:1
 returns-2 : tie.Need-returns-2
 returns-2 c =
     let s = c .before .before .before .before .before .before .before .before in

@@ -1,3 +1,4 @@
+-- `take` meets its contract. Assumes nothing.
 use mathlib.Core.Path.{_≡_, refl, sym, ap, subst, _∙_}
 use Rattle.rules.specs.Calls.{take}
 use Rattle.rules.specs.declared.Refusal.the-variants.{NothingHeld}
@@ -12,35 +13,27 @@ use Rattle.engine.proofs.take.Lts as lts
 use Rattle.choice.proofs.chosen.Reads as chosen-reads
 use Rattle.engine.proofs.serve_lane.Reads as serve-lane-reads
 
--- src/lib.rt:188:9
 chosen-requires : tie.Need-chosen-requires
 chosen-requires c κs = search needs
 
--- src/lib.rt:190:23
 enum-known-choice : tie.Need-enum-known-choice
 enum-known-choice c = search needs
 
--- src/lib.rt:190:43
 serve-lane-requires : tie.Need-serve-lane-requires
 serve-lane-requires c κs = (c .before .before .before .before .before .before .before .pre, subst (ChoiceIs _) (c .before .before .choice .given .1) (c .before .before .before .before .chosen .ensures))
 
--- src/lib.rt:191:41
 enum-told : tie.Need-enum-told
 enum-told c = search needs
 
--- src/lib.rt:184:1
 same-length : tie.Need-same-length
 same-length c = search needs
 
--- src/lib.rt:184:1
 returns : tie.Need-returns
 returns c = let s = c .before .before .before .before .before .before .before .before .before .before in take-does (s .args .t .now) _ (c .before .before .serve-lane .result) (s .pre) (c .before .before .serve-lane .ensures)
 
--- src/lib.rt:184:1
 same-length-2 : tie.Need-same-length-2
 same-length-2 c = search needs
 
--- src/lib.rt:184:1
 returns-2 : tie.Need-returns-2
 returns-2 c = let s = c .before .before .before .before .before in refusal-does take (s .args .t .now) NothingHeld (s .pre) refl (take-none (meant (s .args .t .now)) (subst (ChoiceIs _) (c .enum-told .given .1) (c .before .before .chosen .ensures)))
 

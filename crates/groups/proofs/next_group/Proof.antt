@@ -4,11 +4,10 @@ use mathlib.Core.Path.{_≡_, refl, sym, ap, subst, _∙_}
 use native.Mathlib.Omega.{arith}
 use borrow.Author.Needs.{needs}
 use lib.Count.{trailingZeros}
-use Rattle.words.proofs.Bits.{shift-one}
 use Rattle.slot_lists.specs.Lists.{groupsAt, startAt}
 use Rattle.groups.specs.Front.{Leads}
 use Rattle.groups.proofs.Laws.{leads-none, leads-on, leads-more}
-use Rattle.groups.proofs.Walk.{Left, left-all, next-small, on, present, absent, some-power, power-pos, left-less, none-left, no-start-at, start-word, group-bounds}
+use Rattle.groups.proofs.Walk.{Left, left-all, next-small, on, present, absent, left-less, less, none-left, no-start-at, start-word, group-bounds}
 use Rattle.groups.proofs.next_group.Statement.{statement}
 use Rattle.groups.proofs.next_group.Tie as tie
 use Rattle.groups.proofs.next_group.Reads as reads
@@ -60,29 +59,13 @@ prefer-requires c κs =
     let b = group-bounds t (groupsAt t) _ (s .pre .1) refl p in
     (s .pre .2 _ _ (b .0) (b .1) (start-word t (groupsAt t) _ _ refl p (c .word2 .ensures)), b .1)
 
-cast-left : tie.Need-cast-left Inv-loop μ-loop
-cast-left c =
-    let w = c .before .before .before .loop in
-    omega (arith, next-small (groupsAt (c .before .before .before .before .before .before .args .t .now)) (w .left) (w .inv .0) (w .inv .1) (c .before .before .loop-test .taken) (w .inv .2))
-
-shl-left : tie.Need-shl-left Inv-loop μ-loop
-shl-left c =
-    let w = c .before .before .before .loop in
-    omega (arith, next-small (groupsAt (c .before .before .before .before .before .before .args .t .now)) (w .left) (w .inv .0) (w .inv .1) (c .before .before .loop-test .taken) (w .inv .2))
-
 sub-left : tie.Need-sub-left Inv-loop μ-loop
-sub-left c =
-    let w = c .before .before .before .loop in
-    let g = groupsAt (c .before .before .before .before .before .before .args .t .now) in
-    let small = next-small g (w .left) (w .inv .0) (w .inv .1) (c .before .before .loop-test .taken) (w .inv .2) in
-    omega (arith, shift-one _ small, some-power g (w .left) (w .inv .0) (w .inv .1) (c .before .before .loop-test .taken) (w .inv .2))
+sub-left c = omega (arith, c .before .before .loop-test .taken)
 
 loop-less : tie.Need-loop-less Inv-loop μ-loop
 loop-less c =
     let w = c .before .before .before .loop in
-    let g = groupsAt (c .before .before .before .before .before .before .args .t .now) in
-    let small = next-small g (w .left) (w .inv .0) (w .inv .1) (c .before .before .loop-test .taken) (w .inv .2) in
-    omega (arith, shift-one _ small, some-power g (w .left) (w .inv .0) (w .inv .1) (c .before .before .loop-test .taken) (w .inv .2), power-pos g (w .left) (w .inv .0) (w .inv .1) (c .before .before .loop-test .taken) (w .inv .2))
+    less (groupsAt (c .before .before .before .before .before .before .args .t .now)) (w .left) (w .inv .0) (w .inv .1) (c .before .before .loop-test .taken) (w .inv .2)
 
 loop-again : tie.Need-loop-again Inv-loop μ-loop
 loop-again c =
@@ -100,7 +83,7 @@ loop-again c =
     let here = start-word t g _ _ refl p (c .before .word2 .ensures) in
     let upto = leads-on (startAt t) (s .args .v) n _ _ (λ i x y. no-start-at t g i refl (absent g (w .left) n l some fits i x y)) (on g (w .left) n l some fits) (w .inv .4) in
     let more = leads-more (startAt t) (s .args .v) _ _ (b .0) (b .1) (s .pre .2 _ _ (b .0) (b .1) here) here (w .best) upto in
-    (trailingZeros 64 (w .left) + 1, subst (λ (x : ℕ). Left g (w .left - x) (trailingZeros 64 (w .left) + 1)) (sym (shift-one _ small)) (left-less g (w .left) n l some fits), omega (arith, fits), omega (arith, small), subst (Leads (startAt t) (s .args .v) _) (sym (c .prefer .ensures)) more)
+    (trailingZeros 64 (w .left) + 1, left-less g (w .left) n l some fits, omega (arith, fits, less g (w .left) n l some fits), omega (arith, small), subst (Leads (startAt t) (s .args .v) _) (sym (c .prefer .ensures)) more)
 
 returns : tie.Need-returns Inv-loop μ-loop
 returns c =
@@ -121,8 +104,6 @@ next-group-spec =
     add-word
     word-requires-2
     prefer-requires
-    cast-left
-    shl-left
     sub-left
     loop-less
     loop-again

@@ -5,11 +5,10 @@ use mathlib.Core.Option.{none}
 use native.Mathlib.Omega.{arith}
 use borrow.Author.Needs.{needs}
 use lib.Count.{trailingZeros}
-use Rattle.words.proofs.Bits.{shift-one}
 use Rattle.slot_lists.specs.Lists.{groupsAt, startAt}
 use Rattle.groups.specs.Front.{Earliest, stays}
 use Rattle.groups.proofs.Laws.{Late, late-none, late-on, late-more, earliest-none, earliest-on, earliest-more, settles-none, settles-some}
-use Rattle.groups.proofs.Walk.{Left, left-all, next-small, on, present, absent, some-power, power-pos, left-less, none-left, no-start-at, start-word, group-bounds}
+use Rattle.groups.proofs.Walk.{Left, left-all, next-small, on, present, absent, left-less, less, none-left, no-start-at, start-word, group-bounds}
 use Rattle.groups.proofs.settled_clock.Statement.{statement}
 use Rattle.groups.proofs.settled_clock.Tie as tie
 use Rattle.groups.proofs.settled_clock.Reads as reads
@@ -64,29 +63,13 @@ returns c =
 earlier-requires : tie.Need-earlier-requires Inv-loop μ-loop
 earlier-requires c κs = search needs
 
-cast-left : tie.Need-cast-left Inv-loop μ-loop
-cast-left c =
-    let w = c .before .before .before .before .loop in
-    omega (arith, next-small (groupsAt (c .before .before .before .before .before .before .before .args .t .now)) (w .left) (w .inv .0) (w .inv .1) (c .before .before .before .loop-test .taken) (w .inv .2))
-
-shl-left : tie.Need-shl-left Inv-loop μ-loop
-shl-left c =
-    let w = c .before .before .before .before .loop in
-    omega (arith, next-small (groupsAt (c .before .before .before .before .before .before .before .args .t .now)) (w .left) (w .inv .0) (w .inv .1) (c .before .before .before .loop-test .taken) (w .inv .2))
-
 sub-left : tie.Need-sub-left Inv-loop μ-loop
-sub-left c =
-    let w = c .before .before .before .before .loop in
-    let g = groupsAt (c .before .before .before .before .before .before .before .args .t .now) in
-    let small = next-small g (w .left) (w .inv .0) (w .inv .1) (c .before .before .before .loop-test .taken) (w .inv .2) in
-    omega (arith, shift-one _ small, some-power g (w .left) (w .inv .0) (w .inv .1) (c .before .before .before .loop-test .taken) (w .inv .2))
+sub-left c = omega (arith, c .before .before .before .loop-test .taken)
 
 loop-less : tie.Need-loop-less Inv-loop μ-loop
 loop-less c =
     let w = c .before .before .before .before .loop in
-    let g = groupsAt (c .before .before .before .before .before .before .before .args .t .now) in
-    let small = next-small g (w .left) (w .inv .0) (w .inv .1) (c .before .before .before .loop-test .taken) (w .inv .2) in
-    omega (arith, shift-one _ small, some-power g (w .left) (w .inv .0) (w .inv .1) (c .before .before .before .loop-test .taken) (w .inv .2), power-pos g (w .left) (w .inv .0) (w .inv .1) (c .before .before .before .loop-test .taken) (w .inv .2))
+    less (groupsAt (c .before .before .before .before .before .before .before .args .t .now)) (w .left) (w .inv .0) (w .inv .1) (c .before .before .before .loop-test .taken) (w .inv .2)
 
 loop-again : tie.Need-loop-again Inv-loop μ-loop
 loop-again c =
@@ -106,7 +89,7 @@ loop-again c =
     let up = on g (w .left) n l more-left fits in
     let upto = earliest-on (startAt t) n _ _ nil up (w .inv .4) in
     let more = earliest-more (startAt t) _ _ (b .0) (b .1) (s .pre .2 _ _ (b .0) (b .1) here) here (w .found) upto in
-    (trailingZeros 64 (w .left) + 1, subst (λ (x : ℕ). Left g (w .left - x) (trailingZeros 64 (w .left) + 1)) (sym (shift-one _ small)) (left-less g (w .left) n l more-left fits), omega (arith, fits), omega (arith, small), subst (Earliest (startAt t) _) (sym (c .earlier .ensures)) more, late-more (startAt t) (s .args .v) _ _ here (c .before .if1 .left) (late-on (startAt t) (s .args .v) n _ nil up (w .inv .5)))
+    (trailingZeros 64 (w .left) + 1, left-less g (w .left) n l more-left fits, omega (arith, fits, less g (w .left) n l more-left fits), omega (arith, small), subst (Earliest (startAt t) _) (sym (c .earlier .ensures)) more, late-more (startAt t) (s .args .v) _ _ here (c .before .if1 .left) (late-on (startAt t) (s .args .v) n _ nil up (w .inv .5)))
 
 returns-2 : tie.Need-returns-2 Inv-loop μ-loop
 returns-2 c =
@@ -137,8 +120,6 @@ settled-clock-spec =
     word-requires-2
     returns
     earlier-requires
-    cast-left
-    shl-left
     sub-left
     loop-less
     loop-again

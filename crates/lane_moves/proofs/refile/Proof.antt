@@ -34,7 +34,7 @@ word-requires-2 c κs = search needs
 list-number-requires : tie.Need-list-number-requires
 list-number-requires c κs =
     let s = c .before .before .before .before .before in
-    (s .pre .5, omega (arith, c .word2 .ensures, s .pre .1 .back-small), s .pre .3)
+    (s .pre .5, omega (arith, c .word2 .ensures, s .pre .1 .back-small), ap (λ (x : ℕ). x % 2 ^ 31) (c .word2 .ensures) ∙ s .pre .1 .back-whole, s .pre .3)
 
 add-word : tie.Need-add-word
 add-word c = search needs
@@ -54,7 +54,7 @@ remove-first-requires c κs =
 list-number-requires-2 : tie.Need-list-number-requires-2
 list-number-requires-2 c κs =
     let s = c .before .before .before .before .before .before .before .before .before .before .before .before .before .before in
-    (s .pre .6, omega (arith, c .before .before .before .before .before .before .before .before .before .word2 .ensures, s .pre .1 .back-small), s .pre .3)
+    (s .pre .6, omega (arith, c .before .before .before .before .before .before .before .before .before .word2 .ensures, s .pre .1 .back-small), ap (λ (x : ℕ). x % 2 ^ 31) (c .before .before .before .before .before .before .before .before .before .word2 .ensures) ∙ s .pre .1 .back-whole, s .pre .3)
 
 append-requires : tie.Need-append-requires
 append-requires c κs =
@@ -83,7 +83,7 @@ close-requires c κs =
     let em = c .before .before .before .before .before .before .before .before .before .before .before .word3 .ensures ∙ sym (map-on t g has) in
     let v = c .before .before .before .before .before .before .before .before .before .remove-first .ensures in
     let u = c .before .before .before .append .ensures in
-    (omega (arith, s .pre .0, c .before .before .before .before .before .before .before .before .before .remove-first .kept .0, c .before .before .before .append .kept .0), s .pre .2, s .pre .3, c .before .before .before .before .before .before .before .before .before .before .before .before .before .before .before .before .word .ensures ∙ sym (same-word _ _ _ _ _ _ _ v groupsWord (omega arith)) ∙ sym (same-word _ _ _ _ _ _ _ u groupsWord (omega arith)), ap (bit g) (c .before .before .before .before .before .before .before .before .before .before .before .before .before .before .before .before .word .ensures) ∙ has, u .fills (v .fills (subst (Fills t g) (sym em) (s .pre .1 .fills g (s .pre .2) (s .pre .3)))) .narrow, s .pre .5, c .before .before .before .before .before .before .before .before .before .before .before .before .before .list-number .ensures .1)
+    (omega (arith, s .pre .0, c .before .before .before .before .before .before .before .before .before .remove-first .kept .0, c .before .before .before .append .kept .0), s .pre .2, s .pre .3, c .before .before .before .before .before .before .before .before .before .before .before .before .before .before .before .before .word .ensures ∙ sym (same-word _ _ _ _ _ _ _ v groupsWord (omega arith)) ∙ sym (same-word _ _ _ _ _ _ _ u groupsWord (omega arith)), ap (bit g) (c .before .before .before .before .before .before .before .before .before .before .before .before .before .before .before .before .word .ensures) ∙ has, u .fills (v .fills (subst (Fills t g) (sym em) (s .pre .1 .fills g (s .pre .2) (s .pre .3)))) .narrow, s .pre .5, same-word _ _ _ _ _ _ _ u (startWord g) (omega (arith, s .pre .3)) ∙ same-word _ _ _ _ _ _ _ v (startWord g) (omega (arith, s .pre .3)) ∙ start-some t g (s .args .start) (s .pre .4) .1, c .before .before .before .before .before .before .before .before .before .before .before .before .before .list-number .ensures .1)
 
 close-requires-2 : tie.Need-close-requires-2
 close-requires-2 c κs =
@@ -93,7 +93,7 @@ close-requires-2 c κs =
     let has = start-some t g (s .args .start) (s .pre .4) .0 in
     let em = c .before .before .before .before .before .before .word3 .ensures ∙ sym (map-on t g has) in
     let v = c .before .before .before .before .remove-first .ensures in
-    (omega (arith, s .pre .0, c .before .before .before .before .remove-first .kept .0), s .pre .2, s .pre .3, c .before .before .before .before .before .before .before .before .before .before .before .word .ensures ∙ sym (same-word _ _ _ _ _ _ _ v groupsWord (omega arith)), ap (bit g) (c .before .before .before .before .before .before .before .before .before .before .before .word .ensures) ∙ has, v .fills (subst (Fills t g) (sym em) (s .pre .1 .fills g (s .pre .2) (s .pre .3))) .narrow, s .pre .5, c .before .before .before .before .before .before .before .before .list-number .ensures .1)
+    (omega (arith, s .pre .0, c .before .before .before .before .remove-first .kept .0), s .pre .2, s .pre .3, c .before .before .before .before .before .before .before .before .before .before .before .word .ensures ∙ sym (same-word _ _ _ _ _ _ _ v groupsWord (omega arith)), ap (bit g) (c .before .before .before .before .before .before .before .before .before .before .before .word .ensures) ∙ has, v .fills (subst (Fills t g) (sym em) (s .pre .1 .fills g (s .pre .2) (s .pre .3))) .narrow, s .pre .5, same-word _ _ _ _ _ _ _ v (startWord g) (omega (arith, s .pre .3)) ∙ start-some t g (s .args .start) (s .pre .4) .1, c .before .before .before .before .before .before .before .before .list-number .ensures .1)
 
 same-length : tie.Need-same-length
 same-length c = search needs

@@ -1,4 +1,4 @@
-use Rattle.lists_test.proofs.Walks.{ring-said, next-word}
+use Rattle.lists_test.proofs.ListWalk.{ring-said, next-word}
 use Rattle.lists_test.specs.declared.Met.{Met}
 use Rattle.lists_test.specs.declared.Met.the-variants.{Bad, Lanes}
 use mathlib.Core.Path.{_≡_, sym, ap, subst, _∙_}
@@ -11,16 +11,11 @@ use Rattle.words.specs.Bits.{bit}
 use Rattle.words.specs.Words.{wordAt}
 use Rattle.slot_lists.specs.Lists.{backAt, mapWord, startWord, ringNumber}
 use Rattle.lists_test.specs.Stored.{startSlot, listSlot, RingSays, GroupSays}
-use Rattle.lists_test.proofs.Walks.{Walked, walk-none, walk-next, walk-step, walk-bad, walk-all, bit-under}
+use Rattle.lists_test.proofs.ListWalk.{Walked, walk-none, walk-next, walk-step, walk-bad, walk-all}
+use Rattle.lists_test.proofs.WordBits.{bit-under}
 use borrow.Author.Needs.{needs}
 use Rattle.lists_test.proofs.group_met.Statement.{statement}
 use Rattle.lists_test.proofs.group_met.Tie as tie
-use Rattle.lists_test.proofs.group_met.Reads as reads
-use Rattle.lists_test.proofs.group_met.Lts as lts
-use Rattle.slot_lists.proofs.ring_number.Reads as ring-number-reads
-use Rattle.lists_test.proofs.ring_met.Reads as ring-met-reads
-use Rattle.table.proofs.next_present.Reads as next-present-reads
-use Rattle.words.proofs.word.Reads as word-reads
 
 -- the slot of the start, by the words that were read
 slot-is : (t : List ℕ) (g start back : ℕ) → start ≡ wordAt t (startWord g) → back ≡ backAt t → start / 2 ^ g + back / 2 ^ g ≡ startSlot t g
@@ -36,36 +31,28 @@ Inv-loop t g back before map start own base slot first met₀ b₀ met b = Walke
 abbrev μ-loop : tie.MeasureT-loop
 μ-loop t g back before map start own base slot first met₀ b₀ met b = 64 - b
 
--- src/lib.rt:82:23
 add-word : tie.Need-add-word Inv-loop μ-loop
 add-word c = search needs
 
--- src/lib.rt:82:9
 word-requires : tie.Need-word-requires Inv-loop μ-loop
 word-requires c κs = search needs
 
--- src/lib.rt:83:25
 add-word-2 : tie.Need-add-word-2 Inv-loop μ-loop
 add-word-2 c = search needs
 
--- src/lib.rt:83:9
 word-requires-2 : tie.Need-word-requires-2 Inv-loop μ-loop
 word-requires-2 c κs = search needs
 
--- src/lib.rt:85:9
 returns : tie.Need-returns Inv-loop μ-loop
 unfolding GroupSays
 returns c = λ fine new. omega (arith, c .if1 .taken, c .before .before .word .ensures, fine .narrow)
 
--- src/lib.rt:87:16
 shr-own : tie.Need-shr-own Inv-loop μ-loop
 shr-own c = search needs
 
--- src/lib.rt:88:8
 shl-if2 : tie.Need-shl-if2 Inv-loop μ-loop
 shl-if2 c = search needs
 
--- src/lib.rt:89:9
 returns-2 : tie.Need-returns-2 Inv-loop μ-loop
 unfolding GroupSays
 returns-2 c = let g = c .before .before .before .before .before .args .g in
@@ -81,19 +68,15 @@ add-slot c =
     let s = c .before .before .before .before .before in
     omega (arith, slot-small (s .args .g) (c .before .before .word2 .result) (s .args .back) (s .pre .1) (omega (arith, c .before .before .word2 .ok)) (s .pre .4))
 
--- src/lib.rt:92:17
 cast-if3 : tie.Need-cast-if3 Inv-loop μ-loop
 cast-if3 c = search needs
 
--- src/lib.rt:92:17
 cast-if3-2 : tie.Need-cast-if3-2 Inv-loop μ-loop
 cast-if3-2 c = search needs
 
--- src/lib.rt:92:9
 shr-if3 : tie.Need-shr-if3 Inv-loop μ-loop
 shr-if3 c = search needs
 
--- src/lib.rt:93:9
 returns-3 : tie.Need-returns-3 Inv-loop μ-loop
 unfolding GroupSays
 returns-3 c =
@@ -105,52 +88,42 @@ returns-3 c =
     let m : bit (startSlot t g % 32) (wordAt t (mapWord g)) ≡ 0 = subst (λ (x : ℕ). bit (x % 32) (wordAt t (mapWord g)) ≡ 0) at (subst (λ (y : ℕ). bit ((start / 2 ^ g + s .args .back / 2 ^ g) % 32) y ≡ 0) (c .before .before .before .before .word .ensures) (c .if3 .taken)) in
     λ fine new. omega (arith, m, fine .first)
 
--- src/lib.rt:96:9
 next-present-requires : tie.Need-next-present-requires Inv-loop μ-loop
 next-present-requires c κs = search needs
 
--- src/lib.rt:97:5
 loop-holds : tie.Need-loop-holds Inv-loop μ-loop
 loop-holds c =
     let n = next-word _ _ _ _ (c .before .before .before .before .before .word .ensures) (c .next-present .ensures) in
     (walk-next _ _ _ _ _ _ (walk-none _ _ _) n, n .present)
 
--- src/lib.rt:98:26
 add-at : tie.Need-add-at Inv-loop μ-loop
 add-at c = search needs
 
--- src/lib.rt:98:26
 sub-at : tie.Need-sub-at Inv-loop μ-loop
 sub-at c = search needs
 
--- src/lib.rt:98:18
 add-at-2 : tie.Need-add-at-2 Inv-loop μ-loop
 add-at-2 c =
     let s = c .before .before .before .before .before .before .before .before .before in
     omega (arith, slot-small (s .args .g) (c .before .before .before .before .before .before .word2 .result) (s .args .back) (s .pre .1) (omega (arith, c .before .before .before .before .before .before .word2 .ok)) (s .pre .4))
 
--- src/lib.rt:99:44
 cast-ring-number : tie.Need-cast-ring-number Inv-loop μ-loop
 cast-ring-number c = search needs
 
--- src/lib.rt:99:29
 ring-number-requires : tie.Need-ring-number-requires Inv-loop μ-loop
 ring-number-requires c κs =
     let s = c .before .before .before .before .before .before .before .before .before in
     let narrow : wordAt (s .args .t .now) (mapWord (s .args .g)) < 2 ^ 32 = omega (arith, c .before .before .before .before .before .if1 .left, c .before .before .before .before .before .before .before .word .ensures) in
     (s .pre .1, s .pre .2, bit-under 32 _ _ narrow (c .before .loop .inv .1 (c .loop-test .taken)))
 
--- src/lib.rt:99:13
 ring-met-requires : tie.Need-ring-met-requires Inv-loop μ-loop
 ring-met-requires c κs =
     let s = c .before .before .before .before .before .before .before .before .before .before in
     (s .pre .0, c .ring-number .ensures .1, s .pre .1, s .pre .2, ap (λ (x : ℕ). x / 2 ^ (s .args .g)) (s .pre .3), omega (arith, shr-le (s .args .back) (s .args .g), s .pre .4))
 
--- src/lib.rt:101:25
 enum-told : tie.Need-enum-told Inv-loop μ-loop
 enum-told c = search needs
 
--- src/lib.rt:101:25
 returns-4 : tie.Need-returns-4 Inv-loop μ-loop
 unfolding GroupSays RingSays
 returns-4 c = let s = c .before .before .before .before .before .before .before .before .before .before .before .before .before in
@@ -160,23 +133,18 @@ returns-4 c = let s = c .before .before .before .before .before .before .before 
     let said = ring-said (s .args .t .now) (s .args .g) (w .b) _ _ (w .met) (c .before .before .ring-met .result) (c .before .before .before .ring-number .ensures .0) (slot-is (s .args .t .now) (s .args .g) _ (s .args .back) (c .before .before .before .before .before .before .before .before .before .before .word2 .ensures) (s .pre .3)) (c .before .before .ring-met .ensures) in
     walk-bad _ _ _ _ _ (w .inv .0) (bit-under 32 _ _ narrow has) has (subst (λ (r : Met). RingSays (s .args .t .now) (ringNumber (s .args .g) (w .b)) (s .args .g) (listSlot (s .args .t .now) (s .args .g) (w .b)) (w .met) r) (c .enum-told .given .1) said)
 
--- src/lib.rt:102:24
 enum-known-r : tie.Need-enum-known-r Inv-loop μ-loop
 enum-known-r c = search needs
 
--- src/lib.rt:104:31
 add-next-present : tie.Need-add-next-present Inv-loop μ-loop
 add-next-present c = search needs
 
--- src/lib.rt:104:9
 next-present-requires-2 : tie.Need-next-present-requires-2 Inv-loop μ-loop
 next-present-requires-2 c κs = search needs
 
--- src/lib.rt:97:5
 loop-less : tie.Need-loop-less Inv-loop μ-loop
 loop-less c = search needs
 
--- src/lib.rt:97:5
 loop-again : tie.Need-loop-again Inv-loop μ-loop
 unfolding RingSays
 loop-again c = let s = c .before .before .before .before .before .before .before .before .before .before .before .before .before .before .before in
@@ -188,7 +156,6 @@ loop-again c = let s = c .before .before .before .before .before .before .before
     let n = next-word _ _ _ _ (c .before .before .before .before .before .before .before .before .before .before .before .before .before .word .ensures) (c .next-present2 .ensures) in
     (walk-next _ _ _ _ _ _ (walk-step _ _ _ _ _ (w .inv .0) (bit-under 32 _ _ narrow has) has _ (fine .0) (fine .1)) n, n .present)
 
--- src/lib.rt:78:1
 returns-5 : tie.Need-returns-5 Inv-loop μ-loop
 unfolding GroupSays
 returns-5 c = let s = c .before .before .before .before .before .before .before .before .before in

@@ -6,15 +6,12 @@ use Rattle.words.specs.Words.{wordAt}
 use Rattle.slot_lists.specs.Lists.{groupsAt}
 use Rattle.lists_test.specs.Stored.{GroupSays}
 use Rattle.lists_test.specs.declared.Met.{Met}
-use Rattle.lists_test.proofs.Walks.{Passed, pass-none, pass-next, pass-step, pass-bad, pass-same, pass-other, bit-under, bit-over, next-word}
+use Rattle.lists_test.proofs.WordBits.{bit-under, bit-over}
+use Rattle.lists_test.proofs.ListWalk.{next-word}
+use Rattle.lists_test.proofs.GroupWalk.{Passed, pass-none, pass-next, pass-step, pass-bad, pass-same, pass-other}
 use borrow.Author.Needs.{needs}
 use Rattle.lists_test.proofs.lists_good.Statement.{statement}
 use Rattle.lists_test.proofs.lists_good.Tie as tie
-use Rattle.lists_test.proofs.lists_good.Reads as reads
-use Rattle.lists_test.proofs.lists_good.Lts as lts
-use Rattle.lists_test.proofs.group_met.Reads as group-met-reads
-use Rattle.table.proofs.next_present.Reads as next-present-reads
-use Rattle.words.proofs.word.Reads as word-reads
 
 abbrev Inv-loop : tie.InvT-loop
 Inv-loop t lanes back groups met₀ g₀ met g = Passed t g met × (g < 64 → bit g (groupsAt t) ≡ 1) × (met < 2 ^ 64)
@@ -22,7 +19,6 @@ Inv-loop t lanes back groups met₀ g₀ met g = Passed t g met × (g < 64 → b
 abbrev μ-loop : tie.MeasureT-loop
 μ-loop t lanes back groups met₀ g₀ met g = 64 - g
 
--- src/lib.rt:114:9
 word-requires : tie.Need-word-requires Inv-loop μ-loop
 word-requires c κs = search needs
 
@@ -35,29 +31,23 @@ returns-2 c = λ stored. omega (arith, c .if2 .taken, c .before .before .word .e
 word-requires-2 : tie.Need-word-requires-2 Inv-loop μ-loop
 word-requires-2 c κs = search needs
 
--- src/lib.rt:116:9
 returns-3 : tie.Need-returns-3 Inv-loop μ-loop
 returns-3 c = λ stored. c .if3 .taken (ap (λ (x : ℕ). x % 65536) (c .before .word2 .ensures) ∙ stored .low)
 
--- src/lib.rt:119:9
 returns-4 : tie.Need-returns-4 Inv-loop μ-loop
 returns-4 c = λ stored. omega (arith, c .if4 .taken, c .before .before .word2 .ensures, stored .high)
 
--- src/lib.rt:122:9
 next-present-requires : tie.Need-next-present-requires Inv-loop μ-loop
 next-present-requires c κs = search needs
 
--- src/lib.rt:123:5
 loop-holds : tie.Need-loop-holds Inv-loop μ-loop
 loop-holds c =
     let n = next-word _ _ _ _ (c .before .before .before .word2 .ensures) (c .next-present .ensures) in
     (pass-next _ _ _ _ (pass-none _) n, n .present, omega arith)
 
--- src/lib.rt:124:30
 cast-group-met : tie.Need-cast-group-met Inv-loop μ-loop
 cast-group-met c = search needs
 
--- src/lib.rt:124:13
 group-met-requires : tie.Need-group-met-requires Inv-loop μ-loop
 group-met-requires c κs =
     let s = c .before .before .before .before .before .before .before .before .before .before in
@@ -67,11 +57,9 @@ group-met-requires c κs =
     let back = c .before .before .before .before .before .before .before .before .word .ensures in
     (s .pre, bit-over _ _ low has, omega (arith, bit-under 32 _ _ high has), back, omega (arith, c .before .before .before .before .before .before .if2 .left))
 
--- src/lib.rt:126:25
 enum-told : tie.Need-enum-told Inv-loop μ-loop
 enum-told c = search needs
 
--- src/lib.rt:126:25
 returns-5 : tie.Need-returns-5 Inv-loop μ-loop
 unfolding GroupSays
 returns-5 c = let s = c .before .before .before .before .before .before .before .before .before .before .before .before .before in
@@ -81,23 +69,18 @@ returns-5 c = let s = c .before .before .before .before .before .before .before 
     let low : groupsAt (s .args .t .now) % 65536 ≡ 0 = ap (λ (x : ℕ). x % 65536) (sym (c .before .before .before .before .before .before .before .before .word2 .ensures)) ∙ c .before .before .before .before .before .before .before .if3 .left in
     pass-bad _ _ _ (w .inv .0) (omega (arith, bit-under 32 _ _ high has)) has _ (bit-over _ _ low has) (subst (λ (r : Met). GroupSays (s .args .t .now) (w .g) (w .met) r) (c .enum-told .given .1) (c .before .before .group-met .ensures))
 
--- src/lib.rt:127:24
 enum-known-r : tie.Need-enum-known-r Inv-loop μ-loop
 enum-known-r c = search needs
 
--- src/lib.rt:129:34
 add-next-present : tie.Need-add-next-present Inv-loop μ-loop
 add-next-present c = search needs
 
--- src/lib.rt:129:9
 next-present-requires-2 : tie.Need-next-present-requires-2 Inv-loop μ-loop
 next-present-requires-2 c κs = search needs
 
--- src/lib.rt:123:5
 loop-less : tie.Need-loop-less Inv-loop μ-loop
 loop-less c = omega (arith, c .next-present2 .ensures .on, c .before .before .before .before .before .loop-test .taken)
 
--- src/lib.rt:123:5
 loop-again : tie.Need-loop-again Inv-loop μ-loop
 unfolding GroupSays
 loop-again c = let s = c .before .before .before .before .before .before .before .before .before .before .before .before .before .before .before in
@@ -108,14 +91,12 @@ loop-again c = let s = c .before .before .before .before .before .before .before
     let n = next-word _ _ _ _ (c .before .before .before .before .before .before .before .before .before .before .word2 .ensures) (c .next-present2 .ensures) in
     (pass-next _ _ _ _ (pass-step _ _ _ (w .inv .0) (omega (arith, bit-under 32 _ _ high has)) has _ (fine .0) (fine .1)) n, n .present, omega (arith, c .before .known-told .given))
 
--- src/lib.rt:132:9
 returns-6 : tie.Need-returns-6 Inv-loop μ-loop
 returns-6 c =
     let s = c .before .before .before .before .before .before .before .before .before .before .before in
     let w = c .before .before .loop in
     pass-other _ _ _ _ (w .inv .0) (c .before .loop-test .left) (omega (arith, c .before .before .before .before .if4 .left, c .before .before .before .before .before .before .word2 .ensures)) (w .inv .2) (s .fits .lanes .fits) (c .if5 .taken)
 
--- src/lib.rt:110:1
 returns-7 : tie.Need-returns-7 Inv-loop μ-loop
 returns-7 c =
     let w = c .before .before .loop in

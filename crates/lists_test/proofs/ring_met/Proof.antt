@@ -5,15 +5,10 @@ use Rattle.words.specs.Bits.{bit}
 use Rattle.words.proofs.Bits.{add-below, shift-one}
 use Rattle.lane_test.proofs.Setting.{says-yes, says-no}
 use Rattle.lists_test.specs.Stored.{Fits, RingSays}
-use Rattle.lists_test.proofs.Walks.{Read, read-none, read-far, read-twice, read-misfit, read-more, read-all}
+use Rattle.lists_test.proofs.RingWalk.{Read, read-none, read-far, read-twice, read-misfit, read-more, read-all}
 use borrow.Author.Needs.{needs}
 use Rattle.lists_test.proofs.ring_met.Statement.{statement}
 use Rattle.lists_test.proofs.ring_met.Tie as tie
-use Rattle.lists_test.proofs.ring_met.Reads as reads
-use Rattle.lists_test.proofs.ring_met.Lts as lts
-use Rattle.lists_test.proofs.stands.Reads as stands-reads
-use Rattle.rings.proofs.entry.Reads as entry-reads
-use Rattle.rings.proofs.held.Reads as held-reads
 
 abbrev Inv-loop : tie.InvT-loop
 Inv-loop t i g base at before n met₀ j₀ met j = Read t i g at before j met × (met < 2 ^ 64)
@@ -21,72 +16,57 @@ Inv-loop t i g base at before n met₀ j₀ met j = Read t i g at before j met �
 abbrev μ-loop : tie.MeasureT-loop
 μ-loop t i g base at before n met₀ j₀ met j = n - j
 
--- src/lib.rt:53:9
 held-requires : tie.Need-held-requires Inv-loop μ-loop
 held-requires c κs = search needs
 
--- src/lib.rt:55:9
 returns : tie.Need-returns Inv-loop μ-loop
 unfolding RingSays
 returns c = λ fine new. omega (arith, c .if1 .taken, c .before .held .ensures .0, fine .some-lane)
 
--- src/lib.rt:59:5
 loop-holds : tie.Need-loop-holds Inv-loop μ-loop
 loop-holds c = (read-none _ _ _ _ _, c .before .before .before .fits .before .fits)
 
--- src/lib.rt:60:13
 entry-requires : tie.Need-entry-requires Inv-loop μ-loop
 entry-requires c κs =
     let s = c .before .before .before .before .before in
     (s .pre .0, s .pre .1, omega (arith, c .loop-test .taken, c .before .before .before .held .ensures .1), omega (arith, c .loop-test .taken, c .before .before .before .held .ensures .0))
 
--- src/lib.rt:62:13
 returns-2 : tie.Need-returns-2 Inv-loop μ-loop
 unfolding RingSays
 returns-2 c = let r = c .before .before .before .loop in
     read-far _ _ _ _ _ _ _ (r .inv .0) (omega (arith, c .before .before .loop-test .taken, c .before .before .before .before .before .held .ensures .0)) (omega (arith, c .if2 .taken, c .before .entry .ensures .0))
 
--- src/lib.rt:64:21
 cast-if3 : tie.Need-cast-if3 Inv-loop μ-loop
 cast-if3 c = search needs
 
--- src/lib.rt:64:21
 cast-if3-2 : tie.Need-cast-if3-2 Inv-loop μ-loop
 cast-if3-2 c = search needs
 
--- src/lib.rt:64:13
 shr-if3 : tie.Need-shr-if3 Inv-loop μ-loop
 shr-if3 c = search needs
 
--- src/lib.rt:65:13
 returns-3 : tie.Need-returns-3 Inv-loop μ-loop
 unfolding RingSays
 returns-3 c = let r = c .before .before .before .before .loop in
     read-twice _ _ _ _ _ _ _ (r .inv .0) (omega (arith, c .before .before .before .loop-test .taken, c .before .before .before .before .before .before .held .ensures .0)) (subst (λ (x : ℕ). bit x (r .met) ≡ 1) (c .before .before .entry .ensures .0) (c .if3 .taken))
 
--- src/lib.rt:67:13
 stands-requires : tie.Need-stands-requires Inv-loop μ-loop
 stands-requires c κs = search needs
 
--- src/lib.rt:69:13
 returns-4 : tie.Need-returns-4 Inv-loop μ-loop
 unfolding RingSays
 returns-4 c = let r = c .before .before .before .before .before .before .loop in
     read-misfit _ _ _ _ _ _ _ (r .inv .0) (omega (arith, c .before .before .before .before .before .loop-test .taken, c .before .before .before .before .before .before .before .before .held .ensures .0)) (λ f. says-no (c .before .stands .result) (c .before .stands .ensures) (c .if4 .taken) (subst (λ (x : ℕ). Fits (c .before .before .before .before .before .before .before .before .before .before .args .t .now) x (c .before .before .before .before .before .before .before .before .before .before .args .g) (c .before .before .before .before .before .before .before .before .before .before .args .at)) (sym (c .before .before .before .before .entry .ensures .0)) f))
 
--- src/lib.rt:71:25
 cast-met : tie.Need-cast-met Inv-loop μ-loop
 cast-met c = search needs
 
--- src/lib.rt:71:25
 cast-met-2 : tie.Need-cast-met-2 Inv-loop μ-loop
 cast-met-2 c = search needs
 
--- src/lib.rt:71:16
 shl-met : tie.Need-shl-met Inv-loop μ-loop
 shl-met c = search needs
 
--- src/lib.rt:71:9
 add-met : tie.Need-add-met Inv-loop μ-loop
 add-met c =
     let r = c .before .before .before .before .before .before .loop in
@@ -94,15 +74,12 @@ add-met c =
     let new : bit k (r .met) ≡ 0 = omega (arith, c .before .before .if3 .left) in
     omega (arith, add-below 64 k (r .met) (c .before .before .before .if2 .left) (r .inv .1) new, shift-one k (c .before .before .before .if2 .left))
 
--- src/lib.rt:72:9
 add-j : tie.Need-add-j Inv-loop μ-loop
 add-j c = search needs
 
--- src/lib.rt:59:5
 loop-less : tie.Need-loop-less Inv-loop μ-loop
 loop-less c = search needs
 
--- src/lib.rt:59:5
 loop-again : tie.Need-loop-again Inv-loop μ-loop
 loop-again c =
     let r = c .before .before .before .before .before .before .loop in
@@ -114,7 +91,6 @@ loop-again c =
     let more = read-more _ _ _ _ _ _ _ (r .inv .0) (omega (arith, c .before .before .before .before .before .loop-test .taken, c .before .before .before .before .before .before .before .before .held .ensures .0)) (subst (λ (x : ℕ). x < 64) e small) (subst (λ (x : ℕ). bit x (r .met) ≡ 0) e new) (subst (λ (x : ℕ). Fits (c .before .before .before .before .before .before .before .before .before .before .args .t .now) x (c .before .before .before .before .before .before .before .before .before .before .args .g) (c .before .before .before .before .before .before .before .before .before .before .args .at)) e fits) in
     (rw (shift-one k small) (subst (λ (x : ℕ). Read (c .before .before .before .before .before .before .before .before .before .before .args .t .now) (c .before .before .before .before .before .before .before .before .before .before .args .i) (c .before .before .before .before .before .before .before .before .before .before .args .g) (c .before .before .before .before .before .before .before .before .before .before .args .at) (c .before .before .before .before .before .before .before .before .before .before .args .before) (r .j + 1) (r .met + 2 ^ x)) (sym e) more), omega (arith, add-below 64 k (r .met) small (r .inv .1) new, shift-one k small))
 
--- src/lib.rt:49:1
 returns-5 : tie.Need-returns-5 Inv-loop μ-loop
 unfolding RingSays
 returns-5 c = let r = c .before .loop in

@@ -9,19 +9,13 @@ use Rattle.table.specs.declared.LaneRow.{LaneRow}
 use borrow.Author.Needs.{needs}
 use Rattle.lists_test.proofs.stands.Statement.{statement}
 use Rattle.lists_test.proofs.stands.Tie as tie
-use Rattle.lists_test.proofs.stands.Reads as reads
-use Rattle.lists_test.proofs.stands.Lts as lts
-use Rattle.table.proofs.row.Reads as row-reads
 
--- src/lib.rt:38:9
 row-requires : tie.Need-row-requires
 row-requires c κs = search needs
 
--- src/lib.rt:40:9
 returns : tie.Need-returns
 returns c = λ f. c .if1 .taken (ap (λ (l : LaneRow). l .group) (c .before .before .row .ensures .0) ∙ f .group)
 
--- src/lib.rt:42:8
 shr-if2 : tie.Need-shr-if2
 shr-if2 c = search needs
 
@@ -31,13 +25,11 @@ add-if2 c =
     let x = c .before .before .before .row .result .time .0 in
     omega (arith, s .pre .5, c .before .before .before .row .ok, div-mul-le-self x (2 ^ (s .args .g)), mul-le-mul-left (x / 2 ^ (s .args .g)) (pow-mono {i = 16} {j = s .args .g} (s .pre .2)))
 
--- src/lib.rt:43:9
 returns-2 : tie.Need-returns-2
 returns-2 c =
     let s = c .before .before .before .before .before .before in
     λ f. c .if2 .taken (ap (λ (l : LaneRow). l .time .0 / 2 ^ (s .args .g) + s .args .base) (c .before .before .before .before .row .ensures .0) ∙ ap (λ (b : ℕ). rowAt (cells (s .args .t .now)) (s .args .k) .time .0 / 2 ^ (s .args .g) + b) (s .pre .4) ∙ f .slot)
 
--- src/lib.rt:34:1
 returns-3 : tie.Need-returns-3
 returns-3 c =
     let s = c .before .before .before .before .before .before in

@@ -18,14 +18,14 @@ add-set-record c =
 set-record-requires : tie.Need-set-record-requires
 set-record-requires c κs = search needs
 
-add-next : tie.Need-add-next
-add-next c =
-    let s = c .before .before .before .before .before .before .before in
-    let r = c .before .before .before .before .row in
+add-set-ring : tie.Need-add-set-ring
+add-set-ring c =
+    let s = c .before .before .before .before .before .before .before .before in
+    let r = c .before .before .before .before .before .row in
     omega (arith, room-row (s .args .t .now) (s .args .k) (laneDepth - 1) (r .result) (r .ensures .0) (s .pre .1) (s .pre .3) (omega (arith, s .pre .4)))
 
-set-row-requires : tie.Need-set-row-requires
-set-row-requires c κs =
+set-ring-requires : tie.Need-set-ring-requires
+set-ring-requires c κs =
     let s = c .before .before .before .before .before .before .before .before in
     let r = c .before .before .before .before .before .row in
     (omega (arith, c .before .before .before .set-record .kept .0, s .pre .0 .room), s .pre .1, r .ensures .1, omega (arith, room-row (s .args .t .now) (s .args .k) (laneDepth - 1) (r .result) (r .ensures .0) (s .pre .1) (s .pre .3) (omega (arith, s .pre .4))))
@@ -38,7 +38,7 @@ returns c =
     let s = c .before .before .before .before .before .before .before .before .before .before .before in
     let r = c .before .before .before .before .before .before .before .before .row in
     let small : s .args .e .mark < 2 ^ 32 = omega (arith, s .good) in
-    append-leaves (s .args .t .now) _ _ (s .args .k) (s .args .e) (r .result) (r .ensures .0) (s .pre .1) small (r .ensures .1) (s .pre .3) (s .pre .4) (c .before .before .before .before .before .before .set-record .ensures) (c .before .before .set-row .ensures)
+    append-leaves (s .args .t .now) _ _ (s .args .k) (s .args .e) (r .result) (r .ensures .0) (s .pre .1) small (r .ensures .1) (s .pre .3) (s .pre .4) (c .before .before .before .before .before .before .set-record .ensures) (c .before .before .set-ring .ensures)
 
 pub append-spec : {M : Type 1} → statement M
 append-spec =
@@ -47,7 +47,7 @@ append-spec =
     row-requires
     add-set-record
     set-record-requires
-    add-next
-    set-row-requires
+    add-set-ring
+    set-ring-requires
     same-length
     returns)

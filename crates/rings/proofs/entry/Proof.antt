@@ -7,39 +7,28 @@ use Rattle.rings.specs.Rings.{placeByte}
 use borrow.Author.Needs.{needs}
 use Rattle.rings.proofs.entry.Statement.{statement}
 use Rattle.rings.proofs.entry.Tie as tie
-use Rattle.rings.proofs.entry.Reads as reads
-use Rattle.rings.proofs.entry.Lts as lts
-use Rattle.rings.proofs.byte.Reads as byte-reads
 
--- src/lib.rt:55:21
 add-byte : tie.Need-add-byte
 add-byte c = search needs
 
--- src/lib.rt:55:9
 byte-requires : tie.Need-byte-requires
 byte-requires c κs = search needs
 
--- src/lib.rt:56:22
 mul-byte : tie.Need-mul-byte
 mul-byte c = search needs
 
--- src/lib.rt:56:13
 add-byte-2 : tie.Need-add-byte-2
 add-byte-2 c = search needs
 
--- src/lib.rt:56:35
 add-byte-3 : tie.Need-add-byte-3
 add-byte-3 c = search needs
 
--- src/lib.rt:56:13
 add-byte-4 : tie.Need-add-byte-4
 add-byte-4 c = search needs
 
--- src/lib.rt:56:5
 byte-requires-2 : tie.Need-byte-requires-2
 byte-requires-2 c κs = search needs
 
--- src/lib.rt:51:1
 returns : tie.Need-returns
 returns c =
     let s = c .before .before .before in

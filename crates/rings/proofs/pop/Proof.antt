@@ -5,10 +5,6 @@ use Rattle.rings.proofs.Laws.{pop-leaves, length-ring}
 use borrow.Author.Needs.{needs}
 use Rattle.rings.proofs.pop.Statement.{statement}
 use Rattle.rings.proofs.pop.Tie as tie
-use Rattle.rings.proofs.pop.Reads as reads
-use Rattle.rings.proofs.pop.Lts as lts
-use Rattle.rings.proofs.byte.Reads as byte-reads
-use Rattle.rings.proofs.set_byte.Reads as set-byte-reads
 
 add-byte : tie.Need-add-byte
 add-byte c = search needs

@@ -1,0 +1,91 @@
+-- The walk over the groups. Assumes nothing.
+use mathlib.Core.Path.{_≡_, sym, ap, subst}
+use mathlib.Core.Logic.{⊎-elim}
+use Prim.Native.Nat.{ℕ, suc, _+_, _-_, _%_, _^_, _≤_, _<_}
+use mathlib.Core.List.{List, []}
+use native.Mathlib.Numerals.{add-one}
+use native.Mathlib.Omega.{arith}
+use borrow.Author.Tests.{eq-eqb, ne-eqb}
+use lib.Pow.{pow-pos}
+use native.Mathlib.Decide.{decLt}
+use Rattle.units.specs.Plain.{times}
+use Rattle.words.specs.Bits.{bit}
+use Rattle.words.proofs.Bits.{bit-above}
+use Rattle.words.proofs.Runs.{eq-or-ne}
+use Rattle.words.proofs.Bits.{bits-same}
+use Rattle.table.specs.Means.{Next}
+use Rattle.slot_lists.specs.Lists.{groupsAt, backAt}
+use Rattle.filing.specs.Filing.{flat}
+use Rattle.filing.proofs.Flat.{flat-skip, times-more, times-part}
+use Rattle.lists_test.specs.Stored.{GroupFine, ringIn, groupIn, Stored, NotYet, Adds}
+use Rattle.lists_test.proofs.WordBits.{bit-under}
+
+module _ (t : List ℕ) where
+  abbrev groups : ℕ
+  groups = groupsAt t
+
+  pub group-in : (g : ℕ) → bit g groups ≡ 1 → groupIn t g ≡ flat 32 (ringIn t g)
+  unfolding groupIn
+  group-in g e = rw (eq-eqb _ 1 e)
+
+  pub group-out : (g : ℕ) → (bit g groups ≡ 1 → ⊥) → groupIn t g ≡ []
+  unfolding groupIn
+  group-out g ne = rw (ne-eqb (bit g groups) 1 ne)
+
+  pub record Passed (g met : ℕ) : Type 0 where
+    pub ends : g ≤ 64
+    pub fine : (i : ℕ) → i < g → bit i groups ≡ 1 → GroupFine t i
+    pub adds : (k : ℕ) → bit k met ≡ times k (flat g (groupIn t))
+
+  pub pass-none : Passed 0 0
+  unfolding flat
+  pass-none = record { ends = omega arith; fine = λ c h e. absurd (omega arith); adds = λ k. bit-above k 0 (pow-pos k) }
+
+  pub pass-next : (g c met : ℕ) → Passed g met → Next groups g c → Passed c met
+  pass-next g c met w n =
+      let same : flat c (groupIn t) ≡ flat g (groupIn t) = flat-skip g c (groupIn t) (n .on) (λ i p q. group-out i (λ e. omega (arith, e, n .absent i p q))) in
+      record {
+        ends = n .ends;
+        fine = λ i h e.
+            elim (decLt i g) [
+              | yes q ↦ w .fine i q e
+              | no q ↦ absurd (omega (arith, e, n .absent i (omega arith) h))
+            ];
+        adds = λ k. omega (arith, w .adds k, ap (times k) same);
+      }
+
+  module _ (g met : ℕ) (w : Passed g met) (small : g ≤ 31) (has : bit g groups ≡ 1) where
+    pub pass-step : (met′ : ℕ) → GroupFine t g → Adds met (flat 32 (ringIn t g)) met′ → Passed (g + 1) met′
+    pass-step met′ fine adds =
+        record {
+          ends = omega arith;
+          fine = λ c h e.
+              ⊎-elim
+              (λ (q : c ≡ g). subst (λ (c : ℕ). GroupFine t c) (sym q) fine)
+              (λ (ne : c ≡ g → ⊥). w .fine c (omega (arith, ne)) e)
+              (eq-or-ne c g);
+          adds = λ k. omega (arith, adds k, w .adds k, times-more g k (groupIn t), ap (times k) (group-in g has), ap (λ (n : ℕ). times k (flat n (groupIn t))) (add-one g));
+        }
+
+    pub pass-bad : (lanes : ℕ) → 16 ≤ g → (GroupFine t g → NotYet met (flat 32 (ringIn t g)) → ⊥) → Stored t lanes → ⊥
+    pass-bad lanes lo bad stored =
+        bad (stored .fine g lo small has)
+        (λ k. omega (arith, stored .once k, w .adds k, times-more g k (groupIn t), ap (times k) (group-in g has), times-part (suc g) 32 k (groupIn t) (omega arith)))
+
+  module _ (g met lanes : ℕ) (w : Passed g met) (end : 64 ≤ g) (high : groups < 2 ^ 32) where
+    all : flat g (groupIn t) ≡ flat 32 (groupIn t)
+    all = flat-skip 32 g (groupIn t) (omega arith) (λ i p q. group-out i (λ e. omega (arith, bit-under 32 i groups high e)))
+
+    pub pass-same : backAt t % 2 ^ 31 ≡ 0 → backAt t < 2 ^ 36 → groups % 65536 ≡ 0 → met ≡ lanes → Stored t lanes
+    pass-same whole small low e =
+        record {
+          back-whole = whole;
+          back-small = small;
+          low = low;
+          high = high;
+          fine = λ i p q h. w .fine i (omega arith) h;
+          once = λ k. omega (arith, w .adds k, ap (times k) all, ap (bit k) e);
+        }
+
+    pub pass-other : met < 2 ^ 64 → lanes < 2 ^ 64 → (met ≡ lanes → ⊥) → Stored t lanes → ⊥
+    pass-other a b ne stored = ne (bits-same 64 met lanes a b (λ k. omega (arith, w .adds k, ap (times k) all, stored .once k)))
