@@ -4,6 +4,7 @@ pub mod Items
 pub mod Judged
 pub mod Stands
 pub mod Inside
+pub mod Offsets
 pub mod Sound
 pub mod Walks
 pub mod Closed

@@ -9,14 +9,16 @@
 --   Accepted      the rule for a setup that is read
 --   present       how many lanes are there
 --   PlanWithin    what follows of the plan of an accepted setup
+--   refusals      the numbers that a setup can be refused with; among: whether a number is one of some
 --   Refused       the rule for a refusal
 --
 -- Assumes nothing.
 use Prim.Native.Nat.{ℕ, _+_, _≤_, _<_}
 use mathlib.Core.Path.{_≡_}
+use mathlib.Core.Bool.{Bool, true, false, _||_}
 use mathlib.Core.List.{List, [], _∷_, _++_, map}
 use mathlib.Core.Option.{Option, some, none}
-use lib.Dec.{ltb}
+use lib.Dec.{ltb, eqb}
 use lib.ListN.{length}
 use Rattle.units.specs.Plain.{if_then_else_, sum}
 use Rattle.rules.specs.State.{Setting}
@@ -99,10 +101,16 @@ pub record PlanWithin (s : List ℕ) (at : ℕ) (gs : List Setting) (n next : �
   pub past : at < next
   pub within : next ≤ length s
 
--- A refusal of reading has a number from 1 to 6 and a place: from where reading began to the input's length.
+abbrev pub refusals : List ℕ
+refusals = 1 ∷ 2 ∷ 3 ∷ 4 ∷ 6 ∷ 50 ∷ 51 ∷ 52 ∷ 53 ∷ 54 ∷ []
+
+abbrev pub among : List ℕ → ℕ → Bool
+among [] n = false
+among (m ∷ ms) n = eqb m n || among ms n
+
+-- A refusal of reading has one of these numbers and a place: from where reading began to the input's length.
 pub record Refused (s : List ℕ) (at n : ℕ) (q : Option ℕ) : Type 0 where
-  pub low : 1 ≤ n
-  pub high : n ≤ 6
+  pub listed : among refusals n ≡ true
   pub place : ℕ
   pub is : q ≡ some place
   pub from : at ≤ length s → at ≤ place
