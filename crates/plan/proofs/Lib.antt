@@ -5,6 +5,7 @@ pub mod Judged
 pub mod Stands
 pub mod Inside
 pub mod Offsets
+pub mod Shown
 pub mod Sound
 pub mod Walks
 pub mod Closed

@@ -41,7 +41,7 @@ weights-in true = omega arith
 weights-in false = omega arith
 
 -- the longest is the one number past the first three bytes of a value
-lane-in : (a b c : Bool) → offset (if not a then BadLane else (if not b then BadWeight else (if not c then BadLongest else NoFault))) ≤ 6
+lane-in : (a b c : Bool) → offset (if not a then BadLane else (if not b then BadWeight else (if not c then BadLongest else NoFault))) ≤ 7
 lane-in false b c = omega arith
 lane-in true false c = omega arith
 lane-in true true false = omega arith
@@ -55,7 +55,7 @@ lane-in-three true true true e = omega arith
 
 module _ (s : List ℕ) (v n : ℕ) where
   -- a longest that is left out is right
-  short-right : n ≡ 3 → within 64 1500 (longestOf (longestAt s v n)) ≡ true
+  pub short-right : n ≡ 3 → within 64 1500 (longestOf (longestAt s v n)) ≡ true
   short-right e = ap (λ (x : Longest). within 64 1500 (longestOf x)) (longest-short s v n e)
 
   short-in : n ≡ 3 → offset (laneOutside (laneAt s v n)) < 3 + n
