@@ -35,14 +35,13 @@ extern "C" {
 /* The greatest limit of a run. */
 #define ZF_MOST_REQUESTS 1000
 
-/* Results. 1 to 7 come from zf_make and zf_run, 10 to 16 from the other calls, 17 from zf_run. */
+/* Results. 1 to 7 and 50 to 54 come from zf_make and zf_run, 10 to 16 from the other calls, 17 from zf_run. docs/REFUSALS.md says what to mend. */
 #define ZF_DONE 0
 #define ZF_CUT 1             /* a field runs past the end, or the input ends before 0x7F; place: the field's tag, or the input's length */
 #define ZF_UNKNOWN_TAG 2     /* tag unknown in this part; place: the field's tag */
 #define ZF_WRONG_LENGTH 3    /* length wrong for the tag; place: the field's tag */
 #define ZF_OUT_OF_ORDER 4    /* a field out of its order, or a byte after the last 0x7F; place: the field's tag, or that byte */
-#define ZF_OUTSIDE_NUMBERS 5 /* format, lane, weight, longest or framing outside its numbers; place: the field's tag */
-#define ZF_WEIGHTS_OVER 6    /* weights so far over 1,024; place: the field's tag */
+#define ZF_WEIGHTS_OVER 6    /* the weights so far sum to more than 1,024; place: the first byte of the weight that went over */
 #define ZF_TABLE_SHORT 7     /* table shorter than ZF_TABLE_SIZE, on making one; place: 0 */
 #define ZF_NOT_GOOD 10       /* the table is not good; never on one that zf_make or zf_run made and these calls alone changed */
 #define ZF_NO_LANE 11        /* lane not in the setup */
@@ -52,6 +51,11 @@ extern "C" {
 #define ZF_STILL_HOLDS 15    /* restart while a record is held */
 #define ZF_NOTHING_HELD 16   /* take or look with nothing held */
 #define ZF_RUN_BOUNDS 17     /* a run's limit over 1,000, or its answer area too short */
+#define ZF_BAD_FORMAT 50     /* the setup's format is not 1; place: the format's first byte */
+#define ZF_BAD_LANE 51       /* a lane number over 63 in the setup; place: the lane number */
+#define ZF_BAD_WEIGHT 52     /* a weight that is not 1 to 1,024; place: the weight's first byte */
+#define ZF_BAD_LONGEST 53    /* a longest that is not 64 to 1,500; place: the longest's first byte */
+#define ZF_BAD_FRAMING 54    /* framing over 64 in the setup; place: the framing number */
 #define ZF_BUFFER_SHORT 255  /* the answer buffer is shorter than 32 bytes */
 
 /* Why a run stopped: word 2 of zf_run's answer. */

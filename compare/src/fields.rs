@@ -3,7 +3,7 @@
 use crate::numbers::refusal;
 use std::fmt;
 
-/// A refusal of an input, 1 to 7, with its place: counted from 0 at the input's first byte.
+/// A refusal of an input, 1 to 7 or 50 to 54, with its place: counted from 0 at the input's first byte.
 #[derive(Clone, Copy, Debug, PartialEq, Eq)]
 pub struct Fault {
     pub number: u8,
@@ -25,6 +25,9 @@ impl fmt::Display for Fault {
 /// The tags that a part of the input knows, each with the lengths that are right for it.
 pub type Part = [(u8, &'static [usize])];
 
+/// A tag and a two-byte length.
+const HEADER: usize = 3;
+
 #[derive(Clone, Copy, Debug, PartialEq, Eq)]
 pub struct Field<'a> {
     pub tag: u8,
@@ -38,6 +41,11 @@ pub struct Field<'a> {
 impl Field<'_> {
     pub fn fault(&self, number: u8) -> Fault {
         Fault::at(number, self.place)
+    }
+
+    /// A fault of the number whose first byte stands so far into the value.
+    pub fn fault_in_value(&self, number: u8, byte: usize) -> Fault {
+        Fault::at(number, self.place + HEADER + byte)
     }
 }
 
@@ -56,7 +64,7 @@ pub fn field<'a>(input: &'a [u8], place: usize, part: &Part) -> Result<Field<'a>
         return Err(Fault::at(refusal::LENGTH_OF_FIELD, place));
     }
     match rest.get(..length) {
-        Some(value) => Ok(Field { tag, place, value, next: place + 3 + length }),
+        Some(value) => Ok(Field { tag, place, value, next: place + HEADER + length }),
         None => Err(Fault::at(refusal::CUT, place)),
     }
 }

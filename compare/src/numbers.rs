@@ -49,7 +49,6 @@ pub mod refusal {
     pub const TAG: u8 = 2;
     pub const LENGTH_OF_FIELD: u8 = 3;
     pub const ORDER: u8 = 4;
-    pub const VALUE: u8 = 5;
     pub const WEIGHTS: u8 = 6;
     pub const TABLE_SHORT: u8 = 7;
     pub const NOT_GOOD: u8 = 10;
@@ -61,4 +60,10 @@ pub mod refusal {
     pub const NOTHING_HELD: u8 = 16;
     pub const RUN_AREA: u8 = 17;
     pub const INPUT_LONG: u8 = 18;
+    // Document 02, e: what was 5.
+    pub const FORMAT: u8 = 50;
+    pub const LANE: u8 = 51;
+    pub const WEIGHT: u8 = 52;
+    pub const LONGEST: u8 = 53;
+    pub const FRAMING: u8 = 54;
 }

@@ -52,9 +52,11 @@ pub fn read(input: &[u8]) -> Result<(Setup, usize), Fault> {
             return Err(field.fault(refusal::ORDER));
         }
         match field.tag {
-            FORMAT if field.value != [0, 1] => return Err(field.fault(refusal::VALUE)),
+            FORMAT if field.value != [0, 1] => return Err(field.fault_in_value(refusal::FORMAT, 0)),
             FORMAT => {}
-            FRAMED if !FRAMING.contains(&field.value[0]) => return Err(field.fault(refusal::VALUE)),
+            FRAMED if !FRAMING.contains(&field.value[0]) => {
+                return Err(field.fault_in_value(refusal::FRAMING, 0));
+            }
             FRAMED => framing = field.value[0],
             LANE => lanes.push(lane(&field, &lanes)?),
             _ if lanes.is_empty() => return Err(field.fault(refusal::ORDER)),
@@ -65,7 +67,7 @@ pub fn read(input: &[u8]) -> Result<(Setup, usize), Fault> {
     }
 }
 
-/// One lane field after `before`: 4, then 5, then 6.
+/// One lane field after `before`: 4 at the tag, then each number at its own first byte, then 6 at the weight.
 fn lane(field: &Field, before: &[LanePlan]) -> Result<LanePlan, Fault> {
     let number = field.value[0];
     let weight = u16::from_be_bytes([field.value[1], field.value[2]]);
@@ -76,12 +78,17 @@ fn lane(field: &Field, before: &[LanePlan]) -> Result<LanePlan, Fault> {
     if before.last().is_some_and(|last| number <= last.number) {
         return Err(field.fault(refusal::ORDER));
     }
-    if number >= LANES || !WEIGHT.contains(&weight) || !LONGEST.contains(&longest) {
-        return Err(field.fault(refusal::VALUE));
+    let numbers = [
+        (number < LANES, refusal::LANE, 0),
+        (WEIGHT.contains(&weight), refusal::WEIGHT, 1),
+        (LONGEST.contains(&longest), refusal::LONGEST, 3),
+    ];
+    if let Some((_, refused, byte)) = numbers.into_iter().find(|(within, ..)| !within) {
+        return Err(field.fault_in_value(refused, byte));
     }
     let so_far: u32 = before.iter().map(|lane| u32::from(lane.weight)).sum();
     if so_far + u32::from(weight) > WEIGHT_SUM {
-        return Err(field.fault(refusal::WEIGHTS));
+        return Err(field.fault_in_value(refusal::WEIGHTS, 1));
     }
     Ok(LanePlan { number, weight, longest })
 }

@@ -17,7 +17,7 @@ pub trait Unit {
     fn documented_layout(&self) -> bool {
         false
     }
-    /// The number of lanes, or a refusal 1 to 7 with its place.
+    /// The number of lanes, or a refusal 1 to 7 or 50 to 54 with its place.
     fn make(&mut self, setup: &[u8], table: &mut [u8]) -> Result<u64, Fault>;
     /// The number of records that the lane held before.
     fn put(&mut self, table: &mut [u8], lane: u8, mark: u32, length: u64) -> Result<u64, u8>;

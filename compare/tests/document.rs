@@ -97,7 +97,7 @@ fn m8() {
     let full = [FORMAT, &lane(0, 1_000, 64), &lane(1, 24, 64), END].concat();
     assert_eq!(setup::whole(&full).map(|setup| setup.lanes.len()), Ok(2));
     let over = [FORMAT, &lane(0, 1_000, 64), &lane(1, 25, 64), END].concat();
-    assert_eq!(setup::whole(&over), Err(Fault { number: 6, place: 13 }));
+    assert_eq!(setup::whole(&over), Err(Fault { number: 6, place: 17 }));
 }
 
 #[test]

@@ -46,9 +46,9 @@ fn directly_after_the_format_and_nowhere_else() {
 fn its_length_and_its_number() {
     let one = lane(0, 1, 64);
     for h in [65, 66, 128, 255] {
-        assert_eq!(framing_of(&[FORMAT, &framing(h), &one, END]), Err((5, 5)));
-        assert_eq!(framing_of(&[FORMAT, &one, &framing(h), END]), Err((4, 13)), "4 before 5");
-        assert_eq!(framing_of(&[&framing(h), FORMAT, &one, END]), Err((4, 0)), "4 before 5");
+        assert_eq!(framing_of(&[FORMAT, &framing(h), &one, END]), Err((54, 8)));
+        assert_eq!(framing_of(&[FORMAT, &one, &framing(h), END]), Err((4, 13)), "4 before 54");
+        assert_eq!(framing_of(&[&framing(h), FORMAT, &one, END]), Err((4, 0)), "4 before 54");
     }
     for field in [&[0x11, 0, 0][..], &[0x11, 0, 2, 0, 7], &[0x11, 1, 1, 7]] {
         assert_eq!(framing_of(&[FORMAT, field, &one, END]), Err((3, 5)), "{field:?}");

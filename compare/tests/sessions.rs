@@ -25,10 +25,10 @@ fn refused_setups_write_one_line() {
     assert_eq!(program(&[]), "no 1 0\n");
     assert_eq!(program(&[0x55]), "no 1 0\n");
     assert_eq!(program(&[FORMAT, END].concat()), "no 4 5\n");
-    assert_eq!(program(&[FORMAT, &lane(0, 1_025, 64), END, TAKE, END].concat()), "no 5 5\n");
+    assert_eq!(program(&[FORMAT, &lane(0, 1_025, 64), END, TAKE, END].concat()), "no 52 9\n");
     let outcome = walk(&[FORMAT, &lane(9, 1_024, 64), &lane(10, 1, 64)].concat(), 1_000);
-    assert_eq!((outcome.result.answered, outcome.result.stop), (0, refused(6, 13)));
-    assert_eq!((outcome.text.as_str(), outcome.state), ("no 6 13\n", None));
+    assert_eq!((outcome.result.answered, outcome.result.stop), (0, refused(6, 17)));
+    assert_eq!((outcome.text.as_str(), outcome.state), ("no 6 17\n", None));
     let zero = walk(&[0x00], 0);
     assert_eq!(
         (zero.text.as_str(), zero.result.stop),

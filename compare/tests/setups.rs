@@ -1,4 +1,4 @@
-//! Refusals 1 to 6 of a setup with their places, and which fault of several is told.
+//! Refusals 1 to 6 and 50 to 54 of a setup with their places, and which fault of several is told.
 
 mod common;
 use common::*;
@@ -79,7 +79,7 @@ fn order_of_fields() {
     assert_eq!(refused(&[&lane(0, 1, 64), END]), (4, 0));
     assert_eq!(refused(&[END]), (4, 0));
     assert_eq!(refused(&[FORMAT, FORMAT]), (4, 5));
-    assert_eq!(refused(&[FORMAT, &lane(0, 1, 64), &[0x01, 0, 2, 9, 9]]), (4, 13), "4 comes before 5");
+    assert_eq!(refused(&[FORMAT, &lane(0, 1, 64), &[0x01, 0, 2, 9, 9]]), (4, 13), "4 comes before 50");
     assert_eq!(refused(&[FORMAT, END]), (4, 5));
     assert_eq!(refused(&[FORMAT, END, &[0]]), (4, 5), "no lane comes before the byte after");
     assert_eq!(refused(&[FORMAT, &lane(4, 1, 64), &lane(4, 1, 64), END]), (4, 13), "equal is not rising");
@@ -96,14 +96,22 @@ fn a_byte_after_the_setup_is_left_to_the_session() {
 
 #[test]
 fn values() {
-    assert_eq!(refused(&[&[0x01, 0, 2, 0, 0]]), (5, 0));
-    assert_eq!(refused(&[&[0x01, 0, 2, 0, 2]]), (5, 0));
-    assert_eq!(refused(&[&[0x01, 0, 2, 1, 1]]), (5, 0));
-    for bad in [lane(64, 1, 64), lane(255, 1, 64), lane(0, 0, 64), lane(0, 1_025, 64), short_lane(0, 0)] {
-        assert_eq!(refused(&[FORMAT, &bad, END]), (5, 5), "{bad:?}");
+    // At the first byte of the wrong number: the format's at 3, a lane field's at 8, 9 and 11.
+    assert_eq!(refused(&[&[0x01, 0, 2, 0, 0]]), (50, 3));
+    assert_eq!(refused(&[&[0x01, 0, 2, 0, 2]]), (50, 3), "the high byte, though the low one is wrong");
+    assert_eq!(refused(&[&[0x01, 0, 2, 1, 1]]), (50, 3));
+    assert_eq!(refused(&[&[0x01, 0, 2, 0, 2], &lane(64, 0, 0)]), (50, 3), "the first faulty field");
+    for number in [64, 65, 255] {
+        assert_eq!(refused(&[FORMAT, &lane(number, 1, 64), END]), (51, 8));
+        assert_eq!(refused(&[FORMAT, &short_lane(number, 1), END]), (51, 8));
     }
-    for bad in [lane(0, 1, 63), lane(0, 1, 1_501), lane(0, 1, 0), lane(0, 65_535, 64), lane(0, 1, 65_535)] {
-        assert_eq!(refused(&[FORMAT, &bad, END]), (5, 5), "{bad:?}");
+    for weight in [0, 1_025, 1_280, 65_535] {
+        assert_eq!(refused(&[FORMAT, &lane(0, weight, 64), END]), (52, 9));
+        assert_eq!(refused(&[FORMAT, &short_lane(0, weight), END]), (52, 9));
+    }
+    for longest in [0, 63, 1_501, 1_536, 65_535] {
+        assert_eq!(refused(&[FORMAT, &lane(0, 1, longest), END]), (53, 11));
+        assert_eq!(refused(&[FORMAT, &lane(0, 9, 64), &lane(1, 1, longest), END]), (53, 19));
     }
     for good in [lane(63, 1, 64), lane(0, 1_024, 1_500), lane(0, 1, 65), short_lane(0, 1_024)] {
         assert_eq!(accepted(&[FORMAT, &good, END]).len(), 1, "{good:?}");
@@ -112,19 +120,23 @@ fn values() {
 
 #[test]
 fn weights_in_sum() {
-    assert_eq!(refused(&[FORMAT, &lane(0, 1_024, 64), &lane(1, 1, 64), END]), (6, 13));
-    assert_eq!(refused(&[FORMAT, &lane(0, 512, 64), &lane(1, 512, 64), &short_lane(2, 1), END]), (6, 21));
-    assert_eq!(refused(&[FORMAT, &lane(0, 1_024, 64), &lane(1, 1, 64)]), (6, 13), "before the end is missed");
-    assert_eq!(refused(&[FORMAT, &lane(0, 1_025, 64), END]), (5, 5), "a weight over 1,024 is 5 and never 6");
+    assert_eq!(refused(&[FORMAT, &lane(0, 1_024, 64), &lane(1, 1, 64), END]), (6, 17), "at the weight");
+    assert_eq!(refused(&[FORMAT, &lane(0, 512, 64), &lane(1, 512, 64), &short_lane(2, 1), END]), (6, 25));
+    assert_eq!(refused(&[FORMAT, &lane(0, 1_024, 64), &lane(1, 1, 64)]), (6, 17), "before the end is missed");
+    assert_eq!(refused(&[FORMAT, &lane(0, 1_025, 64), END]), (52, 9), "a weight over 1,024 is never 6");
 }
 
 #[test]
 fn several_faults_in_one_lane_field() {
     let first = lane(4, 1_000, 64);
-    assert_eq!(refused(&[FORMAT, &first, &lane(4, 0, 64), END]), (4, 13), "4 before 5");
+    assert_eq!(refused(&[FORMAT, &first, &lane(4, 0, 64), END]), (4, 13), "4 before 52");
     assert_eq!(refused(&[FORMAT, &first, &lane(3, 100, 64), END]), (4, 13), "4 before 6");
-    assert_eq!(refused(&[FORMAT, &first, &lane(64, 100, 64), END]), (5, 13), "5 before 6");
-    assert_eq!(refused(&[FORMAT, &first, &lane(5, 100, 63), END]), (5, 13), "5 before 6");
+    assert_eq!(refused(&[FORMAT, &first, &lane(3, 0, 0), END]), (4, 13), "4 before all");
+    assert_eq!(refused(&[FORMAT, &first, &lane(64, 0, 0), END]), (51, 16), "51 before 52 and 53");
+    assert_eq!(refused(&[FORMAT, &first, &lane(64, 100, 64), END]), (51, 16), "51 before 6");
+    assert_eq!(refused(&[FORMAT, &first, &lane(5, 0, 0), END]), (52, 17), "52 before 53");
+    assert_eq!(refused(&[FORMAT, &first, &lane(5, 1_025, 64), END]), (52, 17), "52 before 6");
+    assert_eq!(refused(&[FORMAT, &first, &lane(5, 100, 63), END]), (53, 19), "53 before 6");
     assert_eq!(refused(&[&lane(64, 0, 0), END]), (4, 0), "a first lane field, whole: 4");
-    assert_eq!(refused(&[FORMAT, &first, &lane(5, 100, 63), &[0x99]]), (5, 13), "the first faulty field");
+    assert_eq!(refused(&[FORMAT, &first, &lane(5, 100, 63), &[0x99]]), (53, 19), "the first faulty field");
 }

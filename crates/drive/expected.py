@@ -260,7 +260,7 @@ def making():
         print("no", n, place)
     for n, place in [(4, 0), (4, 5), (4, 5), (4, 11), (4, 14)]:
         print("no", n, place)
-    for n, place in [(5, 0), (5, 5), (5, 5), (5, 5), (6, 11)]:
+    for n, place in [(50, 3), (51, 8), (52, 9), (53, 11), (54, 8), (6, 15)]:
         print("no", n, place)
     print("table kept")
 

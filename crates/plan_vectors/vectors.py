@@ -1,8 +1,9 @@
 #!/usr/bin/env python3
 """Writes the vectors of plan_vectors (stdin) and the lines that are expected of them (stdout), in the folder that this file stands in.
 
-The expected lines are worked here from document 01 alone, "Setup and session fields", "Numbers" and "Numbers given back", and from request d of
-document 02; nothing here runs, reads or was copied from the program. Run it after a change of them, and compare what changed in stdout line by line.
+The expected lines are worked here from document 01 alone, "Setup and session fields", "Numbers" and "Numbers given back", and from requests d
+(framing) and e (the numbers and the places of a field's faults) of document 02; nothing here runs, reads or was copied from the program. Run it after
+a change of the rules, and compare what changed in stdout line by line.
 """
 import itertools
 import pathlib
@@ -56,18 +57,22 @@ def read(data, place):
             raise No(4, place)
         if tag == 0x11 and before != 0x01:
             raise No(4, place)
-        # 5 and 6
+        # 50 to 54, each at the first byte of its number, then 6 at the weight
         if tag == 0x11 and value[0] not in FRAMING:
-            raise No(5, place)
+            raise No(54, place + 3)
         if tag == 0x01 and u16(value) != 1:
-            raise No(5, place)
+            raise No(50, place + 3)
         if tag == 0x10:
             lane, weight = value[0], u16(value[1:3])
             longest = u16(value[3:5]) if length == 5 else DEFAULT_LONGEST
-            if lane not in LANES or weight not in WEIGHTS or longest not in LONGEST:
-                raise No(5, place)
+            if lane not in LANES:
+                raise No(51, place + 3)
+            if weight not in WEIGHTS:
+                raise No(52, place + 4)
+            if longest not in LONGEST:
+                raise No(53, place + 6)
             if weight + sum(w for _, w, *_ in lanes) > MOST_WEIGHT:
-                raise No(6, place)
+                raise No(6, place + 4)
             lanes.append((lane, weight, longest, framing))
         if tag == 0x11:
             framing = value[0]
@@ -223,6 +228,24 @@ for bits in itertools.product((False, True), repeat=len(FAULTS)):
 for lane_bad, weight_bad, longest_bad, first in itertools.product((False, True), repeat=4):
     f = lane(64 if lane_bad else 3, 0 if weight_bad else 9, 63 if longest_bad else 99)
     add('numbers: lane %d, weight %d, longest %d, first %d' % (lane_bad, weight_bad, longest_bad, first), (b'' if first else FORMAT) + f + END)
+# each pair of faults of the numbers in one lane field, which stands after lane 5 of weight 1,000: with a longest and without
+PAIRS = ('not rising', 'lane', 'weight', 'longest', 'over')
+for pair in itertools.combinations(PAIRS, 2):
+    # a lane over 63 rises above every lane that was read; a weight outside its numbers that goes over is 1,025
+    if pair == ('not rising', 'lane'):
+        continue
+    k = 5 if 'not rising' in pair else (64 if 'lane' in pair else 6)
+    w = (1025 if 'over' in pair else 0) if 'weight' in pair else (25 if 'over' in pair else 24)
+    setup('two faults: ' + ', '.join(pair), lane(5, 1000, 64), lane(k, w, 63 if 'longest' in pair else 64))
+    if 'longest' not in pair:
+        setup('two faults, no longest: ' + ', '.join(pair), lane(5, 1000, 64), lane(k, w))
+# a number that is off in its low byte alone, or in its high byte alone: the place is that of its first byte
+for v in (0, 2, 257):
+    add('format %d, at its first byte' % v, field(0x01, number(v)) + END)
+for w in (0, 1025, 2048):
+    setup('weight %d, at its first byte' % w, lane(9, w, 64))
+for n in (63, 1501, 1756):
+    setup('longest %d, at its first byte' % n, lane(9, 1, n))
 # 0x01: again, with another format, cut
 for again, other, cut in itertools.product((False, True), repeat=3):
     f = field(0x01, number(2 if other else 1))
@@ -233,8 +256,10 @@ KINDS = {
     2: field(0x13),
     3: field(0x10, bytes(4)),
     4: lane(5, 1, 64),
-    5: lane(40, 0, 64),
-    6: lane(41, 25, 64),
+    51: lane(64, 1, 64),
+    52: lane(40, 0, 64),
+    53: lane(41, 1, 63),
+    6: lane(42, 25, 64),
 }
 for (a, one), (b, two) in itertools.permutations(KINDS.items(), 2):
     setup('fault %d, then fault %d' % (a, b), lane(5, 1000, 64), one, two)

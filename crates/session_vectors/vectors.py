@@ -42,19 +42,24 @@ def read_setup(data):
             raise No(4, place)
         if tag == 0x11 and before != 0x01:
             raise No(4, place)
+        # each number's refusal, at its first byte
         if tag == 0x11:
             framing = value[0]
             if framing > 64:
-                raise No(5, place)
+                raise No(54, place + 3)
         if tag == 0x01 and u16(value) != 1:
-            raise No(5, place)
+            raise No(50, place + 3)
         if tag == 0x10:
             lane, weight = value[0], u16(value[1:3])
             longest = u16(value[3:5]) if length == 5 else 1500
-            if lane > 63 or not 1 <= weight <= 1024 or not 64 <= longest <= 1500:
-                raise No(5, place)
+            if lane > 63:
+                raise No(51, place + 3)
+            if not 1 <= weight <= 1024:
+                raise No(52, place + 4)
+            if not 64 <= longest <= 1500:
+                raise No(53, place + 6)
             if sum(w for _, w, _ in lanes) + weight > 1024:
-                raise No(6, place)
+                raise No(6, place + 4)
             lanes.append((lane, weight, longest))
         place, first, before = place + 3 + length, False, tag
         if tag == 0x7F:

@@ -80,7 +80,7 @@ impl<'a> Reader<'a> {
                 return self.refuse(4, at);
             }
             match tag {
-                0x01 if number(value) != 1 => return self.refuse(5, at),
+                0x01 if number(value) != 1 => return self.refuse_value(50, at, 3),
                 0x01 => {}
                 0x11 => {
                     let may_follow = match self.slip {
@@ -91,20 +91,22 @@ impl<'a> Reader<'a> {
                     let most = if self.slip == Slip::FramingOf65 { 65 } else { 64 };
                     let wrong = u64::from(value[0]) > most;
                     if wrong && self.slip == Slip::FramingValueBeforeOrder {
-                        return self.refuse(5, at);
+                        return self.refuse_value(54, at, 3);
                     }
                     if !may_follow {
                         return self.refuse(4, at);
                     }
                     if wrong {
-                        return self.refuse(5, at);
+                        return self.refuse_value(54, at, 3);
                     }
                     plan.framing = value[0].into();
                 }
                 0x10 => {
                     let lane = self.lane(value);
-                    if let Some(refusal) = self.judge(lane, &plan.lanes) {
-                        return self.refuse(refusal, at);
+                    match self.judge(lane, &plan.lanes) {
+                        Some((4, _)) => return self.refuse(4, at),
+                        Some((refusal, offset)) => return self.refuse_value(refusal, at, offset),
+                        None => {}
                     }
                     plan.lanes.push(lane);
                 }
@@ -121,21 +123,44 @@ impl<'a> Reader<'a> {
         (usize::from(value[0]), number(&value[1..3]), longest)
     }
 
-    /// The refusal that a lane gets after those before it.
-    fn judge(&self, lane: Lane, before: &[Lane]) -> Option<u8> {
+    /// The refusal that a lane gets after those before it, and how far behind the tag its byte stands.
+    fn judge(&self, lane: Lane, before: &[Lane]) -> Option<(u8, usize)> {
         let (lane_number, weight, longest) = lane;
         let next = before.last().map_or(0, |last| last.0 + usize::from(self.slip != Slip::EqualLaneRises));
-        let order = lane_number < next;
-        let value = lane_number > 63 || weight == 0 || weight > 1_024 || !(64..=1_500).contains(&longest);
         let sum = before.iter().map(|lane| lane.1).sum::<u64>() + weight;
-        let weights = sum > 1_024 || (sum == 1_024 && self.slip == Slip::SumTooSmall);
+        let over = sum > 1_024 || (sum == 1_024 && self.slip == Slip::SumTooSmall);
+        let bad_weight = weight == 0 || weight > 1_024;
+        let bad_longest = !(64..=1_500).contains(&longest);
+        let order = (lane_number < next, (4, 0));
+        let number = (lane_number > 63, (51, 3));
+        let heavy = (bad_weight, (52, 4 + low_only(self.slip, weight, 1_024)));
+        let long = (bad_longest, (53, 6 + low_only(self.slip, longest, 1_500)));
+        let weights = (over, (6, 4));
         let told = match self.slip {
-            Slip::ValueBeforeOrder => [(value, 5), (order, 4), (weights, 6)],
-            Slip::WeightsBeforeValue => [(order, 4), (weights, 6), (value, 5)],
-            _ => [(order, 4), (value, 5), (weights, 6)],
+            Slip::ValueBeforeOrder => [number, heavy, long, order, weights],
+            Slip::WeightsBeforeValue => [order, weights, number, heavy, long],
+            Slip::WeightsBeforeLongest => [order, number, heavy, weights, long],
+            Slip::LongestFirst => [order, long, number, heavy, weights],
+            Slip::WeightBeforeLane => [order, heavy, number, long, weights],
+            _ => [order, number, heavy, long, weights],
         };
         told.iter().find(|(broken, _)| *broken).map(|(_, refusal)| *refusal)
     }
+
+    /// A refusal of a number in a value, told at its first byte.
+    fn refuse_value<T>(&self, number: u8, tag: usize, offset: usize) -> Result<T, Refused> {
+        match self.slip {
+            Slip::ValueToldAsFive if number > 6 => self.refuse(5, tag + offset),
+            Slip::ValueAtTag if number > 6 => self.refuse(number, tag),
+            Slip::WeightsAtTag if number == 6 => self.refuse(number, tag),
+            _ => self.refuse(number, tag + offset),
+        }
+    }
+}
+
+/// The slip that points at the low byte where the high byte alone would be within the numbers.
+fn low_only(slip: Slip, value: u64, most: u64) -> usize {
+    usize::from(slip == Slip::ValueAtLowByte && value >> 8 <= most >> 8)
 }
 
 /// A number, high byte first.

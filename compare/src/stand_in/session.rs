@@ -109,7 +109,7 @@ fn request<'a>(reader: &mut Reader<'a>, slip: Slip) -> Result<Request<'a>, Refus
     }
     let (tag, value) = reader.field(of_requests)?;
     if slip == Slip::RequestLaneJudged && value.first().is_some_and(|lane| *lane > 63) {
-        return Err((5, at));
+        return Err((51, at + 3));
     }
     if tag != 0x7F {
         return Ok(Some((tag, value)));

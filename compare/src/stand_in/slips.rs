@@ -92,7 +92,7 @@ slips! {
     FramingTwice,
     /// A framing number of 65 is taken.
     FramingOf65,
-    /// 5 is told before 4 of a framing field.
+    /// 54 is told before 4.
     FramingValueBeforeOrder,
     /// A framing field among the requests gives 4 in place of 2.
     FramingOutOfOrderInRequests,
@@ -116,10 +116,24 @@ slips! {
     PlaceOffByOne,
     /// An input cut in a value is told by 1 before its length by 3.
     CutBeforeLength,
-    /// 5 is told before 4.
+    /// 50 to 54 are told before 4.
     ValueBeforeOrder,
-    /// 6 is told before 5.
+    /// 6 is told before 51 to 53.
     WeightsBeforeValue,
+    /// 6 is told before 53: the first byte of all.
+    WeightsBeforeLongest,
+    /// 53 is told before 51 and 52.
+    LongestFirst,
+    /// 52 is told before 51.
+    WeightBeforeLane,
+    /// 5 in place of 50 to 54.
+    ValueToldAsFive,
+    /// 50 to 54 are told at the tag.
+    ValueAtTag,
+    /// 50 to 54 are told at the low byte where that one alone is wrong.
+    ValueAtLowByte,
+    /// 6 is told at the tag.
+    WeightsAtTag,
     /// Only the low byte of a field's length is read.
     LowLengthByteOnly,
     /// 1,024 in sum is too much already.
@@ -142,7 +156,7 @@ slips! {
     RefusedFieldCounted,
     /// Places are counted from the first request.
     PlaceFromRequests,
-    /// A lane over 63 in a request is refused as a field, by 5.
+    /// A lane over 63 in a request is refused as a field, by 51.
     RequestLaneJudged,
     /// A byte after the end field is let pass.
     TrailingByteAfterEnd,

@@ -1,4 +1,4 @@
-// Refusals 1 to 7 of making, and 11, 12, 13, 15 and 16 of the calls, with the order of their tests; what a refusal leaves of the table.
+// Refusals 1 to 7 and 50 to 54 of making, and 11, 12, 13, 15 and 16 of the calls, with the order of their tests; what a refusal leaves of the table.
 use crate::bytes;
 use crate::calls;
 use crate::print;
@@ -39,6 +39,10 @@ fn outside(t: &mut [u8]) {
     );
     calls::make(
         b"\x01\x00\x02\x00\x01\x10\x00\x05\x00\x00\x01\x00\x3F\x7F\x00\x00",
+        t,
+    );
+    calls::make(
+        b"\x01\x00\x02\x00\x01\x11\x00\x01\x41\x10\x00\x03\x00\x00\x01\x7F\x00\x00",
         t,
     );
     calls::make(

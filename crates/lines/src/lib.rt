@@ -100,7 +100,6 @@ pub fn number(x: Refusal) -> u64
         Refusal::UnknownTag(_) => 2,
         Refusal::WrongLength(_) => 3,
         Refusal::OutOfOrder(_) => 4,
-        Refusal::OutsideNumbers(_) => 5,
         Refusal::WeightsOver(_) => 6,
         Refusal::TableShort => 7,
         Refusal::NotGood => 10,
@@ -112,6 +111,11 @@ pub fn number(x: Refusal) -> u64
         Refusal::NothingHeld => 16,
         Refusal::RunBounds => 17,
         Refusal::InputLong => 18,
+        Refusal::FormatOutside(_) => 50,
+        Refusal::LaneOutside(_) => 51,
+        Refusal::WeightOutside(_) => 52,
+        Refusal::LongestOutside(_) => 53,
+        Refusal::FramingOutside(_) => 54,
     }
 }
 
@@ -123,7 +127,6 @@ pub fn place_of(x: Refusal) -> Place
         Refusal::UnknownTag(p) => Place::At(p),
         Refusal::WrongLength(p) => Place::At(p),
         Refusal::OutOfOrder(p) => Place::At(p),
-        Refusal::OutsideNumbers(p) => Place::At(p),
         Refusal::WeightsOver(p) => Place::At(p),
         Refusal::TableShort => Place::At(0),
         Refusal::NotGood => Place::Nowhere,
@@ -135,6 +138,11 @@ pub fn place_of(x: Refusal) -> Place
         Refusal::NothingHeld => Place::Nowhere,
         Refusal::RunBounds => Place::Nowhere,
         Refusal::InputLong => Place::Nowhere,
+        Refusal::FormatOutside(p) => Place::At(p),
+        Refusal::LaneOutside(p) => Place::At(p),
+        Refusal::WeightOutside(p) => Place::At(p),
+        Refusal::LongestOutside(p) => Place::At(p),
+        Refusal::FramingOutside(p) => Place::At(p),
     }
 }
 

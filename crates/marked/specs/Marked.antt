@@ -80,4 +80,4 @@ pub record Marked : Type 0 where
   -- "M7 16 puts to one lane accepted, the 17th gives 13; after one take a put is accepted."
   pub m7 : Given (alone (setting 512 1500)) full (λ rs s. rs ≡ acceptedTo 16 ++ (refused 13 none ∷ taken 0 7 1000 ∷ accepted 15 ∷ []))
   -- "M8 weights summing to 1,024 read; 1,025 gives 6": at the field that goes over
-  pub m8 : (readSetup (twoWeights 24) ≡ plan.read (twoLanes 1000 24 1500) 2 22) × (readSetup (twoWeights 25) ≡ plan.refused 6 (some 13))
+  pub m8 : (readSetup (twoWeights 24) ≡ plan.read (twoLanes 1000 24 1500) 2 22) × (readSetup (twoWeights 25) ≡ plan.refused 6 (some 17))

@@ -4,6 +4,8 @@ pub mod Items
 pub mod Judged
 pub mod Stands
 pub mod Inside
+pub mod Offsets
+pub mod Shown
 pub mod Sound
 pub mod Walks
 pub mod Closed

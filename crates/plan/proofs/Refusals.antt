@@ -1,10 +1,10 @@
--- Whatever `readPlan` refuses has a number from 1 to 6 and a place in the input.
+-- Whatever `readPlan` refuses has a number of `refusals` and a place in the input, where the wrong number begins.
 --
 --   refused-place   the theorem
 --
 -- Assumes nothing.
 use Prim.Native.Nat.{ℕ, zero, suc, _+_, _-_, _≤_, _<_}
-use mathlib.Core.Path.{_≡_, refl, sym, _∙_}
+use mathlib.Core.Path.{_≡_, refl, sym, ap, _∙_}
 use mathlib.Core.Bool.{Bool, true, false, not}
 use mathlib.Core.List.{List}
 use mathlib.Core.Option.{Option, some}
@@ -18,35 +18,49 @@ use Rattle.fields.specs.declared.Field.the-variants.{Nothing, Cut, Header}
 use Rattle.units.specs.Plain.{if_then_else_}
 use Rattle.rules.specs.State.{Setting}
 use Rattle.plan.specs.Fields.{Item, whole, bad, known, fitting, fieldOf, taken, itemAt}
-use Rattle.plan.specs.Judge.{misplaced, outside, over, faulted, judged, judgedAt, after}
+use Rattle.plan.specs.Judge.{misplaced, outside, over, offset, faulted, judged, judgedAt, after}
 use Rattle.plan.specs.Read.{read, refused, nothingSeen, noLanes, placed, next, walk, readPlan}
-use Rattle.plan.specs.Accepted.{Refused}
+use Rattle.plan.specs.Accepted.{refusals, among, wrongAt, Refused}
 use Rattle.plan.specs.declared.judge.Fault.{Fault}
 use Rattle.plan.specs.declared.judge.Fault.the-variants.{NoFault, BadFormat, BadLane, BadWeight, BadLongest, BadFraming, TotalOver}
 use Rattle.plan.specs.declared.judge.Seen.{Seen}
 use Rattle.plan.specs.declared.parse.SetupField.{SetupField}
 use Rattle.plan.specs.declared.parse.SetupField.the-variants.{Format, Lane, Framing, End}
-use Rattle.plan.proofs.Stands.{stands, is-taken}
+use Rattle.plan.proofs.Stands.{Stands, stands, is-taken}
+use Rattle.plan.proofs.Offsets.{outside-in, over-in}
+use Rattle.plan.proofs.Shown.{Shows, shows, over-shows}
 
 whole-bad : {A : Type 0} {n : ℕ} {p : Option ℕ} {f : SetupField} {m : ℕ} → whole f m ≡ bad n p → A
 whole-bad h = absurd (let z : _≡_ {A = ℕ} 0 1 = cc in omega arith)
 
 module _ (s : List ℕ) (at n : ℕ) (q : Option ℕ) where
   -- a refusal k at a place p from `at` on
-  at-place : (k p : ℕ) → 1 ≤ k → k ≤ 6 → (at ≤ length s → at ≤ p) → p ≤ length s → bad k (some p) ≡ bad n q → Refused s at n q
-  at-place k p a b c d h =
+  at-place : (k p : ℕ) → among refusals k ≡ true → (at ≤ length s → at ≤ p) → p ≤ length s → (p ≡ length s → k ≡ 1) → wrongAt s k p ≡ true → bad k (some p) ≡ bad n q → Refused s at n q
+  at-place k p a c d only w h =
       let e : k ≡ n = cc in
       let f : some p ≡ q = cc in
-      record { low = omega arith; high = omega arith; place = p; is = sym f; from = c; within = d }
+      record {
+        listed = sym (ap (among refusals) e) ∙ a;
+        place = p;
+        is = sym f;
+        from = c;
+        within = d;
+        at-end = λ z. sym e ∙ only z;
+        shows = sym (ap (λ (x : ℕ). wrongAt s x p) e) ∙ w;
+      }
 
-  at-tag : (k : ℕ) → 1 ≤ k → k ≤ 6 → at < length s → bad k (some at) ≡ bad n q → Refused s at n q
-  at-tag k a b l h = at-place k at a b (λ r. omega arith) (omega arith) h
+  -- one that is before the end
+  inside : (k p : ℕ) → among refusals k ≡ true → (at ≤ length s → at ≤ p) → p < length s → wrongAt s k p ≡ true → bad k (some p) ≡ bad n q → Refused s at n q
+  inside k p a c d w h = at-place k p a c (omega arith) (λ z. absurd (omega (arith, d, z))) w h
+
+  at-tag : (k : ℕ) → among refusals k ≡ true → wrongAt s k at ≡ true → at < length s → bad k (some at) ≡ bad n q → Refused s at n q
+  at-tag k a w l h = inside k at a (λ r. omega arith) l w h
 
   value-bad : (a b c : Bool) (f : SetupField) (m : ℕ) → at < length s
       → (if not a then bad 2 (some at) else (if not b then bad 3 (some at) else (if not c then bad 1 (some at) else whole f m))) ≡ bad n q → Refused s at n q
-  value-bad false b c f m l h = at-tag 2 (omega arith) (omega arith) l h
-  value-bad true false c f m l h = at-tag 3 (omega arith) (omega arith) l h
-  value-bad true true false f m l h = at-tag 1 (omega arith) (omega arith) l h
+  value-bad false b c f m l h = at-tag 2 refl refl l h
+  value-bad true false c f m l h = at-tag 3 refl refl l h
+  value-bad true true false f m l h = at-tag 1 refl refl l h
   value-bad true true true f m l h = whole-bad h
 
   abbrev t : ℕ
@@ -58,31 +72,34 @@ module _ (s : List ℕ) (at n : ℕ) (q : Option ℕ) where
   header-bad : (a b : Bool) → leb (at + 3) (length s) ≡ a → ltb at (length s) ≡ b → taken s at (pick a (Header t (at + 3) size) (pick b Cut Nothing)) ≡ bad n q → Refused s at n q
   header-bad true b p r h =
       value-bad (known t) (fitting t size) (leb (at + 3 + size) (length s)) (fieldOf s t (at + 3) size) (at + 3 + size) (omega (arith, leb-true (at + 3) (length s) p)) h
-  header-bad false true p r h = at-tag 1 (omega arith) (omega arith) (ltb-true at (length s) r) h
-  header-bad false false p r h = at-place 1 (length s) (omega arith) (omega arith) (λ l. l) (omega arith) h
+  header-bad false true p r h = at-tag 1 refl refl (ltb-true at (length s) r) h
+  header-bad false false p r h = at-place 1 (length s) refl (λ l. l) (omega arith) (λ z. refl) refl h
 
   item-bad : itemAt s at ≡ bad n q → Refused s at n q
   unfolding itemAt
   item-bad h = header-bad (leb (at + 3) (length s)) (ltb at (length s)) refl refl h
 
   -- a fault's number and place
-  row-bad : (x : Fault) → at < length s → (rest : Item) → (rest ≡ bad n q → Refused s at n q) → faulted at x rest ≡ bad n q → Refused s at n q
-  row-bad NoFault l rest go h = go h
-  row-bad BadFormat l rest go h = at-place 5 (at + 0) (omega arith) (omega arith) (λ r. omega arith) (omega arith) h
-  row-bad BadLane l rest go h = at-place 5 (at + 0) (omega arith) (omega arith) (λ r. omega arith) (omega arith) h
-  row-bad BadWeight l rest go h = at-place 5 (at + 0) (omega arith) (omega arith) (λ r. omega arith) (omega arith) h
-  row-bad BadLongest l rest go h = at-place 5 (at + 0) (omega arith) (omega arith) (λ r. omega arith) (omega arith) h
-  row-bad BadFraming l rest go h = at-place 5 (at + 0) (omega arith) (omega arith) (λ r. omega arith) (omega arith) h
-  row-bad TotalOver l rest go h = at-place 6 (at + 0) (omega arith) (omega arith) (λ r. omega arith) (omega arith) h
+  row-bad : (x : Fault) → at + offset x < length s → Shows s at x → (rest : Item) → (rest ≡ bad n q → Refused s at n q) → faulted at x rest ≡ bad n q → Refused s at n q
+  row-bad NoFault l w rest go h = go h
+  row-bad BadFormat l w rest go h = inside 50 (at + 3) refl (λ r. omega arith) l w h
+  row-bad BadLane l w rest go h = inside 51 (at + 3) refl (λ r. omega arith) l w h
+  row-bad BadWeight l w rest go h = inside 52 (at + 4) refl (λ r. omega arith) l w h
+  row-bad BadLongest l w rest go h = inside 53 (at + 6) refl (λ r. omega arith) l w h
+  row-bad BadFraming l w rest go h = inside 54 (at + 3) refl (λ r. omega arith) l w h
+  row-bad TotalOver l w rest go h = inside 6 (at + 4) refl (λ r. omega arith) l w h
 
-  field-bad : (seen : Seen) (a : Bool) (f : SetupField) (m : ℕ) → at < length s
+  field-bad : (seen : Seen) (a : Bool) (f : SetupField) (m : ℕ) → Stands s at f m
       → (if a then bad 4 (some at) else faulted at (outside f) (faulted at (over seen f) (whole f m))) ≡ bad n q → Refused s at n q
-  field-bad seen true f m l h = at-tag 4 (omega arith) (omega arith) l h
-  field-bad seen false f m l h = row-bad (outside f) l (faulted at (over seen f) (whole f m)) (λ g. row-bad (over seen f) l (whole f m) (λ b. whole-bad b) g) h
+  field-bad seen true f m k h = at-tag 4 refl refl (omega (arith, k .fits)) h
+  field-bad seen false f m k h =
+      let end : m ≤ length s = omega (arith, k .after, k .fits) in
+      row-bad (outside f) (omega (arith, outside-in s at f m k)) (shows s at f m k) (faulted at (over seen f) (whole f m))
+      (λ g. row-bad (over seen f) (omega (arith, over-in s at f m k seen)) (over-shows s at seen f) (whole f m) (λ b. whole-bad b) g) h
 
   judge-bad : (seen : Seen) (i : Item) → itemAt s at ≡ i → judged seen at i ≡ bad n q → Refused s at n q
   judge-bad seen (bad k p) e h = item-bad (e ∙ h)
-  judge-bad seen (whole f m) e h = field-bad seen (misplaced seen f) f m (omega (arith, stands s at f m e .fits)) h
+  judge-bad seen (whole f m) e h = field-bad seen (misplaced seen f) f m (stands s at f m e) h
 
   judged-bad : (seen : Seen) → judgedAt seen s at ≡ bad n q → Refused s at n q
   unfolding judgedAt
@@ -91,12 +108,13 @@ module _ (s : List ℕ) (at n : ℕ) (q : Option ℕ) where
 -- what is refused further on is refused from here on
 earlier : (s : List ℕ) (at m n : ℕ) (q : Option ℕ) → at ≤ m → m ≤ length s → Refused s m n q → Refused s at n q
 earlier s at m n q l b r = record {
-  low = r .low;
-  high = r .high;
+  listed = r .listed;
   place = r .place;
   is = r .is;
   from = λ k. omega (arith, r .from b);
   within = r .within;
+  at-end = r .at-end;
+  shows = r .shows;
 }
 
 read-refused : {A : Type 0} {gs : List Setting} {k m n : ℕ} {p : Option ℕ} → read gs k m ≡ refused n p → A
@@ -124,7 +142,7 @@ module _ (s : List ℕ) (n : ℕ) (q : Option ℕ) where
   unfolding walk
   walk-refused zero seen gs at h =
       let a : bad 1 (some (length s)) ≡ bad n q = cc in
-      at-place s at n q 1 (length s) (omega arith) (omega arith) (λ l. l) (omega arith) a
+      at-place s at n q 1 (length s) refl (λ l. l) (omega arith) (λ z. refl) refl a
   walk-refused (suc turns) seen gs at h =
       turn-refused turns seen gs at (λ seen₁ gs₁ m h₁. walk-refused turns seen₁ gs₁ m h₁) (judgedAt seen s at) refl h
 

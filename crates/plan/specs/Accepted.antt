@@ -9,20 +9,24 @@
 --   Accepted      the rule for a setup that is read
 --   present       how many lanes are there
 --   PlanWithin    what follows of the plan of an accepted setup
+--   refusals      the numbers that a setup can be refused with; among: whether a number is one of some
+--   wrongAt       what 50 to 54 say of the bytes at their place
 --   Refused       the rule for a refusal
 --
 -- Assumes nothing.
 use Prim.Native.Nat.{ℕ, _+_, _≤_, _<_}
 use mathlib.Core.Path.{_≡_}
+use mathlib.Core.Bool.{Bool, true, false, not, _||_}
 use mathlib.Core.List.{List, [], _∷_, _++_, map}
 use mathlib.Core.Option.{Option, some, none}
-use lib.Dec.{ltb}
+use lib.Dec.{leb, ltb, eqb}
 use lib.ListN.{length}
+use Rattle.fields.specs.Bytes.{byteAt, big}
 use Rattle.units.specs.Plain.{if_then_else_, sum}
 use Rattle.rules.specs.State.{Setting}
 use Rattle.rules.specs.Setup.{Setup, InNumbers, weights}
 use Rattle.plan.specs.Fields.{whole, itemAt}
-use Rattle.plan.specs.Judge.{given}
+use Rattle.plan.specs.Judge.{given, lastLane, mostFraming, within}
 use Rattle.plan.specs.Read.{noLanes, placed}
 use Rattle.plan.specs.declared.parse.LaneField.{LaneField}
 use Rattle.plan.specs.declared.parse.SetupField.{SetupField}
@@ -99,11 +103,30 @@ pub record PlanWithin (s : List ℕ) (at : ℕ) (gs : List Setting) (n next : �
   pub past : at < next
   pub within : next ≤ length s
 
--- A refusal of reading has a number from 1 to 6 and a place: from where reading began to the input's length.
+abbrev pub refusals : List ℕ
+refusals = 1 ∷ 2 ∷ 3 ∷ 4 ∷ 6 ∷ 50 ∷ 51 ∷ 52 ∷ 53 ∷ 54 ∷ []
+
+abbrev pub among : List ℕ → ℕ → Bool
+among [] n = false
+among (m ∷ ms) n = eqb m n || among ms n
+
+-- The number that begins at a place of 50 to 54 is outside its numbers: a format, a lane number, a weight, a longest, framing bytes. The other refusals
+-- are not about one number.
+abbrev pub wrongAt : List ℕ → ℕ → ℕ → Bool
+wrongAt s n p =
+    if eqb n 50 then not (eqb (big s p 2) 1)
+    else (if eqb n 51 then not (leb (byteAt s p) lastLane)
+    else (if eqb n 52 then not (within 1 1024 (big s p 2))
+    else (if eqb n 53 then not (within 64 1500 (big s p 2))
+    else (if eqb n 54 then ltb mostFraming (byteAt s p) else true))))
+
+-- A refusal of reading has one of these numbers and a place: from where reading began to the input's length, and that only for 1. What begins there is the
+-- number that is wrong.
 pub record Refused (s : List ℕ) (at n : ℕ) (q : Option ℕ) : Type 0 where
-  pub low : 1 ≤ n
-  pub high : n ≤ 6
+  pub listed : among refusals n ≡ true
   pub place : ℕ
   pub is : q ≡ some place
   pub from : at ≤ length s → at ≤ place
   pub within : place ≤ length s
+  pub at-end : place ≡ length s → n ≡ 1
+  pub shows : wrongAt s n place ≡ true

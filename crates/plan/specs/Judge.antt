@@ -1,14 +1,14 @@
--- A field of a setup, judged by the fields before it (document 01, "Numbers given back"): the refusals 4, 5 and 6.
+-- A field of a setup, judged by the fields before it (document 01, "Numbers given back"): the refusals 4, 50 to 54, and 6.
 --
 --   longestOf   a lane field's longest, given or not
 --   given       the setting that a lane field gives its lane, on a line with h framing bytes
 --   lastLane    the last lane number
 --   misplaced   refusal 4
---   outside     what is wrong with a field's own numbers: refusal 5; Inside: nothing
+--   outside     what is wrong with a field's own numbers: refusals 50 to 54; Inside: nothing
 --   over        what is wrong with the weights so far: refusal 6
---   faults      the table: fault, number, place
+--   faults      the table: fault, number, place from the field's tag; offset: that place alone
 --   faulted     a fault's refusal, or what the rest decides
---   judgedAt    the field at a place, or its first refusal in the order 1, 2, 3, 1, 4, 5, 6
+--   judgedAt    the field at a place, or its first refusal in the order 1, 2, 3, 1, 4, 50 to 54, 6
 --   after       what the fields so far fix for the next one, after one more
 --
 -- Assumes nothing.
@@ -66,7 +66,7 @@ laneOutside l =
 abbrev pub mostFraming : ℕ
 mostFraming = 64
 
--- "5: format not 1, lane over 63, weight or longest outside its numbers", or framing over 64.
+-- A format is 1, framing at most 64; of a lane field's numbers the first one that is outside, in the order of their bytes.
 abbrev pub outside : SetupField → Fault
 outside (Format v) = if eqb v 1 then NoFault else BadFormat
 outside (Lane l) = laneOutside l
@@ -84,15 +84,23 @@ over seen (Lane l) = if ltb 1024 (seen .total + l .weight) then TotalOver else N
 over seen (Framing h) = NoFault
 over seen End = NoFault
 
--- The table of faults: the refusal's number, and its place, counted from the field's tag.
+-- The table of faults: the refusal's number, and its place, counted from the field's tag: the first byte of the number that is wrong.
 abbrev pub faults : Fault → Option (ℕ × ℕ)
 faults NoFault = none
-faults BadFormat = some (5, 0)
-faults BadLane = some (5, 0)
-faults BadWeight = some (5, 0)
-faults BadLongest = some (5, 0)
-faults BadFraming = some (5, 0)
-faults TotalOver = some (6, 0)
+faults BadFormat = some (50, 3)
+faults BadLane = some (51, 3)
+faults BadWeight = some (52, 4)
+faults BadLongest = some (53, 6)
+faults BadFraming = some (54, 3)
+faults TotalOver = some (6, 4)
+
+-- A fault's place from the tag; where there is none, 0.
+abbrev pub placeIn : Option (ℕ × ℕ) → ℕ
+placeIn none = 0
+placeIn (some row) = row .1
+
+abbrev pub offset : Fault → ℕ
+offset x = placeIn (faults x)
 
 -- A fault of the field at a place refuses it; else the rest decides.
 abbrev pub tabled : ℕ → Option (ℕ × ℕ) → Item → Item
@@ -102,7 +110,7 @@ tabled at (some row) rest = bad (row .0) (some (at + row .1))
 abbrev pub faulted : ℕ → Fault → Item → Item
 faulted at x rest = tabled at (faults x) rest
 
--- "In a field 1 (header), 2, 3, 1 (value), 4, 5, 6."
+-- In a field 1 (header), 2, 3, 1 (value), 4, then its own numbers, then 6.
 abbrev pub judged : Seen → ℕ → Item → Item
 judged seen at (bad n p) = bad n p
 judged seen at (whole f next) =

@@ -4,7 +4,7 @@
 --   ReadsWhole      the same where the setup is the whole input
 --   PlansWithin     the plan of an accepted setup is within the numbers
 --   LooksNoFurther  what is read depends on no byte behind the setup's 0x7F
---   RefusesInside   a refusal has a number from 1 to 6 and a place in the input
+--   RefusesInside   a refusal has a number of `refusals` and a place in the input, at its length only for 1; at 50 to 54 the wrong number begins there
 --
 -- Assumes nothing.
 use Prim.Native.Nat.{ℕ}

@@ -1,8 +1,8 @@
-// A field of a setup judged by the fields before it: refusals 4, 5 and 6.
+// A field of a setup judged by the fields before it: refusals 4, 50 to 54, and 6.
 ghost use mathlib.Core.Path.{_≡_};
-ghost use Prim.Native.Nat.{_≤_};
+ghost use Prim.Native.Nat.{_+_, _≤_};
 ghost use Rattle.plan.specs.Fields.{itemOf};
-ghost use Rattle.plan.specs.Judge.{longestOf, within, misplaced, laneOutside, outside, over, faulted, after, judgedAt};
+ghost use Rattle.plan.specs.Judge.{longestOf, within, misplaced, laneOutside, outside, over, offset, faulted, after, judgedAt};
 use crate::parse::LaneField;
 use crate::parse::Longest;
 use crate::parse::Parsed;
@@ -29,6 +29,17 @@ pub const MOST_FRAMING: u8 = 64;
 pub const FORMAT_NUMBER: u16 = 1;
 
 pub const DEFAULT_LONGEST: u16 = 1500;
+
+// Where the numbers of a field stand, counted from its tag: the value begins behind a tag of one byte and a length of two.
+const FORMAT_AT: usize = 3;
+
+const LANE_AT: usize = 3;
+
+const WEIGHT_AT: usize = 4;
+
+const LONGEST_AT: usize = 6;
+
+const FRAMING_AT: usize = 3;
 
 // What the fields so far fix for the next one.
 pub struct Seen {
@@ -108,7 +119,7 @@ fn lane_outside(l: LaneField) -> Fault
     Fault::NoFault
 }
 
-// Refusal 5: "format not 1, lane over 63, weight or longest outside its numbers", or framing over 64.
+// Refusals 50 to 54: the first number of a field, in the order of their bytes, that is outside its numbers.
 fn outside(field: SetupField) -> Fault
     ensures { λ r. ⌜ r ≡ outside field ⌝ }
 {
@@ -151,35 +162,36 @@ fn over(seen: Seen, field: SetupField) -> Fault
     }
 }
 
-// What a fault makes of the field at a place: its refusal; where there is none, the rest decides.
-fn faulted(at: usize, fault: Fault, rest: Parsed) -> Parsed
+// What a fault makes of the field from a place to the next: its refusal; where there is none, the rest decides.
+fn faulted(at: usize, next: usize, fault: Fault, rest: Parsed) -> Parsed
+    requires { ⌜ at + offset fault ≤ next ⌝ }
     ensures { λ r. ⌜ itemOf r ≡ faulted at fault (itemOf rest) ⌝ }
 {
     match fault {
         Fault::NoFault => rest,
-        Fault::BadFormat => Parsed::Refused(Refusal::OutsideNumbers(at)),
-        Fault::BadLane => Parsed::Refused(Refusal::OutsideNumbers(at)),
-        Fault::BadWeight => Parsed::Refused(Refusal::OutsideNumbers(at)),
-        Fault::BadLongest => Parsed::Refused(Refusal::OutsideNumbers(at)),
-        Fault::BadFraming => Parsed::Refused(Refusal::OutsideNumbers(at)),
-        Fault::TotalOver => Parsed::Refused(Refusal::WeightsOver(at)),
+        Fault::BadFormat => Parsed::Refused(Refusal::FormatOutside(at + FORMAT_AT)),
+        Fault::BadLane => Parsed::Refused(Refusal::LaneOutside(at + LANE_AT)),
+        Fault::BadWeight => Parsed::Refused(Refusal::WeightOutside(at + WEIGHT_AT)),
+        Fault::BadLongest => Parsed::Refused(Refusal::LongestOutside(at + LONGEST_AT)),
+        Fault::BadFraming => Parsed::Refused(Refusal::FramingOutside(at + FRAMING_AT)),
+        Fault::TotalOver => Parsed::Refused(Refusal::WeightsOver(at + WEIGHT_AT)),
     }
 }
 
-// The field at a place, judged: refusals 1 to 6, in the order in a field.
+// The field at a place, judged: refusals 1 to 4, 50 to 54 and 6, in the order in a field.
 pub fn judged_field(s: &[u8], at: usize, seen: Seen) -> Parsed
     requires { ⌜ seen .total ≤ 1024 ⌝ }
     ensures { λ r. ⌜ itemOf r ≡ judgedAt seen (now (s .entry)) at ⌝ }
 {
     let parsed = crate::reader::field_at(s, at);
-    let Parsed::Whole(field, _) = parsed else {
+    let Parsed::Whole(field, next) = parsed else {
         return parsed;
     };
     if misplaced(seen, field) {
         return Parsed::Refused(Refusal::OutOfOrder(at));
     }
-    let weighed = faulted(at, over(seen, field), parsed);
-    faulted(at, outside(field), weighed)
+    let weighed = faulted(at, next, over(seen, field), parsed);
+    faulted(at, next, outside(field), weighed)
 }
 
 // What a field that was taken adds.

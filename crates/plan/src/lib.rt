@@ -1,8 +1,8 @@
-// The setup reader: document 01, "Setup and session fields", with the refusals 1 to 6 of "Numbers given back".
+// The setup reader: document 01, "Setup and session fields", with the refusals 1 to 4, 50 to 54 and 6.
 //
 //   parse    one field of a setup, taken apart: refusals 1 to 3, in the order 1 (header), 2, 3, 1 (value)
 //   reader   the reader, a struct of the lent bytes and a place: each field is read through it, and it moves on by a field
-//   judge    a field judged by the fields before it: refusals 4, 5 and 6, in this order
+//   judge    a field judged by the fields before it: refusals 4, 50 to 54 and 6, in this order
 //   lib      the walk: `read_plan` where a setup stands in a longer input, `read_setup` where it is the whole input
 //
 // The walk moves by fields, and nothing is written but the plan, which is answered by value. `read_plan` and `read_setup` take any bytes and any place.

@@ -8,7 +8,7 @@ use Prim.Native.Nat.{ℕ}
 use mathlib.Core.Option.{Option, none, some}
 use Rattle.rules.specs.Calls.{Reply, accepted, taken, seen, words, lagged, restarted, refused}
 use Rattle.rules.specs.declared.Refusal.{Refusal}
-use Rattle.rules.specs.declared.Refusal.the-variants.{Cut, UnknownTag, WrongLength, OutOfOrder, OutsideNumbers, WeightsOver, TableShort, NotGood, NoLane, BadLength, LaneFull, ClockSpent, StillHolds, NothingHeld, RunBounds, InputLong}
+use Rattle.rules.specs.declared.Refusal.the-variants.{Cut, UnknownTag, WrongLength, OutOfOrder, WeightsOver, TableShort, NotGood, NoLane, BadLength, LaneFull, ClockSpent, StillHolds, NothingHeld, RunBounds, InputLong, FormatOutside, LaneOutside, WeightOutside, LongestOutside, FramingOutside}
 use Rattle.rules.specs.declared.Answer.{Answer}
 use Rattle.rules.specs.declared.Answer.the-variants.{Accepted, Taken, Seen, Sets, Lag, Restarted, Refused}
 
@@ -18,7 +18,6 @@ listed (Cut p) = (1, some p)
 listed (UnknownTag p) = (2, some p)
 listed (WrongLength p) = (3, some p)
 listed (OutOfOrder p) = (4, some p)
-listed (OutsideNumbers p) = (5, some p)
 listed (WeightsOver p) = (6, some p)
 listed TableShort = (7, some 0)
 listed NotGood = (10, none)
@@ -30,6 +29,11 @@ listed StillHolds = (15, none)
 listed NothingHeld = (16, none)
 listed RunBounds = (17, none)
 listed InputLong = (18, none)
+listed (FormatOutside p) = (50, some p)
+listed (LaneOutside p) = (51, some p)
+listed (WeightOutside p) = (52, some p)
+listed (LongestOutside p) = (53, some p)
+listed (FramingOutside p) = (54, some p)
 
 abbrev pub number : Refusal → ℕ
 number x = (listed x) .0

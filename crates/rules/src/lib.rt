@@ -32,9 +32,7 @@ pub enum Refusal {
     WrongLength(usize),
     // 4: first field not 0x01, 0x01 again, lane not rising, 0x7F with no lane; a byte after the last 0x7F.
     OutOfOrder(usize),
-    // 5: format not 1, lane over 63, weight or longest outside its numbers.
-    OutsideNumbers(usize),
-    // 6: weights so far over 1,024.
+    // 6: weights so far over 1,024, at the weight that went over.
     WeightsOver(usize),
     // 7: lent table shorter than the fixed size, on making one. Its place is 0.
     TableShort,
@@ -56,6 +54,16 @@ pub enum Refusal {
     RunBounds,
     // 18: the program's input over 32,768 bytes.
     InputLong,
+    // 50 to 54: a number of a setup outside its numbers, at its first byte: a format that is not 1 ..
+    FormatOutside(usize),
+    // .. a lane over 63 ..
+    LaneOutside(usize),
+    // .. a weight that is not 1 to 1,024 ..
+    WeightOutside(usize),
+    // .. a longest that is not 64 to 1,500 ..
+    LongestOutside(usize),
+    // .. framing over 64.
+    FramingOutside(usize),
 }
 
 // What a call answers. specs/Reads.antt gives document 01's number and values for each case.

@@ -30,11 +30,41 @@ pub struct Refusal {
     pub place: Option<u64>,
 }
 
+impl Refusal {
+    /// What the number says, in words; `docs/REFUSALS.md` says what to mend.
+    pub const fn words(&self) -> &'static str {
+        match self.number {
+            1 => "the bytes end inside a field, or before the end field",
+            2 => "a tag that is not known in this part",
+            3 => "a length that is wrong for the tag",
+            4 => "a field out of its order, or a byte after the end",
+            6 => "the weights sum to more than 1,024",
+            7 => "the table is too short",
+            10 => "the table is not good",
+            11 => "the lane is not in the setup",
+            12 => "a record's length is 0 or over the lane's longest",
+            13 => "the lane is full",
+            14 => "the clock is spent",
+            15 => "records are held",
+            16 => "no record is held",
+            17 => "a run's limit is over 1,000, or its answer area is too short",
+            18 => "the input is over 32,768 bytes",
+            50 => "the format is not 1",
+            51 => "a lane number is over 63",
+            52 => "a weight is not 1 to 1,024",
+            53 => "a longest is not 64 to 1,500",
+            54 => "a framing number is over 64",
+            255 => "the answer buffer is too short",
+            _ => "no number of the list",
+        }
+    }
+}
+
 impl std::fmt::Display for Refusal {
     fn fmt(&self, f: &mut std::fmt::Formatter<'_>) -> std::fmt::Result {
         match self.place {
-            Some(place) => write!(f, "refused with {} at byte {place}", self.number),
-            None => write!(f, "refused with {}", self.number),
+            Some(place) => write!(f, "refused with {} at byte {place}: {}", self.number, self.words()),
+            None => write!(f, "refused with {}: {}", self.number, self.words()),
         }
     }
 }

@@ -48,10 +48,23 @@ fn refusals() {
     // A fault at byte 0 has a place, as has an empty setup's end.
     assert_eq!(make(b"\xFF\0\0", &mut t), refused(2, Some(0)));
     assert_eq!(make(b"", &mut t), refused(1, Some(0)));
+    // Lane 0's weight is at bytes 9 and 10.
+    let mut weightless = SETUP.to_vec();
+    weightless[9] = 0;
+    assert_eq!(make(&weightless, &mut t), refused(52, Some(9)));
     assert_eq!(put(&mut t, 2, 1, 1), refused(11, None));
     assert_eq!(put(&mut t, 0, 1, u64::MAX), refused(12, None));
     assert_eq!(look(&t[1..]), refused(10, None));
     assert_eq!(t, before);
+}
+
+#[test]
+fn refusals_in_words() {
+    let told = |number, place| Refusal { number, place }.to_string();
+    assert_eq!(told(52, Some(9)), "refused with 52 at byte 9: a weight is not 1 to 1,024");
+    assert_eq!(told(16, None), "refused with 16: no record is held");
+    // 5 is no refusal.
+    assert_eq!(told(5, None), "refused with 5: no number of the list");
 }
 
 #[test]

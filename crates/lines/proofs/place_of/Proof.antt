@@ -20,9 +20,6 @@ enum-known-x-4 c = search needs
 enum-known-x-5 : tie.Need-enum-known-x-5
 enum-known-x-5 c = search needs
 
-enum-known-x-6 : tie.Need-enum-known-x-6
-enum-known-x-6 c = search needs
-
 enum-told : tie.Need-enum-told
 enum-told c = search needs
 
@@ -53,6 +50,21 @@ enum-told-9 c = search needs
 enum-told-10 : tie.Need-enum-told-10
 enum-told-10 c = search needs
 
+enum-known-x-6 : tie.Need-enum-known-x-6
+enum-known-x-6 c = search needs
+
+enum-known-x-7 : tie.Need-enum-known-x-7
+enum-known-x-7 c = search needs
+
+enum-known-x-8 : tie.Need-enum-known-x-8
+enum-known-x-8 c = search needs
+
+enum-known-x-9 : tie.Need-enum-known-x-9
+enum-known-x-9 c = search needs
+
+enum-known-x-10 : tie.Need-enum-known-x-10
+enum-known-x-10 c = search needs
+
 returns : tie.Need-returns
 returns c = sym (ap placeOf (c .before .x .given .1))
 
@@ -69,37 +81,49 @@ returns-5 : tie.Need-returns-5
 returns-5 c = sym (ap placeOf (c .before .x5 .given .1))
 
 returns-6 : tie.Need-returns-6
-returns-6 c = sym (ap placeOf (c .before .x6 .given .1))
+returns-6 c = sym (ap placeOf (c .enum-told .given .1))
 
 returns-7 : tie.Need-returns-7
-returns-7 c = search needs
+returns-7 c = sym (ap placeOf (c .enum-told2 .given .1))
 
 returns-8 : tie.Need-returns-8
-returns-8 c = search needs
+returns-8 c = sym (ap placeOf (c .enum-told3 .given .1))
 
 returns-9 : tie.Need-returns-9
-returns-9 c = search needs
+returns-9 c = sym (ap placeOf (c .enum-told4 .given .1))
 
 returns-10 : tie.Need-returns-10
-returns-10 c = search needs
+returns-10 c = sym (ap placeOf (c .enum-told5 .given .1))
 
 returns-11 : tie.Need-returns-11
-returns-11 c = search needs
+returns-11 c = sym (ap placeOf (c .enum-told6 .given .1))
 
 returns-12 : tie.Need-returns-12
-returns-12 c = search needs
+returns-12 c = sym (ap placeOf (c .enum-told7 .given .1))
 
 returns-13 : tie.Need-returns-13
-returns-13 c = search needs
+returns-13 c = sym (ap placeOf (c .enum-told8 .given .1))
 
 returns-14 : tie.Need-returns-14
-returns-14 c = search needs
+returns-14 c = sym (ap placeOf (c .enum-told9 .given .1))
 
 returns-15 : tie.Need-returns-15
-returns-15 c = search needs
+returns-15 c = sym (ap placeOf (c .enum-told10 .given .1))
 
 returns-16 : tie.Need-returns-16
-returns-16 c = search needs
+returns-16 c = sym (ap placeOf (c .before .x6 .given .1))
+
+returns-17 : tie.Need-returns-17
+returns-17 c = sym (ap placeOf (c .before .x7 .given .1))
+
+returns-18 : tie.Need-returns-18
+returns-18 c = sym (ap placeOf (c .before .x8 .given .1))
+
+returns-19 : tie.Need-returns-19
+returns-19 c = sym (ap placeOf (c .before .x9 .given .1))
+
+returns-20 : tie.Need-returns-20
+returns-20 c = sym (ap placeOf (c .before .x10 .given .1))
 
 pub place-of-spec : {M : Type 1} → statement M
 place-of-spec =
@@ -110,7 +134,6 @@ place-of-spec =
     enum-known-x-3
     enum-known-x-4
     enum-known-x-5
-    enum-known-x-6
     enum-told
     enum-told-2
     enum-told-3
@@ -121,6 +144,11 @@ place-of-spec =
     enum-told-8
     enum-told-9
     enum-told-10
+    enum-known-x-6
+    enum-known-x-7
+    enum-known-x-8
+    enum-known-x-9
+    enum-known-x-10
     returns
     returns-2
     returns-3
@@ -136,4 +164,8 @@ place-of-spec =
     returns-13
     returns-14
     returns-15
-    returns-16)
+    returns-16
+    returns-17
+    returns-18
+    returns-19
+    returns-20)
