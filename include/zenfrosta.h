@@ -93,6 +93,84 @@ uint64_t zf_restart(uint8_t *table, size_t table_length, uint8_t *out, size_t ou
 uint64_t zf_run(const uint8_t *session, size_t session_length, uint64_t limit, uint8_t *table, size_t table_length, uint8_t *answers,
                 size_t answers_length, uint8_t *out, size_t out_length);
 
+/* ---- Plans: reading, editing and writing setups
+ *
+ * A plan area is ZF_PLAN_SIZE lent bytes, 65 words of 64 bits, each low byte first:
+ *
+ *   word 0          format + 2^16 framing bytes
+ *   word lane + 1   weight + 2^16 longest of that lane; 0: there is no such lane
+ *
+ * The host may write any words into it, by the helpers below or by itself. Whether they are a plan within the numbers is tested by zf_setup_write:
+ * format 1; framing 0 to 64; one lane or more; each weight 1 to 1,024 and longest 64 to 1,500; weights that sum to at most 1,024. Bytes past the
+ * size are never touched. An area is meant for between calls: keep the setup, not the area.
+ */
+
+/* The fixed size of a plan area in bytes, as zf_plan_size() gives it, and the most bytes that a setup has when it is written. */
+#define ZF_PLAN_SIZE 520
+#define ZF_SETUP_MOST 524
+
+/* The format of a new plan. */
+#define ZF_PLAN_FORMAT 1
+
+/* Refusals of writing, in this order; neither has a place. */
+#define ZF_PLAN_OUTSIDE 55 /* the area is no plan within the numbers, or shorter than ZF_PLAN_SIZE */
+#define ZF_SETUP_SHORT 56  /* the buffer is shorter than the setup's exact size */
+
+uint64_t zf_plan_size(void);
+
+/* Reads a setup into a plan area. out: the number of lanes. Refusals: 7 at place 0, the area is shorter than ZF_PLAN_SIZE; then those of a setup.
+ * The area stays for a refusal. */
+uint64_t zf_setup_read(const uint8_t *setup, size_t setup_length, uint8_t *plan, size_t plan_length, uint8_t *out, size_t out_length);
+
+/* Writes the plan of an area as a setup: lane fields always with their longest, the framing field only where there are framing bytes. out: the
+ * exact size; bytes of the buffer past it stay. Refusals: 55, 56; the buffer stays for both. What was written is read as the same words, and a
+ * setup of that form is written back as the same bytes. */
+uint64_t zf_setup_write(const uint8_t *plan, size_t plan_length, uint8_t *setup, size_t setup_length, uint8_t *out, size_t out_length);
+
+/* A word of a plan area. */
+static inline uint64_t zf_plan_word(const uint8_t *plan, size_t index) {
+  uint64_t value = 0;
+  for (size_t i = 8; i > 0; i--) value = value << 8 | plan[8 * index + i - 1];
+  return value;
+}
+
+static inline void zf_plan_set_word(uint8_t *plan, size_t index, uint64_t value) {
+  for (size_t i = 0; i < 8; i++, value >>= 8) plan[8 * index + i] = (uint8_t)(value & 0xFF);
+}
+
+/* A new plan: ZF_PLAN_FORMAT, no framing bytes, no lane. */
+static inline void zf_plan_new(uint8_t *plan) {
+  zf_plan_set_word(plan, 0, ZF_PLAN_FORMAT);
+  for (size_t lane = 0; lane < 64; lane++) zf_plan_set_word(plan, lane + 1, 0);
+}
+
+static inline uint16_t zf_plan_format(const uint8_t *plan) { return (uint16_t)(zf_plan_word(plan, 0) & 0xFFFF); }
+
+static inline uint64_t zf_plan_framing(const uint8_t *plan) { return zf_plan_word(plan, 0) >> 16; }
+
+static inline void zf_plan_set_framing(uint8_t *plan, uint8_t framing) {
+  zf_plan_set_word(plan, 0, (uint64_t)zf_plan_format(plan) | (uint64_t)framing << 16);
+}
+
+/* Gives a lane, 0 to 63, its weight and longest, or adds it. 0 and nothing done for another number, else 1. */
+static inline int zf_plan_set_lane(uint8_t *plan, uint8_t lane, uint16_t weight, uint16_t longest) {
+  if (lane > 63) return 0;
+  zf_plan_set_word(plan, (size_t)lane + 1, (uint64_t)weight | (uint64_t)longest << 16);
+  return 1;
+}
+
+/* Takes a lane out. 0 for a number over 63, else 1. */
+static inline int zf_plan_clear_lane(uint8_t *plan, uint8_t lane) { return zf_plan_set_lane(plan, lane, 0, 0); }
+
+/* A lane's weight and longest; 0 where there is no such lane. */
+static inline uint16_t zf_plan_weight(const uint8_t *plan, uint8_t lane) {
+  return lane > 63 ? 0 : (uint16_t)(zf_plan_word(plan, (size_t)lane + 1) & 0xFFFF);
+}
+
+static inline uint64_t zf_plan_longest(const uint8_t *plan, uint8_t lane) {
+  return lane > 63 ? 0 : zf_plan_word(plan, (size_t)lane + 1) >> 16;
+}
+
 /* ---- The desk's board: which train is in which cell (docs/DESK.md)
  *
  * A board is ZF_BOARD_SIZE lent bytes that zf_board_begin has written: 64 lines, each free or the last accepted handover record of a train. It

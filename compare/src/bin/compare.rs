@@ -1,10 +1,11 @@
 //! The comparison's command. `compare help` lists what it does.
 
-use compare::driver::report::Tally;
+use compare::driver::report::{Found, Tally};
 use compare::driver::{self, Budget, Kind};
 use compare::journal;
 use compare::on_words::{lapses, OnWords};
 use compare::pipes;
+use compare::plans;
 use compare::stand_in::{StandIn, ALL};
 use compare::unit::Unit;
 use std::path::PathBuf;
@@ -19,6 +20,8 @@ compare tables --seconds N | --cases N [--seed N]
 compare one --seed N --case N                  one case again, alone
 compare boards --seconds N | --cases N [--seed N] [--case N]
                                                the desk's board; --case N begins at that case. A short and a long run have such cases too
+compare plans --seconds N | --cases N [--seed N] [--case N]
+                                               setups read into plan areas and written from them, likewise
 compare sessions PROGRAM... [--cases N] [--seed N] [--case N]
                                                sessions by pipe; --case N begins at that case
 compare clock --pairs N                        one lane up to the clock's edge, or N pairs of put and take
@@ -28,9 +31,10 @@ compare slips [--seed N]                       each slip and each lapse, and the
 const SEED: u64 = 1;
 /// The cases of a short run.
 const SHORT: u64 = 20_000;
-/// Its cases of the desk's board, and the part of a long run that they get.
+/// Its cases of the desk's board and of plans, and the part of a long run that each get.
 const SHORT_BOARDS: u64 = 20_000;
-const PART_OF_BOARDS: u64 = 8;
+const SHORT_PLANS: u64 = 60_000;
+const PART: u64 = 8;
 /// A slip must be found within so many cases, far fewer than a short run has.
 const SLIP: u64 = 1_500;
 const SESSIONS: u64 = 2_000;
@@ -65,6 +69,21 @@ fn desk_under_test() -> impl journal::Desk {
 #[cfg(not(feature = "unit"))]
 fn desk_under_test() -> impl journal::Desk {
     journal::slips::Slipped(journal::slips::Slip::None)
+}
+
+/// The depot's calls under test, likewise.
+#[cfg(feature = "unit")]
+fn depot_under_test() -> impl plans::Depot {
+    if let Err(wrong) = plans::linked::boundary() {
+        println!("DIFFERENCE at the boundary: {wrong}");
+        std::process::exit(1);
+    }
+    plans::linked::Linked
+}
+
+#[cfg(not(feature = "unit"))]
+fn depot_under_test() -> impl plans::Depot {
+    plans::slips::Slipped(plans::slips::Slip::None)
 }
 
 struct Options {
@@ -104,20 +123,27 @@ fn main() -> ExitCode {
     let Some(options) = options(rest) else { return help() };
     match (mode.as_str(), options.programs.is_empty()) {
         ("short", true) => both(calls(&options, 0, Budget::Cases(SHORT), |_| true), || {
-            boards(&options, 0, Budget::Cases(SHORT_BOARDS))
+            both(boards(&options, 0, Budget::Cases(SHORT_BOARDS)), || {
+                planned(&options, 0, Budget::Cases(SHORT_PLANS))
+            })
         }),
         ("long" | "tables", true) => {
             let kinds = |kind| mode == "long" || kind == Kind::Tables;
             let Some(budget) = budget(&options) else { return help() };
-            let boards = || boards(&options, 0, part(budget));
+            let beside = || both(boards(&options, 0, part(budget)), || planned(&options, 0, part(budget)));
             match mode.as_str() {
-                "long" => both(calls(&options, 0, budget, kinds), boards),
+                "long" => both(calls(&options, 0, budget, kinds), beside),
                 _ => calls(&options, 0, budget, kinds),
             }
         }
         ("boards", true) => match (options.case, budget(&options)) {
             (case, Some(budget)) => boards(&options, case.unwrap_or(0), budget),
             (Some(case), None) => boards(&options, case, Budget::Cases(1)),
+            _ => help(),
+        },
+        ("plans", true) => match (options.case, budget(&options)) {
+            (case, Some(budget)) => planned(&options, case.unwrap_or(0), budget),
+            (Some(case), None) => planned(&options, case, Budget::Cases(1)),
             _ => help(),
         },
         ("one", true) => match options.case {
@@ -142,11 +168,11 @@ fn budget(options: &Options) -> Option<Budget> {
     }
 }
 
-/// The boards' part of a long run, on top of it.
+/// The part of a long run that boards and plans each get, on top of it.
 fn part(budget: Budget) -> Budget {
     match budget {
-        Budget::Cases(cases) => Budget::Cases(cases / PART_OF_BOARDS),
-        Budget::Time(time) => Budget::Time(time / PART_OF_BOARDS as u32),
+        Budget::Cases(cases) => Budget::Cases(cases / PART),
+        Budget::Time(time) => Budget::Time(time / PART as u32),
     }
 }
 
@@ -159,27 +185,45 @@ fn both(first: ExitCode, second: impl FnOnce() -> ExitCode) -> ExitCode {
     }
 }
 
+/// Whether a budget has more after so many cases.
+fn within(budget: Budget, begin: Instant) -> impl FnMut(u64) -> bool {
+    move |done| match budget {
+        Budget::Cases(cases) => done < cases,
+        Budget::Time(time) => begin.elapsed() < time,
+    }
+}
+
 fn boards(options: &Options, first: u64, budget: Budget) -> ExitCode {
     let begin = Instant::now();
     let mut tally = journal::driver::Tally::default();
-    let more = |done| match budget {
-        Budget::Cases(cases) => done < cases,
-        Budget::Time(time) => begin.elapsed() < time,
-    };
+    let more = within(budget, begin);
     let result = journal::driver::compare(&mut desk_under_test(), options.seed, first, more, &mut tally);
     println!("Seed {}, {:.1} s, {tally}", options.seed, begin.elapsed().as_secs_f64());
+    told("boards", options, result)
+}
+
+fn planned(options: &Options, first: u64, budget: Budget) -> ExitCode {
+    let begin = Instant::now();
+    let mut tally = plans::driver::Tally::default();
+    let more = within(budget, begin);
+    let result = plans::driver::compare(&mut depot_under_test(), options.seed, first, more, &mut tally);
+    println!("Seed {}, {:.1} s, {tally}", options.seed, begin.elapsed().as_secs_f64());
+    told("plans", options, result)
+}
+
+fn told(mode: &str, options: &Options, result: Result<(), (u64, Found)>) -> ExitCode {
     match result {
         Ok(()) => {
             println!("No difference.");
             ExitCode::SUCCESS
         }
         Err((case, found)) => {
-            println!("DIFFERENCE in the board's case {case} of seed {}", options.seed);
+            println!("DIFFERENCE in case {case} of the {mode} of seed {}", options.seed);
             for line in &found.shown_by {
                 println!("  {line}");
             }
             println!("{}", found.what);
-            println!("Again, alone: compare boards --seed {} --case {case}", options.seed);
+            println!("Again, alone: compare {mode} --seed {} --case {case}", options.seed);
             ExitCode::FAILURE
         }
     }
@@ -265,7 +309,13 @@ fn slips(options: &Options) -> ExitCode {
         let found = journal::driver::compare(&mut desk, options.seed, 0, |done| done < SLIP, &mut tally);
         (format!("{slip:?}"), found.err().map(|(case, _)| case))
     });
-    for (name, case) in slips.chain(lapses).chain(desks) {
+    let depots = plans::slips::ALL.iter().map(|&slip| {
+        let mut depot = plans::slips::Slipped(slip);
+        let mut tally = plans::driver::Tally::default();
+        let found = plans::driver::compare(&mut depot, options.seed, 0, |done| done < SLIP, &mut tally);
+        (format!("{slip:?}"), found.err().map(|(case, _)| case))
+    });
+    for (name, case) in slips.chain(lapses).chain(desks).chain(depots) {
         tried += 1;
         match case {
             Some(case) => println!("{name}: found in case {case}"),

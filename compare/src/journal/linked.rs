@@ -28,7 +28,7 @@ const NO_ANSWER: u64 = 254;
 pub struct Linked;
 
 /// Lends an answer buffer: the words, or the refusal with its place where word 1 says that it has one.
-fn call(ask: impl FnOnce(*mut u8, usize) -> u64) -> Result<[u64; 4], Refused> {
+pub fn call(ask: impl FnOnce(*mut u8, usize) -> u64) -> Result<[u64; 4], Refused> {
     let mut out = [0xA5; OUT];
     let number = ask(out.as_mut_ptr(), OUT);
     let word = |i: usize| u64::from_le_bytes(out[8 * i..8 * i + 8].try_into().expect("eight bytes"));
@@ -40,7 +40,7 @@ fn call(ask: impl FnOnce(*mut u8, usize) -> u64) -> Result<[u64; 4], Refused> {
     }
 }
 
-fn one(words: [u64; 4]) -> Result<u64, Refused> {
+pub fn one(words: [u64; 4]) -> Result<u64, Refused> {
     match words {
         [line, 0, 0, 0] => Ok(line),
         _ => Err(Refused::by(NO_ANSWER)),

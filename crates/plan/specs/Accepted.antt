@@ -6,6 +6,7 @@
 --   weighed       the weights of lane fields together
 --   placedAll     the lanes, with those that some fields describe
 --   framed        field 0x11, where there is one; framedBy: the line's framing bytes
+--   setupFields   the fields of a setup, in order: what is read, and what is written
 --   Accepted      the rule for a setup that is read
 --   present       how many lanes are there
 --   PlanWithin    what follows of the plan of an accepted setup
@@ -69,12 +70,16 @@ abbrev pub framedBy : Option ℕ → ℕ
 framedBy none = 0
 framedBy (some h) = h
 
+-- The fields of a setup, in order: 0x01, 0x11 or none, the lane fields, 0x7F.
+abbrev pub setupFields : Option ℕ → List LaneField → List SetupField
+setupFields framing lanes = Format 1 ∷ (framed framing ++ (map Lane lanes ++ (End ∷ [])))
+
 -- The fields from `at` to `next` are 0x01 with format 1, 0x11 with at most 64 or none, one or more lane fields with rising numbers, and 0x7F; each lane
 -- field is within the numbers, and the weights sum to at most 1,024. The plan's lanes are those of the fields, each with its field's setting, and n is how many they are.
 pub record Accepted (s : List ℕ) (at : ℕ) (gs : List Setting) (n next : ℕ) : Type 0 where
   pub framing : Option ℕ
   pub lanes : List LaneField
-  pub laid : Laid s at (Format 1 ∷ (framed framing ++ (map Lane lanes ++ (End ∷ [])))) next
+  pub laid : Laid s at (setupFields framing lanes) next
   pub framing-high : framedBy framing ≤ 64
   pub rising : Rising 0 lanes
   pub each : LanesWithin lanes

@@ -65,7 +65,7 @@ fn lane_of(l: LaneField, framing: u8) -> Lane
     }
 }
 
-fn no_lanes() -> [Lane; LANES]
+pub fn no_lanes() -> [Lane; LANES]
     ensures { λ r. ⌜ map settingOf r ≡ noLanes ⌝ }
 {
     [Lane {

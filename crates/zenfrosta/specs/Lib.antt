@@ -2,3 +2,4 @@ pub mod Crossing
 pub mod AfterRun
 pub mod Heard
 pub mod Board
+pub mod Plans

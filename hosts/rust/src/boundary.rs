@@ -3,6 +3,7 @@
 #![allow(unsafe_code)]
 
 pub mod board;
+pub mod plans;
 
 /// The answer buffer: four 64-bit words, low byte first.
 const OUT: usize = 32;

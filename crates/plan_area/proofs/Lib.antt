@@ -1,0 +1,4 @@
+pub mod Filled
+pub mod Stored
+pub mod Back
+pub mod Steps

@@ -1,0 +1,64 @@
+-- A plan in lent bytes: 65 words, low byte first.
+--
+--   Room        long enough
+--   formatIn, framingIn, laneIn   the numbers of an area; settingIn: those of a lane's word
+--   planIn      the plan that an area is, in or out of the numbers
+--   Shows       the words of an area that shows a plan
+--   AreaWithin  an area that is a plan within the numbers
+--
+-- Assumes nothing.
+use Prim.Native.Nat.{ℕ, _+_, _*_, _/_, _%_, _≤_, _<_}
+use mathlib.Core.Path.{_≡_}
+use mathlib.Core.List.{List}
+use lib.Dec.{eqb}
+use lib.ListN.{length}
+use Rattle.units.specs.Plain.{if_then_else_}
+use Rattle.rules.specs.State.{Setting, settingAt}
+use Rattle.rules.specs.Setup.{framingOf}
+use Rattle.words.specs.Runs.{tab}
+use Rattle.words.specs.Words.{wordAt}
+use Rattle.plan.specs.Accepted.{present}
+use Rattle.plan_writer.specs.Write.{Planned, Within}
+
+-- 65 words of eight bytes.
+abbrev pub Room : List ℕ → Type 0
+Room a = 65 * 8 ≤ length a
+
+-- ---- what the words are
+
+-- Word 0: format + 2^16 framing bytes.
+abbrev pub formatIn : List ℕ → ℕ
+formatIn a = wordAt a 0 % 65536
+
+abbrev pub framingIn : List ℕ → ℕ
+framingIn a = wordAt a 0 / 65536
+
+-- A lane's word: weight + 2^16 longest. All that stands above the weight is the longest, so a bit that no plan has is a longest outside its numbers. A lane
+-- that is there has the line's framing bytes.
+abbrev pub settingIn : ℕ → ℕ → Setting
+settingIn h w = record { weight = w % 65536; longest = w / 65536; framing = if eqb (w % 65536) 0 then 0 else h }
+
+-- Word k + 1 is that of lane k.
+abbrev pub laneIn : List ℕ → ℕ → Setting
+laneIn a k = settingIn (framingIn a) (wordAt a (k + 1))
+
+abbrev pub lanesIn : List ℕ → List Setting
+lanesIn a = tab 64 (laneIn a)
+
+abbrev pub planIn : List ℕ → Planned
+planIn a = record { lanes = lanesIn a; count = present (lanesIn a) }
+
+-- ---- the words of a plan
+
+abbrev pub laneWord : Setting → ℕ
+laneWord g = g .weight + 65536 * g .longest
+
+pub record Shows (p : Planned) (a : List ℕ) : Type 0 where
+  pub head : wordAt a 0 ≡ 1 + 65536 * framingOf (p .lanes)
+  pub lane : (k : ℕ) → k < 64 → wordAt a (k + 1) ≡ laneWord (settingAt (p .lanes) k)
+
+-- Long enough, of the one format, and within the numbers.
+pub record AreaWithin (a : List ℕ) : Type 0 where
+  pub room : Room a
+  pub format : formatIn a ≡ 1
+  pub plan : Within (planIn a)

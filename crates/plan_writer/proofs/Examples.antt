@@ -1,0 +1,23 @@
+-- Document 01's own setup, written; and with 0x11. Assumes nothing.
+use mathlib.Core.Path.{_≡_, refl}
+use mathlib.Core.List.{[], _∷_, _++_}
+use lib.ListN.{set}
+use Rattle.rules.specs.Setup.{framingOf}
+use Rattle.plan.specs.Read.{noLanes}
+use Rattle.plan.specs.Examples.{formatField, endField, sessionSetup, twoLanes}
+use Rattle.plan_writer.specs.Format.{bytesOf}
+use Rattle.plan_writer.specs.Write.{laneFields, setupBytes, sizeOf}
+
+pub session-written : setupBytes (record { lanes = twoLanes 512 256 1500; count = 2 }) ≡ sessionSetup
+unfolding setupBytes bytesOf laneFields framingOf
+session-written = refl
+
+pub session-size : sizeOf (record { lanes = twoLanes 512 256 1500; count = 2 }) ≡ 24
+unfolding framingOf
+session-size = refl
+
+-- one lane, 12 framing bytes: 01 0002 0001, 11 0001 0C, 10 0005 03 0400 0040, 7F 0000
+pub framed-written : setupBytes (record { lanes = set noLanes 3 (record { weight = 1024; longest = 64; framing = 12 }); count = 1 })
+    ≡ formatField ++ (17 ∷ 0 ∷ 1 ∷ 12 ∷ 16 ∷ 0 ∷ 5 ∷ 3 ∷ 4 ∷ 0 ∷ 0 ∷ 64 ∷ []) ++ endField
+unfolding setupBytes bytesOf laneFields framingOf
+framed-written = refl

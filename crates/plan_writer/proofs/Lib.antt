@@ -1,0 +1,10 @@
+pub mod Bytes
+pub mod Laid
+pub mod Lanes
+pub mod Framing
+pub mod Numbered
+pub mod Round
+pub mod Judging
+pub mod Writing
+pub mod Calls
+pub mod Examples

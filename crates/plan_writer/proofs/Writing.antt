@@ -1,0 +1,129 @@
+-- The loop of `put_lanes`, and the parts of `put_setup`.
+--
+--   Laying     storing the bytes of the lanes from k on gives what storing those of all lanes gives
+--   lay-none, lay-more, lay-skip, lay-all   before the loop, after a lane that is there or is not, and after all
+--   stored     the bytes of a setup, stored part by part
+--   stored-first   bytes stored from 0 on stand first, and the rest stays; written-all: that is the promise
+--
+-- Assumes nothing.
+use Prim.Native.Nat.{ℕ, suc, _+_, _≤_, _<_}
+use mathlib.Core.Path.{_≡_, refl, sym, ap, subst, _∙_}
+use mathlib.Core.List.{List, [], _++_, map}
+use native.Mathlib.Numerals.{add-one}
+use native.Mathlib.Omega.{arith}
+use lib.ListN.{length, drop, getD, length-append, drop-of-length-le}
+use lib.Seq.{sets, sets-eq}
+use Rattle.text.proofs.Stores.{sets-append}
+use Rattle.rules.specs.State.{Setting, noSetting, settingAt}
+use Rattle.rules.specs.Setup.{InNumbers, framingOf}
+use Rattle.plan.specs.Read.{settingOf}
+use Rattle.plan.specs.declared.Lane as plan
+use Rattle.plan.specs.declared.parse.LaneField.{LaneField}
+use Rattle.plan.specs.Accepted.{setupFields}
+use Rattle.plan.specs.declared.parse.SetupField.the-variants.{Format, Lane, End}
+use Rattle.plan_writer.specs.Format.{fieldBytes, bytesOf}
+use Rattle.plan_writer.specs.Write.{laneBytes, laneFields, lanesBytes, framingBytes, framingSize, unlessZero, Planned, Within, Either, setupBytes, sizeOf, size, Writes}
+use Rattle.plan_writer.specs.declared.Written.the-variants.{Size}
+use Rattle.plan_writer.proofs.Numbered.{numbered-size, none, lane-at, lane-next}
+use Rattle.plan_writer.proofs.Judging.{there-either, absent-either, lanesOf}
+use Rattle.plan_writer.proofs.Framing.{framing-size}
+use Rattle.plan_writer.proofs.Lanes.{fields-there, fields-skip}
+use Rattle.plan_writer.proofs.Round.{setup-parts, size-is}
+
+-- ---- the bytes from lane k on
+
+module _ (lanes : List plan.Lane) (k : ℕ) (h : k < 64) where
+  abbrev g : Setting
+  g = settingOf (getD lanes k none)
+
+  lanes-more : InNumbers g → lanesBytes k (drop k (lanesOf lanes)) ≡ laneBytes k g ++ lanesBytes (k + 1) (drop (k + 1) (lanesOf lanes))
+  unfolding bytesOf
+  lanes-more n =
+      ap (lanesBytes k) (lane-next lanes k h)
+      ∙ ap (λ (ls : List LaneField). bytesOf (map Lane ls)) (fields-there k g (drop (suc k) (lanesOf lanes)) (n .weight-low))
+      ∙ ap (λ (i : ℕ). laneBytes k g ++ lanesBytes i (drop i (lanesOf lanes))) (sym (add-one k))
+
+  lanes-skip : g ≡ noSetting → lanesBytes k (drop k (lanesOf lanes)) ≡ lanesBytes (k + 1) (drop (k + 1) (lanesOf lanes))
+  lanes-skip e =
+      ap (lanesBytes k) (lane-next lanes k h)
+      ∙ ap (λ (ls : List LaneField). bytesOf (map Lane ls)) (fields-skip k g (drop (suc k) (lanesOf lanes)) e)
+      ∙ ap (λ (i : ℕ). lanesBytes i (drop i (lanesOf lanes))) (sym (add-one k))
+
+lanes-none : (lanes : List plan.Lane) (k : ℕ) → 64 ≤ k → lanesBytes k (drop k (lanesOf lanes)) ≡ []
+unfolding laneFields bytesOf
+lanes-none lanes k h = ap (lanesBytes k) (drop-of-length-le (lanesOf lanes) {i = k} (omega (arith, numbered-size (map settingOf lanes), h)))
+
+-- ---- the loop
+
+pub record Laying (a₀ : List ℕ) (at : ℕ) (lanes : List plan.Lane) (a : List ℕ) (p k : ℕ) : Type 0 where
+  pub low : k ≤ 64
+  pub size : length a ≡ length a₀
+  pub left : p + length (lanesBytes k (drop k (lanesOf lanes))) ≡ at + length (lanesBytes 0 (lanesOf lanes))
+  pub same : sets a p (lanesBytes k (drop k (lanesOf lanes))) ≡ sets a₀ at (lanesBytes 0 (lanesOf lanes))
+
+pub lay-none : (a : List ℕ) (at : ℕ) (lanes : List plan.Lane) → Laying a at lanes a at 0
+lay-none a at lanes = record { low = omega arith; size = refl; left = refl; same = refl }
+
+module _ (a₀ : List ℕ) (at : ℕ) (lanes : List plan.Lane) (a : List ℕ) (p k : ℕ) (l : Laying a₀ at lanes a p k) (h : k < 64)
+    (ok : (j : ℕ) → Either (settingAt (lanesOf lanes) j)) where
+  here : Either (settingOf (getD lanes k none))
+  here = subst Either (lane-at lanes k h) (ok k)
+
+  pub lay-numbers : (getD lanes k none .weight ≡ 0 → ⊥) → InNumbers (settingOf (getD lanes k none))
+  lay-numbers w = there-either (settingOf (getD lanes k none)) w here
+
+  eight : (getD lanes k none .weight ≡ 0 → ⊥) → length (lanesBytes k (drop k (lanesOf lanes))) ≡ 8 + length (lanesBytes (k + 1) (drop (k + 1) (lanesOf lanes)))
+  eight w = ap length (lanes-more lanes k h (lay-numbers w)) ∙ omega (arith, length-append (laneBytes k (settingOf (getD lanes k none))) (lanesBytes (k + 1) (drop (k + 1) (lanesOf lanes))))
+
+  pub lay-room : at + length (lanesBytes 0 (lanesOf lanes)) ≤ length a₀ → (getD lanes k none .weight ≡ 0 → ⊥) → p + 8 ≤ length a
+  lay-room room w = omega (arith, eight w, l .left, l .size, room)
+
+  pub lay-more : (getD lanes k none .weight ≡ 0 → ⊥) → (b : List ℕ) → length b ≡ length a → b ≡ sets a p (laneBytes k (settingOf (getD lanes k none))) → Laying a₀ at lanes b (p + 8) (k + 1)
+  lay-more w b long e = record {
+    low = omega arith;
+    size = long ∙ l .size;
+    left = omega (arith, eight w, l .left);
+    same =
+        ap (λ (x : List ℕ). sets x (p + 8) (lanesBytes (k + 1) (drop (k + 1) (lanesOf lanes)))) e
+        ∙ sets-append a p (laneBytes k (settingOf (getD lanes k none))) (lanesBytes (k + 1) (drop (k + 1) (lanesOf lanes)))
+        ∙ ap (sets a p) (sym (lanes-more lanes k h (lay-numbers w)))
+        ∙ l .same;
+  }
+
+  pub lay-skip : getD lanes k none .weight ≡ 0 → Laying a₀ at lanes a p (k + 1)
+  lay-skip w =
+      let e = lanes-skip lanes k h (absent-either (settingOf (getD lanes k none)) w here) in
+      record { low = omega arith; size = l .size; left = omega (arith, ap length e, l .left); same = ap (sets a p) (sym e) ∙ l .same }
+
+pub lay-all : (a₀ : List ℕ) (at : ℕ) (lanes : List plan.Lane) (a : List ℕ) (p k : ℕ) → Laying a₀ at lanes a p k → 64 ≤ k
+    → (a ≡ sets a₀ at (lanesBytes 0 (lanesOf lanes))) × (p ≡ at + length (lanesBytes 0 (lanesOf lanes)))
+lay-all a₀ at lanes a p k l h =
+    let e = lanes-none lanes k h in
+    (ap (sets a p) (sym e) ∙ l .same, omega (arith, l .left, ap length e))
+
+-- ---- the parts
+
+pub stored : (a : List ℕ) (h : ℕ) (gs : List Setting) (at : ℕ) → at ≡ 5 + framingSize h
+    → sets (sets (sets (sets a 0 (fieldBytes (Format 1))) 5 (framingBytes h)) at (lanesBytes 0 gs)) (at + length (lanesBytes 0 gs)) (fieldBytes End)
+    ≡ sets a 0 (bytesOf (setupFields (unlessZero h) (laneFields 0 gs)))
+stored a h gs at e =
+    let at-is : at ≡ 5 + length (framingBytes h) = omega (arith, e, framing-size h) in
+    sets-append (sets (sets a 0 (fieldBytes (Format 1))) 5 (framingBytes h)) at (lanesBytes 0 gs) (fieldBytes End)
+    ∙ ap (λ (i : ℕ). sets (sets (sets a 0 (fieldBytes (Format 1))) 5 (framingBytes h)) i (lanesBytes 0 gs ++ fieldBytes End)) at-is
+    ∙ sets-append (sets a 0 (fieldBytes (Format 1))) 5 (framingBytes h) (lanesBytes 0 gs ++ fieldBytes End)
+    ∙ sets-append a 0 (fieldBytes (Format 1)) (framingBytes h ++ (lanesBytes 0 gs ++ fieldBytes End))
+    ∙ ap (sets a 0) (sym (setup-parts h gs))
+
+pub stored-first : (a bs : List ℕ) (n : ℕ) → length bs ≡ n → n ≤ length a → sets a 0 bs ≡ bs ++ drop n a
+stored-first a bs n e h = sets-eq bs a 0 (omega (arith, e, h)) ∙ ap (λ (k : ℕ). bs ++ drop k a) (let q : 0 + length bs ≡ n = omega (arith, e) in q)
+
+-- ---- the promise, where the plan was tested and there is room
+
+pub written-all : (p : Planned) → Within p → (before after : List ℕ) (h n : ℕ) → h ≡ framingOf (p .lanes) → n ≡ sizeOf p → n ≤ length before
+    → after ≡ sets before 0 (bytesOf (setupFields (unlessZero h) (laneFields 0 (p .lanes)))) → Writes p before (Size n) after
+unfolding setupBytes
+written-all p w before after h n h-is n-is room e = record {
+  outside = λ o. absurd (o w);
+  short = λ _ l. absurd (omega (arith, l, n-is, room));
+  written = λ _ l. (ap size n-is, e ∙ ap (λ (x : ℕ). sets before 0 (bytesOf (setupFields (unlessZero x) (laneFields 0 (p .lanes))))) h-is ∙ stored-first before (setupBytes p) (sizeOf p) (size-is p w) l);
+}

@@ -1,0 +1,133 @@
+-- Writing a setup (document 02, f): the fields of a plan, and the promise of `write_setup`.
+--
+--   Planned      a plan as the promises speak of it; planned: that of the code's plan, its lanes by number
+--   Within       a plan within the numbers
+--   planFields   the fields of a plan, in order; setupBytes: their bytes; sizeOf: how many
+--   Writes       the promise: what is answered, and the buffer after it, for every plan and every buffer
+--
+-- Assumes nothing.
+use Prim.Native.Nat.{ℕ, zero, suc, _+_, _*_, _≤_, _<_}
+use mathlib.Core.Path.{_≡_}
+use mathlib.Core.Bool.{Bool, true, false}
+use mathlib.Core.Logic.{_⊎_}
+use mathlib.Core.List.{List, [], _∷_, _++_, map}
+use mathlib.Core.Option.{Option, some, none}
+use lib.Dec.{ltb, eqb}
+use lib.ListN.{length, drop}
+use Rattle.units.specs.Plain.{if_then_else_}
+use Rattle.rules.specs.State.{Setting, noSetting, settingAt}
+use Rattle.rules.specs.Setup.{InNumbers, Setup, framingOf}
+use Rattle.plan.specs.Read.{settings}
+use Rattle.plan.specs.Accepted.{framed, setupFields, present}
+use Rattle.plan.specs.declared.Plan.{Plan}
+use Rattle.plan.specs.declared.parse.Longest.the-variants.{Given}
+use Rattle.plan.specs.declared.parse.LaneField.{LaneField}
+use Rattle.plan.specs.declared.parse.SetupField.{SetupField}
+use Rattle.plan.specs.declared.parse.SetupField.the-variants.{Lane}
+use Rattle.plan_writer.specs.Format.{fieldBytes, bytesOf}
+use Rattle.plan_writer.specs.declared.Unwritten.{Unwritten}
+use Rattle.plan_writer.specs.declared.Unwritten.the-variants.{Outside, Short}
+use Rattle.plan_writer.specs.declared.Written.{Written}
+use Rattle.plan_writer.specs.declared.Written.the-variants.{Size, Refused}
+
+-- ---- plans
+
+-- A setting for each lane number, and how many lanes there are said to be.
+pub record Planned : Type 0 where
+  pub lanes : List Setting
+  pub count : ℕ
+
+-- The settings from lane k on, n of them.
+unfoldable pub numberedFrom : ℕ → ℕ → List Setting → List Setting
+numberedFrom k zero gs = []
+numberedFrom k (suc n) gs = settingAt gs k ∷ numberedFrom (suc k) n gs
+
+-- Lanes 0 to 63. These are the whole list where it has 64 elements, as a plan's array has.
+abbrev pub numbered : List Setting → List Setting
+numbered gs = numberedFrom 0 64 gs
+
+-- The code's plan.
+abbrev pub planned : Plan → Planned
+planned p = record { lanes = numbered (settings p); count = p .count }
+
+-- Within the numbers: the lanes are a setup of the rules (one to 64 of them, an absent one all zero, each weight, longest, the sum and the framing bytes in
+-- their numbers, one framing number for all), and the count is how many are there.
+pub record Within (p : Planned) : Type 0 where
+  pub setup : Setup (p .lanes)
+  pub count : present (p .lanes) ≡ p .count
+
+-- A lane of a plan: in the numbers, or not there and all zero.
+abbrev pub Either : Setting → Type 0
+Either g = InNumbers g ⊎ (g ≡ noSetting)
+
+-- The same on a line that has h framing bytes: a lane that is there has these.
+abbrev pub Fitting : ℕ → Setting → Type 0
+Fitting h g = (InNumbers g × (g .framing ≡ h)) ⊎ (g ≡ noSetting)
+
+-- A test tells whether something holds.
+pub record Tells (b : Bool) (P : Type 0) : Type 0 where
+  pub yes : b ≡ true → P
+  pub no : b ≡ false → P → ⊥
+
+-- ---- the fields of a plan
+
+-- The field of lane k: its longest is always written out.
+abbrev pub laneField : ℕ → Setting → LaneField
+laneField k g = record { lane = k; weight = g .weight; longest = Given (g .longest) }
+
+-- A field for each lane that is there; the first setting is that of lane k.
+unfoldable pub laneFields : ℕ → List Setting → List LaneField
+laneFields k [] = []
+laneFields k (g ∷ gs) = if ltb 0 (g .weight) then laneField k g ∷ laneFields (suc k) gs else laneFields (suc k) gs
+
+-- 0x11 is written where the number is not 0.
+abbrev pub unlessZero : ℕ → Option ℕ
+unlessZero h = if eqb h 0 then none else some h
+
+-- 0x01, 0x11 where there are framing bytes, a field for each lane, 0x7F.
+abbrev pub planFields : Planned → List SetupField
+planFields p = setupFields (unlessZero (framingOf (p .lanes))) (laneFields 0 (p .lanes))
+
+unfoldable pub setupBytes : Planned → List ℕ
+setupBytes p = bytesOf (planFields p)
+
+-- The bytes of parts of it, for the code that writes them.
+abbrev pub laneBytes : ℕ → Setting → List ℕ
+laneBytes k g = fieldBytes (Lane (laneField k g))
+
+abbrev pub lanesBytes : ℕ → List Setting → List ℕ
+lanesBytes k gs = bytesOf (map Lane (laneFields k gs))
+
+unfoldable pub framingBytes : ℕ → List ℕ
+framingBytes h = bytesOf (framed (unlessZero h))
+
+-- Four bytes for 0x11, where it stands.
+abbrev pub framingSize : ℕ → ℕ
+framingSize h = if eqb h 0 then 0 else 4
+
+-- Five bytes for 0x01, three for 0x7F, eight for each lane.
+abbrev pub sizeOf : Planned → ℕ
+sizeOf p = 8 + framingSize (framingOf (p .lanes)) + 8 * present (p .lanes)
+
+-- ---- the promise
+
+-- What writing answers: the exact size, or a refusal's number. These refusals have no place.
+pub data Reply : Type 0 where
+  size : ℕ → Reply
+  refused : ℕ → Reply
+
+abbrev pub number : Unwritten → ℕ
+number Outside = 55
+number Short = 56
+
+-- The code's answer.
+abbrev pub wrote : Written → Reply
+wrote (Size n) = size n
+wrote (Refused x) = refused (number x)
+
+-- A plan outside the numbers is refused by 55, whatever the buffer; one within them by 56 where the buffer is shorter than its exact size; the buffer stays
+-- for both. Else the answer is the size, the plan's bytes stand first in the buffer, and those past them stay.
+pub record Writes (p : Planned) (before : List ℕ) (answer : Written) (after : List ℕ) : Type 0 where
+  pub outside : (Within p → ⊥) → (wrote answer ≡ refused 55) × (after ≡ before)
+  pub short : Within p → length before < sizeOf p → (wrote answer ≡ refused 56) × (after ≡ before)
+  pub written : Within p → sizeOf p ≤ length before → (wrote answer ≡ size (sizeOf p)) × (after ≡ setupBytes p ++ drop (sizeOf p) before)

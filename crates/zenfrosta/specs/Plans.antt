@@ -1,0 +1,37 @@
+-- How the answers of the calls on plan areas cross to a host: a code, and four words in a lent buffer, as in Crossing.
+--
+--   readCode, readValues     of reading a setup: 0 or the refusal's number; the number of lanes, or the refusal's place
+--   writeCode, writeValues   of writing one: 0 or the refusal's number, which has no place; the size
+--   CrossesPlan              the promise of an exported call on a plan area
+--
+-- Assumes nothing.
+use Prim.Native.Nat.{ℕ, _≤_, _<_}
+use mathlib.Core.Path.{_≡_}
+use mathlib.Core.List.{List}
+use mathlib.Core.Option.{none}
+use lib.ListN.{length}
+use Rattle.plan_writer.specs.Write as write
+use Rattle.plan_area.specs.Step as area
+use Rattle.zenfrosta.specs.Crossing.{four, refusalWords, Spoken}
+use Rattle.zenfrosta.specs.declared.Four.{Four}
+
+abbrev pub readCode : area.Reply → ℕ
+readCode (area.lanes n) = 0
+readCode (area.refused n p) = n
+
+abbrev pub readValues : area.Reply → Four
+readValues (area.lanes n) = four n 0 0 0
+readValues (area.refused n p) = refusalWords p
+
+abbrev pub writeCode : write.Reply → ℕ
+writeCode (write.size n) = 0
+writeCode (write.refused n) = n
+
+abbrev pub writeValues : write.Reply → Four
+writeValues (write.size n) = four n 0 0 0
+writeValues (write.refused n) = refusalWords none
+
+-- A buffer shorter than 32 bytes gives 255, and nothing is done. Else the call is made, and its answer is told.
+pub record CrossesPlan {A B : Type 0} (plain : A → B) (code : B → ℕ) (values : B → Four) (Call : A → Type 0) (same : Type 0) (out : List ℕ) (r : ℕ) (out′ : List ℕ) : Type 0 where
+  pub short : length out < 32 → (r ≡ 255) × same × (out′ ≡ out)
+  pub told : 32 ≤ length out → (a : A) × Call a × (r ≡ code (plain a)) × Spoken out (values (plain a)) out′

@@ -1,0 +1,83 @@
+//! Plans: what is read, what is written, and what is refused.
+
+use zenfrosta::*;
+
+const SETUP: &[u8] = b"\x01\0\x02\0\x01\x10\0\x05\0\x02\0\x05\xDC\x10\0\x05\x01\x01\0\x05\xDC\x7F\0\0";
+
+fn lane(weight: u16, longest: u16) -> Option<PlanLane> {
+    Some(PlanLane { weight, longest })
+}
+
+fn outside(plan: &Plan) {
+    assert_eq!(plan.to_setup(), Err(Refusal { number: 55, place: None }));
+}
+
+#[test]
+fn the_size_is_the_library_s() {
+    assert_eq!(plan_size(), PLAN_SIZE as u64);
+}
+
+#[test]
+fn a_setup_in_the_form_is_given_back() {
+    let plan = Plan::from_setup(SETUP).unwrap();
+    assert_eq!((plan.format, plan.framing), (1, 0));
+    assert_eq!(plan.lanes[..3], [lane(512, 1500), lane(256, 1500), None]);
+    assert_eq!(plan.to_setup().unwrap(), SETUP);
+}
+
+#[test]
+fn another_form_is_written_in_the_form() {
+    let short = b"\x01\0\x02\0\x01\x11\0\x01\0\x10\0\x03\x07\x04\0\x7F\0\0";
+    let plan = Plan::from_setup(short).unwrap();
+    assert_eq!(plan.lanes[7], lane(1024, 1500));
+    let written = plan.to_setup().unwrap();
+    assert_eq!(written, b"\x01\0\x02\0\x01\x10\0\x05\x07\x04\0\x05\xDC\x7F\0\0");
+    assert_eq!(Plan::from_setup(&written), Ok(plan));
+}
+
+#[test]
+fn refusals_of_reading_have_their_places() {
+    assert_eq!(Plan::from_setup(b""), Err(Refusal { number: 1, place: Some(0) }));
+    assert_eq!(Plan::from_setup(b"\x01\0\x02\0\x07"), Err(Refusal { number: 50, place: Some(3) }));
+}
+
+#[test]
+fn plans_outside_the_numbers() {
+    let right = Plan::from_setup(SETUP).unwrap();
+    outside(&Plan::new());
+    for wrong in
+        [lane(0, 0), lane(0, 64), lane(1025, 64), lane(1, 63), lane(1, 1501), lane(257, 64), lane(1, 0)]
+    {
+        let mut plan = right.clone();
+        plan.lanes[63] = wrong;
+        outside(&plan);
+    }
+    let mut plan = right.clone();
+    plan.framing = 65;
+    outside(&plan);
+    plan.framing = 64;
+    assert_eq!(plan.to_setup().map(|setup| setup.len()), Ok(28));
+    plan.format = 3;
+    outside(&plan);
+    plan.format = 0;
+    outside(&plan);
+}
+
+#[test]
+fn buffers() {
+    let plan = Plan::from_setup(SETUP).unwrap();
+    let mut buffer = [0xEE; 26];
+    assert_eq!(plan.write_setup(&mut buffer[..23]), Err(Refusal { number: 56, place: None }));
+    assert_eq!(buffer, [0xEE; 26]);
+    assert_eq!(plan.write_setup(&mut buffer), Ok(24));
+    assert_eq!(buffer[..24], *SETUP);
+    assert_eq!(buffer[24..], [0xEE; 2]);
+}
+
+#[test]
+fn the_greatest() {
+    let plan = Plan { framing: 64, lanes: [lane(16, 1500); 64], ..Plan::new() };
+    let setup = plan.to_setup().unwrap();
+    assert_eq!(setup.len(), SETUP_MOST);
+    assert_eq!(Plan::from_setup(&setup), Ok(plan));
+}
