@@ -51,7 +51,7 @@ extern "C" {
 #define ZF_STILL_HOLDS 15    /* restart while a record is held */
 #define ZF_NOTHING_HELD 16   /* take or look with nothing held */
 #define ZF_RUN_BOUNDS 17     /* a run's limit over 1,000, or its answer area too short */
-#define ZF_BAD_FORMAT 50     /* the setup's format is not 1; place: the format's first byte */
+#define ZF_BAD_FORMAT 50     /* the setup's format is neither 1 nor 2; place: the format's first byte */
 #define ZF_BAD_LANE 51       /* a lane number over 63 in the setup; place: the lane number */
 #define ZF_BAD_WEIGHT 52     /* a weight that is not 1 to 1,024; place: the weight's first byte */
 #define ZF_BAD_LONGEST 53    /* a longest that is not 64 to 1,500; place: the longest's first byte */
@@ -101,7 +101,7 @@ uint64_t zf_run(const uint8_t *session, size_t session_length, uint64_t limit, u
  *   word lane + 1   weight + 2^16 longest of that lane; 0: there is no such lane
  *
  * The host may write any words into it, by the helpers below or by itself. Whether they are a plan within the numbers is tested by zf_setup_write:
- * format 1; framing 0 to 64; one lane or more; each weight 1 to 1,024 and longest 64 to 1,500; weights that sum to at most 1,024. Bytes past the
+ * format 1 or 2; framing 0 to 64; one lane or more; each weight 1 to 1,024 and longest 64 to 1,500; weights that sum to at most 1,024. Bytes past the
  * size are never touched. An area is meant for between calls: keep the setup, not the area.
  */
 
@@ -109,8 +109,9 @@ uint64_t zf_run(const uint8_t *session, size_t session_length, uint64_t limit, u
 #define ZF_PLAN_SIZE 520
 #define ZF_SETUP_MOST 524
 
-/* The format of a new plan. */
-#define ZF_PLAN_FORMAT 1
+/* The format of a new plan. Formats differ in what a longest that is left out of a setup means: 1,500 bytes in format 1, 576 in format 2. A plan
+ * that was read keeps its format, and is written with it; its longest records are always written out. */
+#define ZF_PLAN_FORMAT 2
 
 /* Refusals of writing, in this order; neither has a place. */
 #define ZF_PLAN_OUTSIDE 55 /* the area is no plan within the numbers, or shorter than ZF_PLAN_SIZE */

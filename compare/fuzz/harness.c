@@ -1,4 +1,4 @@
-/* A fuzz target over the public calls, the run and the desk's board, through the static library as hosts link it.
+/* A fuzz target over the public calls, the run, the desk's board and plans, through the static library as hosts link it.
  *
  * The library's own code is not instrumented, so the lent areas lie in pages of their own: an area ends where a page begins that cannot be touched, or
  * begins where one ends. A read or a write one byte outside stops the run. Areas that a call only reads are write-protected while it runs.
@@ -9,6 +9,7 @@
  *   2  a table that is the rest, over and over, then the calls
  *   3  a session for zf_run, then the calls on what it left
  *   4  the desk's board: one made by calls, or bytes, changed byte by byte (three bytes: the line, the byte and how), then its calls
+ *   8  plans: a setup that is read into a plan area and written back, or an area that is filled word by word (four bytes: the word, how, and a number)
  */
 #define _GNU_SOURCE
 #include <stdio.h>
@@ -160,6 +161,11 @@ static void calls(const uint8_t *data, size_t size, int at_end) {
   }
 }
 
+/* A result of reading a setup: done, or one of its refusals. */
+static int of_setup(uint64_t result) {
+  return result <= ZF_OUT_OF_ORDER || result == ZF_WEIGHTS_OVER || (result >= ZF_BAD_FORMAT && result <= ZF_BAD_FRAMING);
+}
+
 /* A table's length: whole, longer, a byte short, or short. */
 static size_t table_length(uint8_t choice) {
   switch (choice & 7) {
@@ -183,7 +189,7 @@ static void make(const uint8_t *data, size_t size, uint8_t choice, int at_end) {
   beside(&input);
   beside(&table);
   beside(&out);
-  check(result <= ZF_TABLE_SHORT, "a result that making does not give");
+  check(of_setup(result) || result == ZF_TABLE_SHORT, "a result that making does not give");
   check(result == ZF_DONE || memcmp(before, table.at, table.length) == 0, "a refused making wrote the table");
   check(result != ZF_DONE || (word(0) >= 1 && word(0) <= 64), "a number of lanes");
   check(word(1) == (result != ZF_DONE), "a refused making has a place, and says so");
@@ -215,7 +221,7 @@ static void run(const uint8_t *data, size_t size, const uint8_t *choice, int at_
   beside(&table);
   beside(&answers);
   beside(&out);
-  check(result <= ZF_TABLE_SHORT || result == ZF_RUN_BOUNDS, "a result that a run does not give");
+  check(of_setup(result) || result == ZF_TABLE_SHORT || result == ZF_RUN_BOUNDS, "a result that a run does not give");
   check(answered <= limit && answered <= ZF_MOST_REQUESTS, "more requests than the limit");
   check((why == ZF_STOP_REFUSAL || why == ZF_STOP_AT_PLACE) == (result != ZF_DONE), "why it stopped");
   check((why == ZF_STOP_REFUSAL) == (result == ZF_RUN_BOUNDS), "17 alone has no place");
@@ -363,6 +369,83 @@ static void boards(const uint8_t *data, size_t size, const uint8_t *choice, int 
   }
 }
 
+/* ---- plans: the area is that of a table, the setup is written into that of the answers */
+
+/* Reads the setup that is lent into the area that is lent. */
+static uint64_t read_plan(void) {
+  lend(&out, ZF_OUT_SIZE, 1);
+  memcpy(before, table.at, table.length);
+  only_reading(&input, 1);
+  uint64_t result = zf_setup_read(input.at, input.length, table.at, table.length, out.at, out.length);
+  only_reading(&input, 0);
+  saw(50, result);
+  saw(51, word(0));
+  beside(&input);
+  beside(&table);
+  beside(&out);
+  check(of_setup(result) || result == ZF_TABLE_SHORT, "a result that reading does not give");
+  check((table.length < ZF_PLAN_SIZE) == (result == ZF_TABLE_SHORT), "7 is for short areas");
+  check(result == ZF_DONE || memcmp(before, table.at, table.length) == 0, "a refused reading wrote the area");
+  check(word(1) == (result != ZF_DONE), "a refused reading has a place, and says so");
+  check(result != ZF_DONE || (word(0) >= 1 && word(0) <= 64), "a number of lanes");
+  if (table.length > ZF_PLAN_SIZE)
+    check(memcmp(before + ZF_PLAN_SIZE, table.at + ZF_PLAN_SIZE, table.length - ZF_PLAN_SIZE) == 0, "bytes past the area were written");
+  return result;
+}
+
+/* Writes the plan of the area that is lent into a buffer of this length. */
+static uint64_t write_plan(size_t length, int at_end) {
+  lend(&answers, length, at_end);
+  lend(&out, ZF_OUT_SIZE, at_end);
+  only_reading(&table, 1);
+  uint64_t result = zf_setup_write(table.at, table.length, answers.at, answers.length, out.at, out.length);
+  only_reading(&table, 0);
+  saw(52, result);
+  beside(&table);
+  beside(&answers);
+  beside(&out);
+  size_t size = result == ZF_DONE ? (size_t)word(0) : 0;
+  check(result == ZF_DONE || result == ZF_PLAN_OUTSIDE || result == ZF_SETUP_SHORT, "a result that writing does not give");
+  check(size <= length && size <= ZF_SETUP_MOST && word(1) == 0 && word(2) == 0 && word(3) == 0, "the words of writing");
+  check(memcmp(answers.at + size, fill, length - size) == 0, "bytes past the setup were written");
+  check(table.length >= ZF_PLAN_SIZE || result == ZF_PLAN_OUTSIDE, "a short area is no plan");
+  return result;
+}
+
+static void plans(const uint8_t *data, size_t size, const uint8_t *choice, int at_end) {
+  static const uint8_t more[] = {0, 0, 1, 9, 40};
+  size_t length = choice[0] & 128 ? ZF_PLAN_SIZE - 1 - 8 * (size_t)(choice[0] & 63) : ZF_PLAN_SIZE + more[choice[0] % sizeof more];
+  lend(&table, length, at_end);
+  if (choice[1] & 1) {
+    memcpy(lend(&input, size, at_end), data, size);
+    if (read_plan() != ZF_DONE) return;
+  } else if (length >= ZF_PLAN_SIZE) {
+    zf_plan_new(table.at);
+    for (size_t i = 0; i + 4 <= size && i < 4 * 80; i += 4) {
+      size_t at = data[i] % 65u;
+      uint64_t number = (uint64_t)data[i + 2] << 8 | data[i + 3];
+      switch (data[i + 1] & 3) {
+        case 0: zf_plan_set_lane(table.at, data[i], data[i + 1] >> 2, (uint16_t)number); break;
+        case 1: zf_plan_set_word(table.at, at, zf_plan_word(table.at, at) ^ 1ull << (data[i + 2] & 63)); break;
+        case 2: zf_plan_set_framing(table.at, data[i + 2]); break;
+        default: zf_plan_set_word(table.at, at, number << (data[i + 1] >> 2)); break;
+      }
+    }
+  }
+  uint64_t result = write_plan(choice[2] & 1 ? ZF_SETUP_MOST : choice[2] * 2u, at_end);
+  if (result == ZF_SETUP_SHORT) result = write_plan(ZF_SETUP_MOST, at_end);
+  if (choice[1] & 1) check(result == ZF_DONE, "a plan that was read is written");
+  if (result != ZF_DONE) return;
+  /* What was written is read as the same words, and is exactly as long as is needed. */
+  size_t exact = (size_t)word(0);
+  static uint8_t kept[ZF_PLAN_SIZE];
+  memcpy(kept, table.at, ZF_PLAN_SIZE);
+  memcpy(lend(&input, exact, at_end), answers.at, exact);
+  check(write_plan(exact - 1, at_end) == ZF_SETUP_SHORT, "a byte less is too short");
+  check(write_plan(exact, at_end) == ZF_DONE && memcmp(answers.at, input.at, exact) == 0, "the same plan has the same bytes");
+  check(read_plan() == ZF_DONE && memcmp(kept, table.at, ZF_PLAN_SIZE) == 0, "what was written is read as the same plan");
+}
+
 /* 50 trains, some of them gone, some cleared. */
 static void make_sample_board(void) {
   uint8_t answer[ZF_OUT_SIZE], field[ZF_RECORD_SIZE] = {ZF_RECORD_TAG, 0, 11};
@@ -388,6 +471,7 @@ int LLVMFuzzerInitialize(int *argc, char ***argv) {
   (void)argv;
   check(zf_table_size() == ZF_TABLE_SIZE, "the table's size");
   check(zf_board_size() == ZF_BOARD_SIZE, "the board's size");
+  check(zf_plan_size() == ZF_PLAN_SIZE, "a plan area's size");
   memset(fill, FILL, sizeof fill);
   reserve(&input, MOST_INPUT + WATCHED);
   reserve(&table, 1 << 16);
@@ -404,6 +488,10 @@ int LLVMFuzzerTestOneInput(const uint8_t *data, size_t size) {
   int at_end = (choice[3] & 1) == 0;
   const uint8_t *rest = data + 5;
   size_t left = size - 5;
+  if (data[0] & 8) {
+    plans(rest, left, choice, at_end);
+    return 0;
+  }
   if (data[0] & 4) {
     boards(rest, left, choice, at_end);
     return 0;

@@ -10,8 +10,17 @@ pub const WEIGHT: RangeInclusive<u16> = 1..=1_024;
 pub const WEIGHT_SUM: u32 = 1_024;
 /// "Longest record of a lane: 64 to 1,500 bytes."
 pub const LONGEST: RangeInclusive<u16> = 64..=1_500;
-/// "A lane field of length 3 has no longest and means 1,500."
-pub const LONGEST_UNSAID: u16 = 1_500;
+/// Format 1, and format 2 of document 02, j.
+pub const FORMATS: RangeInclusive<u16> = 1..=2;
+
+/// What a lane field of length 3 means, by the setup's format.
+pub fn longest_unsaid(format: u16) -> u16 {
+    match format {
+        2 => 576,
+        _ => 1_500,
+    }
+}
+
 /// "Each lane holds at most 16 records".
 pub const DEPTH: usize = 16;
 

@@ -238,7 +238,8 @@ impl State {
             return Err(refusal::STILL_HELD);
         }
         let lanes = self.lanes.iter().map(|lane| lane.plan).collect();
-        *self = State::fresh(&Setup { framing: self.framing, lanes });
+        // A table has no format, and none is asked of it: each lane's longest is there.
+        *self = State::fresh(&Setup { format: *FORMATS.end(), framing: self.framing, lanes });
         Ok(())
     }
 

@@ -1,5 +1,5 @@
 //! "Setup: 0x01 (format, u16 = 1) first and once; one or more 0x10 (lane u8, weight u16, longest u16) with rising
-//! lane numbers; 0x7F, empty." And "field 0x11 (u8, 0 to 64) directly after 0x01; absent means 0" (document 02, d).
+//! lane numbers; 0x7F, empty." And "field 0x11 (u8, 0 to 64) directly after 0x01; absent means 0" (document 02, d), and format 2 (j).
 
 use crate::fields::{field, Fault, Field, Part};
 use crate::numbers::{refusal, *};
@@ -21,6 +21,8 @@ pub struct LanePlan {
 /// What a setup says, lanes by rising number.
 #[derive(Clone, Debug, PartialEq, Eq)]
 pub struct Setup {
+    /// It says what a longest that is left out means, and no table has it.
+    pub format: u16,
     /// h: the framing bytes that each record is charged beside its length.
     pub framing: u8,
     pub lanes: Vec<LanePlan>,
@@ -37,6 +39,7 @@ pub fn whole(input: &[u8]) -> Result<Setup, Fault> {
 
 /// The setup at the input's start, and where it ends. "In a session the setup's 0x7F does not close the input."
 pub fn read(input: &[u8]) -> Result<(Setup, usize), Fault> {
+    let mut format = 0;
     let mut framing = 0;
     let mut lanes: Vec<LanePlan> = Vec::new();
     let mut place = 0;
@@ -52,28 +55,32 @@ pub fn read(input: &[u8]) -> Result<(Setup, usize), Fault> {
             return Err(field.fault(refusal::ORDER));
         }
         match field.tag {
-            FORMAT if field.value != [0, 1] => return Err(field.fault_in_value(refusal::FORMAT, 0)),
-            FORMAT => {}
+            FORMAT => {
+                format = u16::from_be_bytes([field.value[0], field.value[1]]);
+                if !FORMATS.contains(&format) {
+                    return Err(field.fault_in_value(refusal::FORMAT, 0));
+                }
+            }
             FRAMED if !FRAMING.contains(&field.value[0]) => {
                 return Err(field.fault_in_value(refusal::FRAMING, 0));
             }
             FRAMED => framing = field.value[0],
-            LANE => lanes.push(lane(&field, &lanes)?),
+            LANE => lanes.push(lane(format, &field, &lanes)?),
             _ if lanes.is_empty() => return Err(field.fault(refusal::ORDER)),
-            _ => return Ok((Setup { framing, lanes }, field.next)),
+            _ => return Ok((Setup { format, framing, lanes }, field.next)),
         }
         place = field.next;
         before = Some(field.tag);
     }
 }
 
-/// One lane field after `before`: 4 at the tag, then each number at its own first byte, then 6 at the weight.
-fn lane(field: &Field, before: &[LanePlan]) -> Result<LanePlan, Fault> {
+/// One lane field of a setup of this format, after `before`: 4 at the tag, then each number at its own first byte, then 6 at the weight.
+fn lane(format: u16, field: &Field, before: &[LanePlan]) -> Result<LanePlan, Fault> {
     let number = field.value[0];
     let weight = u16::from_be_bytes([field.value[1], field.value[2]]);
     let longest = match field.value[3..] {
         [high, low] => u16::from_be_bytes([high, low]),
-        _ => LONGEST_UNSAID,
+        _ => longest_unsaid(format),
     };
     if before.last().is_some_and(|last| number <= last.number) {
         return Err(field.fault(refusal::ORDER));

@@ -36,7 +36,7 @@ fn the_form() {
 
 #[test]
 fn edges_of_the_numbers() {
-    let right = Setup { framing: 64, lanes: vec![lane(0, 1, 64), lane(63, 1_023, 1_500)] };
+    let right = Setup { format: 2, framing: 64, lanes: vec![lane(0, 1, 64), lane(63, 1_023, 1_500)] };
     let mut area = vec![0; SIZE];
     lay(&right, &mut area);
     assert_eq!(plan(&area), Some(right.clone()));
@@ -47,9 +47,11 @@ fn edges_of_the_numbers() {
         plan(&other)
     };
     for (at, word) in [
-        (0, 2 + (64 << 16)),
-        (0, 1 + (65 << 16)),
-        (0, 1 + (1 << 40)),
+        (0, 3 + (64 << 16)),
+        (0, 64 << 16),
+        (0, 0x102 + (64 << 16)),
+        (0, 2 + (65 << 16)),
+        (0, 2 + (1 << 40)),
         (1, 0x40_0000),
         (1, 1 + (63 << 16)),
         (1, 2 + (64 << 16)),
@@ -61,6 +63,7 @@ fn edges_of_the_numbers() {
         assert_eq!(with(at, word), None, "word {at} is {word}");
     }
     assert!(with(1, 0).is_some());
+    assert!(with(0, 1 + (64 << 16)).is_some(), "format 1");
     assert_eq!(plan(&area[..SIZE - 1]), None);
     assert_eq!(plan(&vec![0; SIZE]), None, "no lane");
 }

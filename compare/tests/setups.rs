@@ -21,6 +21,9 @@ fn accepted(fields: &[&[u8]]) -> Vec<(u8, u16, u16)> {
 fn lanes_as_said_and_the_longest_unsaid() {
     let read = accepted(&[FORMAT, &short_lane(3, 7), &lane(63, 1_017, 64), END]);
     assert_eq!(read, [(3, 7, 1_500), (63, 1_017, 64)]);
+    let second: &[u8] = &[0x01, 0, 2, 0, 2];
+    let read = accepted(&[second, &short_lane(3, 7), &lane(63, 1_017, 64), END]);
+    assert_eq!(read, [(3, 7, 576), (63, 1_017, 64)], "format 2");
     let all: Vec<u8> = (0..64).flat_map(|number| lane(number, 16, 1_500)).collect();
     assert_eq!(accepted(&[FORMAT, &all, END]).len(), 64);
 }
@@ -98,9 +101,10 @@ fn a_byte_after_the_setup_is_left_to_the_session() {
 fn values() {
     // At the first byte of the wrong number: the format's at 3, a lane field's at 8, 9 and 11.
     assert_eq!(refused(&[&[0x01, 0, 2, 0, 0]]), (50, 3));
-    assert_eq!(refused(&[&[0x01, 0, 2, 0, 2]]), (50, 3), "the high byte, though the low one is wrong");
+    assert_eq!(refused(&[&[0x01, 0, 2, 0, 3]]), (50, 3), "the high byte, though the low one is wrong");
     assert_eq!(refused(&[&[0x01, 0, 2, 1, 1]]), (50, 3));
-    assert_eq!(refused(&[&[0x01, 0, 2, 0, 2], &lane(64, 0, 0)]), (50, 3), "the first faulty field");
+    assert_eq!(refused(&[&[0x01, 0, 2, 1, 2]]), (50, 3), "both bytes are looked at");
+    assert_eq!(refused(&[&[0x01, 0, 2, 0, 3], &lane(64, 0, 0)]), (50, 3), "the first faulty field");
     for number in [64, 65, 255] {
         assert_eq!(refused(&[FORMAT, &lane(number, 1, 64), END]), (51, 8));
         assert_eq!(refused(&[FORMAT, &short_lane(number, 1), END]), (51, 8));

@@ -2,7 +2,7 @@
 """Writes the vectors of plan_vectors (stdin) and the lines that are expected of them (stdout), in the folder that this file stands in.
 
 The expected lines are worked here from document 01 alone, "Setup and session fields", "Numbers" and "Numbers given back", and from requests d
-(framing) and e (the numbers and the places of a field's faults) of document 02; nothing here runs, reads or was copied from the program. Run it after
+(framing), e (the numbers and the places of a field's faults) and j (format 2 and its default) of document 02; nothing here runs, reads or was copied from the program. Run it after
 a change of the rules, and compare what changed in stdout line by line.
 """
 import itertools
@@ -14,7 +14,7 @@ LANES = range(0, 64)
 WEIGHTS = range(1, 1024 + 1)
 LONGEST = range(64, 1500 + 1)
 MOST_WEIGHT = 1024
-DEFAULT_LONGEST = 1500
+DEFAULT_LONGEST = {1: 1500, 2: 576}
 FRAMING = range(0, 64 + 1)
 LENGTHS = {0x01: [2], 0x10: [3, 5], 0x11: [1], 0x7F: [0]}
 
@@ -29,8 +29,9 @@ def u16(octets):
 
 
 def read(data, place):
-    """The setup that stands at a place: its lanes in the order of their fields, and the place after its 0x7F."""
+    """The setup that stands at a place: its format, its lanes in the order of their fields, and the place after its 0x7F."""
     lanes = []
+    form = None
     first = True
     framing = 0
     before = None
@@ -60,11 +61,13 @@ def read(data, place):
         # 50 to 54, each at the first byte of its number, then 6 at the weight
         if tag == 0x11 and value[0] not in FRAMING:
             raise No(54, place + 3)
-        if tag == 0x01 and u16(value) != 1:
-            raise No(50, place + 3)
+        if tag == 0x01:
+            form = u16(value)
+            if form not in DEFAULT_LONGEST:
+                raise No(50, place + 3)
         if tag == 0x10:
             lane, weight = value[0], u16(value[1:3])
-            longest = u16(value[3:5]) if length == 5 else DEFAULT_LONGEST
+            longest = u16(value[3:5]) if length == 5 else DEFAULT_LONGEST[form]
             if lane not in LANES:
                 raise No(51, place + 3)
             if weight not in WEIGHTS:
@@ -80,22 +83,22 @@ def read(data, place):
         before = tag
         place += 3 + length
         if tag == 0x7F:
-            return lanes, place
+            return form, lanes, place
 
 
 def whole(data):
-    lanes, place = read(data, 0)
+    form, lanes, place = read(data, 0)
     if place < len(data):
         raise No(4, place)
-    return lanes, place
+    return form, lanes, place
 
 
 def line_of(reader, *args):
     try:
-        lanes, place = reader(*args)
+        form, lanes, place = reader(*args)
     except No as no:
         return 'no %d %d' % no.args
-    return 'lanes %d to %d,%s' % (len(lanes), place, ''.join(' %d/%d/%d/%d' % lane for lane in lanes))
+    return 'format %d, lanes %d to %d,%s' % (form, len(lanes), place, ''.join(' %d/%d/%d/%d' % lane for lane in lanes))
 
 
 # ---- building inputs
@@ -146,8 +149,26 @@ for w in (0, 1, 2, 255, 256, 1023, 1024, 1025, 1280, 65535):
     setup('weight %d, no longest' % w, lane(0, w))
 for n in (0, 1, 63, 64, 65, 255, 256, 1499, 1500, 1501, 65535):
     setup('longest %d' % n, lane(0, 1, n))
-for v in (0, 1, 2, 256, 257, 65535):
+for v in (0, 1, 2, 3, 255, 256, 257, 258, 512, 513, 514, 65535):
     add('format %d' % v, field(0x01, number(v)) + lane(0, 1) + END)
+# short and long fields, side by side in one setup, in both formats
+for v in (1, 2):
+    form = field(0x01, number(v))
+    add('format %d, every longest left out' % v, form + b''.join(lane(k, 16) for k in range(64)) + END)
+    add('format %d, every longest given' % v, form + b''.join(lane(k, 16, 64 + k) for k in range(64)) + END)
+    add('format %d, both lengths' % v, form + lane(2, 10, 100) + lane(7, 20) + lane(31, 30, 1500) + lane(63, 40) + END)
+    add('format %d, framing, both lengths' % v, form + framing(20) + lane(0, 1) + lane(1, 1, 576) + lane(2, 1, 1500) + END)
+    for n in (63, 64, 575, 576, 577, 1500, 1501):
+        add('format %d, longest %d beside a short field' % (v, n), form + lane(0, 1, n) + lane(1, 1) + END)
+    for w in (0, 1024, 1025):
+        add('format %d, weight %d, no longest' % (v, w), form + lane(9, w) + END)
+    add('format %d, and no lane' % v, form + END)
+    add('format %d twice' % v, form + form + lane(0, 1) + END)
+    add('format 1 after format %d' % v, form + FORMAT + lane(0, 1) + END)
+    add('format %d after a lane' % v, FORMAT + lane(0, 1) + form + END)
+    add('format %d in one byte' % v, field(0x01, bytes([v])) + lane(0, 1) + END)
+    add('format %d cut' % v, form[:-1])
+    add('format %d in a longer input' % v, b'\x01\x02\x03' + form + lane(0, 1) + END + b'\x21', 3)
 
 for h in (0, 1, 20, 63, 64, 65, 128, 255):
     setup('framing %d' % h, framing(h), lane(0, 512, 64), lane(63, 1))
@@ -162,7 +183,7 @@ for h in (0, 1, 20, 63, 64, 65, 128, 255):
     add('framing %d after 0x7F' % h, FORMAT + lane(0, 1) + END + framing(h))
     add('framing %d cut in its value' % h, FORMAT + framing(h)[:-1])
     add('framing %d cut in its header' % h, FORMAT + framing(h)[:2])
-    add('format 2, then framing %d' % h, field(0x01, number(2)) + framing(h) + lane(0, 1) + END)
+    add('format 3, then framing %d' % h, field(0x01, number(3)) + framing(h) + lane(0, 1) + END)
 setup('no framing: the same plan as framing 0', lane(0, 512, 64), lane(63, 1))
 for length in (0, 2, 3, 255, 256, 257):
     setup('framing of length %d' % length, field(0x11, bytes(min(length, 3)), length), lane(0, 1))
@@ -240,7 +261,7 @@ for pair in itertools.combinations(PAIRS, 2):
     if 'longest' not in pair:
         setup('two faults, no longest: ' + ', '.join(pair), lane(5, 1000, 64), lane(k, w))
 # a number that is off in its low byte alone, or in its high byte alone: the place is that of its first byte
-for v in (0, 2, 257):
+for v in (0, 3, 257, 258):
     add('format %d, at its first byte' % v, field(0x01, number(v)) + END)
 for w in (0, 1025, 2048):
     setup('weight %d, at its first byte' % w, lane(9, w, 64))
@@ -248,7 +269,7 @@ for n in (63, 1501, 1756):
     setup('longest %d, at its first byte' % n, lane(9, 1, n))
 # 0x01: again, with another format, cut
 for again, other, cut in itertools.product((False, True), repeat=3):
-    f = field(0x01, number(2 if other else 1))
+    f = field(0x01, number(3 if other else 1))
     data = (FORMAT + lane(0, 1) if again else b'') + (f[:-1] if cut else f)
     add('0x01: again %d, other format %d, cut %d' % (again, other, cut), data)
 # two fields, each with a fault: the first decides, in both orders

@@ -47,11 +47,13 @@ def read_setup(data):
             framing = value[0]
             if framing > 64:
                 raise No(54, place + 3)
-        if tag == 0x01 and u16(value) != 1:
-            raise No(50, place + 3)
+        if tag == 0x01:
+            form = u16(value)
+            if form not in (1, 2):
+                raise No(50, place + 3)
         if tag == 0x10:
             lane, weight = value[0], u16(value[1:3])
-            longest = u16(value[3:5]) if length == 5 else 1500
+            longest = u16(value[3:5]) if length == 5 else {1: 1500, 2: 576}[form]
             if lane > 63:
                 raise No(51, place + 3)
             if not 1 <= weight <= 1024:
@@ -284,9 +286,13 @@ def inputs():
         add(SESSION[:n])
         add(SESSION[:n] + b'\x7f')
     # refused setups
-    for data in (b'\2\0\0', field(0x10, b'\0\0\1\0\x40') + END, field(1, b'\0\1\0'), field(1, b'\0\2') + END, setup((0, 0, 64)), setup((0, 1, 63)),
+    for data in (b'\2\0\0', field(0x10, b'\0\0\1\0\x40') + END, field(1, b'\0\1\0'), field(1, b'\0\3') + END, setup((0, 0, 64)), setup((0, 1, 63)),
                  setup((0, 1025, 64)), setup((64, 1, 64)), setup((3, 5, 64), (3, 5, 64)), setup((0, 1000, 64), (1, 25, 64)), setup(), field(1, b'\0\1') * 2):
         add(data + SESSION)
+    # a longest that is left out, in both formats: 12 at its edge, and the sets by its group
+    for form in (b'\0\1', b'\0\2', b'\1\1', b'\1\2'):
+        short = field(0x01, form) + field(0x10, b'\5\0\1') + field(0x10, b'\7\1\0\0\x40') + END
+        add(short + put(5, 1, 576) + put(5, 2, 577) + put(5, 3, 1500) + put(5, 4, 1501) + put(7, 5, 64) + SETS + lag(5) + 4 * TAKE + END)
     # tags and lengths among the requests
     for tag in range(256):
         if tag % 16 == 0 or tag < 0x30 or tag == 0x7E:

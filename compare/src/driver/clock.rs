@@ -13,7 +13,7 @@ use crate::unit::Unit;
 
 /// The setup of the drive.
 pub fn setup() -> Setup {
-    Setup { framing: 0, lanes: vec![LanePlan { number: 0, weight: 1, longest: 1_500 }] }
+    Setup { format: 1, framing: 0, lanes: vec![LanePlan { number: 0, weight: 1, longest: 1_500 }] }
 }
 
 /// Runs at most `pairs` pairs from a fresh table; true if 14 was reached.

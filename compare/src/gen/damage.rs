@@ -153,7 +153,7 @@ pub fn bytes(rng: &mut Rng, bytes: &mut Vec<u8>) {
 
 /// Bytes with no plan; some begin as a setup does.
 pub fn noise(rng: &mut Rng) -> Vec<u8> {
-    let mut bytes = if rng.once_in(2) { vec![setup::FORMAT, 0, 2, 0, 1] } else { vec![] };
+    let mut bytes = if rng.once_in(2) { vec![setup::FORMAT, 0, 2, 0, rng.pick(&[1, 2])] } else { vec![] };
     for _ in 0..rng.index(40) {
         match rng.below(3) {
             0 => bytes.push(rng.byte()),

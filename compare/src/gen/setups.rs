@@ -20,7 +20,7 @@ const FLAVOURS: &[fn(&mut Rng) -> Setup] = &[
 
 pub fn setup(rng: &mut Rng) -> Setup {
     let flavour = rng.pick(FLAVOURS);
-    Setup { framing: framing(rng), ..flavour(rng) }
+    Setup { format: rng.between(1, 2) as u16, framing: framing(rng), ..flavour(rng) }
 }
 
 fn framing(rng: &mut Rng) -> u8 {
@@ -31,20 +31,21 @@ fn framing(rng: &mut Rng) -> u8 {
     }
 }
 
-/// The setup's bytes; a longest of 1,500 and a framing number of 0 are left unsaid now and then.
+/// The setup's bytes; a longest that is the format's own and a framing number of 0 are left unsaid now and then.
 pub fn bytes(rng: &mut Rng, setup: &Setup) -> Vec<u8> {
     fields(rng, setup).concat()
 }
 
 pub fn fields(rng: &mut Rng, setup: &Setup) -> Vec<Vec<u8>> {
-    let mut fields = vec![vec![FORMAT, 0, 2, 0, 1]];
+    let [high, low] = setup.format.to_be_bytes();
+    let mut fields = vec![vec![FORMAT, 0, 2, high, low]];
     if setup.framing != 0 || rng.once_in(4) {
         fields.push(vec![FRAMED, 0, 1, setup.framing]);
     }
     for plan in &setup.lanes {
         let [w1, w0] = plan.weight.to_be_bytes();
         let [l1, l0] = plan.longest.to_be_bytes();
-        let unsaid = plan.longest == LONGEST_UNSAID && rng.once_in(2);
+        let unsaid = plan.longest == longest_unsaid(setup.format) && rng.once_in(2);
         fields.push(if unsaid {
             vec![LANE, 0, 3, plan.number, w1, w0]
         } else {
@@ -69,7 +70,7 @@ fn longest(rng: &mut Rng) -> u16 {
     match rng.below(6) {
         0 => *LONGEST.start(),
         1 => *LONGEST.end(),
-        2 => rng.pick(&[65, 127, 128, 129, 255, 256, 512, 1_023, 1_024, 1_025, 1_499]),
+        2 => rng.pick(&[65, 127, 128, 129, 255, 256, 512, 576, 576, 576, 1_023, 1_024, 1_025, 1_499]),
         _ => rng.between(64, 1_500) as u16,
     }
 }
@@ -86,7 +87,7 @@ fn of_weights(rng: &mut Rng, weights: &[u16], mut longest: impl FnMut(&mut Rng) 
             lanes.push(LanePlan { number, weight, longest: longest(rng) });
         }
     }
-    Setup { framing: 0, lanes }
+    Setup { format: 1, framing: 0, lanes }
 }
 
 fn one_lane(rng: &mut Rng) -> Setup {

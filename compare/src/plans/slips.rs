@@ -2,7 +2,7 @@
 
 use super::words::{bytes, lay, plan, words, Reference, BUFFER_SHORT, OUTSIDE, SIZE};
 use super::{Depot, Refused};
-use crate::numbers::LONGEST_UNSAID;
+use crate::numbers::longest_unsaid;
 use crate::setup::{Setup, END, FRAMED, LANE};
 
 #[derive(Clone, Copy, Debug, PartialEq, Eq)]
@@ -30,6 +30,8 @@ pub enum Slip {
     NoLane,
     /// Any format is written, as format 1.
     AnyFormat,
+    /// Every plan is written as format 1.
+    AlwaysFirstFormat,
     /// An area that is a byte short is read from, as if it had a 0 there.
     AreaShort,
     /// Low byte first.
@@ -58,6 +60,7 @@ pub const ALL: &[Slip] = &[
     Slip::FramingOver,
     Slip::NoLane,
     Slip::AnyFormat,
+    Slip::AlwaysFirstFormat,
     Slip::AreaShort,
     Slip::LowFirst,
     Slip::WritesOn,
@@ -122,12 +125,14 @@ impl Slipped {
     }
 
     fn bytes(&self, setup: &Setup) -> Vec<u8> {
-        let mut out = vec![0x01, 0, 2, 0, 1];
+        let format = if self.0 == Slip::AlwaysFirstFormat { 1 } else { setup.format };
+        let mut out = vec![0x01, 0, 2];
+        out.extend(format.to_be_bytes());
         if setup.framing != 0 || self.0 == Slip::FramingAlways {
             out.extend([FRAMED, 0, 1, setup.framing]);
         }
         for lane in &setup.lanes {
-            let short = self.0 == Slip::ShortFields && lane.longest == LONGEST_UNSAID;
+            let short = self.0 == Slip::ShortFields && lane.longest == longest_unsaid(setup.format);
             out.extend([LANE, 0, if short { 3 } else { 5 }, lane.number]);
             out.extend(lane.weight.to_be_bytes());
             match self.0 {
@@ -187,8 +192,11 @@ impl Depot for Slipped {
 
 /// A plan of one lane, for the boundary's test of short answer buffers.
 pub fn sample() -> (Vec<u8>, Vec<u8>) {
-    let setup =
-        Setup { framing: 0, lanes: vec![crate::setup::LanePlan { number: 3, weight: 7, longest: 64 }] };
+    let setup = Setup {
+        format: 2,
+        framing: 0,
+        lanes: vec![crate::setup::LanePlan { number: 3, weight: 7, longest: 64 }],
+    };
     let mut area = vec![0; SIZE];
     lay(&setup, &mut area);
     (area, bytes(&setup))

@@ -11,9 +11,6 @@ const TABLE_SHORT: u64 = 7;
 pub const OUTSIDE: u64 = 55;
 pub const BUFFER_SHORT: u64 = 56;
 
-/// The one format.
-const KNOWN: u64 = 1;
-
 pub fn words(area: &[u8]) -> Vec<u64> {
     area.chunks_exact(8).map(|word| u64::from_le_bytes(word.try_into().expect("eight bytes"))).collect()
 }
@@ -21,7 +18,7 @@ pub fn words(area: &[u8]) -> Vec<u64> {
 /// The words of a plan.
 pub fn lay(setup: &Setup, area: &mut [u8]) {
     let mut all = [0_u64; SIZE / 8];
-    all[0] = KNOWN + (u64::from(setup.framing) << 16);
+    all[0] = u64::from(setup.format) + (u64::from(setup.framing) << 16);
     for lane in &setup.lanes {
         all[usize::from(lane.number) + 1] = u64::from(lane.weight) + (u64::from(lane.longest) << 16);
     }
@@ -33,6 +30,7 @@ pub fn lay(setup: &Setup, area: &mut [u8]) {
 /// The plan of an area; nothing where it is none within the numbers.
 pub fn plan(area: &[u8]) -> Option<Setup> {
     let all = words(area.get(..SIZE)?);
+    let format = Some(all[0] as u16).filter(|format| FORMATS.contains(format))?;
     let framing = u8::try_from(all[0] >> 16).ok().filter(|framing| FRAMING.contains(framing))?;
     let mut lanes = vec![];
     for (number, word) in (0..LANES).zip(&all[1..]) {
@@ -47,12 +45,13 @@ pub fn plan(area: &[u8]) -> Option<Setup> {
         lanes.push(LanePlan { number, weight, longest });
     }
     let sum: u32 = lanes.iter().map(|lane| u32::from(lane.weight)).sum();
-    (all[0] & 0xFFFF == KNOWN && !lanes.is_empty() && sum <= WEIGHT_SUM).then_some(Setup { framing, lanes })
+    (!lanes.is_empty() && sum <= WEIGHT_SUM).then_some(Setup { format, framing, lanes })
 }
 
 /// "lane fields always five bytes long, framing field only where h isn't 0"
 pub fn bytes(setup: &Setup) -> Vec<u8> {
-    let mut bytes = vec![FORMAT, 0, 2, 0, 1];
+    let mut bytes = vec![FORMAT, 0, 2];
+    bytes.extend(setup.format.to_be_bytes());
     if setup.framing != 0 {
         bytes.extend([FRAMED, 0, 1, setup.framing]);
     }

@@ -243,7 +243,7 @@ impl Engine {
         let lanes = flows.filter_map(|(n, f)| f.as_ref().map(|f| (n, f.weight, f.longest))).collect();
         let framing = if self.slip == Slip::RestartDropsFraming { 0 } else { self.framing };
         let clock = if self.slip == Slip::RestartKeepsClock { self.clock } else { 0 };
-        *self = Engine { clock, ..Engine::new(&Plan { framing, lanes }, self.slip) };
+        *self = Engine { clock, ..Engine::new(&Plan { format: 0, framing, lanes }, self.slip) };
         Ok(())
     }
 }

@@ -16,6 +16,7 @@ type Lane = (usize, u64, u64);
 
 #[derive(Default)]
 pub struct Plan {
+    pub format: u64,
     pub framing: u64,
     pub lanes: Vec<Lane>,
 }
@@ -80,8 +81,16 @@ impl<'a> Reader<'a> {
                 return self.refuse(4, at);
             }
             match tag {
-                0x01 if number(value) != 1 => return self.refuse_value(50, at, 3),
-                0x01 => {}
+                0x01 => {
+                    plan.format = match self.slip {
+                        Slip::FormatLowByteOnly => u64::from(value[1]),
+                        _ => number(value),
+                    };
+                    let most = if self.slip == Slip::SecondFormatRefused { 1 } else { 2 };
+                    if !(1..=most).contains(&plan.format) {
+                        return self.refuse_value(50, at, 3);
+                    }
+                }
                 0x11 => {
                     let may_follow = match self.slip {
                         Slip::FramingAfterLanes => true,
@@ -102,7 +111,7 @@ impl<'a> Reader<'a> {
                     plan.framing = value[0].into();
                 }
                 0x10 => {
-                    let lane = self.lane(value);
+                    let lane = self.lane(plan.format, value);
                     match self.judge(lane, &plan.lanes) {
                         Some((4, _)) => return self.refuse(4, at),
                         Some((refusal, offset)) => return self.refuse_value(refusal, at, offset),
@@ -117,8 +126,12 @@ impl<'a> Reader<'a> {
         }
     }
 
-    fn lane(&self, value: &[u8]) -> Lane {
-        let unsaid = if self.slip == Slip::WrongDefault { 1_499 } else { 1_500 };
+    fn lane(&self, format: u64, value: &[u8]) -> Lane {
+        let unsaid = match (format, self.slip) {
+            (_, Slip::WrongDefault) => 1_499,
+            (2, Slip::DefaultsAlike) | (1, _) => 1_500,
+            _ => 576,
+        };
         let longest = if value.len() == 5 { number(&value[3..]) } else { unsaid };
         (usize::from(value[0]), number(&value[1..3]), longest)
     }

@@ -142,6 +142,12 @@ slips! {
     EqualLaneRises,
     /// A lane field of length 3 means a longest of 1,499.
     WrongDefault,
+    /// A longest that is left out means 1,500 in format 2, too.
+    DefaultsAlike,
+    /// Format 2 is refused.
+    SecondFormatRefused,
+    /// Only the format's low byte is looked at.
+    FormatLowByteOnly,
     /// A byte after the setup is let pass.
     TrailingByteTaken,
 

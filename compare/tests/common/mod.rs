@@ -36,7 +36,7 @@ pub fn two_lanes() -> Vec<u8> {
 
 pub fn fresh(lanes: &[(u8, u16, u16)]) -> State {
     let plan = |&(number, weight, longest): &(u8, u16, u16)| LanePlan { number, weight, longest };
-    State::fresh(&Setup { framing: 0, lanes: lanes.iter().map(plan).collect() })
+    State::fresh(&Setup { format: 1, framing: 0, lanes: lanes.iter().map(plan).collect() })
 }
 
 pub fn framing(h: u8) -> Vec<u8> {

@@ -52,7 +52,7 @@ acceptedTo (suc n) = acceptedTo n ++ (accepted n ∷ [])
 
 pub record Marked : Type 0 where
   -- The setup of the session above, read from its bytes. "Lane 0 has c = 2,048, group 22; lane 1 has c = 4,096, group 23."
-  pub session : readSetup sessionSetup ≡ plan.read (twoLanes 512 256 1500) 2 24
+  pub session : readSetup sessionSetup ≡ plan.read 1 (twoLanes 512 256 1500) 2 24
   pub lane0 : (rate (setting 512 1500) ≡ 2048) × (group (setting 512 1500) ≡ 22)
   pub lane1 : (rate (setting 256 1500) ≡ 4096) × (group (setting 256 1500) ≡ 23)
   -- "M1 after the third take above V = 2,560,000, lane 0 F = 3,072,000, lane 1 F = 4,096,000."
@@ -67,7 +67,7 @@ pub record Marked : Type 0 where
   -- "M3 weight 1, longest 64: c = 1,048,576, group 26. Longest 65: group 27."
   pub m3 : (rate (setting 1 64) ≡ 1048576) × (group (setting 1 64) ≡ 26) × (group (setting 1 65) ≡ 27)
   -- the setup of M4: 01 0002 0001, 10 0005 00 0001 0040, 7F 0000
-  pub light : readSetup (formatField ++ (16 ∷ 0 ∷ 5 ∷ 0 ∷ 0 ∷ 1 ∷ 0 ∷ 64 ∷ []) ++ endField) ≡ plan.read (alone (setting 1 64)) 1 16
+  pub light : readSetup (formatField ++ (16 ∷ 0 ∷ 5 ∷ 0 ∷ 0 ∷ 1 ∷ 0 ∷ 64 ∷ []) ++ endField) ≡ plan.read 1 (alone (setting 1 64)) 1 16
   -- "M4 M3's first lane alone: put 64, take: V = 65,536; put 64: V = 67,108,864."
   pub m4 : Given (alone (setting 1 64)) (put 0 1 64 ∷ take ∷ []) (λ rs s. s .clock ≡ 65536)
       × Given (alone (setting 1 64)) (put 0 1 64 ∷ take ∷ put 0 2 64 ∷ []) (λ rs s. s .clock ≡ 67108864)
@@ -76,8 +76,8 @@ pub record Marked : Type 0 where
   -- "M6 weight 3: c = 349,526."
   pub m6 : rate (setting 3 1500) ≡ 349526
   -- the setup of M7: 01 0002 0001, 10 0005 00 0200 05DC, 7F 0000
-  pub lone : readSetup (formatField ++ (16 ∷ 0 ∷ 5 ∷ 0 ∷ 2 ∷ 0 ∷ 5 ∷ 220 ∷ []) ++ endField) ≡ plan.read (alone (setting 512 1500)) 1 16
+  pub lone : readSetup (formatField ++ (16 ∷ 0 ∷ 5 ∷ 0 ∷ 2 ∷ 0 ∷ 5 ∷ 220 ∷ []) ++ endField) ≡ plan.read 1 (alone (setting 512 1500)) 1 16
   -- "M7 16 puts to one lane accepted, the 17th gives 13; after one take a put is accepted."
   pub m7 : Given (alone (setting 512 1500)) full (λ rs s. rs ≡ acceptedTo 16 ++ (refused 13 none ∷ taken 0 7 1000 ∷ accepted 15 ∷ []))
   -- "M8 weights summing to 1,024 read; 1,025 gives 6": at the field that goes over
-  pub m8 : (readSetup (twoWeights 24) ≡ plan.read (twoLanes 1000 24 1500) 2 22) × (readSetup (twoWeights 25) ≡ plan.refused 6 (some 17))
+  pub m8 : (readSetup (twoWeights 24) ≡ plan.read 1 (twoLanes 1000 24 1500) 2 22) × (readSetup (twoWeights 25) ≡ plan.refused 6 (some 17))

@@ -18,46 +18,44 @@ use Rattle.units.specs.Plain.{if_then_else_}
 use Rattle.rules.specs.State.{Setting}
 use Rattle.rules.proofs.Figures.{framing-bound, framed-by}
 use Rattle.plan.specs.Fields.{Item, whole, bad}
-use Rattle.plan.specs.Judge.{judgedAt, after}
+use Rattle.plan.specs.Judge.{knownFormat, judgedAt, after}
 use Rattle.plan.specs.Read.{Reply, read, refused, nothingSeen, noLanes, placed, next, walk, readPlan, closed, readSetup, settings, came, reads}
-use Rattle.plan.specs.Accepted.{Laid, framed, framedBy, PlanWithin}
+use Rattle.plan.specs.Accepted.{Laid, framed, framedBy, placedAll, PlanWithin}
 use Rattle.plan.specs.declared.judge.Seen.{Seen}
 use Rattle.plan.specs.declared.Reading.{Reading}
 use Rattle.plan.specs.declared.Outcome.the-variants.{Read}
 use Rattle.plan.specs.declared.parse.SetupField.{SetupField}
 use Rattle.plan.specs.declared.parse.SetupField.the-variants.{Format, Lane, Framing, End}
-use Rattle.plan.proofs.Inside.{true-false, format-one, framing-small}
+use Rattle.plan.proofs.Inside.{true-false, format-known, framing-small}
 use Rattle.plan.proofs.Stands.{Taken, is-taken}
 use Rattle.plan.proofs.Sound.{Sound, sound-first, sound-after}
 use Rattle.plan.proofs.Rest.{Rest, rest, rest-lane, refused-read}
 
 -- what the fields before the lanes fix
-abbrev opened : Bool → ℕ → Seen
-opened o h = record { begun = true; opening = o; framing = h; floor = 0; total = 0; count = 0 }
+abbrev opened : ℕ → Bool → ℕ → Seen
+opened v o h = record { begun = true; opening = o; format = v; framing = h; floor = 0; total = 0; count = 0 }
 
-module _ (s : List ℕ) (at : ℕ) (gs : List Setting) (n p : ℕ) where
-  -- the first field is 0x01 with format 1
-  module _ (v m : ℕ) (k : Taken nothingSeen s at (Format v) m) where
-    one : v ≡ 1
-    one = format-one v (k .inside)
-
+module _ (s : List ℕ) (at v : ℕ) (gs : List Setting) (n p : ℕ) where
+  -- the first field is 0x01 with a known format
+  module _ (w m : ℕ) (k : Taken nothingSeen s at (Format w) m) where
     -- then 0x11, or none; then the lanes
-    planned : (f : Option ℕ) (o : Bool) (m₁ : ℕ) → framedBy f ≤ 64 → m ≤ m₁ → (r : Rest s (opened o (framedBy f)) noLanes m₁ gs n p)
-        → Laid s m (framed f ++ (map Lane (r .lanes) ++ (End ∷ []))) p → PlanWithin s at gs n p
+    planned : (f : Option ℕ) (o : Bool) (m₁ : ℕ) → framedBy f ≤ 64 → m ≤ m₁ → (r : Rest s (opened w o (framedBy f)) noLanes m₁ v gs n p)
+        → Laid s m (framed f ++ (map Lane (r .lanes) ++ (End ∷ []))) p → PlanWithin s at v gs n p
     unfolding Laid
     planned f o m₁ most on r laid =
         let ok = r .sound in
         record {
           rule = record {
+            format = sym (ap knownFormat (r .format)) ∙ format-known w (k .inside);
             framing = f;
             lanes = r .lanes;
-            laid = (m, k .item ∙ ap (λ (x : ℕ). whole (Format x) m) one, laid);
+            laid = (m, k .item ∙ ap (λ (x : ℕ). whole (Format x) m) (r .format), laid);
             framing-high = most;
             rising = r .rising;
             each = r .each;
             total = omega (arith, r .weigh, ok .total);
             some-lane = omega (arith, r .number, r .some-lane);
-            given = r .given;
+            given = r .given ∙ ap (λ (x : ℕ). placedAll x (framedBy f) noLanes (r .lanes)) (r .format);
             number = omega (arith, r .number);
           };
           setup = record {
@@ -77,74 +75,74 @@ module _ (s : List ℕ) (at : ℕ) (gs : List Setting) (n p : ℕ) where
         }
 
     abbrev begun : Seen
-    begun = after nothingSeen (Format v)
+    begun = after nothingSeen (Format w)
 
     ok : Sound begun noLanes
-    ok = sound-after nothingSeen noLanes (Format v) sound-first (k .in-place) (k .inside) (k .under)
+    ok = sound-after nothingSeen noLanes (Format w) sound-first (k .in-place) (k .inside) (k .under)
 
-    second-field : (turns : ℕ) (f : SetupField) (m₁ : ℕ) → Taken begun s m f m₁ → next begun noLanes (whole f m₁) (walk turns s) ≡ read gs n p → PlanWithin s at gs n p
+    second-field : (turns : ℕ) (f : SetupField) (m₁ : ℕ) → Taken begun s m f m₁ → next begun noLanes (whole f m₁) (walk turns s) ≡ read v gs n p → PlanWithin s at v gs n p
     unfolding Laid
-    second-field turns (Format w) m₁ q h = true-false (q .in-place)
+    second-field turns (Format x) m₁ q h = true-false (q .in-place)
     second-field turns (Lane l) m₁ q h =
-        let more = rest turns s (after begun (Lane l)) (placed 0 noLanes (Lane l)) m₁ gs n p refl refl (sound-after begun noLanes (Lane l) ok (q .in-place) (q .inside) (q .under)) h in
-        let r = rest-lane turns s begun noLanes m gs n p refl ok l m₁ q more in
+        let more = rest turns s (after begun (Lane l)) (placed w 0 noLanes (Lane l)) m₁ v gs n p refl refl (sound-after begun noLanes (Lane l) ok (q .in-place) (q .inside) (q .under)) h in
+        let r = rest-lane turns s begun noLanes m v gs n p refl ok l m₁ q more in
         planned none true m (omega arith) (omega arith) r (r .laid)
     second-field turns (Framing h) m₁ q e =
-        let r = rest turns s (after begun (Framing h)) noLanes m₁ gs n p refl refl (sound-after begun noLanes (Framing h) ok (q .in-place) (q .inside) (q .under)) e in
+        let r = rest turns s (after begun (Framing h)) noLanes m₁ v gs n p refl refl (sound-after begun noLanes (Framing h) ok (q .in-place) (q .inside) (q .under)) e in
         planned (some h) false m₁ (framing-small h (q .inside)) (omega (arith, q .stand .after)) r (m₁, q .item, r .laid)
     second-field turns End m₁ q h = true-false (q .in-place)
 
-    second-item : (turns : ℕ) (i : Item) → judgedAt begun s m ≡ i → next begun noLanes i (walk turns s) ≡ read gs n p → PlanWithin s at gs n p
+    second-item : (turns : ℕ) (i : Item) → judgedAt begun s m ≡ i → next begun noLanes i (walk turns s) ≡ read v gs n p → PlanWithin s at v gs n p
     second-item turns (bad a b) j h = refused-read h
     second-item turns (whole f m₁) j h = second-field turns f m₁ (is-taken begun s m f m₁ j) h
 
-    second-turn : (turns : ℕ) → walk turns s begun noLanes m ≡ read gs n p → PlanWithin s at gs n p
+    second-turn : (turns : ℕ) → walk turns s begun noLanes m ≡ read v gs n p → PlanWithin s at v gs n p
     unfolding walk
     second-turn zero h = refused-read h
     second-turn (suc turns) h = second-item turns (judgedAt begun s m) refl h
 
-  first-field : (turns : ℕ) (f : SetupField) (m : ℕ) → Taken nothingSeen s at f m → next nothingSeen noLanes (whole f m) (walk turns s) ≡ read gs n p
-      → PlanWithin s at gs n p
-  first-field turns (Format v) m k h = second-turn v m k turns h
+  first-field : (turns : ℕ) (f : SetupField) (m : ℕ) → Taken nothingSeen s at f m → next nothingSeen noLanes (whole f m) (walk turns s) ≡ read v gs n p
+      → PlanWithin s at v gs n p
+  first-field turns (Format w) m k h = second-turn w m k turns h
   first-field turns (Lane l) m k h = true-false (k .in-place)
-  first-field turns (Framing v) m k h = true-false (k .in-place)
+  first-field turns (Framing w) m k h = true-false (k .in-place)
   first-field turns End m k h = true-false (k .in-place)
 
-  first-item : (turns : ℕ) (i : Item) → judgedAt nothingSeen s at ≡ i → next nothingSeen noLanes i (walk turns s) ≡ read gs n p
-      → PlanWithin s at gs n p
+  first-item : (turns : ℕ) (i : Item) → judgedAt nothingSeen s at ≡ i → next nothingSeen noLanes i (walk turns s) ≡ read v gs n p
+      → PlanWithin s at v gs n p
   first-item turns (bad a b) j h = refused-read h
   first-item turns (whole f m) j h = first-field turns f m (is-taken nothingSeen s at f m j) h
 
-  first-turn : (turns : ℕ) → walk turns s nothingSeen noLanes at ≡ read gs n p → PlanWithin s at gs n p
+  first-turn : (turns : ℕ) → walk turns s nothingSeen noLanes at ≡ read v gs n p → PlanWithin s at v gs n p
   unfolding walk
   first-turn zero h = refused-read h
   first-turn (suc turns) h = first-item turns (judgedAt nothingSeen s at) refl h
 
-  pub accepted : readPlan s at ≡ read gs n p → PlanWithin s at gs n p
+  pub accepted : readPlan s at ≡ read v gs n p → PlanWithin s at v gs n p
   unfolding readPlan
   accepted h = first-turn (length s - at) h
 
-module _ (s : List ℕ) (gs : List Setting) (n p : ℕ) where
-  whole-test : (gs₁ : List Setting) (n₁ p₁ : ℕ) (b : Bool) → readPlan s 0 ≡ read gs₁ n₁ p₁ → ltb p₁ (length s) ≡ b
-      → (if b then refused 4 (some p₁) else read gs₁ n₁ p₁) ≡ read gs n p → PlanWithin s 0 gs n p × (p ≡ length s)
-  whole-test gs₁ n₁ p₁ true e t h = refused-read h
-  whole-test gs₁ n₁ p₁ false e t h =
-      let a = accepted s 0 gs n p (e ∙ h) in
+module _ (s : List ℕ) (v : ℕ) (gs : List Setting) (n p : ℕ) where
+  whole-test : (v₁ : ℕ) (gs₁ : List Setting) (n₁ p₁ : ℕ) (b : Bool) → readPlan s 0 ≡ read v₁ gs₁ n₁ p₁ → ltb p₁ (length s) ≡ b
+      → (if b then refused 4 (some p₁) else read v₁ gs₁ n₁ p₁) ≡ read v gs n p → PlanWithin s 0 v gs n p × (p ≡ length s)
+  whole-test v₁ gs₁ n₁ p₁ true e t h = refused-read h
+  whole-test v₁ gs₁ n₁ p₁ false e t h =
+      let a = accepted s 0 v gs n p (e ∙ h) in
       let q : p₁ ≡ p = cc in
       (a, omega (arith, a .within, ltb-false p₁ (length s) t))
 
-  whole-reply : (r : Reply) → readPlan s 0 ≡ r → closed s r ≡ read gs n p → PlanWithin s 0 gs n p × (p ≡ length s)
+  whole-reply : (r : Reply) → readPlan s 0 ≡ r → closed s r ≡ read v gs n p → PlanWithin s 0 v gs n p × (p ≡ length s)
   whole-reply (refused a b) e h = refused-read h
-  whole-reply (read gs₁ n₁ p₁) e h = whole-test gs₁ n₁ p₁ (ltb p₁ (length s)) e refl h
+  whole-reply (read v₁ gs₁ n₁ p₁) e h = whole-test v₁ gs₁ n₁ p₁ (ltb p₁ (length s)) e refl h
 
-  pub accepted-whole : readSetup s ≡ read gs n p → PlanWithin s 0 gs n p × (p ≡ length s)
+  pub accepted-whole : readSetup s ≡ read v gs n p → PlanWithin s 0 v gs n p × (p ≡ length s)
   unfolding readSetup
   accepted-whole h = whole-reply (readPlan s 0) refl h
 
 -- what a caller of `read_plan` or of `read_setup` has: the contract's equation, and the outcome that it found
-pub accepted-plan : (r : Reading) (s : List ℕ) (at p : ℕ) → reads r ≡ readPlan s at → r .outcome ≡ Read p → PlanWithin s at (settings (r .plan)) (r .plan .count) p
-accepted-plan r s at p e o = accepted s at (settings (r .plan)) (r .plan .count) p (sym e ∙ ap (came (r .plan)) o)
+pub accepted-plan : (r : Reading) (s : List ℕ) (at p : ℕ) → reads r ≡ readPlan s at → r .outcome ≡ Read p → PlanWithin s at (r .plan .format) (settings (r .plan)) (r .plan .count) p
+accepted-plan r s at p e o = accepted s at (r .plan .format) (settings (r .plan)) (r .plan .count) p (sym e ∙ ap (came (r .plan)) o)
 
 pub accepted-setup : (r : Reading) (s : List ℕ) (p : ℕ) → reads r ≡ readSetup s → r .outcome ≡ Read p
-    → PlanWithin s 0 (settings (r .plan)) (r .plan .count) p × (p ≡ length s)
-accepted-setup r s p e o = accepted-whole s (settings (r .plan)) (r .plan .count) p (sym e ∙ ap (came (r .plan)) o)
+    → PlanWithin s 0 (r .plan .format) (settings (r .plan)) (r .plan .count) p × (p ≡ length s)
+accepted-setup r s p e o = accepted-whole s (r .plan .format) (settings (r .plan)) (r .plan .count) p (sym e ∙ ap (came (r .plan)) o)

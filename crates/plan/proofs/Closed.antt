@@ -14,11 +14,11 @@ module _ (s : List ℕ) where
   unfolding readSetup
   setup-refused n q h = ap (closed s) h
 
-  module _ (gs : List Setting) (n at : ℕ) (h : readPlan s 0 ≡ read gs n at) where
+  module _ (v : ℕ) (gs : List Setting) (n at : ℕ) (h : readPlan s 0 ≡ read v gs n at) where
     pub setup-more : at < length s → readSetup s ≡ refused 4 (some at)
     unfolding readSetup
     setup-more l = ap (closed s) h ∙ simp (lt-ltb at (length s) l)
 
-    pub setup-whole : length s ≤ at → readSetup s ≡ read gs n at
+    pub setup-whole : length s ≤ at → readSetup s ≡ read v gs n at
     unfolding readSetup
     setup-whole l = ap (closed s) h ∙ simp (le-ltb at (length s) l)

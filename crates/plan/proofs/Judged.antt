@@ -8,7 +8,7 @@ use mathlib.Core.Option.{Option, some}
 use borrow.Author.Tests.{le-leb, lt-leb}
 use lib.Dec.{leb}
 use Rattle.plan.specs.Fields.{whole, bad, itemAt}
-use Rattle.plan.specs.Judge.{longestOf, lastLane, within, misplaced, laneOutside, outside, Inside, over, faulted, judged, judgedAt}
+use Rattle.plan.specs.Judge.{longestRight, lastLane, within, misplaced, laneOutside, outside, Inside, over, faulted, judged, judgedAt}
 use Rattle.plan.specs.declared.judge.Fault.{Fault}
 use Rattle.plan.specs.declared.judge.Fault.the-variants.{NoFault, BadLane, BadWeight, BadLongest}
 use Rattle.plan.specs.declared.judge.Seen.{Seen}
@@ -32,11 +32,11 @@ module _ (l : LaneField) where
     unfolding laneOutside
     outside-weight w = simp (le-leb (l .lane) lastLane h, w)
 
-    pub outside-longest : within 1 1024 (l .weight) ≡ true → within 64 1500 (longestOf (l .longest)) ≡ false → laneOutside l ≡ BadLongest
+    pub outside-longest : within 1 1024 (l .weight) ≡ true → longestRight (l .longest) ≡ false → laneOutside l ≡ BadLongest
     unfolding laneOutside
     outside-longest w g = simp (le-leb (l .lane) lastLane h, w, g)
 
-    pub outside-none : within 1 1024 (l .weight) ≡ true → within 64 1500 (longestOf (l .longest)) ≡ true → laneOutside l ≡ NoFault
+    pub outside-none : within 1 1024 (l .weight) ≡ true → longestRight (l .longest) ≡ true → laneOutside l ≡ NoFault
     unfolding laneOutside
     outside-none w g = simp (le-leb (l .lane) lastLane h, w, g)
 

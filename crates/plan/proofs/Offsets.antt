@@ -6,7 +6,7 @@
 --
 -- Assumes nothing.
 use Prim.Native.Nat.{ℕ, _+_, _≤_, _<_}
-use mathlib.Core.Path.{_≡_, refl, sym, ap}
+use mathlib.Core.Path.{_≡_, sym, ap}
 use mathlib.Core.Bool.{Bool, true, false, not, _||_}
 use mathlib.Core.List.{List}
 use mathlib.Core.Logic.{⊎-elim}
@@ -16,12 +16,11 @@ use lib.Dec.{leb, ltb, eqb}
 use Rattle.fields.specs.Bytes.{byteAt, big}
 use Rattle.units.specs.Plain.{if_then_else_}
 use Rattle.plan.specs.Fields.{laneAt, longestAt, fieldOf}
-use Rattle.plan.specs.Judge.{longestOf, lastLane, mostFraming, within, laneOutside, outside, over, offset}
+use Rattle.plan.specs.Judge.{knownFormat, longestRight, lastLane, mostFraming, within, laneOutside, outside, over, offset}
 use Rattle.plan.specs.declared.judge.Fault.{Fault}
 use Rattle.plan.specs.declared.judge.Fault.the-variants.{NoFault, BadFormat, BadLane, BadWeight, BadLongest, BadFraming, TotalOver}
 use Rattle.plan.specs.declared.judge.Seen.{Seen}
 use Rattle.plan.specs.declared.parse.Longest.{Longest}
-use Rattle.plan.specs.declared.parse.LaneField.{LaneField}
 use Rattle.plan.specs.declared.parse.SetupField.{SetupField}
 use Rattle.plan.specs.declared.parse.SetupField.the-variants.{Format, Lane, Framing, End}
 use Rattle.plan.proofs.Inside.{true-false}
@@ -55,19 +54,19 @@ lane-in-three true true true e = omega arith
 
 module _ (s : List ℕ) (v n : ℕ) where
   -- a longest that is left out is right
-  pub short-right : n ≡ 3 → within 64 1500 (longestOf (longestAt s v n)) ≡ true
-  short-right e = ap (λ (x : Longest). within 64 1500 (longestOf x)) (longest-short s v n e)
+  pub short-right : n ≡ 3 → longestRight (longestAt s v n) ≡ true
+  short-right e = ap (λ (x : Longest). longestRight x) (longest-short s v n e)
 
   short-in : n ≡ 3 → offset (laneOutside (laneAt s v n)) < 3 + n
   unfolding laneOutside
   short-in e =
-      let z = lane-in-three (leb (byteAt s v) lastLane) (within 1 1024 (big s (v + 1) 2)) (within 64 1500 (longestOf (longestAt s v n))) (short-right e) in
+      let z = lane-in-three (leb (byteAt s v) lastLane) (within 1 1024 (big s (v + 1) 2)) (longestRight (longestAt s v n)) (short-right e) in
       omega (arith, e, z)
 
   long-in : n ≡ 5 → offset (laneOutside (laneAt s v n)) < 3 + n
   unfolding laneOutside
   long-in e =
-      let z = lane-in (leb (byteAt s v) lastLane) (within 1 1024 (big s (v + 1) 2)) (within 64 1500 (longestOf (longestAt s v n))) in
+      let z = lane-in (leb (byteAt s v) lastLane) (within 1 1024 (big s (v + 1) 2)) (longestRight (longestAt s v n)) in
       omega (arith, e, z)
 
   abbrev sized : Bool → Bool → Bool → Bool
@@ -77,7 +76,7 @@ module _ (s : List ℕ) (v n : ℕ) where
   valued a b c = if a then Format (big s v 2) else (if b then Lane (laneAt s v n) else (if c then Framing (byteAt s v) else End))
 
   own-in : (a b c : Bool) → sized a b c ≡ true → offset (outside (valued a b c)) < 3 + n
-  own-in true b c h = omega (arith, eqb-true n 2 h, format-in (eqb (big s v 2) 1))
+  own-in true b c h = omega (arith, eqb-true n 2 h, format-in (knownFormat (big s v 2)))
   own-in false true c h = ⊎-elim (λ e. short-in e) (λ e. long-in e) (lane-size n h)
   own-in false false true h = omega (arith, eqb-true n 1 h, framing-in (ltb mostFraming (byteAt s v)))
   own-in false false false h = omega arith

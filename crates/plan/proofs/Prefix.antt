@@ -90,22 +90,22 @@ item-same s t at f m h same fits =
 
 -- ---- the walk
 
-module _ (s : List ℕ) (gs′ : List Setting) (n p : ℕ) where
+module _ (s : List ℕ) (v : ℕ) (gs′ : List Setting) (n p : ℕ) where
   -- a setup that is read ends further on
-  past-item : (turns : ℕ) (seen : Seen) (gs : List Setting) (at : ℕ) (more : (seen₁ : Seen) (gs₁ : List Setting) (m : ℕ) → walk turns s seen₁ gs₁ m ≡ read gs′ n p → m < p)
-      → (i : Item) → judgedAt seen s at ≡ i → next seen gs i (walk turns s) ≡ read gs′ n p → at < p
+  past-item : (turns : ℕ) (seen : Seen) (gs : List Setting) (at : ℕ) (more : (seen₁ : Seen) (gs₁ : List Setting) (m : ℕ) → walk turns s seen₁ gs₁ m ≡ read v gs′ n p → m < p)
+      → (i : Item) → judgedAt seen s at ≡ i → next seen gs i (walk turns s) ≡ read v gs′ n p → at < p
   past-item turns seen gs at more (bad a b) e h = refused-read h
   past-item turns seen gs at more (whole (Format v) m) e h =
-      omega (arith, is-taken seen s at (Format v) m e .stand .after, more (after seen (Format v)) (placed (seen .framing) gs (Format v)) m h)
+      omega (arith, is-taken seen s at (Format v) m e .stand .after, more (after seen (Format v)) (placed (seen .format) (seen .framing) gs (Format v)) m h)
   past-item turns seen gs at more (whole (Lane l) m) e h =
-      omega (arith, is-taken seen s at (Lane l) m e .stand .after, more (after seen (Lane l)) (placed (seen .framing) gs (Lane l)) m h)
+      omega (arith, is-taken seen s at (Lane l) m e .stand .after, more (after seen (Lane l)) (placed (seen .format) (seen .framing) gs (Lane l)) m h)
   past-item turns seen gs at more (whole (Framing l) m) e h =
-      omega (arith, is-taken seen s at (Framing l) m e .stand .after, more (after seen (Framing l)) (placed (seen .framing) gs (Framing l)) m h)
+      omega (arith, is-taken seen s at (Framing l) m e .stand .after, more (after seen (Framing l)) (placed (seen .format) (seen .framing) gs (Framing l)) m h)
   past-item turns seen gs at more (whole End m) e h =
       let q : m ≡ p = cc in
       omega (arith, is-taken seen s at End m e .stand .after)
 
-  past : (turns : ℕ) (seen : Seen) (gs : List Setting) (at : ℕ) → walk turns s seen gs at ≡ read gs′ n p → at < p
+  past : (turns : ℕ) (seen : Seen) (gs : List Setting) (at : ℕ) → walk turns s seen gs at ≡ read v gs′ n p → at < p
   unfolding walk
   past zero seen gs at h = refused-read h
   past (suc turns) seen gs at h = past-item turns seen gs at (λ seen₁ gs₁ m h₁. past turns seen₁ gs₁ m h₁) (judgedAt seen s at) refl h
@@ -118,30 +118,30 @@ module _ (s : List ℕ) (gs′ : List Setting) (n p : ℕ) where
 
     -- one turn, and the rest as `more` has it
     same-turn : (turns turns₁ : ℕ) (seen : Seen) (gs : List Setting) (at : ℕ) → length t - at ≤ suc turns₁
-        → (more : (seen₁ : Seen) (gs₁ : List Setting) (m : ℕ) → length t - m ≤ turns₁ → walk turns s seen₁ gs₁ m ≡ read gs′ n p → walk turns₁ t seen₁ gs₁ m ≡ read gs′ n p)
-        → (i : Item) → judgedAt seen s at ≡ i → next seen gs i (walk turns s) ≡ read gs′ n p → next seen gs (judgedAt seen t at) (walk turns₁ t) ≡ read gs′ n p
+        → (more : (seen₁ : Seen) (gs₁ : List Setting) (m : ℕ) → length t - m ≤ turns₁ → walk turns s seen₁ gs₁ m ≡ read v gs′ n p → walk turns₁ t seen₁ gs₁ m ≡ read v gs′ n p)
+        → (i : Item) → judgedAt seen s at ≡ i → next seen gs i (walk turns s) ≡ read v gs′ n p → next seen gs (judgedAt seen t at) (walk turns₁ t) ≡ read v gs′ n p
     same-turn turns turns₁ seen gs at low more (bad a b) e h = refused-read h
     same-turn turns turns₁ seen gs at low more (whole (Format v) m) e h =
-        let q = past turns (after seen (Format v)) (placed (seen .framing) gs (Format v)) m h in
+        let q = past turns (after seen (Format v)) (placed (seen .format) (seen .framing) gs (Format v)) m h in
         let k = is-taken seen s at (Format v) m e in
         ap (λ (i : Item). next seen gs i (walk turns₁ t)) (judged-same seen at (Format v) m e (omega arith))
-        ∙ more (after seen (Format v)) (placed (seen .framing) gs (Format v)) m (omega (arith, k .stand .after)) h
+        ∙ more (after seen (Format v)) (placed (seen .format) (seen .framing) gs (Format v)) m (omega (arith, k .stand .after)) h
     same-turn turns turns₁ seen gs at low more (whole (Lane l) m) e h =
-        let q = past turns (after seen (Lane l)) (placed (seen .framing) gs (Lane l)) m h in
+        let q = past turns (after seen (Lane l)) (placed (seen .format) (seen .framing) gs (Lane l)) m h in
         let k = is-taken seen s at (Lane l) m e in
         ap (λ (i : Item). next seen gs i (walk turns₁ t)) (judged-same seen at (Lane l) m e (omega arith))
-        ∙ more (after seen (Lane l)) (placed (seen .framing) gs (Lane l)) m (omega (arith, k .stand .after)) h
+        ∙ more (after seen (Lane l)) (placed (seen .format) (seen .framing) gs (Lane l)) m (omega (arith, k .stand .after)) h
     same-turn turns turns₁ seen gs at low more (whole (Framing l) m) e h =
-        let q = past turns (after seen (Framing l)) (placed (seen .framing) gs (Framing l)) m h in
+        let q = past turns (after seen (Framing l)) (placed (seen .format) (seen .framing) gs (Framing l)) m h in
         let k = is-taken seen s at (Framing l) m e in
         ap (λ (i : Item). next seen gs i (walk turns₁ t)) (judged-same seen at (Framing l) m e (omega arith))
-        ∙ more (after seen (Framing l)) (placed (seen .framing) gs (Framing l)) m (omega (arith, k .stand .after)) h
+        ∙ more (after seen (Framing l)) (placed (seen .format) (seen .framing) gs (Framing l)) m (omega (arith, k .stand .after)) h
     same-turn turns turns₁ seen gs at low more (whole End m) e h =
         let q : m ≡ p = cc in
         ap (λ (i : Item). next seen gs i (walk turns₁ t)) (judged-same seen at End m e (omega arith)) ∙ h
 
-    walk-same : (turns turns₁ : ℕ) (seen : Seen) (gs : List Setting) (at : ℕ) → length t - at ≤ turns₁ → walk turns s seen gs at ≡ read gs′ n p
-        → walk turns₁ t seen gs at ≡ read gs′ n p
+    walk-same : (turns turns₁ : ℕ) (seen : Seen) (gs : List Setting) (at : ℕ) → length t - at ≤ turns₁ → walk turns s seen gs at ≡ read v gs′ n p
+        → walk turns₁ t seen gs at ≡ read v gs′ n p
     unfolding walk
     walk-same zero turns₁ seen gs at low h = refused-read h
     walk-same (suc turns) zero seen gs at low h = absurd (omega (arith, past (suc turns) seen gs at h))
@@ -150,13 +150,13 @@ module _ (s : List ℕ) (gs′ : List Setting) (n p : ℕ) where
 
 -- ---- the theorem
 
-module _ (s t : List ℕ) (at : ℕ) (gs : List Setting) (n p : ℕ) (h : readPlan s at ≡ read gs n p) (same : take p s ≡ take p t) where
+module _ (s t : List ℕ) (at v : ℕ) (gs : List Setting) (n p : ℕ) (h : readPlan s at ≡ read v gs n p) (same : take p s ≡ take p t) where
   bytes : Same s t 0 p
   bytes i a b = sym (getD-take p s i 0 b) ∙ ap (λ (l : List ℕ). getD l i 0) same ∙ getD-take p t i 0 b
 
   long : p ≤ length t
-  long = omega (arith, accepted s at gs n p h .within, length-take p s, length-take p t, ap length same)
+  long = omega (arith, accepted s at v gs n p h .within, length-take p s, length-take p t, ap length same)
 
-  pub prefix : readPlan t at ≡ read gs n p
+  pub prefix : readPlan t at ≡ read v gs n p
   unfolding readPlan
-  prefix = walk-same s gs n p t bytes long (length s - at) (length t - at) nothingSeen noLanes at (omega arith) h
+  prefix = walk-same s v gs n p t bytes long (length s - at) (length t - at) nothingSeen noLanes at (omega arith) h

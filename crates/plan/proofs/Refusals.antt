@@ -117,7 +117,7 @@ earlier s at m n q l b r = record {
   shows = r .shows;
 }
 
-read-refused : {A : Type 0} {gs : List Setting} {k m n : ℕ} {p : Option ℕ} → read gs k m ≡ refused n p → A
+read-refused : {A : Type 0} {v : ℕ} {gs : List Setting} {k m n : ℕ} {p : Option ℕ} → read v gs k m ≡ refused n p → A
 read-refused h = absurd (let z : _≡_ {A = ℕ} 0 1 = cc in omega arith)
 
 module _ (s : List ℕ) (n : ℕ) (q : Option ℕ) where
@@ -129,13 +129,13 @@ module _ (s : List ℕ) (n : ℕ) (q : Option ℕ) where
       judged-bad s at n q seen (e ∙ a)
   turn-refused turns seen gs at more (whole (Format v) m) e h =
       let k = is-taken seen s at (Format v) m e .stand in
-      earlier s at m n q (omega (arith, k .after)) (omega (arith, k .after, k .fits)) (more (after seen (Format v)) (placed (seen .framing) gs (Format v)) m h)
+      earlier s at m n q (omega (arith, k .after)) (omega (arith, k .after, k .fits)) (more (after seen (Format v)) (placed (seen .format) (seen .framing) gs (Format v)) m h)
   turn-refused turns seen gs at more (whole (Lane l) m) e h =
       let k = is-taken seen s at (Lane l) m e .stand in
-      earlier s at m n q (omega (arith, k .after)) (omega (arith, k .after, k .fits)) (more (after seen (Lane l)) (placed (seen .framing) gs (Lane l)) m h)
+      earlier s at m n q (omega (arith, k .after)) (omega (arith, k .after, k .fits)) (more (after seen (Lane l)) (placed (seen .format) (seen .framing) gs (Lane l)) m h)
   turn-refused turns seen gs at more (whole (Framing l) m) e h =
       let k = is-taken seen s at (Framing l) m e .stand in
-      earlier s at m n q (omega (arith, k .after)) (omega (arith, k .after, k .fits)) (more (after seen (Framing l)) (placed (seen .framing) gs (Framing l)) m h)
+      earlier s at m n q (omega (arith, k .after)) (omega (arith, k .after, k .fits)) (more (after seen (Framing l)) (placed (seen .format) (seen .framing) gs (Framing l)) m h)
   turn-refused turns seen gs at more (whole End m) e h = read-refused h
 
   walk-refused : (turns : ℕ) (seen : Seen) (gs : List Setting) (at : ℕ) → walk turns s seen gs at ≡ refused n q → Refused s at n q

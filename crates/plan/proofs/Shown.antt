@@ -15,7 +15,7 @@ use lib.Dec.{leb, ltb, eqb}
 use Rattle.fields.specs.Bytes.{byteAt, big}
 use Rattle.units.specs.Plain.{if_then_else_}
 use Rattle.plan.specs.Fields.{laneAt, longestAt, fieldOf}
-use Rattle.plan.specs.Judge.{longestOf, lastLane, mostFraming, within, laneOutside, outside, over, faults, offset}
+use Rattle.plan.specs.Judge.{knownFormat, longestRight, lastLane, mostFraming, within, laneOutside, outside, over, faults, offset}
 use Rattle.plan.specs.Accepted.{wrongAt}
 use Rattle.plan.specs.declared.judge.Fault.{Fault}
 use Rattle.plan.specs.declared.judge.Fault.the-variants.{NoFault, BadFormat, BadLane, BadWeight, BadLongest, BadFraming, TotalOver}
@@ -39,7 +39,7 @@ module _ (s : List ℕ) (at n : ℕ) where
   abbrev v : ℕ
   v = at + 3
 
-  format-shows : (b : Bool) → eqb (big s v 2) 1 ≡ b → Shows s at (if b then NoFault else BadFormat)
+  format-shows : (b : Bool) → knownFormat (big s v 2) ≡ b → Shows s at (if b then NoFault else BadFormat)
   format-shows true e = refl
   format-shows false e = ap not e
 
@@ -48,19 +48,19 @@ module _ (s : List ℕ) (at n : ℕ) where
   framing-shows false e = refl
 
   -- the longest of a lane field that has one
-  longest-shows : (fits : (eqb n 3 || eqb n 5) ≡ true) → within 64 1500 (longestOf (longestAt s v n)) ≡ false → Shows s at BadLongest
+  longest-shows : (fits : (eqb n 3 || eqb n 5) ≡ true) → longestRight (longestAt s v n) ≡ false → Shows s at BadLongest
   longest-shows fits h =
       ⊎-elim (λ e. true-false (sym (short-right s v n e) ∙ h))
       (λ e.
       let three : n ≡ 3 → ⊥ = λ f. absurd (omega (arith, e, f)) in
       let p : v + 3 ≡ at + 6 = omega arith in
-      sym (ap (λ (x : ℕ). not (within 64 1500 (big s x 2))) p) ∙ sym (ap (λ (x : Longest). not (within 64 1500 (longestOf x))) (longest-long s v n three)) ∙ ap not h)
+      sym (ap (λ (x : ℕ). not (within 64 1500 (big s x 2))) p) ∙ sym (ap (λ (x : Longest). not (longestRight x)) (longest-long s v n three)) ∙ ap not h)
       (lane-size n fits)
 
   weight-shows : within 1 1024 (big s (v + 1) 2) ≡ false → Shows s at BadWeight
   weight-shows h = let p : v + 1 ≡ at + 4 = omega arith in sym (ap (λ (x : ℕ). not (within 1 1024 (big s x 2))) p) ∙ ap not h
 
-  lane-shows : (eqb n 3 || eqb n 5) ≡ true → (a b c : Bool) → leb (byteAt s v) lastLane ≡ a → within 1 1024 (big s (v + 1) 2) ≡ b → within 64 1500 (longestOf (longestAt s v n)) ≡ c
+  lane-shows : (eqb n 3 || eqb n 5) ≡ true → (a b c : Bool) → leb (byteAt s v) lastLane ≡ a → within 1 1024 (big s (v + 1) 2) ≡ b → longestRight (longestAt s v n) ≡ c
       → Shows s at (if not a then BadLane else (if not b then BadWeight else (if not c then BadLongest else NoFault)))
   lane-shows fits false b c x y z = ap not x
   lane-shows fits true false c x y z = weight-shows y
@@ -70,11 +70,11 @@ module _ (s : List ℕ) (at n : ℕ) where
   lanes-shows : (eqb n 3 || eqb n 5) ≡ true → Shows s at (laneOutside (laneAt s v n))
   unfolding laneOutside
   lanes-shows fits =
-      lane-shows fits (leb (byteAt s v) lastLane) (within 1 1024 (big s (v + 1) 2)) (within 64 1500 (longestOf (longestAt s v n))) refl refl refl
+      lane-shows fits (leb (byteAt s v) lastLane) (within 1 1024 (big s (v + 1) 2)) (longestRight (longestAt s v n)) refl refl refl
 
   own-shows : (a b c : Bool) → (if a then eqb n 2 else (if b then eqb n 3 || eqb n 5 else (if c then eqb n 1 else eqb n 0))) ≡ true
       → Shows s at (outside (if a then Format (big s v 2) else (if b then Lane (laneAt s v n) else (if c then Framing (byteAt s v) else End))))
-  own-shows true b c h = format-shows (eqb (big s v 2) 1) refl
+  own-shows true b c h = format-shows (knownFormat (big s v 2)) refl
   own-shows false true c h = lanes-shows h
   own-shows false false true h = framing-shows (ltb mostFraming (byteAt s v)) refl
   own-shows false false false h = refl

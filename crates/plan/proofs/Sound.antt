@@ -57,6 +57,9 @@ sound-first = record {
 }
 
 module _ (seen : Seen) (gs : List Setting) (ok : Sound seen gs) (l : LaneField) (m : misplaced seen (Lane l) ≡ false) (o : Inside (Lane l)) (w : over seen (Lane l) ≡ NoFault) where
+  abbrev v : ℕ
+  v = seen .format
+
   abbrev h : ℕ
   h = seen .framing
 
@@ -67,32 +70,32 @@ module _ (seen : Seen) (gs : List Setting) (ok : Sound seen gs) (l : LaneField) 
   free = ok .above (l .lane) (is-rising seen l m)
 
   -- a figure of the settings grows by the lane's own
-  grown : (f : Setting → ℕ) → f noSetting ≡ 0 → sum f (set gs (l .lane) (given h l)) ≡ sum f gs + f (given h l)
-  grown f z = omega (arith, sum-set f gs (l .lane) (given h l) noSetting (omega (arith, low, ok .size)), ap f free, z)
+  grown : (f : Setting → ℕ) → f noSetting ≡ 0 → sum f (set gs (l .lane) (given v h l)) ≡ sum f gs + f (given v h l)
+  grown f z = omega (arith, sum-set f gs (l .lane) (given v h l) noSetting (omega (arith, low, ok .size)), ap f free, z)
 
-  one : there (given h l) ≡ 1
-  one = rw (lt-ltb 0 (l .weight) (in-numbers l o h .weight-low))
+  one : there (given v h l) ≡ 1
+  one = rw (lt-ltb 0 (l .weight) (in-numbers l o v h .weight-low))
 
-  lane-kept : Sound (after seen (Lane l)) (placed h gs (Lane l))
+  lane-kept : Sound (after seen (Lane l)) (placed v h gs (Lane l))
   lane-kept = record {
-    size = length-set gs (l .lane) (given h l) ∙ ok .size;
-    each = λ k. set-cases (λ (g : Setting). InNumbers g ⊎ (g ≡ noSetting)) gs (l .lane) k (given h l) noSetting (λ e. inl (in-numbers l o h)) (λ e. ok .each k) (inr refl);
-    framed = λ k. set-cases (λ (g : Setting). 0 < g .weight → g .framing ≡ seen .framing) gs (l .lane) k (given h l) noSetting (λ e w. refl) (λ e. ok .framed k) (λ w. absurd (omega arith));
-    most = λ k. set-cases (λ (g : Setting). g .framing ≤ seen .framing) gs (l .lane) k (given h l) noSetting (λ e. omega arith) (λ e. ok .most k) (omega arith);
+    size = length-set gs (l .lane) (given v h l) ∙ ok .size;
+    each = λ k. set-cases (λ (g : Setting). InNumbers g ⊎ (g ≡ noSetting)) gs (l .lane) k (given v h l) noSetting (λ e. inl (in-numbers l o v h)) (λ e. ok .each k) (inr refl);
+    framed = λ k. set-cases (λ (g : Setting). 0 < g .weight → g .framing ≡ seen .framing) gs (l .lane) k (given v h l) noSetting (λ e w. refl) (λ e. ok .framed k) (λ w. absurd (omega arith));
+    most = λ k. set-cases (λ (g : Setting). g .framing ≤ seen .framing) gs (l .lane) k (given v h l) noSetting (λ e. omega arith) (λ e. ok .most k) (omega arith);
     bytes = ok .bytes;
     none-yet = λ o. true-false (sym o);
     begin = λ o. true-false o;
-    above = λ k b. set-cases (λ (g : Setting). g ≡ noSetting) gs (l .lane) k (given h l) noSetting (λ e. absurd (omega (arith, e, b))) (λ e. ok .above k (omega (arith, is-rising seen l m, b))) refl;
+    above = λ k b. set-cases (λ (g : Setting). g ≡ noSetting) gs (l .lane) k (given v h l) noSetting (λ e. absurd (omega (arith, e, b))) (λ e. ok .above k (omega (arith, is-rising seen l m, b))) refl;
     sum-is = omega (arith, grown (λ (g : Setting). g .weight) refl, ok .sum-is);
     there-are = omega (arith, grown there refl, ok .there-are, one);
     total = is-under seen l w;
-    few = omega (arith, ok .few, in-numbers l o h .weight-low);
+    few = omega (arith, ok .few, in-numbers l o v h .weight-low);
     count = omega (arith, ok .count, is-rising seen l m);
     floor = omega (arith, low);
   }
 
 pub sound-after : (seen : Seen) (gs : List Setting) (f : SetupField) → Sound seen gs → misplaced seen f ≡ false → Inside f → over seen f ≡ NoFault
-    → Sound (after seen f) (placed (seen .framing) gs f)
+    → Sound (after seen f) (placed (seen .format) (seen .framing) gs f)
 sound-after seen gs (Format v) ok m o w = record {
   size = ok .size;
   each = ok .each;

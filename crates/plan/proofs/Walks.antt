@@ -71,10 +71,10 @@ module _ (s : List ℕ) (at : ℕ) (seen : Seen) (gs : List Setting) (p : ℕ) (
         turn (st .turns) s seen gs p (omega (arith, st .enough, moves .0, moves .1))
         ∙ ap (λ (i : Item). next seen gs i (walk (st .turns - 1) s)) h
 
-    pub stand-end : ends f ≡ true → read gs (seen .count) m ≡ readPlan s at
+    pub stand-end : ends f ≡ true → read (seen .format) gs (seen .count) m ≡ readPlan s at
     stand-end e = sym (here ∙ simp e) ∙ st .same
 
-    pub stand-next : ends f ≡ false → Standing s at (after seen f) (placed (seen .framing) gs f) m
+    pub stand-next : ends f ≡ false → Standing s at (after seen f) (placed (seen .format) (seen .framing) gs f) m
     stand-next e = record {
       sound = sound-after seen gs f (st .sound) (taken-here .in-place) (taken-here .inside) (taken-here .under);
       turns = st .turns - 1;

@@ -27,7 +27,7 @@ use Rattle.units.specs.Plain.{if_then_else_, sum}
 use Rattle.rules.specs.State.{Setting}
 use Rattle.rules.specs.Setup.{Setup, InNumbers, weights}
 use Rattle.plan.specs.Fields.{whole, itemAt}
-use Rattle.plan.specs.Judge.{given, lastLane, mostFraming, within}
+use Rattle.plan.specs.Judge.{knownFormat, given, lastLane, mostFraming, within}
 use Rattle.plan.specs.Read.{noLanes, placed}
 use Rattle.plan.specs.declared.parse.LaneField.{LaneField}
 use Rattle.plan.specs.declared.parse.SetupField.{SetupField}
@@ -43,10 +43,10 @@ unfoldable pub Rising : ℕ → List LaneField → Type 0
 Rising low [] = Unit
 Rising low (l ∷ ls) = (low ≤ l .lane) × Rising (l .lane + 1) ls
 
--- Lanes are numbered 0 to 63; a weight is 1 to 1,024 and a longest 64 to 1,500, given or not, whatever the line's framing.
+-- Lanes are numbered 0 to 63; a weight is 1 to 1,024 and a longest 64 to 1,500, given or not, whatever the format and the line's framing.
 pub record LaneWithin (l : LaneField) : Type 0 where
   pub number : l .lane ≤ 63
-  pub numbers : (h : ℕ) → InNumbers (given h l)
+  pub numbers : (v h : ℕ) → InNumbers (given v h l)
 
 unfoldable pub LanesWithin : List LaneField → Type 0
 LanesWithin [] = Unit
@@ -56,9 +56,9 @@ abbrev pub weighed : List LaneField → ℕ
 weighed ls = sum (λ (l : LaneField). l .weight) ls
 
 -- Each lane field, in order, gives its lane a setting.
-unfoldable pub placedAll : ℕ → List Setting → List LaneField → List Setting
-placedAll h gs [] = gs
-placedAll h gs (l ∷ ls) = placedAll h (placed h gs (Lane l)) ls
+unfoldable pub placedAll : ℕ → ℕ → List Setting → List LaneField → List Setting
+placedAll v h gs [] = gs
+placedAll v h gs (l ∷ ls) = placedAll v h (placed v h gs (Lane l)) ls
 
 -- 0x11 stands once or not at all ..
 abbrev pub framed : Option ℕ → List SetupField
@@ -70,22 +70,23 @@ abbrev pub framedBy : Option ℕ → ℕ
 framedBy none = 0
 framedBy (some h) = h
 
--- The fields of a setup, in order: 0x01, 0x11 or none, the lane fields, 0x7F.
-abbrev pub setupFields : Option ℕ → List LaneField → List SetupField
-setupFields framing lanes = Format 1 ∷ (framed framing ++ (map Lane lanes ++ (End ∷ [])))
+-- The fields of a setup, in order: 0x01 with the format, 0x11 or none, the lane fields, 0x7F.
+abbrev pub setupFields : ℕ → Option ℕ → List LaneField → List SetupField
+setupFields v framing lanes = Format v ∷ (framed framing ++ (map Lane lanes ++ (End ∷ [])))
 
--- The fields from `at` to `next` are 0x01 with format 1, 0x11 with at most 64 or none, one or more lane fields with rising numbers, and 0x7F; each lane
+-- The fields from `at` to `next` are 0x01 with format 1 or 2, 0x11 with at most 64 or none, one or more lane fields with rising numbers, and 0x7F; each lane
 -- field is within the numbers, and the weights sum to at most 1,024. The plan's lanes are those of the fields, each with its field's setting, and n is how many they are.
-pub record Accepted (s : List ℕ) (at : ℕ) (gs : List Setting) (n next : ℕ) : Type 0 where
+pub record Accepted (s : List ℕ) (at v : ℕ) (gs : List Setting) (n next : ℕ) : Type 0 where
+  pub format : knownFormat v ≡ true
   pub framing : Option ℕ
   pub lanes : List LaneField
-  pub laid : Laid s at (setupFields framing lanes) next
+  pub laid : Laid s at (setupFields v framing lanes) next
   pub framing-high : framedBy framing ≤ 64
   pub rising : Rising 0 lanes
   pub each : LanesWithin lanes
   pub total : weighed lanes ≤ 1024
   pub some-lane : 1 ≤ length lanes
-  pub given : gs ≡ placedAll (framedBy framing) noLanes lanes
+  pub given : gs ≡ placedAll v (framedBy framing) noLanes lanes
   pub number : n ≡ length lanes
 
 -- A lane that is not in the setup has weight 0.
@@ -98,8 +99,8 @@ present gs = sum there gs
 
 -- What follows of the plan: it is a setup of the rules; n is the number of its lanes, 1 to 64; its weights are those of the fields; and the setup has bytes,
 -- all of them in the input.
-pub record PlanWithin (s : List ℕ) (at : ℕ) (gs : List Setting) (n next : ℕ) : Type 0 where
-  pub rule : Accepted s at gs n next
+pub record PlanWithin (s : List ℕ) (at v : ℕ) (gs : List Setting) (n next : ℕ) : Type 0 where
+  pub rule : Accepted s at v gs n next
   pub setup : Setup gs
   pub are-there : present gs ≡ n
   pub some-lane : 1 ≤ n
@@ -119,7 +120,7 @@ among (m ∷ ms) n = eqb m n || among ms n
 -- are not about one number.
 abbrev pub wrongAt : List ℕ → ℕ → ℕ → Bool
 wrongAt s n p =
-    if eqb n 50 then not (eqb (big s p 2) 1)
+    if eqb n 50 then not (knownFormat (big s p 2))
     else (if eqb n 51 then not (leb (byteAt s p) lastLane)
     else (if eqb n 52 then not (within 1 1024 (big s p 2))
     else (if eqb n 53 then not (within 64 1500 (big s p 2))

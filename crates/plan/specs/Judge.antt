@@ -1,7 +1,8 @@
 -- A field of a setup, judged by the fields before it (document 01, "Numbers given back"): the refusals 4, 50 to 54, and 6.
 --
---   longestOf   a lane field's longest, given or not
---   given       the setting that a lane field gives its lane, on a line with h framing bytes
+--   knownFormat the formats that are read; defaultOf: what each means by a longest that is left out
+--   longestOf   a lane field's longest, given or not; longestRight: whether it is in the numbers
+--   given       the setting that a lane field gives its lane, in a setup of a format and on a line with h framing bytes
 --   lastLane    the last lane number
 --   misplaced   refusal 4
 --   outside     what is wrong with a field's own numbers: refusals 50 to 54; Inside: nothing
@@ -30,14 +31,21 @@ use Rattle.plan.specs.declared.parse.LaneField.{LaneField}
 use Rattle.plan.specs.declared.parse.SetupField.{SetupField}
 use Rattle.plan.specs.declared.parse.SetupField.the-variants.{Format, Lane, Framing, End}
 
--- "A lane field of length 3 has no longest and means 1,500."
-abbrev pub longestOf : Longest → ℕ
-longestOf (Given n) = n
-longestOf Default = 1500
+-- The formats that are read.
+abbrev pub knownFormat : ℕ → Bool
+knownFormat v = eqb v 1 || eqb v 2
 
--- A lane field gives its lane a weight and a longest; the framing bytes are the line's.
-abbrev pub given : ℕ → LaneField → Setting
-given h l = record { weight = l .weight; longest = longestOf (l .longest); framing = h }
+-- The longest of a lane field that has none: 1,500 in format 1, 576 in format 2.
+abbrev pub defaultOf : ℕ → ℕ
+defaultOf v = if eqb v 1 then 1500 else 576
+
+abbrev pub longestOf : ℕ → Longest → ℕ
+longestOf v (Given n) = n
+longestOf v Default = defaultOf v
+
+-- In a setup of format v a lane field gives its lane a weight and a longest; the framing bytes are the line's.
+abbrev pub given : ℕ → ℕ → LaneField → Setting
+given v h l = record { weight = l .weight; longest = longestOf v (l .longest); framing = h }
 
 -- "4: first field not 0x01, 0x01 again, lane not rising, 0x7F with no lane." (A first 0x7F comes with no lane.) And 0x11 anywhere but directly
 -- after 0x01.
@@ -51,6 +59,11 @@ misplaced seen End = eqb (seen .count) 0
 abbrev pub within : ℕ → ℕ → ℕ → Bool
 within low high n = leb low n && leb n high
 
+-- A longest is 64 to 1,500; one that is left out is right in every format.
+abbrev pub longestRight : Longest → Bool
+longestRight (Given n) = within 64 1500 n
+longestRight Default = true
+
 -- Lanes are numbered 0 to 63.
 abbrev pub lastLane : ℕ
 lastLane = 63
@@ -60,15 +73,15 @@ unfoldable pub laneOutside : LaneField → Fault
 laneOutside l =
     if not (leb (l .lane) lastLane) then BadLane
     else (if not (within 1 1024 (l .weight)) then BadWeight
-    else (if not (within 64 1500 (longestOf (l .longest))) then BadLongest else NoFault))
+    else (if not (longestRight (l .longest)) then BadLongest else NoFault))
 
 -- The line's framing bytes are 0 to 64.
 abbrev pub mostFraming : ℕ
 mostFraming = 64
 
--- A format is 1, framing at most 64; of a lane field's numbers the first one that is outside, in the order of their bytes.
+-- A format is 1 or 2, framing at most 64; of a lane field's numbers the first one that is outside, in the order of their bytes.
 abbrev pub outside : SetupField → Fault
-outside (Format v) = if eqb v 1 then NoFault else BadFormat
+outside (Format v) = if knownFormat v then NoFault else BadFormat
 outside (Lane l) = laneOutside l
 outside (Framing h) = if ltb mostFraming h then BadFraming else NoFault
 outside End = NoFault
@@ -123,7 +136,7 @@ judgedAt seen s at = judged seen at (itemAt s at)
 -- A field that is taken: the format begins the setup, and 0x11 may follow; 0x11 gives the line's framing bytes; a lane field raises the least number that
 -- may follow, and adds its weight and itself.
 abbrev pub after : Seen → SetupField → Seen
-after seen (Format v) = record { begun = true; opening = true; framing = seen .framing; floor = seen .floor; total = seen .total; count = seen .count }
-after seen (Lane l) = record { begun = true; opening = false; framing = seen .framing; floor = l .lane + 1; total = seen .total + l .weight; count = seen .count + 1 }
-after seen (Framing h) = record { begun = true; opening = false; framing = h; floor = seen .floor; total = seen .total; count = seen .count }
+after seen (Format v) = record { begun = true; opening = true; format = v; framing = seen .framing; floor = seen .floor; total = seen .total; count = seen .count }
+after seen (Lane l) = record { begun = true; opening = false; format = seen .format; framing = seen .framing; floor = l .lane + 1; total = seen .total + l .weight; count = seen .count + 1 }
+after seen (Framing h) = record { begun = true; opening = false; format = seen .format; framing = h; floor = seen .floor; total = seen .total; count = seen .count }
 after seen End = seen

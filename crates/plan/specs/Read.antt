@@ -26,30 +26,30 @@ use Rattle.plan.specs.declared.judge.Seen.{Seen}
 use Rattle.plan.specs.declared.parse.SetupField.{SetupField}
 use Rattle.plan.specs.declared.parse.SetupField.the-variants.{Format, Lane, Framing, End}
 
--- A setup that was read: its settings by lane number, how many lanes it has, and the place after its 0x7F. Or a refusal: its number and its place.
+-- A setup that was read: its format, its settings by lane number, how many lanes it has, and the place after its 0x7F. Or a refusal: its number and its place.
 pub data Reply : Type 0 where
-  read : List Setting → ℕ → ℕ → Reply
+  read : ℕ → List Setting → ℕ → ℕ → Reply
   refused : ℕ → Option ℕ → Reply
 
 -- Before the first field nothing is fixed ..
 abbrev pub nothingSeen : Seen
-nothingSeen = record { begun = false; opening = false; framing = 0; floor = 0; total = 0; count = 0 }
+nothingSeen = record { begun = false; opening = false; format = 0; framing = 0; floor = 0; total = 0; count = 0 }
 
 -- .. and no lane is there.
 abbrev pub noLanes : List Setting
 noLanes = replicate 64 noSetting
 
--- A lane field gives its lane a setting, on a line with h framing bytes.
-abbrev pub placed : ℕ → List Setting → SetupField → List Setting
-placed h gs (Format v) = gs
-placed h gs (Lane l) = set gs (l .lane) (given h l)
-placed h gs (Framing v) = gs
-placed h gs End = gs
+-- A lane field gives its lane a setting, in a setup of format v and on a line with h framing bytes.
+abbrev pub placed : ℕ → ℕ → List Setting → SetupField → List Setting
+placed v h gs (Format w) = gs
+placed v h gs (Lane l) = set gs (l .lane) (given v h l)
+placed v h gs (Framing w) = gs
+placed v h gs End = gs
 
 -- A field that was taken: 0x7F ends the setup, and after any other one the walk goes on.
 abbrev pub next : Seen → List Setting → Item → (Seen → List Setting → ℕ → Reply) → Reply
 next seen gs (bad n p) go = refused n p
-next seen gs (whole f at) go = if ends f then read gs (seen .count) at else go (after seen f) (placed (seen .framing) gs f) at
+next seen gs (whole f at) go = if ends f then read (seen .format) gs (seen .count) at else go (after seen f) (placed (seen .format) (seen .framing) gs f) at
 
 -- Fields in order, from a place on. A field has three bytes or more, so there is a turn for each byte left, and after them no byte is left.
 unfoldable pub walk : ℕ → List ℕ → Seen → List Setting → ℕ → Reply
@@ -63,7 +63,7 @@ readPlan s at = walk (length s - at) s nothingSeen noLanes at
 
 -- "4: byte after the last 0x7F. Place: that byte."
 abbrev pub closed : List ℕ → Reply → Reply
-closed s (read gs n at) = if ltb at (length s) then refused 4 (some at) else read gs n at
+closed s (read v gs n at) = if ltb at (length s) then refused 4 (some at) else read v gs n at
 closed s (refused n p) = refused n p
 
 -- "Making: .. fields in order": the setup is the whole input, and its 0x7F is the last.
@@ -82,7 +82,7 @@ settings p = map settingOf (p .lanes)
 
 -- What came of reading, with document 01's number for a refusal. Beside a refusal the plan means nothing.
 abbrev pub came : Plan → Outcome → Reply
-came p (Read at) = read (settings p) (p .count) at
+came p (Read at) = read (p .format) (settings p) (p .count) at
 came p (Refused x) = refused (number x) (placeOf x)
 
 -- The code's answer.

@@ -2,7 +2,7 @@
 ghost use mathlib.Core.Path.{_≡_};
 ghost use Prim.Native.Nat.{_+_, _≤_};
 ghost use Rattle.plan.specs.Fields.{itemOf};
-ghost use Rattle.plan.specs.Judge.{longestOf, within, misplaced, laneOutside, outside, over, offset, faulted, after, judgedAt};
+ghost use Rattle.plan.specs.Judge.{knownFormat, defaultOf, longestOf, longestRight, within, misplaced, laneOutside, outside, over, offset, faulted, after, judgedAt};
 use crate::parse::LaneField;
 use crate::parse::Longest;
 use crate::parse::Parsed;
@@ -25,10 +25,14 @@ pub const MOST_TOTAL: u64 = 1024;
 // The line's framing bytes are 0 to 64.
 pub const MOST_FRAMING: u8 = 64;
 
-// The one format, and the longest of a lane field that has none.
-pub const FORMAT_NUMBER: u16 = 1;
+// The formats, and what each means by a longest that is left out.
+pub const FIRST_FORMAT: u16 = 1;
 
-pub const DEFAULT_LONGEST: u16 = 1500;
+pub const SECOND_FORMAT: u16 = 2;
+
+pub const FIRST_DEFAULT: u16 = 1500;
+
+pub const SECOND_DEFAULT: u16 = 576;
 
 // Where the numbers of a field stand, counted from its tag: the value begins behind a tag of one byte and a length of two.
 const FORMAT_AT: usize = 3;
@@ -47,6 +51,8 @@ pub struct Seen {
     pub begun: bool,
     // The field before was the format: 0x11 may stand here, and nowhere else.
     pub opening: bool,
+    // The setup's format.
+    pub format: u16,
     // The line's framing bytes.
     pub framing: u8,
     // The least lane number that rises above those before it.
@@ -69,12 +75,32 @@ pub enum Fault {
     TotalOver,
 }
 
-// "A lane field of length 3 has no longest and means 1,500."
-pub fn longest_of(longest: Longest) -> u16
-    ensures { λ r. ⌜ r ≡ longestOf longest ⌝ }
+pub fn known_format(format: u16) -> bool
+    ensures { λ r. ⌜ r ≡ knownFormat format ⌝ }
+{
+    if format == FIRST_FORMAT {
+        true
+    } else {
+        format == SECOND_FORMAT
+    }
+}
+
+fn default_of(format: u16) -> u16
+    ensures { λ r. ⌜ r ≡ defaultOf format ⌝ }
+{
+    if format == FIRST_FORMAT {
+        FIRST_DEFAULT
+    } else {
+        SECOND_DEFAULT
+    }
+}
+
+// "A lane field of length 3 has no longest": the format says what it means.
+pub fn longest_of(format: u16, longest: Longest) -> u16
+    ensures { λ r. ⌜ r ≡ longestOf format longest ⌝ }
 {
     let Longest::Given(n) = longest else {
-        return DEFAULT_LONGEST;
+        return default_of(format);
     };
     n
 }
@@ -83,6 +109,16 @@ fn within(low: u16, high: u16, n: u16) -> bool
     ensures { λ r. ⌜ r ≡ within low high n ⌝ }
 {
     if low <= n { n <= high } else { false }
+}
+
+// Whether a longest is in its numbers; one that is left out is.
+fn longest_right(longest: Longest) -> bool
+    ensures { λ r. ⌜ r ≡ longestRight longest ⌝ }
+{
+    let Longest::Given(n) = longest else {
+        return true;
+    };
+    within(LEAST_LONGEST, MOST_LONGEST, n)
 }
 
 // Refusal 4: "first field not 0x01, 0x01 again, lane not rising, 0x7F with no lane"; and 0x11 anywhere but directly after 0x01.
@@ -113,7 +149,7 @@ fn lane_outside(l: LaneField) -> Fault
     if !within(LEAST_WEIGHT, MOST_WEIGHT, l.weight) {
         return Fault::BadWeight;
     }
-    if !within(LEAST_LONGEST, MOST_LONGEST, longest_of(longest)) {
+    if !longest_right(longest) {
         return Fault::BadLongest;
     }
     Fault::NoFault
@@ -125,7 +161,7 @@ fn outside(field: SetupField) -> Fault
 {
     match field {
         SetupField::Format(n) => {
-            if n == FORMAT_NUMBER {
+            if known_format(n) {
                 Fault::NoFault
             } else {
                 Fault::BadFormat
@@ -200,9 +236,10 @@ pub fn after(seen: Seen, field: SetupField) -> Seen
     ensures { λ r. ⌜ r ≡ after seen field ⌝ }
 {
     match field {
-        SetupField::Format(_) => Seen {
+        SetupField::Format(v) => Seen {
             begun: true,
             opening: true,
+            format: v,
             framing: seen.framing,
             floor: seen.floor,
             total: seen.total,
@@ -211,6 +248,7 @@ pub fn after(seen: Seen, field: SetupField) -> Seen
         SetupField::Lane(l) => Seen {
             begun: true,
             opening: false,
+            format: seen.format,
             framing: seen.framing,
             floor: l.lane as usize + 1,
             total: seen.total + l.weight as u64,
@@ -219,6 +257,7 @@ pub fn after(seen: Seen, field: SetupField) -> Seen
         SetupField::Framing(n) => Seen {
             begun: true,
             opening: false,
+            format: seen.format,
             framing: n,
             floor: seen.floor,
             total: seen.total,

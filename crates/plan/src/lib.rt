@@ -35,8 +35,9 @@ pub struct Lane {
     pub framing: Bytes,
 }
 
-// A setup by value: a lane for each number, and how many of them are there.
+// A setup by value: its format, a lane for each number, and how many of them are there.
 pub struct Plan {
+    pub format: u16,
     pub lanes: [Lane; LANES],
     pub count: usize,
 }
@@ -53,14 +54,14 @@ pub struct Reading {
     pub outcome: Outcome,
 }
 
-// The lane that a field of a setup describes. "A lane field of length 3 has no longest and means 1,500."
-fn lane_of(l: LaneField, framing: u8) -> Lane
-    ensures { λ r. ⌜ settingOf r ≡ given framing l ⌝ }
+// The lane that a field of a setup describes; a longest that is left out is the format's.
+fn lane_of(l: LaneField, format: u16, framing: u8) -> Lane
+    ensures { λ r. ⌜ settingOf r ≡ given format framing l ⌝ }
 {
     let longest = l.longest;
     Lane {
         weight: l.weight as u64,
-        longest: Bytes(judge::longest_of(longest) as u64),
+        longest: Bytes(judge::longest_of(format, longest) as u64),
         framing: Bytes(framing as u64),
     }
 }
@@ -75,16 +76,16 @@ pub fn no_lanes() -> [Lane; LANES]
     }; LANES]
 }
 
-// The lanes, with the one that a field describes, on a line with so many framing bytes.
-fn placed(mut lanes: [Lane; LANES], framing: u8, field: SetupField) -> [Lane; LANES]
+// The lanes, with the one that a field describes, in a setup of this format and on a line with so many framing bytes.
+fn placed(mut lanes: [Lane; LANES], format: u16, framing: u8, field: SetupField) -> [Lane; LANES]
     requires { ⌜ Inside field ⌝ }
-    ensures { λ r. ⌜ map settingOf r ≡ placed framing (map settingOf lanes) field ⌝ }
+    ensures { λ r. ⌜ map settingOf r ≡ placed format framing (map settingOf lanes) field ⌝ }
 {
     match field {
         SetupField::Format(_) => lanes,
         SetupField::Lane(l) => {
             let k = l.lane as usize;
-            lanes[k] = lane_of(l, framing);
+            lanes[k] = lane_of(l, format, framing);
             lanes
         }
         SetupField::Framing(_) => lanes,
@@ -92,11 +93,15 @@ fn placed(mut lanes: [Lane; LANES], framing: u8, field: SetupField) -> [Lane; LA
     }
 }
 
-fn answered(lanes: [Lane; LANES], count: usize, outcome: Outcome) -> Reading
-    ensures { λ r. ⌜ reads r ≡ came (record { lanes = lanes; count = count }) outcome ⌝ }
+fn answered(format: u16, lanes: [Lane; LANES], count: usize, outcome: Outcome) -> Reading
+    ensures { λ r. ⌜ reads r ≡ came (record { format = format; lanes = lanes; count = count }) outcome ⌝ }
 {
     Reading {
-        plan: Plan { lanes, count },
+        plan: Plan {
+            format,
+            lanes,
+            count,
+        },
         outcome,
     }
 }
@@ -109,6 +114,7 @@ pub fn read_plan(s: &[u8], at: usize) -> Reading
     let mut seen = Seen {
         begun: false,
         opening: false,
+        format: 0,
         framing: 0,
         floor: 0,
         total: 0,
@@ -118,14 +124,14 @@ pub fn read_plan(s: &[u8], at: usize) -> Reading
     loop {
         match judge::judged_field(s, p, seen) {
             Parsed::Refused(x) => {
-                return answered(lanes, seen.count, Outcome::Refused(x));
+                return answered(seen.format, lanes, seen.count, Outcome::Refused(x));
             }
             Parsed::Whole(field, _) => {
                 let next = reader::next_at(s, p);
                 if parse::ends(field) {
-                    return answered(lanes, seen.count, Outcome::Read(next));
+                    return answered(seen.format, lanes, seen.count, Outcome::Read(next));
                 }
-                let more = placed(lanes, seen.framing, field);
+                let more = placed(lanes, seen.format, seen.framing, field);
                 lanes = more;
                 seen = judge::after(seen, field);
                 p = next;

@@ -21,7 +21,7 @@ use Rattle.plan.specs.declared.Lane as plan
 use Rattle.plan.proofs.Lists.{map-set}
 use Rattle.plan_writer.specs.Write.{Planned, numbered}
 use Rattle.plan_writer.proofs.Numbered.{numbered-size, numbered-at}
-use Rattle.plan_area.specs.Area.{laneIn, lanesIn, planIn}
+use Rattle.plan_area.specs.Area.{formatIn, laneIn, lanesIn, planIn}
 
 pub record Filled (a : List ℕ) (lanes : List plan.Lane) (count k : ℕ) : Type 0 where
   pub low : k ≤ 64
@@ -71,12 +71,14 @@ module _ (a : List ℕ) (lanes : List plan.Lane) (count k : ℕ) (so : Filled a 
         let none : there (settingOf x) ≡ 0 = rw (le-ltb 0 (x .weight) (omega (arith, w))) in
         record { low = omega arith; size = size-more; each = each-more; seen = omega (arith, present-next, so .seen, none); few = omega (arith, so .few) }
 
-  pub fill-all : 64 ≤ k → _≡_ {A = Planned} (record { lanes = numbered (map settingOf lanes); count = count }) (planIn a)
-  fill-all done =
+  pub fill-all : 64 ≤ k → (v : ℕ) → v ≡ formatIn a → _≡_ {A = Planned} (record { format = v; lanes = numbered (map settingOf lanes); count = count }) (planIn a)
+  fill-all done v format-is =
       let gs = map settingOf lanes in
       let lanes-are : numbered gs ≡ lanesIn a =
       ext-getD noSetting (numbered gs) (lanesIn a) (numbered-size gs ∙ sym (length-tab 64 (laneIn a)))
       (λ i h. let b : i < 64 = omega (arith, h, numbered-size gs) in numbered-at gs i b ∙ so .each i (omega (arith, b, done)) ∙ sym (getD-tab 64 i (laneIn a) noSetting b)) in
       let left : present (drop k (lanesIn a)) ≡ 0 = ap present (drop-of-length-le (lanesIn a) {i = k} (omega (arith, length-tab 64 (laneIn a), done))) in
       let count-is : count ≡ present (lanesIn a) = omega (arith, so .seen, left) in
-      ap (λ (x : List Setting). record { lanes = x; count = count }) lanes-are ∙ ap (λ (n : ℕ). record { lanes = lanesIn a; count = n }) count-is
+      ap (λ (x : ℕ). record { format = x; lanes = numbered gs; count = count }) format-is
+      ∙ ap (λ (x : List Setting). record { format = formatIn a; lanes = x; count = count }) lanes-are
+      ∙ ap (λ (n : ℕ). record { format = formatIn a; lanes = lanesIn a; count = n }) count-is

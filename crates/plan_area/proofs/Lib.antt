@@ -1,4 +1,5 @@
 pub mod Filled
 pub mod Stored
+pub mod Shown
 pub mod Back
 pub mod Steps

@@ -1,10 +1,10 @@
 -- The promises of the two calls, from what their parts ensure.
 --
 --   read-short, read-refused, read-stored   of reading
---   write-short, write-other, write-plan    of writing
+--   write-short, write-plan    of writing
 --
 -- Assumes nothing.
-use Prim.Native.Nat.{ℕ, _*_, _<_}
+use Prim.Native.Nat.{ℕ, _*_, _≤_, _<_}
 use mathlib.Core.Path.{_≡_, refl, sym, ap, subst, _∙_}
 use mathlib.Core.List.{List}
 use native.Mathlib.Omega.{arith}
@@ -18,11 +18,12 @@ use Rattle.plan.specs.declared.Reading.{Reading}
 use Rattle.plan.specs.declared.Outcome.the-variants.{Read}
 use Rattle.plan.specs.declared.Outcome.the-variants as outcome
 use Rattle.plan.proofs.Accepted.{accepted-setup}
+use Rattle.plan_writer.proofs.Parts.{format-small}
 use Rattle.plan_writer.specs.Write.{Planned, Writes}
 use Rattle.plan_writer.specs.declared.Written.{Written}
 use Rattle.plan_writer.specs.declared.Written.the-variants as written
 use Rattle.plan_writer.specs.declared.Unwritten.the-variants.{Outside}
-use Rattle.plan_area.specs.Area.{Room, formatIn, planIn, Shows, AreaWithin}
+use Rattle.plan_area.specs.Area.{Room, planIn, Shows, AreaWithin}
 use Rattle.plan_area.specs.Step.{Follows, ReadStep, WriteStep}
 use Rattle.plan_area.specs.declared.Got.the-variants.{Lanes, Refused}
 
@@ -38,11 +39,11 @@ module _ (s a : List ℕ) where
       size = refl;
     }
 
-    pub read-setup-good : (next : ℕ) → r .outcome ≡ Read next → Setup (settings (r .plan))
-    read-setup-good next o = accepted-setup r s next e o .0 .setup
+    pub read-setup-good : (next : ℕ) → r .outcome ≡ Read next → Setup (settings (r .plan)) × (r .plan .format ≤ 2)
+    read-setup-good next o = let a = accepted-setup r s next e o .0 in (a .setup, format-small (r .plan .format) (a .rule .format))
 
     pub read-stored : (next : ℕ) → r .outcome ≡ Read next → (b : List ℕ) → length b ≡ length a
-        → Shows (record { lanes = settings (r .plan); count = r .plan .count }) b × (drop (65 * 8) b ≡ drop (65 * 8) a) → ReadStep s a (Lanes (r .plan .count)) b
+        → Shows (record { format = r .plan .format; lanes = settings (r .plan); count = r .plan .count }) b × (drop (65 * 8) b ≡ drop (65 * 8) a) → ReadStep s a (Lanes (r .plan .count)) b
     read-stored next o b size w = record {
       short = λ h. absurd (omega (arith, room, h));
       follows = λ _. subst (λ (y : plan.Reply). Follows y a (Lanes (r .plan .count)) b) (sym (ap (came (r .plan)) o) ∙ e) (refl, w .0, w .1);
@@ -56,14 +57,11 @@ module _ (area before : List ℕ) where
   pub write-short : length area < 65 * 8 → WriteStep area before (written.Refused Outside) before
   write-short h = not-within (λ w. omega (arith, w .room, h))
 
-  pub write-other : (formatIn area ≡ 1 → ⊥) → WriteStep area before (written.Refused Outside) before
-  write-other h = not-within (λ w. h (w .format))
-
-  pub write-plan : Room area → formatIn area ≡ 1 → (p : Planned) → p ≡ planIn area → (a : Written) (after : List ℕ) → Writes p before a after → WriteStep area before a after
-  write-plan room format p is a after h =
+  pub write-plan : Room area → (p : Planned) → p ≡ planIn area → (a : Written) (after : List ℕ) → Writes p before a after → WriteStep area before a after
+  write-plan room p is a after h =
       let w : Writes (planIn area) before a after = subst (λ (x : Planned). Writes x before a after) is h in
       record {
-        outside = λ o. w .outside (λ v. o (record { room = room; format = format; plan = v }));
+        outside = λ o. w .outside (λ v. o (record { room = room; plan = v }));
         short = λ v l. w .short (v .plan) l;
         written = λ v l. w .written (v .plan) l;
       }

@@ -29,10 +29,10 @@ word-small g e =
     (λ (q : g ≡ noSetting). (omega (arith, ap (λ (x : Setting). x .weight) q), omega (arith, ap (λ (x : Setting). x .longest) q)))
     e
 
-pub record Stored (gs : List Setting) (a₀ a : List ℕ) (k : ℕ) : Type 0 where
+pub record Stored (v : ℕ) (gs : List Setting) (a₀ a : List ℕ) (k : ℕ) : Type 0 where
   pub low : k ≤ 64
   pub size : length a ≡ length a₀
-  pub head : wordAt a 0 ≡ 1 + 65536 * framingOf gs
+  pub head : wordAt a 0 ≡ v + 65536 * framingOf gs
   pub lane : (j : ℕ) → j < k → wordAt a (j + 1) ≡ laneWord (settingAt gs j)
   pub rest : drop (65 * 8) a ≡ drop (65 * 8) a₀
 
@@ -41,28 +41,28 @@ pub line-is : (lanes : List plan.Lane) → Setup (map settingOf lanes) → (h : 
 line-is lanes s h e = e ∙ ap framingOf (numbered-all (map settingOf lanes) (s .size))
 
 -- the first word stored in b
-module _ (b a : List ℕ) (h : ℕ) (e : a ≡ putWord b 0 (1 + 65536 * h)) where
-  pub store-none : (gs : List Setting) → Room b → h ≡ framingOf gs → h ≤ 64 → Stored gs a a 0 × Room a
-  store-none gs room h-is small = (
+module _ (b a : List ℕ) (v h : ℕ) (e : a ≡ putWord b 0 (v + 65536 * h)) where
+  pub store-none : (gs : List Setting) → Room b → h ≡ framingOf gs → h ≤ 64 → v ≤ 2 → Stored v gs a a 0 × Room a
+  store-none gs room h-is small known = (
     record {
       low = omega arith;
       size = refl;
-      head = ap (λ (x : List ℕ). wordAt x 0) e ∙ wordAt-putWord-same b 0 (1 + 65536 * h) (omega arith) (omega arith) ∙ ap (λ (i : ℕ). 1 + 65536 * i) h-is;
+      head = ap (λ (x : List ℕ). wordAt x 0) e ∙ wordAt-putWord-same b 0 (v + 65536 * h) (omega arith) (omega arith) ∙ ap (λ (i : ℕ). v + 65536 * i) h-is;
       lane = λ j l. absurd (omega (arith, l));
       rest = refl;
     },
-    omega (arith, ap length e, length-putWord b 0 (1 + 65536 * h), room),
+    omega (arith, ap length e, length-putWord b 0 (v + 65536 * h), room),
   )
 
   pub rest-first : drop (65 * 8) a ≡ drop (65 * 8) b
-  rest-first = ap (drop (65 * 8)) e ∙ drop-putWord 65 b 0 (1 + 65536 * h) (omega arith)
+  rest-first = ap (drop (65 * 8)) e ∙ drop-putWord 65 b 0 (v + 65536 * h) (omega arith)
 
 -- lane k of the array
 pub lane-is : (lanes : List plan.Lane) (k : ℕ) → settingAt (map settingOf lanes) k ≡ settingOf (getD lanes k none)
 lane-is lanes k = List·getD-map settingOf lanes k none
 
-module _ (gs : List Setting) (a₀ a : List ℕ) (k : ℕ) (so : Stored gs a₀ a k) (room : Room a₀) where
-  pub store-more : k < 64 → Either (settingAt gs k) → (b : List ℕ) → b ≡ putWord a (k + 1) (laneWord (settingAt gs k)) → Stored gs a₀ b (k + 1)
+module _ (v : ℕ) (gs : List Setting) (a₀ a : List ℕ) (k : ℕ) (so : Stored v gs a₀ a k) (room : Room a₀) where
+  pub store-more : k < 64 → Either (settingAt gs k) → (b : List ℕ) → b ≡ putWord a (k + 1) (laneWord (settingAt gs k)) → Stored v gs a₀ b (k + 1)
   store-more l ok b e =
       let w = laneWord (settingAt gs k) in
       let fits = word-small (settingAt gs k) ok in
@@ -80,5 +80,5 @@ module _ (gs : List Setting) (a₀ a : List ℕ) (k : ℕ) (so : Stored gs a₀ 
         rest = ap (drop (65 * 8)) e ∙ drop-putWord 65 a (k + 1) w (omega arith) ∙ so .rest;
       }
 
-  pub store-all : (n : ℕ) → 64 ≤ k → (b : List ℕ) → drop (65 * 8) a₀ ≡ drop (65 * 8) b → Shows (record { lanes = gs; count = n }) a × (drop (65 * 8) a ≡ drop (65 * 8) b)
+  pub store-all : (n : ℕ) → 64 ≤ k → (b : List ℕ) → drop (65 * 8) a₀ ≡ drop (65 * 8) b → Shows (record { format = v; lanes = gs; count = n }) a × (drop (65 * 8) a ≡ drop (65 * 8) b)
   store-all n done b e = (record { head = so .head; lane = λ j h. so .lane j (omega (arith, h, done)) }, so .rest ∙ e)

@@ -46,7 +46,7 @@ abbrev pub lanesIn : List ℕ → List Setting
 lanesIn a = tab 64 (laneIn a)
 
 abbrev pub planIn : List ℕ → Planned
-planIn a = record { lanes = lanesIn a; count = present (lanesIn a) }
+planIn a = record { format = formatIn a; lanes = lanesIn a; count = present (lanesIn a) }
 
 -- ---- the words of a plan
 
@@ -54,11 +54,10 @@ abbrev pub laneWord : Setting → ℕ
 laneWord g = g .weight + 65536 * g .longest
 
 pub record Shows (p : Planned) (a : List ℕ) : Type 0 where
-  pub head : wordAt a 0 ≡ 1 + 65536 * framingOf (p .lanes)
+  pub head : wordAt a 0 ≡ p .format + 65536 * framingOf (p .lanes)
   pub lane : (k : ℕ) → k < 64 → wordAt a (k + 1) ≡ laneWord (settingAt (p .lanes) k)
 
--- Long enough, of the one format, and within the numbers.
+-- Long enough, and within the numbers.
 pub record AreaWithin (a : List ℕ) : Type 0 where
   pub room : Room a
-  pub format : formatIn a ≡ 1
   pub plan : Within (planIn a)

@@ -6,7 +6,7 @@
 --   WritesBack  a setup that is read into an area, and is in the form, is written back as the same bytes
 --   ReadsBack   what was written from an area is read, into any area, as the same words
 --
--- Theorems of the last two names in small letters are in proofs/Back.antt. Assumes nothing.
+-- The theorems of the last two are `writes-back-area` and `reads-back-area` in proofs/Back.antt. Assumes nothing.
 use Prim.Native.Nat.{ℕ, _+_, _*_, _≤_, _<_}
 use mathlib.Core.Path.{_≡_}
 use mathlib.Core.List.{List, _++_}
@@ -36,7 +36,7 @@ got (Refused x) = refused (number x) (placeOf x)
 -- Long enough, the setup decides: the plan is in the area, and the bytes past it stay; or a refusal, and the area stays.
 abbrev pub Follows : plan.Reply → List ℕ → Got → List ℕ → Type 0
 Follows (plan.refused n p) before a after = (got a ≡ refused n p) × (after ≡ before)
-Follows (plan.read gs n at) before a after = (got a ≡ lanes n) × Shows (record { lanes = gs; count = n }) after × (drop (65 * 8) after ≡ drop (65 * 8) before)
+Follows (plan.read v gs n at) before a after = (got a ≡ lanes n) × Shows (record { format = v; lanes = gs; count = n }) after × (drop (65 * 8) after ≡ drop (65 * 8) before)
 
 -- 7 where the area is too short, first and at place 0.
 pub record ReadStep (setup before : List ℕ) (a : Got) (after : List ℕ) : Type 0 where

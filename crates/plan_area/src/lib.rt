@@ -21,7 +21,6 @@ use plan::LANES;
 use plan::Lane;
 use plan::Outcome;
 use plan::Plan;
-use plan::judge::FORMAT_NUMBER;
 use plan_writer::Unwritten;
 use plan_writer::Written;
 use rules::Refusal;
@@ -34,8 +33,6 @@ pub const SIZE: usize = 520;
 
 // The place of a word's second number.
 const UNIT: u64 = 65536;
-
-const FORMAT: u64 = FORMAT_NUMBER as u64;
 
 // What came of reading a setup into an area.
 pub enum Got {
@@ -64,11 +61,11 @@ fn lane_in(w: u64, h: u64) -> Lane
     }
 }
 
-fn format_in(area: &[u8]) -> u64
+fn format_in(area: &[u8]) -> u16
     requires { ⌜ Room (now area) ⌝ }
     ensures { λ r. ⌜ r ≡ formatIn (now (area .entry)) ⌝ }
 {
-    word(area, 0) % UNIT
+    (word(area, 0) % UNIT) as u16
 }
 
 // The plan of an area, in or out of the numbers.
@@ -76,6 +73,7 @@ fn plan_in(area: &[u8]) -> Plan
     requires { ⌜ Room (now area) ⌝ }
     ensures { λ r. ⌜ planned r ≡ planIn (now (area .entry)) ⌝ }
 {
+    let format = format_in(area);
     let h = word(area, 0) / UNIT;
     let mut lanes = plan::no_lanes();
     let mut count = 0usize;
@@ -88,7 +86,11 @@ fn plan_in(area: &[u8]) -> Plan
         }
         k += 1;
     }
-    Plan { lanes, count }
+    Plan {
+        format,
+        lanes,
+        count,
+    }
 }
 
 fn lane_word(l: Lane) -> u64
@@ -100,12 +102,13 @@ fn lane_word(l: Lane) -> u64
 
 // Stores a plan that was read.
 fn store(area: &mut [u8], plan: Plan)
-    requires { ⌜ Room (now area) × Setup (settings plan) ⌝ }
-    ensures { λ _. ⌜ Shows (record { lanes = settings plan; count = plan .count }) (now (area .exit)) × (drop (65 * 8) (now (area .exit)) ≡ drop (65 * 8) (now (area .entry))) ⌝ }
+    requires { ⌜ Room (now area) × Setup (settings plan) × (plan .format ≤ 2) ⌝ }
+    ensures { λ _. ⌜ Shows (record { format = plan .format; lanes = settings plan; count = plan .count }) (now (area .exit)) × (drop (65 * 8) (now (area .exit)) ≡ drop (65 * 8) (now (area .entry))) ⌝ }
 {
+    let format = plan.format as u64;
     let lanes = plan.lanes;
     let h = plan_writer::line_framing(lanes);
-    set_word(area, 0, FORMAT + UNIT * h);
+    set_word(area, 0, format + UNIT * h);
     let mut k = 0usize;
     while k < LANES {
         let l = lanes[k];
@@ -133,14 +136,11 @@ pub fn read_setup(setup: &[u8], area: &mut [u8]) -> Got
     }
 }
 
-// Writes the plan of an area as the bytes of a setup. Bytes that are no area, or of another format, are outside the numbers.
+// Writes the plan of an area as the bytes of a setup. Bytes that are no area are outside the numbers.
 pub fn write_setup(area: &[u8], buf: &mut [u8]) -> Written
     ensures { λ r. ⌜ WriteStep (now (area .entry)) (now (buf .entry)) r (now (buf .exit)) ⌝ }
 {
     if area.len() < SIZE {
-        return Written::Refused(Unwritten::Outside);
-    }
-    if format_in(area) != FORMAT {
         return Written::Refused(Unwritten::Outside);
     }
     plan_writer::write_setup(plan_in(area), buf)

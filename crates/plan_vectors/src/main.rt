@@ -5,7 +5,7 @@
 // For each vector there is a line with what `read_setup` answers and what `read_plan` answers:
 //
 //     no NUMBER PLACE
-//     lanes COUNT to PLACE, LANE/WEIGHT/LONGEST ..
+//     format FORMAT, lanes COUNT to PLACE, LANE/WEIGHT/LONGEST/FRAMING ..
 //
 // vectors.py writes the vectors and the expected lines.
 ghost use Prim.Native.Nat.{_<_, _≤_};
@@ -181,6 +181,8 @@ fn print_reading(r: Reading) {
     match outcome {
         Outcome::Read(next) => {
             let p = r.plan;
+            print_number(b"format ", p.format as u64);
+            io::write_all(STDOUT_FILENO, b", ");
             print_plan(p, next)
         }
         Outcome::Refused(x) => print_refused(x),

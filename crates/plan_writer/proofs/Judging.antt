@@ -1,14 +1,13 @@
--- The loops of `line_framing` and of `within`.
+-- The loop of `within`.
 --
---   line-none, line-more, line-same, line-all   the greatest framing number so far, with that of the lanes behind
 --   So         the lanes below k fit the line's framing number h, and the sums so far are theirs
 --   so-none, so-more, so-skip, so-all   before the loop, after a lane that is there or is not, and after all
 --
 -- Assumes nothing.
-use Prim.Native.Nat.{ℕ, suc, _+_, _*_, _≤_, _<_, max}
+use Prim.Native.Nat.{ℕ, suc, _+_, _*_, _≤_, _<_}
 use mathlib.Core.Path.{_≡_, sym, ap, subst, _∙_}
-use mathlib.Core.Bool.{true, false}
-use mathlib.Core.Logic.{_⊎_, inl, inr, ⊎-elim}
+use mathlib.Core.Bool.{true}
+use mathlib.Core.Logic.{inr}
 use mathlib.Core.List.{List, [], map}
 use native.Mathlib.Numerals.{add-one}
 use native.Mathlib.Decide.{decLe}
@@ -17,85 +16,15 @@ use borrow.Author.Tests.{lt-ltb, le-ltb, eqb-true, eqb-false}
 use lib.Dec.{eqb}
 use lib.ListN.{drop, getD, List·getD-eq-default, drop-of-length-le}
 use Rattle.rules.specs.State.{Setting, noSetting, settingAt}
-use Rattle.rules.specs.Setup.{InNumbers, weights, framingOf}
+use Rattle.rules.specs.Setup.{weights, framingOf}
+use Rattle.plan.specs.Judge.{knownFormat}
 use Rattle.plan.specs.Read.{settingOf}
 use Rattle.plan.specs.Accepted.{there, present}
 use Rattle.plan.specs.declared.Lane as plan
-use Rattle.plan_writer.specs.Write.{numbered, Either, Fitting, Within, Tells}
+use Rattle.plan_writer.specs.Write.{Fitting, Within, Tells}
 use Rattle.plan_writer.proofs.Framing.{fitting-each, fitting-framed, fitting-line}
 use Rattle.plan_writer.proofs.Numbered.{numbered-size, none, lane-at, lane-next}
-
--- ---- one lane
-
-pub false-true : {A : Type 0} → false ≡ true → A
-false-true h = absurd (let z : _≡_ {A = ℕ} 0 1 = cc in omega arith)
-
-pub tells-no : {P : Type 0} → (P → ⊥) → Tells false P
-tells-no n = record { yes = λ e. false-true e; no = λ e p. n p }
-
-pub there-either : (g : Setting) → (g .weight ≡ 0 → ⊥) → Either g → InNumbers g
-there-either g w p = ⊎-elim (λ (n : InNumbers g). n) (λ (q : g ≡ noSetting). absurd (w (ap (λ (x : Setting). x .weight) q))) p
-
-pub absent-either : (g : Setting) → g .weight ≡ 0 → Either g → g ≡ noSetting
-absent-either g w p = ⊎-elim (λ (n : InNumbers g). absurd (omega (arith, n .weight-low, w))) (λ (q : g ≡ noSetting). q) p
-
-module _ (h : ℕ) (g : Setting) where
-  pub is-absent : g .weight ≡ 0 → Fitting h g → g ≡ noSetting
-  is-absent w p = absent-either g w (fitting-each h g p)
-
-  -- a lane that is there is in the numbers
-  pub is-there : (g .weight ≡ 0 → ⊥) → Fitting h g → InNumbers g × (g .framing ≡ h)
-  is-there w p = (there-either g w (fitting-each h g p), fitting-framed h g p (omega (arith, w)))
-
-  pub absent-lane : g .weight ≡ 0 → g .longest ≡ 0 → Tells (eqb (g .framing) 0) (Fitting h g)
-  absent-lane w l = record {
-    yes = λ e.
-        let all-zero : g ≡ noSetting =
-        ap (λ (x : ℕ). record { weight = x; longest = g .longest; framing = g .framing }) w
-        ∙ ap (λ (x : ℕ). record { weight = 0; longest = x; framing = g .framing }) l
-        ∙ ap (λ (x : ℕ). record { weight = 0; longest = 0; framing = x }) (eqb-true (g .framing) 0 e) in
-        inr all-zero;
-    no = λ e p. eqb-false (g .framing) 0 e (ap (λ (x : Setting). x .framing) (is-absent w p));
-  }
-
-  pub last-test : (g .weight ≡ 0 → ⊥) → g .weight ≤ 1024 → 64 ≤ g .longest → g .longest ≤ 1500 → Tells (eqb (g .framing) h) (Fitting h g)
-  last-test w a l m = record {
-    yes = λ e. inl (record { weight-low = omega (arith, w); weight-high = a; longest-low = l; longest-high = m }, eqb-true (g .framing) h e);
-    no = λ e p. eqb-false (g .framing) h e (is-there w p .1);
-  }
-
--- ---- the greatest framing number
-
-abbrev pub lanesOf : List plan.Lane → List Setting
-lanesOf lanes = numbered (map settingOf lanes)
-
-pub record Line (lanes : List plan.Lane) (k h : ℕ) : Type 0 where
-  pub low : k ≤ 64
-  pub most : max h (framingOf (drop k (lanesOf lanes))) ≡ framingOf (lanesOf lanes)
-
-pub line-none : (lanes : List plan.Lane) → Line lanes 0 0
-line-none lanes = record { low = omega arith; most = omega arith }
-
-module _ (lanes : List plan.Lane) (k h : ℕ) (so : Line lanes k h) where
-  module _ (l : k < 64) where
-    abbrev here : Setting
-    here = settingOf (getD lanes k none)
-
-    framing-next : framingOf (drop k (lanesOf lanes)) ≡ max (here .framing) (framingOf (drop (k + 1) (lanesOf lanes)))
-    unfolding framingOf
-    framing-next = ap framingOf (lane-next lanes k l) ∙ ap (λ (i : ℕ). max (here .framing) (framingOf (drop i (lanesOf lanes)))) (sym (add-one k))
-
-    pub line-more : h < here .framing → Line lanes (k + 1) (here .framing)
-    line-more b = record { low = omega arith; most = omega (arith, framing-next, so .most) }
-
-    pub line-same : here .framing ≤ h → Line lanes (k + 1) h
-    line-same b = record { low = omega arith; most = omega (arith, framing-next, so .most) }
-
-  pub line-all : 64 ≤ k → h ≡ framingOf (lanesOf lanes)
-  unfolding framingOf
-  line-all done = omega (arith, so .most, ap framingOf (drop-of-length-le (lanesOf lanes) {i = k} (omega (arith, numbered-size (map settingOf lanes), done))))
-
--- ---- the lanes
+use Rattle.plan_writer.proofs.Lane.{lanesOf, is-there}
 
 pub record So (lanes : List plan.Lane) (h k total some : ℕ) : Type 0 where
   pub low : k ≤ 64
@@ -112,20 +41,20 @@ module _ (lanes : List plan.Lane) (h : ℕ) (line : h ≡ framingOf (lanesOf lan
   abbrev gs : List Setting
   gs = lanesOf lanes
 
-  fits-line : {n : ℕ} → Within (record { lanes = gs; count = n }) → (k : ℕ) → Fitting h (settingAt gs k)
+  fits-line : {v n : ℕ} → Within (record { format = v; lanes = gs; count = n }) → (k : ℕ) → Fitting h (settingAt gs k)
   fits-line w k = subst (λ (x : ℕ). Fitting x (settingAt gs k)) (sym line) (fitting-line gs (w .setup) k)
 
   -- a line with more than 64
-  pub line-over : 64 < h → (n : ℕ) → Within (record { lanes = gs; count = n }) → ⊥
-  line-over b n w = omega (arith, w .setup .framing-high, line)
+  pub line-over : 64 < h → (v n : ℕ) → Within (record { format = v; lanes = gs; count = n }) → ⊥
+  line-over b v n w = omega (arith, w .setup .framing-high, line)
 
   module _ (k total some : ℕ) (so : So lanes h k total some) where
     module _ (l : k < 64) where
       abbrev g : Setting
       g = settingOf (getD lanes k none)
 
-      pub so-outside : (Fitting h g → ⊥) → (n : ℕ) → Within (record { lanes = gs; count = n }) → ⊥
-      so-outside out n w = out (subst (Fitting h) (lane-at lanes k l) (fits-line w k))
+      pub so-outside : (Fitting h g → ⊥) → (v n : ℕ) → Within (record { format = v; lanes = gs; count = n }) → ⊥
+      so-outside out v n w = out (subst (Fitting h) (lane-at lanes k l) (fits-line w k))
 
       module _ (ok : Fitting h g) where
         more-each : (j : ℕ) → j < k + 1 → Fitting h (settingAt gs j)
@@ -183,9 +112,10 @@ module _ (lanes : List plan.Lane) (h : ℕ) (line : h ≡ framingOf (lanesOf lan
             | no b ↦ inr (List·getD-eq-default gs noSetting (omega (arith, b, numbered-size (map settingOf lanes))))
           ]
 
-      pub so-all : (n : ℕ) → h ≤ 64 → (total ≡ 0 → ⊥) → total ≤ 1024 → Tells (eqb some n) (Within (record { lanes = gs; count = n }))
-      so-all n m p q = record {
+      pub so-all : (v n : ℕ) → knownFormat v ≡ true → h ≤ 64 → (total ≡ 0 → ⊥) → total ≤ 1024 → Tells (eqb some n) (Within (record { format = v; lanes = gs; count = n }))
+      so-all v n f m p q = record {
         yes = λ e. record {
+          format = f;
           setup = record {
             size = numbered-size (map settingOf lanes);
             each = λ j. fitting-each h (settingAt gs j) (every j);
@@ -199,8 +129,8 @@ module _ (lanes : List plan.Lane) (h : ℕ) (line : h ≡ framingOf (lanesOf lan
         no = λ e w. eqb-false some n e (sym some-is ∙ w .count);
       }
 
-      pub so-zero : total ≡ 0 → (n : ℕ) → Within (record { lanes = gs; count = n }) → ⊥
-      so-zero z n w = omega (arith, total-is, w .setup .some-lane, z)
+      pub so-zero : total ≡ 0 → (v n : ℕ) → Within (record { format = v; lanes = gs; count = n }) → ⊥
+      so-zero z v n w = omega (arith, total-is, w .setup .some-lane, z)
 
-      pub so-over : 1024 < total → (n : ℕ) → Within (record { lanes = gs; count = n }) → ⊥
-      so-over z n w = omega (arith, total-is, w .setup .total, z)
+      pub so-over : 1024 < total → (v n : ℕ) → Within (record { format = v; lanes = gs; count = n }) → ⊥
+      so-over z v n w = omega (arith, total-is, w .setup .total, z)

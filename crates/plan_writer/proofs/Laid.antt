@@ -19,7 +19,8 @@ use Rattle.plan.specs.declared.parse.SetupField.{SetupField}
 use Rattle.plan.proofs.Inside.{true-false}
 use Rattle.plan.proofs.Stands.{stands}
 use Rattle.plan_writer.specs.Format.{fieldBytes, bytesOf, formed, allFormed}
-use Rattle.plan_writer.proofs.Bytes.{Fits, item-bytes, stand-bytes}
+use Rattle.plan_writer.proofs.Bytes.{Fits, item-bytes}
+use Rattle.plan_writer.proofs.Standing.{stand-bytes}
 
 -- ---- one layout
 

@@ -1,10 +1,15 @@
 pub mod Bytes
+pub mod Standing
 pub mod Laid
 pub mod Lanes
+pub mod Placed
 pub mod Framing
 pub mod Numbered
+pub mod Parts
 pub mod Round
+pub mod Lane
 pub mod Judging
 pub mod Writing
+pub mod Decided
 pub mod Calls
 pub mod Examples

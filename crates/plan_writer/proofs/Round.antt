@@ -1,7 +1,6 @@
 -- Writing and reading go back and forth.
 --
---   setup-parts   the bytes of a plan, part by part
---   size-is       they are as many as `sizeOf` says; size-most: at most 524
+--   size-is       the bytes of a plan are as many as `sizeOf` says; size-most: at most 524
 --   reads-back    reading what was written gives the same plan
 --   writes-back   a setup that is read and in the form is written back as the same bytes; only-form: and no other is
 --   read-within   a plan that was read is within the numbers
@@ -11,7 +10,7 @@
 use Prim.Native.Nat.{ℕ, _+_, _≤_}
 use mathlib.Core.Path.{_≡_, refl, sym, ap, subst, _∙_}
 use mathlib.Core.Bool.{Bool, true, false}
-use mathlib.Core.List.{List, [], _∷_, _++_, map, append-nil, append-assoc}
+use mathlib.Core.List.{List, [], _∷_, _++_, map, append-nil}
 use mathlib.Core.Option.{Option, some}
 use native.Mathlib.Omega.{arith}
 use lib.Dec.{ltb}
@@ -24,48 +23,21 @@ use Rattle.plan.specs.Read as r
 use Rattle.plan.specs.Read.{read, noLanes, readPlan, closed, readSetup}
 use Rattle.plan.specs.Accepted.{Laid, setupFields, framed, framedBy, placedAll, Accepted}
 use Rattle.plan.specs.declared.parse.LaneField.{LaneField}
-use Rattle.plan.specs.declared.parse.SetupField.{SetupField}
-use Rattle.plan.specs.declared.parse.SetupField.the-variants.{Format, Lane, End}
+use Rattle.plan.specs.declared.parse.SetupField.the-variants.{Lane, End}
 use Rattle.plan.proofs.Rest.{refused-read}
 use Rattle.plan.proofs.Closed.{setup-whole}
 use Rattle.plan.proofs.Accepted.{accepted-whole}
 use Rattle.plan.proofs.Prefix.{prefix}
 use Rattle.plan.proofs.Complete.{complete}
-use Rattle.plan_writer.specs.Format.{fieldBytes, bytesOf, formed, allFormed, InForm}
+use Rattle.plan_writer.specs.Format.{fieldBytes, bytesOf, allFormed, InForm}
 use Rattle.plan_writer.specs.declared.Written.{Written}
 use Rattle.plan_writer.specs.Write.{Planned, Within, Fitting, laneFields, unlessZero, planFields, setupBytes, lanesBytes, framingBytes, sizeOf, Writes}
 use Rattle.plan_writer.specs.RoundTrip.{Bytes, readAs}
-use Rattle.plan_writer.proofs.Laid.{one-layout, AllFit, laid-bytes, bytes-laid, and-true, true-and}
-use Rattle.plan_writer.proofs.Lanes.{present-most, fields-number, fields-weigh, lanes-some, fields-rise, fields-within, fields-fit, fields-formed, fields-size, placed-back, fields-back}
+use Rattle.plan_writer.proofs.Laid.{one-layout, AllFit, laid-bytes, bytes-laid}
+use Rattle.plan_writer.proofs.Lanes.{present-most, fields-number, fields-weigh, lanes-some, fields-rise, fields-within, fields-fit, fields-formed, fields-size}
+use Rattle.plan_writer.proofs.Placed.{placed-back, fields-back}
 use Rattle.plan_writer.proofs.Framing.{unless-by, framing-size, framing-few, framing-fits, framing-formed, unless-back, placed-line, fitting-line}
-
--- ---- parts
-
-bytes-append : (fs gs : List SetupField) → bytesOf (fs ++ gs) ≡ bytesOf fs ++ bytesOf gs
-unfolding bytesOf
-bytes-append [] gs = refl
-bytes-append (f ∷ fs) gs = ap (λ (l : List ℕ). fieldBytes f ++ l) (bytes-append fs gs) ∙ sym (append-assoc (fieldBytes f) (bytesOf fs) (bytesOf gs))
-
--- 0x01, 0x11 or none, the lanes, 0x7F
-pub setup-parts : (h : ℕ) (gs : List Setting) → bytesOf (setupFields (unlessZero h) (laneFields 0 gs)) ≡ fieldBytes (Format 1) ++ (framingBytes h ++ (lanesBytes 0 gs ++ fieldBytes End))
-unfolding framingBytes bytesOf
-setup-parts h gs =
-    ap (λ (l : List ℕ). fieldBytes (Format 1) ++ l)
-    (bytes-append (framed (unlessZero h)) (map Lane (laneFields 0 gs) ++ (End ∷ []))
-    ∙ ap (λ (l : List ℕ). bytesOf (framed (unlessZero h)) ++ l) (bytes-append (map Lane (laneFields 0 gs)) (End ∷ [])))
-
-fit-append : (fs gs : List SetupField) → AllFit fs → AllFit gs → AllFit (fs ++ gs)
-unfolding AllFit
-fit-append [] gs a b = b
-fit-append (f ∷ fs) gs a b = (a .0, fit-append fs gs (a .1) b)
-
-formed-append : (fs gs : List SetupField) → allFormed fs ≡ true → allFormed gs ≡ true → allFormed (fs ++ gs) ≡ true
-formed-append [] gs a b = b
-formed-append (f ∷ fs) gs a b = let both = and-true (formed f) (allFormed fs) a in true-and (both .0) (formed-append fs gs (both .1) b)
-
-formed-split : (fs gs : List SetupField) → allFormed (fs ++ gs) ≡ true → (allFormed fs ≡ true) × (allFormed gs ≡ true)
-formed-split [] gs h = (refl, h)
-formed-split (f ∷ fs) gs h = let both = and-true (formed f) (allFormed (fs ++ gs)) h in let rest = formed-split fs gs (both .1) in (true-and (both .0) (rest .0), rest .1)
+use Rattle.plan_writer.proofs.Parts.{setup-parts, fit-append, formed-append, formed-split, format-small}
 
 -- ---- a plan within the numbers
 
@@ -85,7 +57,7 @@ module _ (p : Planned) (w : Within p) where
   pub size-is : length (setupBytes p) ≡ sizeOf p
   unfolding setupBytes
   size-is =
-      ap length (setup-parts h gs)
+      ap length (setup-parts (p .format) h gs)
       ∙ omega (arith, length-append (framingBytes h) (lanesBytes 0 gs ++ fieldBytes End), length-append (lanesBytes 0 gs) (fieldBytes End), fields-size h gs each 0, framing-size h)
 
   pub size-most : sizeOf p ≤ 524
@@ -96,17 +68,18 @@ module _ (p : Planned) (w : Within p) where
   laid-plan =
       subst (Laid s 0 (planFields p)) (let e : 0 + length s ≡ length s = omega arith in e)
       (laid-bytes s 0 [] (planFields p)
-      (omega arith, fit-append (framed (unlessZero h)) _ (framing-fits h (w .setup .framing-high)) (fields-fit h gs each (End ∷ []) (tt, tt) 0 (omega (arith, w .setup .size))))
+      (omega (arith, format-small (p .format) (w .format)), fit-append (framed (unlessZero h)) _ (framing-fits h (w .setup .framing-high)) (fields-fit h gs each (End ∷ []) (tt, tt) 0 (omega (arith, w .setup .size))))
       (sym (append-nil s)))
 
-  placed-plan : placedAll (framedBy (unlessZero h)) noLanes (laneFields 0 gs) ≡ gs
+  placed-plan : placedAll (p .format) (framedBy (unlessZero h)) noLanes (laneFields 0 gs) ≡ gs
   placed-plan =
-      ap (λ (i : ℕ). placedAll i noLanes (laneFields 0 gs)) (unless-by h)
-      ∙ ap (λ (i : ℕ). placedAll h (replicate i noSetting) (laneFields 0 gs)) (sym (w .setup .size))
-      ∙ placed-back h gs each 0 [] refl
+      ap (λ (i : ℕ). placedAll (p .format) i noLanes (laneFields 0 gs)) (unless-by h)
+      ∙ ap (λ (i : ℕ). placedAll (p .format) h (replicate i noSetting) (laneFields 0 gs)) (sym (w .setup .size))
+      ∙ placed-back (p .format) h gs each 0 [] refl
 
-  accepted-plan : Accepted s 0 gs (p .count) (length s)
+  accepted-plan : Accepted s 0 (p .format) gs (p .count) (length s)
   accepted-plan = record {
+    format = w .format;
     framing = unlessZero h;
     lanes = laneFields 0 gs;
     laid = laid-plan;
@@ -121,7 +94,7 @@ module _ (p : Planned) (w : Within p) where
 
   pub reads-back : readSetup (setupBytes p) ≡ readAs p (sizeOf p)
   reads-back =
-      setup-whole s gs (p .count) (length s) (complete s 0 gs (p .count) (length s) accepted-plan) (omega arith)
+      setup-whole s (p .format) gs (p .count) (length s) (complete s 0 (p .format) gs (p .count) (length s) accepted-plan) (omega arith)
       ∙ ap (readAs p) size-is
 
   pub in-form : InForm (setupBytes p)
@@ -136,9 +109,9 @@ module _ (p : Planned) (w : Within p) where
 module _ (s : List ℕ) (p : Planned) (q : ℕ) (e : readSetup s ≡ readAs p q) where
   closed-read : (x : r.Reply) → closed s x ≡ readAs p q → x ≡ readAs p q
   closed-read (r.refused a b) c = refused-read c
-  closed-read (read gs₁ n₁ p₁) c = go (ltb p₁ (length s)) c
+  closed-read (read v₁ gs₁ n₁ p₁) c = go (ltb p₁ (length s)) c
     where
-      go : (b : Bool) → (if b then r.refused 4 (some p₁) else read gs₁ n₁ p₁) ≡ readAs p q → read gs₁ n₁ p₁ ≡ readAs p q
+      go : (b : Bool) → (if b then r.refused 4 (some p₁) else read v₁ gs₁ n₁ p₁) ≡ readAs p q → read v₁ gs₁ n₁ p₁ ≡ readAs p q
       go true c = refused-read c
       go false c = c
 
@@ -147,24 +120,24 @@ module _ (s : List ℕ) (p : Planned) (q : ℕ) (e : readSetup s ≡ readAs p q)
   plan-read = closed-read (readPlan s 0) e
 
   pub read-within : Within p
-  read-within = let a = accepted-whole s (p .lanes) (p .count) q e .0 in record { setup = a .setup; count = a .are-there }
+  read-within = let a = accepted-whole s (p .format) (p .lanes) (p .count) q e .0 in record { format = a .rule .format; setup = a .setup; count = a .are-there }
 
   pub writes-back : Bytes s → InForm s → setupBytes p ≡ s
   unfolding setupBytes laneFields
   writes-back bytes form =
-      let acc = accepted-whole s (p .lanes) (p .count) q e in
+      let acc = accepted-whole s (p .format) (p .lanes) (p .count) q e in
       let a = acc .0 .rule in
-      let fs = setupFields (a .framing) (a .lanes) in
+      let fs = setupFields (p .format) (a .framing) (a .lanes) in
       let laid : Laid s 0 fs (length s) = subst (Laid s 0 fs) (acc .1) (a .laid) in
       let formed-all : allFormed fs ≡ true = ap allFormed (one-layout s 0 fs (form .fields) (length s) laid (form .laid)) ∙ form .all in
       let formed-parts = formed-split (framed (a .framing)) (map Lane (a .lanes) ++ (End ∷ [])) formed-all in
-      let line : framingOf (p .lanes) ≡ framedBy (a .framing) = ap framingOf (a .given) ∙ placed-line (framedBy (a .framing)) (a .lanes) (a .each) (a .some-lane) in
+      let line : framingOf (p .lanes) ≡ framedBy (a .framing) = ap framingOf (a .given) ∙ placed-line (p .format) (framedBy (a .framing)) (a .lanes) (a .each) (a .some-lane) in
       let framing-is : unlessZero (framingOf (p .lanes)) ≡ a .framing = ap unlessZero line ∙ unless-back (a .framing) (formed-parts .0) in
       let lanes-are : laneFields 0 (p .lanes) ≡ a .lanes =
-      ap (laneFields 0) (a .given) ∙ fields-back (framedBy (a .framing)) (a .lanes) [] 64 refl (a .rising) (a .each) (formed-parts .1) in
+      ap (laneFields 0) (a .given) ∙ fields-back (p .format) (framedBy (a .framing)) (a .lanes) [] 64 refl (a .rising) (a .each) (formed-parts .1) in
       let there : s ≡ bytesOf fs ++ drop (length s) s = bytes-laid s bytes 0 fs (length s) formed-all laid in
-      ap (λ (f : Option ℕ). bytesOf (setupFields f (laneFields 0 (p .lanes)))) framing-is
-      ∙ ap (λ (ls : List LaneField). bytesOf (setupFields (a .framing) ls)) lanes-are
+      ap (λ (f : Option ℕ). bytesOf (setupFields (p .format) f (laneFields 0 (p .lanes)))) framing-is
+      ∙ ap (λ (ls : List LaneField). bytesOf (setupFields (p .format) (a .framing) ls)) lanes-are
       ∙ sym (append-nil (bytesOf fs))
       ∙ ap (λ (l : List ℕ). bytesOf fs ++ l) (sym (drop-length s))
       ∙ sym there
@@ -185,5 +158,5 @@ module _ (p : Planned) (before after : List ℕ) (a : Written) (h : Writes p bef
   -- and where it stands, whatever is behind it
   pub written-at : readPlan after 0 ≡ readAs p (sizeOf p)
   written-at =
-      prefix (setupBytes p) after 0 (p .lanes) (p .count) (sizeOf p) (plan-read (setupBytes p) p (sizeOf p) (reads-back p w))
+      prefix (setupBytes p) after 0 (p .format) (p .lanes) (p .count) (sizeOf p) (plan-read (setupBytes p) p (sizeOf p) (reads-back p w))
       (take-all (sizeOf p) (setupBytes p) (omega (arith, size-is p w)) ∙ sym first-bytes)

@@ -25,10 +25,11 @@ use Rattle.plan_writer.specs.Format.{fieldBytes, bytesOf}
 use Rattle.plan_writer.specs.Write.{laneBytes, laneFields, lanesBytes, framingBytes, framingSize, unlessZero, Planned, Within, Either, setupBytes, sizeOf, size, Writes}
 use Rattle.plan_writer.specs.declared.Written.the-variants.{Size}
 use Rattle.plan_writer.proofs.Numbered.{numbered-size, none, lane-at, lane-next}
-use Rattle.plan_writer.proofs.Judging.{there-either, absent-either, lanesOf}
+use Rattle.plan_writer.proofs.Lane.{there-either, absent-either, lanesOf}
 use Rattle.plan_writer.proofs.Framing.{framing-size}
 use Rattle.plan_writer.proofs.Lanes.{fields-there, fields-skip}
-use Rattle.plan_writer.proofs.Round.{setup-parts, size-is}
+use Rattle.plan_writer.proofs.Round.{size-is}
+use Rattle.plan_writer.proofs.Parts.{setup-parts}
 
 -- ---- the bytes from lane k on
 
@@ -103,16 +104,16 @@ lay-all a₀ at lanes a p k l h =
 
 -- ---- the parts
 
-pub stored : (a : List ℕ) (h : ℕ) (gs : List Setting) (at : ℕ) → at ≡ 5 + framingSize h
-    → sets (sets (sets (sets a 0 (fieldBytes (Format 1))) 5 (framingBytes h)) at (lanesBytes 0 gs)) (at + length (lanesBytes 0 gs)) (fieldBytes End)
-    ≡ sets a 0 (bytesOf (setupFields (unlessZero h) (laneFields 0 gs)))
-stored a h gs at e =
+pub stored : (a : List ℕ) (v h : ℕ) (gs : List Setting) (at : ℕ) → at ≡ 5 + framingSize h
+    → sets (sets (sets (sets a 0 (fieldBytes (Format v))) 5 (framingBytes h)) at (lanesBytes 0 gs)) (at + length (lanesBytes 0 gs)) (fieldBytes End)
+    ≡ sets a 0 (bytesOf (setupFields v (unlessZero h) (laneFields 0 gs)))
+stored a v h gs at e =
     let at-is : at ≡ 5 + length (framingBytes h) = omega (arith, e, framing-size h) in
-    sets-append (sets (sets a 0 (fieldBytes (Format 1))) 5 (framingBytes h)) at (lanesBytes 0 gs) (fieldBytes End)
-    ∙ ap (λ (i : ℕ). sets (sets (sets a 0 (fieldBytes (Format 1))) 5 (framingBytes h)) i (lanesBytes 0 gs ++ fieldBytes End)) at-is
-    ∙ sets-append (sets a 0 (fieldBytes (Format 1))) 5 (framingBytes h) (lanesBytes 0 gs ++ fieldBytes End)
-    ∙ sets-append a 0 (fieldBytes (Format 1)) (framingBytes h ++ (lanesBytes 0 gs ++ fieldBytes End))
-    ∙ ap (sets a 0) (sym (setup-parts h gs))
+    sets-append (sets (sets a 0 (fieldBytes (Format v))) 5 (framingBytes h)) at (lanesBytes 0 gs) (fieldBytes End)
+    ∙ ap (λ (i : ℕ). sets (sets (sets a 0 (fieldBytes (Format v))) 5 (framingBytes h)) i (lanesBytes 0 gs ++ fieldBytes End)) at-is
+    ∙ sets-append (sets a 0 (fieldBytes (Format v))) 5 (framingBytes h) (lanesBytes 0 gs ++ fieldBytes End)
+    ∙ sets-append a 0 (fieldBytes (Format v)) (framingBytes h ++ (lanesBytes 0 gs ++ fieldBytes End))
+    ∙ ap (sets a 0) (sym (setup-parts v h gs))
 
 pub stored-first : (a bs : List ℕ) (n : ℕ) → length bs ≡ n → n ≤ length a → sets a 0 bs ≡ bs ++ drop n a
 stored-first a bs n e h = sets-eq bs a 0 (omega (arith, e, h)) ∙ ap (λ (k : ℕ). bs ++ drop k a) (let q : 0 + length bs ≡ n = omega (arith, e) in q)
@@ -120,10 +121,10 @@ stored-first a bs n e h = sets-eq bs a 0 (omega (arith, e, h)) ∙ ap (λ (k : �
 -- ---- the promise, where the plan was tested and there is room
 
 pub written-all : (p : Planned) → Within p → (before after : List ℕ) (h n : ℕ) → h ≡ framingOf (p .lanes) → n ≡ sizeOf p → n ≤ length before
-    → after ≡ sets before 0 (bytesOf (setupFields (unlessZero h) (laneFields 0 (p .lanes)))) → Writes p before (Size n) after
+    → after ≡ sets before 0 (bytesOf (setupFields (p .format) (unlessZero h) (laneFields 0 (p .lanes)))) → Writes p before (Size n) after
 unfolding setupBytes
 written-all p w before after h n h-is n-is room e = record {
   outside = λ o. absurd (o w);
   short = λ _ l. absurd (omega (arith, l, n-is, room));
-  written = λ _ l. (ap size n-is, e ∙ ap (λ (x : ℕ). sets before 0 (bytesOf (setupFields (unlessZero x) (laneFields 0 (p .lanes))))) h-is ∙ stored-first before (setupBytes p) (sizeOf p) (size-is p w) l);
+  written = λ _ l. (ap size n-is, e ∙ ap (λ (x : ℕ). sets before 0 (bytesOf (setupFields (p .format) (unlessZero x) (laneFields 0 (p .lanes))))) h-is ∙ stored-first before (setupBytes p) (sizeOf p) (size-is p w) l);
 }

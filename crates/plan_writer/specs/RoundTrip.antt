@@ -1,5 +1,5 @@
 -- Writing and reading go back and forth: the promises, of the two calls' own answers. (`Writes` is what `write_setup` ensures, and `reads r ≡ readSetup s`
--- what `read_setup` does.) Theorems of these names in small letters are in proofs/Calls.antt.
+-- what `read_setup` does.) proofs/Calls.antt has the theorem of each: `reads-back-calls` and so on.
 --
 --   ReadsBack     what was written is read as the same plan, also where other bytes stand behind it
 --   WritesBack    a setup read in the form is written back as the same bytes
@@ -28,7 +28,7 @@ Bytes s = (i : ℕ) → byteAt s i < 256
 
 -- The reader's reply that is this plan, read as far as a place.
 abbrev pub readAs : Planned → ℕ → r.Reply
-readAs p next = read (p .lanes) (p .count) next
+readAs p next = read (p .format) (p .lanes) (p .count) next
 
 unfoldable pub ReadsBack : Type 0
 ReadsBack =

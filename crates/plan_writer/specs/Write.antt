@@ -17,6 +17,7 @@ use lib.ListN.{length, drop}
 use Rattle.units.specs.Plain.{if_then_else_}
 use Rattle.rules.specs.State.{Setting, noSetting, settingAt}
 use Rattle.rules.specs.Setup.{InNumbers, Setup, framingOf}
+use Rattle.plan.specs.Judge.{knownFormat}
 use Rattle.plan.specs.Read.{settings}
 use Rattle.plan.specs.Accepted.{framed, setupFields, present}
 use Rattle.plan.specs.declared.Plan.{Plan}
@@ -32,8 +33,9 @@ use Rattle.plan_writer.specs.declared.Written.the-variants.{Size, Refuse
 
 -- ---- plans
 
--- A setting for each lane number, and how many lanes there are said to be.
+-- A format, a setting for each lane number, and how many lanes there are said to be.
 pub record Planned : Type 0 where
+  pub format : ℕ
   pub lanes : List Setting
   pub count : ℕ
 
@@ -48,11 +50,12 @@ numbered gs = numberedFrom 0 64 gs
 
 -- The code's plan.
 abbrev pub planned : Plan → Planned
-planned p = record { lanes = numbered (settings p); count = p .count }
+planned p = record { format = p .format; lanes = numbered (settings p); count = p .count }
 
--- Within the numbers: the lanes are a setup of the rules (one to 64 of them, an absent one all zero, each weight, longest, the sum and the framing bytes in
+-- Within the numbers: the format is a known one, the lanes are a setup of the rules (one to 64 of them, an absent one all zero, each weight, longest, the sum and the framing bytes in
 -- their numbers, one framing number for all), and the count is how many are there.
 pub record Within (p : Planned) : Type 0 where
+  pub format : knownFormat (p .format) ≡ true
   pub setup : Setup (p .lanes)
   pub count : present (p .lanes) ≡ p .count
 
@@ -84,9 +87,9 @@ laneFields k (g ∷ gs) = if ltb 0 (g .weight) then laneField k g ∷ laneFields
 abbrev pub unlessZero : ℕ → Option ℕ
 unlessZero h = if eqb h 0 then none else some h
 
--- 0x01, 0x11 where there are framing bytes, a field for each lane, 0x7F.
+-- 0x01 with the plan's format, 0x11 where there are framing bytes, a field for each lane, 0x7F.
 abbrev pub planFields : Planned → List SetupField
-planFields p = setupFields (unlessZero (framingOf (p .lanes))) (laneFields 0 (p .lanes))
+planFields p = setupFields (p .format) (unlessZero (framingOf (p .lanes))) (laneFields 0 (p .lanes))
 
 unfoldable pub setupBytes : Planned → List ℕ
 setupBytes p = bytesOf (planFields p)

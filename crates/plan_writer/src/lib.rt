@@ -1,4 +1,4 @@
-// The setup writer: document 02, f. A plan within the numbers is written to a lent buffer as the bytes of a setup: 0x01, 0x11 where the line has
+// The setup writer: document 02, f. A plan within the numbers is written to a lent buffer as the bytes of a setup: 0x01 with its format, 0x11 where the line has
 // framing bytes, a field of five bytes for each lane, 0x7F.
 //
 // `write_setup` takes any plan and any buffer. It tests the plan (55), then the room (56), and only then stores: so the buffer stays for a refusal. What it
@@ -23,6 +23,7 @@ use plan::LANES;
 use plan::Lane;
 use plan::Plan;
 use plan::judge::MOST_TOTAL;
+use plan::judge::known_format;
 use plan::parse::END;
 use plan::parse::FORMAT;
 use plan::parse::FRAMING;
@@ -107,6 +108,9 @@ fn lane_within(l: Lane, h: u64) -> bool
 pub fn within(plan: Plan) -> bool
     ensures { λ r. ⌜ Tells r (Within (planned plan)) ⌝ }
 {
+    if !known_format(plan.format) {
+        return false;
+    }
     let lanes = plan.lanes;
     let h = line_framing(lanes);
     if MOST_FRAMING < h {
@@ -135,16 +139,16 @@ pub fn within(plan: Plan) -> bool
     there == plan.count
 }
 
-// 0x01 with the one format.
-fn put_format(a: &mut [u8])
+// 0x01 with a format.
+fn put_format(a: &mut [u8], format: u16)
     requires { ⌜ 5 ≤ length (now a) ⌝ }
-    ensures { λ _. ⌜ now (a .exit) ≡ sets (now (a .entry)) 0 (fieldBytes (Format 1)) ⌝ }
+    ensures { λ _. ⌜ now (a .exit) ≡ sets (now (a .entry)) 0 (fieldBytes (Format format)) ⌝ }
 {
     a[0] = FORMAT;
     a[1] = 0;
     a[2] = 2;
-    a[3] = 0;
-    a[4] = 1;
+    a[3] = (format / 256) as u8;
+    a[4] = (format % 256) as u8;
 }
 
 // 0x11 with the line's framing bytes.
@@ -213,12 +217,12 @@ fn put_end(a: &mut [u8], at: usize)
     a[at + 2] = 0;
 }
 
-// Writes the setup of a plan's lanes on a line with `h` framing bytes.
-fn put_setup(a: &mut [u8], h: u64, lanes: [Lane; LANES])
+// Writes the setup of a plan's lanes in a format, on a line with `h` framing bytes.
+fn put_setup(a: &mut [u8], format: u16, h: u64, lanes: [Lane; LANES])
     requires { ⌜ ((k : ℕ) → Fitting h (settingAt (numbered (map settingOf lanes)) k)) × (h ≤ 64) × (8 + framingSize h + 8 * present (numbered (map settingOf lanes)) ≤ length (now a)) ⌝ }
-    ensures { λ _. ⌜ now (a .exit) ≡ sets (now (a .entry)) 0 (bytesOf (setupFields (unlessZero h) (laneFields 0 (numbered (map settingOf lanes))))) ⌝ }
+    ensures { λ _. ⌜ now (a .exit) ≡ sets (now (a .entry)) 0 (bytesOf (setupFields format (unlessZero h) (laneFields 0 (numbered (map settingOf lanes))))) ⌝ }
 {
-    put_format(a);
+    put_format(a, format);
     let first = put_framing(a, 5, h);
     let next = put_lanes(a, first, lanes);
     put_end(a, next);
@@ -243,6 +247,6 @@ pub fn write_setup(plan: Plan, buf: &mut [u8]) -> Written
     if buf.len() < size {
         return Written::Refused(Unwritten::Short);
     }
-    put_setup(buf, h, lanes);
+    put_setup(buf, plan.format, h, lanes);
     Written::Size(size)
 }

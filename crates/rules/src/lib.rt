@@ -54,7 +54,7 @@ pub enum Refusal {
     RunBounds,
     // 18: the program's input over 32,768 bytes.
     InputLong,
-    // 50 to 54: a number of a setup outside its numbers, at its first byte: a format that is not 1 ..
+    // 50 to 54: a number of a setup outside its numbers, at its first byte: a format that is neither 1 nor 2 ..
     FormatOutside(usize),
     // .. a lane over 63 ..
     LaneOutside(usize),

@@ -23,7 +23,7 @@ use Rattle.scheduler.proofs.Chains.{led-fresh}
 pub by-make : (gs : List Setting) (t : List ℕ) → Begins gs t → Led gs [] t
 by-make gs t b =
     led-fresh gs t
-    (accepted-whole (b .setup) gs (b .lanes) (b .at) (b .reads-it) .0 .setup)
+    (accepted-whole (b .setup) (b .format) gs (b .lanes) (b .at) (b .reads-it) .0 .setup)
     (subst (λ (y : plan.Reply). Follows y (b .before) (b .answer) t) (b .reads-it) (b .makes .follows (b .room)) .1)
 
 -- an accepted restart leaves the fresh state of the same setup

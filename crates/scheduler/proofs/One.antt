@@ -46,7 +46,7 @@ one-making setup t a a′ u u′ p p′ = elim (decLe SIZE (length t)) [ yes h �
   where
     read-one : (r : plan.Reply) → Follows r t a u → Follows r t a′ u′ → (Make.reads a ≡ Make.reads a′) × SameTable u u′
     read-one (plan.refused n q) h h′ = (h .0 ∙ sym (h′ .0), same-bytes t u u′ (h .1) (h′ .1))
-    read-one (plan.read gs n q) h h′ =
+    read-one (plan.read v gs n q) h h′ =
         let σ = fresh gs in
         (h .0 ∙ sym (h′ .0), record { state = alike-trans (meant u) σ (meant u′) (h .1 .alike) (alike-sym (meant u′) σ (h′ .1 .alike)); rest = h .2 ∙ sym (h′ .2) })
 

@@ -36,9 +36,10 @@ pub record Begins (gs : List Setting) (t : List ℕ) : Type 0 where
   pub setup : List ℕ
   pub before : List ℕ
   pub answer : Making
+  pub format : ℕ
   pub lanes : ℕ
   pub at : ℕ
-  pub reads-it : readSetup setup ≡ read gs lanes at
+  pub reads-it : readSetup setup ≡ read format gs lanes at
   pub room : SIZE ≤ length before
   pub makes : MakeStep setup before answer t
 

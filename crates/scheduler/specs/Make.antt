@@ -30,7 +30,7 @@ reads (Refused x) = notMade (number x) (placeOf x)
 -- Long enough, the setup decides: "Making: 7 first, then fields in order". "The fresh table of an accepted setup", or nothing is written.
 abbrev pub Follows : plan.Reply → List ℕ → Making → List ℕ → Type 0
 Follows (refused n p) before a after = (reads a ≡ notMade n p) × (after ≡ before)
-Follows (read gs n at) before a after = (reads a ≡ made n) × Encodes after (fresh gs) × (drop SIZE after ≡ drop SIZE before)
+Follows (read v gs n at) before a after = (reads a ≡ made n) × Encodes after (fresh gs) × (drop SIZE after ≡ drop SIZE before)
 
 pub record MakeStep (setup before : List ℕ) (a : Making) (after : List ℕ) : Type 0 where
   -- "7: lent table shorter than the fixed size, on making one. Place 0."

@@ -56,12 +56,13 @@ module _ (s : List ℕ) (limit : ℕ) (σ : State) where
   begun-lists : (r : plan.Reply) → plan.readPlan s 0 ≡ r → begun s limit r .state ≡ some σ → Lists s limit (begun s limit r)
   unfolding Demand3 TwoLanes
   begun-lists (plan.refused n p) e h = let z : _≡_ {A = ℕ} 0 1 = cc in absurd (omega arith)
-  begun-lists (plan.read gs lanes at) e h =
+  begun-lists (plan.read v gs lanes at) e h =
       let w = walk limit s at 0 [] (fresh gs) in
       let i = walk-lists limit s at 0 [] (fresh gs) in
-      let ok : Setup gs = accepted s 0 gs lanes at e .setup in
+      let ok : Setup gs = accepted s 0 v gs lanes at e .setup in
       record {
         settings = gs;
+        format = v;
         lanes = lanes;
         at = at;
         reads-it = e;

@@ -38,10 +38,11 @@ linesOf (e ∷ es) = lineOf (e .reply) ++ linesOf es
 
 pub record Lists (s : List ℕ) (limit : ℕ) (x : Script) : Type 0 where
   pub settings : List Setting
+  pub format : ℕ
   pub lanes : ℕ
   pub at : ℕ
   -- the setup at the front of the session, and the place behind it
-  pub reads-it : plan.readPlan s 0 ≡ plan.read settings lanes at
+  pub reads-it : plan.readPlan s 0 ≡ plan.read format settings lanes at
   pub setup : Setup settings
   -- "the number of requests answered": all that stand there, up to the limit
   pub count : x .count ≡ length (requestsOf limit s at)

@@ -77,10 +77,10 @@ module _ (s : List ℕ) (limit : ℕ) where
       })
 
   -- the requests on the fresh table
-  pub begun-is : (gs : List Setting) (lanes at : ℕ) {t t₁ t′ a a′ : List ℕ} {r : RunResult} → plan.readPlan s 0 ≡ plan.read gs lanes at
+  pub begun-is : (v : ℕ) (gs : List Setting) (lanes at : ℕ) {t t₁ t′ a a′ : List ℕ} {r : RunResult} → plan.readPlan s 0 ≡ plan.read v gs lanes at
       → Makes t t₁ gs → Follows t₁ t′ a a′ r (finished lanes (walk limit s at 0 [] (meant t₁))) → Follows t t′ a a′ r (script s limit)
   unfolding script
-  begun-is gs lanes at e m x =
+  begun-is v gs lanes at e m x =
       rw e (let y = rw (m .state) at x in record {
         count = y .count;
         written = y .written;

@@ -77,7 +77,7 @@ finished lanes w = record {
 -- "a refused setup writes that `no` line alone"; else `lanes N`, and the requests on the fresh table of the setup
 abbrev pub begun : List ℕ → ℕ → plan.Reply → Script
 begun s limit (plan.refused r p) = record { text = noLine r p; count = 0; why = refusal r p; state = none }
-begun s limit (plan.read gs lanes at) = finished lanes (walk limit s at 0 [] (fresh gs))
+begun s limit (plan.read v gs lanes at) = finished lanes (walk limit s at 0 [] (fresh gs))
 
 -- "Session: a setup, then requests, then 0x7F."
 unfoldable pub script : List ℕ → ℕ → Script

@@ -47,15 +47,16 @@ number-not-0 (FramingOutside p) e = omega arith
 module _ (setup before t out out′ : List ℕ) (n : ℕ) (m : MakeStep setup before (Made n) t) (w : Spoken out (makeValues (making.made n)) out′) where
   by-plan : SIZE ≤ length before → (y : plan.Reply) → readSetup setup ≡ y → making.Follows y before (Made n) t → Begun setup t out′
   by-plan h (plan.refused k p) e f = let is = f .0 in let z : _≡_ {A = ℕ} 0 1 = cc in absurd (omega arith)
-  by-plan h (plan.read gs k at) e f =
+  by-plan h (plan.read v gs k at) e f =
       let is = f .0 in
       let lanes : k ≡ n = cc in
       let told : n ≡ _ = sym (ap (λ (x : Four). x .a) (w .read)) in
       record {
         settings = gs;
+        format = v;
         at = at;
-        reads-it = e ∙ ap (λ (x : ℕ). plan.read gs x at) (lanes ∙ told);
-        led = by-make gs t (record { setup = setup; before = before; answer = Made n; lanes = k; at = at; reads-it = e; room = h; makes = m });
+        reads-it = e ∙ ap (λ (x : ℕ). plan.read v gs x at) (lanes ∙ told);
+        led = by-make gs t (record { setup = setup; before = before; answer = Made n; format = v; lanes = k; at = at; reads-it = e; room = h; makes = m });
       }
 
   by-room : (SIZE ≤ length before) ⊎ (length before < SIZE) → Begun setup t out′

@@ -52,8 +52,9 @@ HostLists =
 -- the setup that zf_make read, and its number of lanes, which is word 0
 pub record Begun (setup t out : List ℕ) : Type 0 where
   pub settings : List Setting
+  pub format : ℕ
   pub at : ℕ
-  pub reads-it : readSetup setup ≡ read settings (wordsIn out .a) at
+  pub reads-it : readSetup setup ≡ read format settings (wordsIn out .a) at
   pub led : Led settings [] t
 
 unfoldable pub HostMakes : Type 0

@@ -51,7 +51,7 @@ impl Refusal {
             16 => "no record is held",
             17 => "a run's limit is over 1,000, or its answer area is too short",
             18 => "the input is over 32,768 bytes",
-            50 => "the format is not 1",
+            50 => "the format is neither 1 nor 2",
             51 => "a lane number is over 63",
             52 => "a weight is not 1 to 1,024",
             53 => "a longest is not 64 to 1,500",

@@ -26,7 +26,7 @@ pub struct PlanLane {
 /// A plan of lanes, to be edited. Any numbers may stand in it; writing it tests them.
 #[derive(Clone, Debug, PartialEq, Eq)]
 pub struct Plan {
-    /// The setup's format.
+    /// The setup's format, 1 or 2: what a longest that is left out means, 1,500 bytes or 576. It is written as it stands here.
     pub format: u16,
     /// The framing bytes that each record is charged beside its length, 0 to 64.
     pub framing: u8,
@@ -36,9 +36,9 @@ pub struct Plan {
 
 impl Plan {
     /// The format of a new plan.
-    pub const FORMAT: u16 = 1;
+    pub const FORMAT: u16 = 2;
 
-    /// A plan with no lane and no framing bytes.
+    /// A plan of format 2 with no lane and no framing bytes.
     pub fn new() -> Plan {
         Plan { format: Plan::FORMAT, framing: 0, lanes: [None; 64] }
     }

@@ -36,9 +36,22 @@ fn another_form_is_written_in_the_form() {
 }
 
 #[test]
+fn formats() {
+    // A longest that is left out, in both formats; the format is kept, and the longest is written out.
+    for (format, longest) in [(1, 1500), (2, 576)] {
+        let plan = Plan::from_setup(&[1, 0, 2, 0, format, 0x10, 0, 3, 7, 4, 0, 0x7F, 0, 0]).unwrap();
+        assert_eq!((plan.format, plan.lanes[7]), (format.into(), lane(1024, longest)));
+        let written = plan.to_setup().unwrap();
+        assert_eq!(written[..5], [1, 0, 2, 0, format]);
+        assert_eq!(Plan::from_setup(&written), Ok(plan));
+    }
+    assert_eq!(Plan::new().format, 2);
+}
+
+#[test]
 fn refusals_of_reading_have_their_places() {
     assert_eq!(Plan::from_setup(b""), Err(Refusal { number: 1, place: Some(0) }));
-    assert_eq!(Plan::from_setup(b"\x01\0\x02\0\x07"), Err(Refusal { number: 50, place: Some(3) }));
+    assert_eq!(Plan::from_setup(b"\x01\0\x02\x01\x02"), Err(Refusal { number: 50, place: Some(3) }));
 }
 
 #[test]
@@ -57,7 +70,11 @@ fn plans_outside_the_numbers() {
     outside(&plan);
     plan.framing = 64;
     assert_eq!(plan.to_setup().map(|setup| setup.len()), Ok(28));
+    plan.format = 2;
+    assert_eq!(plan.to_setup().map(|setup| setup[4]), Ok(2));
     plan.format = 3;
+    outside(&plan);
+    plan.format = 0x102;
     outside(&plan);
     plan.format = 0;
     outside(&plan);

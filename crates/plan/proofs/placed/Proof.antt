@@ -39,7 +39,7 @@ returns : tie.Need-returns
 returns c = search needs
 
 returns-2 : tie.Need-returns-2
-returns-2 c = let g = c .before .before .before .field .given in let a = c .before .before .before .before .before .args in map-set settingOf (a .t1) (g .0 .0 .lane) (c .lane-of .result) ∙ ap (set (map settingOf (a .t1)) (g .0 .0 .lane)) (c .lane-of .ensures) ∙ sym (ap (placed (a .framing) (map settingOf (a .t1))) (g .1))
+returns-2 c = let g = c .before .before .before .field .given in let a = c .before .before .before .before .before .args in map-set settingOf (a .t1) (g .0 .0 .lane) (c .lane-of .result) ∙ ap (set (map settingOf (a .t1)) (g .0 .0 .lane)) (c .lane-of .ensures) ∙ sym (ap (placed (a .format) (a .framing) (map settingOf (a .t1))) (g .1))
 
 returns-3 : tie.Need-returns-3
 returns-3 c = search needs

@@ -8,7 +8,7 @@ use Rattle.plan.specs.Read.{read, settings, came, readPlan}
 
 -- a plan that was read
 read-is : (c : tie.After-outcome)
-    → readPlan (c .before .before .before .before .args .s .now) 0 ≡ read (settings (c .before .before .read-plan .result .plan)) (c .before .before .read-plan .result .plan .count) (c .outcome .given .0 .0)
+    → readPlan (c .before .before .before .before .args .s .now) 0 ≡ read (c .before .before .read-plan .result .plan .format) (settings (c .before .before .read-plan .result .plan)) (c .before .before .read-plan .result .plan .count) (c .outcome .given .0 .0)
 read-is c = sym (c .before .before .read-plan .ensures) ∙ ap (came (c .before .before .read-plan .result .plan)) (c .outcome .given .1)
 
 read-plan-requires : tie.Need-read-plan-requires
@@ -24,10 +24,10 @@ returns : tie.Need-returns
 returns c = let e = ap (came (c .before .before .read-plan .result .plan)) (c .enum-told .given .1) in e ∙ sym (setup-refused _ _ _ (sym (c .before .before .read-plan .ensures) ∙ e))
 
 returns-2 : tie.Need-returns-2
-returns-2 c = sym (setup-more _ _ _ _ (read-is (c .before .before .before)) (c .before .if1 .taken))
+returns-2 c = sym (setup-more _ _ _ _ _ (read-is (c .before .before .before)) (c .before .if1 .taken))
 
 returns-3 : tie.Need-returns-3
-returns-3 c = c .before .before .before .before .read-plan .ensures ∙ read-is (c .before .before) ∙ sym (setup-whole _ _ _ _ (read-is (c .before .before)) (c .if1 .left))
+returns-3 c = c .before .before .before .before .read-plan .ensures ∙ read-is (c .before .before) ∙ sym (setup-whole _ _ _ _ _ (read-is (c .before .before)) (c .if1 .left))
 
 pub read-setup-spec : {M : Type 1} → statement M
 read-setup-spec =

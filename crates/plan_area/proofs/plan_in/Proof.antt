@@ -1,21 +1,22 @@
 -- `plan_in` meets its contract. Assumes nothing.
-use Rattle.plan_area.specs.Area.{settingIn}
-use Prim.Native.Nat.{_/_}
-use Prim.Native.Nat.{ℕ, _-_}
+use Prim.Native.Nat.{ℕ, _/_, _-_}
 use borrow.Author.Needs.{needs}
 use mathlib.Core.Logic.{⊎-elim}
 use mathlib.Core.Path.{ap, _∙_}
 use native.Mathlib.Omega.{arith}
-use Rattle.plan_area.specs.Area.{framingIn}
+use Rattle.plan_area.specs.Area.{framingIn, settingIn}
 use Rattle.plan_area.proofs.Filled.{Filled, fill-none, fill-more, fill-skip, fill-all}
 use Rattle.plan_area.proofs.plan_in.Statement.{statement}
 use Rattle.plan_area.proofs.plan_in.Tie as tie
 
 abbrev Inv-loop : tie.InvT-loop
-Inv-loop area h lanes₀ count₀ k₀ lanes count k = Filled area lanes count k
+Inv-loop area format h lanes₀ count₀ k₀ lanes count k = Filled area lanes count k
 
 abbrev μ-loop : tie.MeasureT-loop
-μ-loop area h lanes₀ count₀ k₀ lanes count k = 64 - k
+μ-loop area format h lanes₀ count₀ k₀ lanes count k = 64 - k
+
+format-in-requires : tie.Need-format-in-requires Inv-loop μ-loop
+format-in-requires c κs = search needs
 
 word-requires : tie.Need-word-requires Inv-loop μ-loop
 word-requires c κs = search needs
@@ -24,13 +25,13 @@ no-lanes-requires : tie.Need-no-lanes-requires Inv-loop μ-loop
 no-lanes-requires c κs = search needs
 
 loop-holds : tie.Need-loop-holds Inv-loop μ-loop
-loop-holds c = fill-none (c .before .before .before .args .area .now) (c .no-lanes .result) (c .no-lanes .ensures)
+loop-holds c = fill-none (c .before .before .before .before .args .area .now) (c .no-lanes .result) (c .no-lanes .ensures)
 
 add-word : tie.Need-add-word Inv-loop μ-loop
 add-word c = search needs
 
 word-requires-2 : tie.Need-word-requires-2 Inv-loop μ-loop
-word-requires-2 c κs = let s = c .before .before .before .before .before in omega (arith, s .pre, c .loop-test .taken)
+word-requires-2 c κs = let s = c .before .before .before .before .before .before in omega (arith, s .pre, c .loop-test .taken)
 
 lane-in-requires : tie.Need-lane-in-requires Inv-loop μ-loop
 lane-in-requires c κs = search needs
@@ -52,7 +53,7 @@ loop-less c = search needs
 
 loop-again : tie.Need-loop-again Inv-loop μ-loop
 loop-again c =
-    let s = c .before .before .before .before .before .before .before .before .before in
+    let s = c .before .before .before .before .before .before .before .before .before .before in
     let l = c .before .before .before .before .before .loop in
     let lt = c .before .before .before .before .loop-test .taken in
     let x = c .before .before .lane-in in
@@ -63,7 +64,7 @@ loop-again c =
     (c .if1 .came)
 
 returns : tie.Need-returns Inv-loop μ-loop
-returns c = let l = c .before .loop in fill-all (c .before .before .before .before .before .args .area .now) (l .lanes) (l .count) (l .k) (l .inv) (c .loop-test .left)
+returns c = let l = c .before .loop in fill-all (c .before .before .before .before .before .before .args .area .now) (l .lanes) (l .count) (l .k) (l .inv) (c .loop-test .left) (c .before .before .before .before .format-in .result) (c .before .before .before .before .format-in .ensures)
 
 pub plan-in-spec : {M : Type 1} → statement M
 plan-in-spec =
@@ -71,6 +72,7 @@ plan-in-spec =
     (tie.spec
     Inv-loop
     μ-loop
+    format-in-requires
     word-requires
     no-lanes-requires
     loop-holds

@@ -21,7 +21,8 @@ store-requires c κs =
     let s = c .before .before .before .before .before .before .before .before in
     let r = c .before .before .before .before .read-setup in
     let o = c .before .before .enum-told .given in
-    (c .before .before .before .before .before .if1 .left, read-setup-good (s .args .setup .now) (s .args .area .now) (c .before .before .before .before .before .if1 .left) (r .result) (r .ensures) (o .0 .0) (o .1))
+    let good = read-setup-good (s .args .setup .now) (s .args .area .now) (c .before .before .before .before .before .if1 .left) (r .result) (r .ensures) (o .0 .0) (o .1) in
+    (c .before .before .before .before .before .if1 .left, good .0, good .1)
 
 returns-2 : tie.Need-returns-2
 returns-2 c = read-refused (c .before .before .before .before .before .before .before .args .setup .now) (c .before .before .before .before .before .before .before .args .area .now) (c .before .before .before .before .if1 .left) (c .before .before .before .read-setup .result) (c .before .before .before .read-setup .ensures) _ (c .before .outcome .given .1)

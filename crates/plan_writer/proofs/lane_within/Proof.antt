@@ -3,7 +3,7 @@ use native.Mathlib.Omega.{arith}
 use mathlib.Core.Path.{ap}
 use Rattle.rules.specs.State.{Setting}
 use Rattle.plan.specs.Read.{settingOf}
-use Rattle.plan_writer.proofs.Judging.{tells-no, absent-lane, is-absent, is-there, last-test}
+use Rattle.plan_writer.proofs.Lane.{tells-no, absent-lane, is-absent, is-there, last-test}
 use Rattle.plan_writer.proofs.lane_within.Statement.{statement}
 use Rattle.plan_writer.proofs.lane_within.Tie as tie
 

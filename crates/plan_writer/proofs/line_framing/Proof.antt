@@ -2,7 +2,7 @@
 use Prim.Native.Nat.{_-_}
 use borrow.Author.Needs.{needs}
 use mathlib.Core.Logic.{⊎-elim}
-use Rattle.plan_writer.proofs.Judging.{Line, line-none, line-more, line-same, line-all}
+use Rattle.plan_writer.proofs.Lane.{Line, line-none, line-more, line-same, line-all}
 use Rattle.plan_writer.proofs.line_framing.Statement.{statement}
 use Rattle.plan_writer.proofs.line_framing.Tie as tie
 

@@ -14,11 +14,17 @@ slice-write-a-2 c = simp length-set (omega arith)
 slice-write-a-3 : tie.Need-slice-write-a-3
 slice-write-a-3 c = simp length-set (omega arith)
 
+cast-a : tie.Need-cast-a
+cast-a c = search needs
+
 slice-write-a-4 : tie.Need-slice-write-a-4
 slice-write-a-4 c = simp length-set (omega arith)
 
+cast-a-2 : tie.Need-cast-a-2
+cast-a-2 c = search needs
+
 slice-write-a-5 : tie.Need-slice-write-a-5
-slice-write-a-5 c = search needs
+slice-write-a-5 c = simp length-set (omega arith)
 
 same-length : tie.Need-same-length
 same-length c = search needs
@@ -33,7 +39,9 @@ put-format-spec =
     slice-write-a
     slice-write-a-2
     slice-write-a-3
+    cast-a
     slice-write-a-4
+    cast-a-2
     slice-write-a-5
     same-length
     returns)

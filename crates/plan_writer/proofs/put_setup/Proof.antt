@@ -52,7 +52,7 @@ returns c =
     ∙ ap (λ (i : ℕ). sets (p .last .0) i (fieldBytes End)) (p .ensures .1)
     ∙ ap (λ (x : List ℕ). sets x (f .result + length (lanesBytes 0 gs)) (fieldBytes End))
     (p .ensures .0 ∙ ap (λ (x : List ℕ). sets x (f .result) (lanesBytes 0 gs)) (f .ensures .0 ∙ ap (λ (x : List ℕ). sets x 5 (framingBytes h)) (c .before .before .before .before .before .before .before .before .before .before .before .before .before .before .put-format .ensures)))
-    ∙ stored (s .args .a .now) h gs (f .result) (f .ensures .1)
+    ∙ stored (s .args .a .now) (s .args .format) h gs (f .result) (f .ensures .1)
 
 pub put-setup-spec : {M : Type 1} → statement M
 put-setup-spec =

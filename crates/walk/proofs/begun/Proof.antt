@@ -51,7 +51,7 @@ returns-2 : tie.Need-returns-2
 returns-2 c =
     let s = c .before .before .before .before .before .before .before .before .before .before .before .before .before .before .before .before .before .before .before .before in
     let r = c .before .before .before .before .before .before .before .before .before .before .before .before .before .before .before .before .read-plan in
-    begun-is (s .args .s .now) (s .args .limit) _ _ _ (sym (r .ensures) ∙ ap (came (r .result .plan)) (c .before .before .before .before .before .before .before .before .before .before .before .before .before .before .outcome2 .given .1)) (c .before .before .before .before .before .before .before .before .before .write .ensures) (c .before .before .before .before .requested .ensures)
+    begun-is (s .args .s .now) (s .args .limit) _ _ _ _ (sym (r .ensures) ∙ ap (came (r .result .plan)) (c .before .before .before .before .before .before .before .before .before .before .before .before .before .before .outcome2 .given .1)) (c .before .before .before .before .before .before .before .before .before .write .ensures) (c .before .before .before .before .requested .ensures)
 
 pub begun-spec : {M : Type 1} → statement M
 begun-spec =

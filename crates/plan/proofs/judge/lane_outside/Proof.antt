@@ -1,7 +1,6 @@
--- `plan::judge::lane_outside` meets its contract. Assumes nothing.
+-- `lane_outside` meets its contract. Assumes nothing.
 use borrow.Author.Tests.{not-true, not-false}
-use mathlib.Core.Path.{sym, ap, _∙_}
-use Rattle.plan.specs.Judge.{within}
+use mathlib.Core.Path.{sym, _∙_}
 use Rattle.plan.proofs.Judged.{outside-number, outside-weight, outside-longest, outside-none}
 use borrow.Author.Needs.{needs}
 use Rattle.plan.proofs.judge.lane_outside.Statement.{statement}
@@ -16,26 +15,16 @@ within-requires c κs = search needs
 returns-2 : tie.Need-returns-2
 returns-2 c = sym (outside-weight (c .before .before .before .before .args .l) (c .before .before .if1 .left) (sym (c .before .within .ensures) ∙ not-true (c .before .within .result) (c .if2 .taken)))
 
-longest-of-requires : tie.Need-longest-of-requires
-longest-of-requires c κs = search needs
-
-within-requires-2 : tie.Need-within-requires-2
-within-requires-2 c κs = search needs
+longest-right-requires : tie.Need-longest-right-requires
+longest-right-requires c κs = search needs
 
 returns-3 : tie.Need-returns-3
-returns-3 c = sym (outside-longest (c .before .before .before .before .before .before .before .args .l) (c .before .before .before .before .before .if1 .left) (sym (c .before .before .before .before .within .ensures) ∙ not-false (c .before .before .before .before .within .result) (c .before .before .before .if2 .left)) (sym (c .before .within2 .ensures ∙ ap (within 64 1500) (c .before .before .longest-of .ensures)) ∙ not-true (c .before .within2 .result) (c .if3 .taken)))
+returns-3 c = sym (outside-longest (c .before .before .before .before .before .before .args .l) (c .before .before .before .before .if1 .left) (sym (c .before .before .before .within .ensures) ∙ not-false (c .before .before .before .within .result) (c .before .before .if2 .left)) (sym (c .before .longest-right .ensures) ∙ not-true (c .before .longest-right .result) (c .if3 .taken)))
 
 returns-4 : tie.Need-returns-4
-returns-4 c = sym (outside-none (c .before .before .before .before .before .before .before .args .l) (c .before .before .before .before .before .if1 .left) (sym (c .before .before .before .before .within .ensures) ∙ not-false (c .before .before .before .before .within .result) (c .before .before .before .if2 .left)) (sym (c .before .within2 .ensures ∙ ap (within 64 1500) (c .before .before .longest-of .ensures)) ∙ not-false (c .before .within2 .result) (c .if3 .left)))
+returns-4 c = sym (outside-none (c .before .before .before .before .before .before .args .l) (c .before .before .before .before .if1 .left) (sym (c .before .before .before .within .ensures) ∙ not-false (c .before .before .before .within .result) (c .before .before .if2 .left)) (sym (c .before .longest-right .ensures) ∙ not-false (c .before .longest-right .result) (c .if3 .left)))
 
 pub lane-outside-spec : {M : Type 1} → statement M
 lane-outside-spec =
     tie.close
-    (tie.spec
-    returns
-    within-requires
-    returns-2
-    longest-of-requires
-    within-requires-2
-    returns-3
-    returns-4)
+    (tie.spec returns within-requires returns-2 longest-right-requires returns-3 returns-4)

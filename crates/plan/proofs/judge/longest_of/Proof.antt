@@ -1,7 +1,7 @@
--- `plan::judge::longest_of` meets its contract. Assumes nothing.
-use mathlib.Core.Path.{sym, ap}
-use borrow.Author.Needs.{needs}
+-- `longest_of` meets its contract. Assumes nothing.
+use mathlib.Core.Path.{sym, ap, _∙_}
 use Rattle.plan.specs.Judge.{longestOf}
+use borrow.Author.Needs.{needs}
 use Rattle.plan.proofs.judge.longest_of.Statement.{statement}
 use Rattle.plan.proofs.judge.longest_of.Tie as tie
 
@@ -11,11 +11,15 @@ enum-known-longest c = search needs
 enum-told : tie.Need-enum-told
 enum-told c = search needs
 
+default-of-requires : tie.Need-default-of-requires
+default-of-requires c κs = search needs
+
 returns : tie.Need-returns
-returns c = sym (ap longestOf (c .enum-told .given .1))
+returns c = c .default-of .ensures ∙ sym (ap (longestOf _) (c .before .enum-told .given .1))
 
 returns-2 : tie.Need-returns-2
-returns-2 c = sym (ap longestOf (c .before .longest .given .1))
+returns-2 c = search needs
 
 pub longest-of-spec : {M : Type 1} → statement M
-longest-of-spec = tie.close (tie.spec enum-known-longest enum-told returns returns-2)
+longest-of-spec =
+    tie.close (tie.spec enum-known-longest enum-told default-of-requires returns returns-2)

@@ -1,5 +1,5 @@
--- `plan::judge::outside` meets its contract. Assumes nothing.
-use borrow.Author.Tests.{ne-eqb, lt-ltb, le-ltb}
+-- `outside` meets its contract. Assumes nothing.
+use borrow.Author.Tests.{lt-ltb, le-ltb}
 use mathlib.Core.Path.{sym, ap, _∙_}
 use Rattle.plan.specs.Judge.{outside}
 use borrow.Author.Needs.{needs}
@@ -8,6 +8,9 @@ use Rattle.plan.proofs.judge.outside.Tie as tie
 
 enum-known-field : tie.Need-enum-known-field
 enum-known-field c = search needs
+
+known-format-requires : tie.Need-known-format-requires
+known-format-requires c κs = search needs
 
 enum-known-field-2 : tie.Need-enum-known-field-2
 enum-known-field-2 c = search needs
@@ -22,10 +25,10 @@ enum-told : tie.Need-enum-told
 enum-told c = search needs
 
 returns : tie.Need-returns
-returns c = search needs
+returns c = sym (ap outside (c .before .before .before .field .given .1) ∙ rw (sym (c .before .known-format .ensures) ∙ c .if1 .taken))
 
 returns-2 : tie.Need-returns-2
-returns-2 c = sym (ap outside (c .before .before .field .given .1) ∙ rw (ne-eqb _ 1 (c .if1 .left)))
+returns-2 c = sym (ap outside (c .before .before .before .field .given .1) ∙ rw (sym (c .before .known-format .ensures) ∙ c .if1 .left))
 
 returns-3 : tie.Need-returns-3
 returns-3 c = c .lane-outside .ensures ∙ sym (ap outside (c .before .before .field2 .given .1))
@@ -44,6 +47,7 @@ outside-spec =
     tie.close
     (tie.spec
     enum-known-field
+    known-format-requires
     enum-known-field-2
     lane-outside-requires
     enum-known-field-3
