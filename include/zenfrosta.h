@@ -115,7 +115,7 @@ uint64_t zf_run(const uint8_t *session, size_t session_length, uint64_t limit, u
 
 /* Refusals of writing, in this order; neither has a place. */
 #define ZF_PLAN_OUTSIDE 55 /* the area is no plan within the numbers, or shorter than ZF_PLAN_SIZE */
-#define ZF_SETUP_SHORT 56  /* the buffer is shorter than the setup's exact size */
+#define ZF_SETUP_SHORT 56  /* the buffer is shorter than the exact size of the setup, or of the sheet */
 
 uint64_t zf_plan_size(void);
 
@@ -171,6 +171,28 @@ static inline uint16_t zf_plan_weight(const uint8_t *plan, uint8_t lane) {
 static inline uint64_t zf_plan_longest(const uint8_t *plan, uint8_t lane) {
   return lane > 63 ? 0 : zf_plan_word(plan, (size_t)lane + 1) >> 16;
 }
+
+/* ---- Text sheets: plans as the office keeps them (docs/SHEETS.md)
+ *
+ * A sheet has a line for each lane: lane number, weight and longest in decimal, one space between two of them, a line feed behind the third. A
+ * number has one to five digits and no 0 before another digit. A sheet says nothing of framing bytes.
+ */
+
+/* The most bytes that a sheet has when it is written. */
+#define ZF_SHEET_MOST 698
+
+/* Refusals of sheets. */
+#define ZF_SHEET_BYTE 80 /* a byte that cannot stand there, also a digit behind a leading 0 and a sixth digit; place: that byte */
+#define ZF_SHEET_CUT 81  /* the sheet is empty, or ends in a line; place: the sheet's length */
+#define ZF_NO_SHEET 82   /* the plan has framing bytes, which a sheet cannot say; no place */
+
+/* Reads a sheet into a plan area; the plan is of format 2 and has no framing bytes. out: the number of lanes. Refusals: 7 at place 0, the area is shorter than
+ * ZF_PLAN_SIZE; then, line by line, 80 or 81, 51, 52, 53, 4, 6, each at the first digit of its number. The area stays for a refusal. */
+uint64_t zf_sheet_read(const uint8_t *sheet, size_t sheet_length, uint8_t *plan, size_t plan_length, uint8_t *out, size_t out_length);
+
+/* Writes the plan of an area as a sheet. out: the exact size; bytes of the buffer past it stay. Refusals: 55, 82, 56; the buffer stays for all
+ * three. What was written is read as the same lanes, and a sheet that was read is written back as the same bytes. */
+uint64_t zf_sheet_write(const uint8_t *plan, size_t plan_length, uint8_t *sheet, size_t sheet_length, uint8_t *out, size_t out_length);
 
 /* ---- The desk's board: which train is in which cell (docs/DESK.md)
  *

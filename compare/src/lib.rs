@@ -2,7 +2,8 @@
 //! machinery that compares the unit with it over long random lists of calls and random inputs.
 //!
 //! The implementation: [`numbers`], [`calls`], [`rules`], [`fields`], [`setup`], [`session`]; [`layout`] and [`slots`] read docs/TABLE.md's tables.
-//! [`journal`] is a second journal of the desk, [`plans`] a second writer of setups, each with its own comparison.
+//! [`journal`] is a second journal of the desk, [`plans`] a second writer of setups and [`sheets`] a second reader and writer of text
+//! sheets, each with its own comparison.
 //! The machinery: [`rng`], [`gen`], [`laws`], [`unit`], [`stand_in`], [`on_words`], [`driver`], [`pipes`]; [`loads`] and, with the feature `inner`, `inner` are the
 //! benchmark's.
 //!
@@ -31,6 +32,7 @@ pub mod rng;
 pub mod rules;
 pub mod session;
 pub mod setup;
+pub mod sheets;
 pub mod shelf;
 pub mod slots;
 pub mod stand_in;

@@ -75,4 +75,7 @@ pub mod refusal {
     pub const WEIGHT: u8 = 52;
     pub const LONGEST: u8 = 53;
     pub const FRAMING: u8 = 54;
+    // Document 02, m: a sheet.
+    pub const SHEET_BYTE: u8 = 80;
+    pub const SHEET_CUT: u8 = 81;
 }

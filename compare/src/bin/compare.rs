@@ -6,6 +6,7 @@ use compare::journal;
 use compare::on_words::{lapses, OnWords};
 use compare::pipes;
 use compare::plans;
+use compare::sheets;
 use compare::stand_in::{StandIn, ALL};
 use compare::unit::Unit;
 use std::path::PathBuf;
@@ -22,6 +23,8 @@ compare boards --seconds N | --cases N [--seed N] [--case N]
                                                the desk's board; --case N begins at that case. A short and a long run have such cases too
 compare plans --seconds N | --cases N [--seed N] [--case N]
                                                setups read into plan areas and written from them, likewise
+compare sheets --seconds N | --cases N [--seed N] [--case N]
+                                               text sheets, likewise
 compare sessions PROGRAM... [--cases N] [--seed N] [--case N]
                                                sessions by pipe; --case N begins at that case
 compare clock --pairs N                        one lane up to the clock's edge, or N pairs of put and take
@@ -31,9 +34,10 @@ compare slips [--seed N]                       each slip and each lapse, and the
 const SEED: u64 = 1;
 /// The cases of a short run.
 const SHORT: u64 = 20_000;
-/// Its cases of the desk's board and of plans, and the part of a long run that each get.
+/// Its cases of the desk's board, of plans and of sheets, and the part of a long run that each get.
 const SHORT_BOARDS: u64 = 20_000;
 const SHORT_PLANS: u64 = 60_000;
+const SHORT_SHEETS: u64 = 100_000;
 const PART: u64 = 8;
 /// A slip must be found within so many cases, far fewer than a short run has.
 const SLIP: u64 = 1_500;
@@ -86,6 +90,21 @@ fn depot_under_test() -> impl plans::Depot {
     plans::slips::Slipped(plans::slips::Slip::None)
 }
 
+/// The office's calls under test, likewise.
+#[cfg(feature = "unit")]
+fn office_under_test() -> impl sheets::Office {
+    if let Err(wrong) = sheets::linked::boundary() {
+        println!("DIFFERENCE at the boundary: {wrong}");
+        std::process::exit(1);
+    }
+    sheets::linked::Linked
+}
+
+#[cfg(not(feature = "unit"))]
+fn office_under_test() -> impl sheets::Office {
+    sheets::slips::Slipped(sheets::slips::Slip::None)
+}
+
 struct Options {
     seed: u64,
     case: Option<u64>,
@@ -124,13 +143,19 @@ fn main() -> ExitCode {
     match (mode.as_str(), options.programs.is_empty()) {
         ("short", true) => both(calls(&options, 0, Budget::Cases(SHORT), |_| true), || {
             both(boards(&options, 0, Budget::Cases(SHORT_BOARDS)), || {
-                planned(&options, 0, Budget::Cases(SHORT_PLANS))
+                both(planned(&options, 0, Budget::Cases(SHORT_PLANS)), || {
+                    texts(&options, 0, Budget::Cases(SHORT_SHEETS))
+                })
             })
         }),
         ("long" | "tables", true) => {
             let kinds = |kind| mode == "long" || kind == Kind::Tables;
             let Some(budget) = budget(&options) else { return help() };
-            let beside = || both(boards(&options, 0, part(budget)), || planned(&options, 0, part(budget)));
+            let beside = || {
+                both(boards(&options, 0, part(budget)), || {
+                    both(planned(&options, 0, part(budget)), || texts(&options, 0, part(budget)))
+                })
+            };
             match mode.as_str() {
                 "long" => both(calls(&options, 0, budget, kinds), beside),
                 _ => calls(&options, 0, budget, kinds),
@@ -144,6 +169,11 @@ fn main() -> ExitCode {
         ("plans", true) => match (options.case, budget(&options)) {
             (case, Some(budget)) => planned(&options, case.unwrap_or(0), budget),
             (Some(case), None) => planned(&options, case, Budget::Cases(1)),
+            _ => help(),
+        },
+        ("sheets", true) => match (options.case, budget(&options)) {
+            (case, Some(budget)) => texts(&options, case.unwrap_or(0), budget),
+            (Some(case), None) => texts(&options, case, Budget::Cases(1)),
             _ => help(),
         },
         ("one", true) => match options.case {
@@ -168,7 +198,7 @@ fn budget(options: &Options) -> Option<Budget> {
     }
 }
 
-/// The part of a long run that boards and plans each get, on top of it.
+/// The part of a long run that boards, plans and sheets each get, on top of it.
 fn part(budget: Budget) -> Budget {
     match budget {
         Budget::Cases(cases) => Budget::Cases(cases / PART),
@@ -209,6 +239,15 @@ fn planned(options: &Options, first: u64, budget: Budget) -> ExitCode {
     let result = plans::driver::compare(&mut depot_under_test(), options.seed, first, more, &mut tally);
     println!("Seed {}, {:.1} s, {tally}", options.seed, begin.elapsed().as_secs_f64());
     told("plans", options, result)
+}
+
+fn texts(options: &Options, first: u64, budget: Budget) -> ExitCode {
+    let begin = Instant::now();
+    let mut tally = sheets::driver::Tally::default();
+    let more = within(budget, begin);
+    let result = sheets::driver::compare(&mut office_under_test(), options.seed, first, more, &mut tally);
+    println!("Seed {}, {:.1} s, {tally}", options.seed, begin.elapsed().as_secs_f64());
+    told("sheets", options, result)
 }
 
 fn told(mode: &str, options: &Options, result: Result<(), (u64, Found)>) -> ExitCode {
@@ -315,7 +354,13 @@ fn slips(options: &Options) -> ExitCode {
         let found = plans::driver::compare(&mut depot, options.seed, 0, |done| done < SLIP, &mut tally);
         (format!("{slip:?}"), found.err().map(|(case, _)| case))
     });
-    for (name, case) in slips.chain(lapses).chain(desks).chain(depots) {
+    let offices = sheets::slips::ALL.iter().map(|&slip| {
+        let mut office = sheets::slips::Slipped(slip);
+        let mut tally = sheets::driver::Tally::default();
+        let found = sheets::driver::compare(&mut office, options.seed, 0, |done| done < SLIP, &mut tally);
+        (format!("{slip:?}"), found.err().map(|(case, _)| case))
+    });
+    for (name, case) in slips.chain(lapses).chain(desks).chain(depots).chain(offices) {
         tried += 1;
         match case {
             Some(case) => println!("{name}: found in case {case}"),

@@ -116,6 +116,9 @@ pub fn number(x: Refusal) -> u64
         Refusal::WeightOutside(_) => 52,
         Refusal::LongestOutside(_) => 53,
         Refusal::FramingOutside(_) => 54,
+        Refusal::WrongByte(_) => 80,
+        Refusal::SheetCut(_) => 81,
+        Refusal::NoSheet => 82,
     }
 }
 
@@ -143,6 +146,9 @@ pub fn place_of(x: Refusal) -> Place
         Refusal::WeightOutside(p) => Place::At(p),
         Refusal::LongestOutside(p) => Place::At(p),
         Refusal::FramingOutside(p) => Place::At(p),
+        Refusal::WrongByte(p) => Place::At(p),
+        Refusal::SheetCut(p) => Place::At(p),
+        Refusal::NoSheet => Place::Nowhere,
     }
 }
 

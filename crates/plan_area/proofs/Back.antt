@@ -61,7 +61,7 @@ writes-back-area s bytes form area area′ g n r e before after a h room =
     let done = h .written (shows-within p area′ w (into .shows) (into .room)) (omega (arith, long-in, room)) in
     (done .0 ∙ ap size long-in, done .1 ∙ ap (λ (x : Planned). setupBytes x ++ drop (sizeOf x) before) plan-is ∙ ap (λ (x : List ℕ). x ++ drop (sizeOf p) before) same ∙ ap (λ (i : ℕ). s ++ drop i before) long)
 
-within-area : (a : List ℕ) → AreaWithin a ⊎ (AreaWithin a → ⊥)
+pub within-area : (a : List ℕ) → AreaWithin a ⊎ (AreaWithin a → ⊥)
 within-area a =
     elim (decLe (65 * 8) (length a)) [
       | yes room ↦

@@ -69,7 +69,7 @@ fn format_in(area: &[u8]) -> u16
 }
 
 // The plan of an area, in or out of the numbers.
-fn plan_in(area: &[u8]) -> Plan
+pub fn plan_in(area: &[u8]) -> Plan
     requires { ⌜ Room (now area) ⌝ }
     ensures { λ r. ⌜ planned r ≡ planIn (now (area .entry)) ⌝ }
 {
@@ -101,7 +101,7 @@ fn lane_word(l: Lane) -> u64
 }
 
 // Stores a plan that was read.
-fn store(area: &mut [u8], plan: Plan)
+pub fn store(area: &mut [u8], plan: Plan)
     requires { ⌜ Room (now area) × Setup (settings plan) × (plan .format ≤ 2) ⌝ }
     ensures { λ _. ⌜ Shows (record { format = plan .format; lanes = settings plan; count = plan .count }) (now (area .exit)) × (drop (65 * 8) (now (area .exit)) ≡ drop (65 * 8) (now (area .entry))) ⌝ }
 {

@@ -8,7 +8,7 @@ use Prim.Native.Nat.{ℕ}
 use mathlib.Core.Option.{Option, none, some}
 use Rattle.rules.specs.Calls.{Reply, accepted, taken, seen, words, lagged, restarted, refused}
 use Rattle.rules.specs.declared.Refusal.{Refusal}
-use Rattle.rules.specs.declared.Refusal.the-variants.{Cut, UnknownTag, WrongLength, OutOfOrder, WeightsOver, TableShort, NotGood, NoLane, BadLength, LaneFull, ClockSpent, StillHolds, NothingHeld, RunBounds, InputLong, FormatOutside, LaneOutside, WeightOutside, LongestOutside, FramingOutside}
+use Rattle.rules.specs.declared.Refusal.the-variants.{Cut, UnknownTag, WrongLength, OutOfOrder, WeightsOver, TableShort, NotGood, NoLane, BadLength, LaneFull, ClockSpent, StillHolds, NothingHeld, RunBounds, InputLong, FormatOutside, LaneOutside, WeightOutside, LongestOutside, FramingOutside, WrongByte, SheetCut, NoSheet}
 use Rattle.rules.specs.declared.Answer.{Answer}
 use Rattle.rules.specs.declared.Answer.the-variants.{Accepted, Taken, Seen, Sets, Lag, Restarted, Refused}
 
@@ -34,6 +34,9 @@ listed (LaneOutside p) = (51, some p)
 listed (WeightOutside p) = (52, some p)
 listed (LongestOutside p) = (53, some p)
 listed (FramingOutside p) = (54, some p)
+listed (WrongByte p) = (80, some p)
+listed (SheetCut p) = (81, some p)
+listed NoSheet = (82, none)
 
 abbrev pub number : Refusal → ℕ
 number x = (listed x) .0

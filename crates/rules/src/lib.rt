@@ -64,6 +64,12 @@ pub enum Refusal {
     LongestOutside(usize),
     // .. framing over 64.
     FramingOutside(usize),
+    // 80: a byte with which no sheet of the form goes on.
+    WrongByte(usize),
+    // 81: a sheet that is empty or ends in a line, at its length.
+    SheetCut(usize),
+    // 82: a plan that a sheet cannot say.
+    NoSheet,
 }
 
 // What a call answers. specs/Reads.antt gives document 01's number and values for each case.

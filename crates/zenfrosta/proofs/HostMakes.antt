@@ -8,7 +8,7 @@ use lib.ListN.{length}
 use Rattle.words.proofs.Runs.{le-or-lt}
 use Rattle.rules.specs.Reads.{number}
 use Rattle.rules.specs.declared.Refusal.{Refusal}
-use Rattle.rules.specs.declared.Refusal.the-variants.{Cut, UnknownTag, WrongLength, OutOfOrder, WeightsOver, TableShort, NotGood, NoLane, BadLength, LaneFull, ClockSpent, StillHolds, NothingHeld, RunBounds, InputLong, FormatOutside, LaneOutside, WeightOutside, LongestOutside, FramingOutside}
+use Rattle.rules.specs.declared.Refusal.the-variants.{Cut, UnknownTag, WrongLength, OutOfOrder, WeightsOver, TableShort, NotGood, NoLane, BadLength, LaneFull, ClockSpent, StillHolds, NothingHeld, RunBounds, InputLong, FormatOutside, LaneOutside, WeightOutside, LongestOutside, FramingOutside, WrongByte, SheetCut, NoSheet}
 use Rattle.plan.specs.Read as plan
 use Rattle.plan.specs.Read.{readSetup}
 use Rattle.table.specs.Layout.{SIZE}
@@ -43,6 +43,9 @@ number-not-0 (LaneOutside p) e = omega arith
 number-not-0 (WeightOutside p) e = omega arith
 number-not-0 (LongestOutside p) e = omega arith
 number-not-0 (FramingOutside p) e = omega arith
+number-not-0 (WrongByte p) e = omega arith
+number-not-0 (SheetCut p) e = omega arith
+number-not-0 NoSheet e = omega arith
 
 module _ (setup before t out out′ : List ℕ) (n : ℕ) (m : MakeStep setup before (Made n) t) (w : Spoken out (makeValues (making.made n)) out′) where
   by-plan : SIZE ≤ length before → (y : plan.Reply) → readSetup setup ≡ y → making.Follows y before (Made n) t → Begun setup t out′

@@ -20,6 +20,7 @@ ghost use Rattle.zenfrosta.specs.Crossing.{four, code, values, stopCode,
 
 pub mod board;
 pub mod plans;
+pub mod sheets;
 
 use lines::Place;
 use rules::Answer;

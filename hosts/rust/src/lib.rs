@@ -1,7 +1,7 @@
 //! Zenfrosta for hosts in Rust: the public calls on a lent table, and the session run. Every function takes any bytes; a refusal changes no table.
 //!
 //! A table is [`TABLE_SIZE`] bytes or more that [`make`] has written; it may be kept, moved or copied between calls. [`Board`] is the desk's
-//! board of which train is in which cell; it has nothing to do with a table. [`Plan`] is a setup to be edited.
+//! board of which train is in which cell; it has nothing to do with a table. [`Plan`] is a setup or a text sheet to be edited.
 
 #![deny(missing_docs, unsafe_code)]
 
@@ -10,7 +10,7 @@ mod boundary;
 mod plan;
 
 pub use board::{board_size, Board, BoardRefusal, Handover, Kind, BOARD_SIZE, LINES};
-pub use plan::{plan_size, Plan, PlanLane, PLAN_SIZE, SETUP_MOST};
+pub use plan::{plan_size, Plan, PlanLane, PLAN_SIZE, SETUP_MOST, SHEET_MOST};
 
 /// The fixed size of a table in bytes; bytes past it are never touched.
 pub const TABLE_SIZE: usize = 45_056;
@@ -57,7 +57,10 @@ impl Refusal {
             53 => "a longest is not 64 to 1,500",
             54 => "a framing number is over 64",
             55 => "the plan is outside the numbers",
-            56 => "the buffer is shorter than the setup",
+            56 => "the buffer is shorter than what is to be written",
+            80 => "a byte that cannot stand there in a sheet",
+            81 => "the sheet is empty, or ends in a line",
+            82 => "the plan has framing bytes, which a sheet cannot say",
             255 => "the answer buffer is too short",
             _ => "no number of the list",
         }

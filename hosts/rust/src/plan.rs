@@ -1,4 +1,4 @@
-//! Plans: setups read, edited and written.
+//! Plans: setups and text sheets read, edited and written.
 
 use crate::boundary::plans as calls;
 use crate::{answer, Refusal};
@@ -8,6 +8,9 @@ pub const PLAN_SIZE: usize = 520;
 
 /// The most bytes that a setup has when it is written.
 pub const SETUP_MOST: usize = 524;
+
+/// The most bytes that a text sheet has when it is written.
+pub const SHEET_MOST: usize = 698;
 
 /// The plan area's size as the library has it; [`PLAN_SIZE`].
 pub fn plan_size() -> u64 {
@@ -47,6 +50,18 @@ impl Plan {
     pub fn from_setup(setup: &[u8]) -> Result<Plan, Refusal> {
         let mut area = [0; PLAN_SIZE];
         answer(calls::read(setup, &mut area))?;
+        Ok(Plan::in_area(&area))
+    }
+
+    /// The plan of a text sheet, of format 2: lines of lane, weight and longest. A refusal has its place in the sheet's bytes.
+    pub fn from_sheet(sheet: &[u8]) -> Result<Plan, Refusal> {
+        let mut area = [0; PLAN_SIZE];
+        answer(calls::read_sheet(sheet, &mut area))?;
+        Ok(Plan::in_area(&area))
+    }
+
+    /// The plan of an area that was read.
+    fn in_area(area: &[u8; PLAN_SIZE]) -> Plan {
         let mut words = area.chunks_exact(8).map(|word| u64::from_le_bytes(std::array::from_fn(|i| word[i])));
         // A plan that was read is within the numbers, so that each number below fits.
         let head = words.next().expect("65 words");
@@ -54,7 +69,7 @@ impl Plan {
         for (lane, word) in plan.lanes.iter_mut().zip(words) {
             *lane = (word != 0).then_some(PlanLane { weight: word as u16, longest: (word >> 16) as u16 });
         }
-        Ok(plan)
+        plan
     }
 
     /// The plan's words.
@@ -84,6 +99,20 @@ impl Plan {
         let size = self.write_setup(&mut setup)?;
         setup.truncate(size);
         Ok(setup)
+    }
+
+    /// Writes the plan as a text sheet into the lent bytes; its size. Refused with 55 outside the numbers, with 82 where it has framing bytes, with 56 where
+    /// the bytes are too few; they stay then.
+    pub fn write_sheet(&self, sheet: &mut [u8]) -> Result<usize, Refusal> {
+        answer(calls::write_sheet(&self.area(), sheet)).map(|words| words[0] as usize)
+    }
+
+    /// The plan as a text sheet; refused with 55 outside the numbers, with 82 where it has framing bytes.
+    pub fn to_sheet(&self) -> Result<String, Refusal> {
+        let mut sheet = vec![0; SHEET_MOST];
+        let size = self.write_sheet(&mut sheet)?;
+        sheet.truncate(size);
+        Ok(sheet.into_iter().map(char::from).collect())
     }
 }
 

@@ -65,6 +65,15 @@ enum-known-x-9 c = search needs
 enum-known-x-10 : tie.Need-enum-known-x-10
 enum-known-x-10 c = search needs
 
+enum-known-x-11 : tie.Need-enum-known-x-11
+enum-known-x-11 c = search needs
+
+enum-known-x-12 : tie.Need-enum-known-x-12
+enum-known-x-12 c = search needs
+
+enum-told-11 : tie.Need-enum-told-11
+enum-told-11 c = search needs
+
 returns : tie.Need-returns
 returns c = sym (ap placeOf (c .before .x .given .1))
 
@@ -125,6 +134,15 @@ returns-19 c = sym (ap placeOf (c .before .x9 .given .1))
 returns-20 : tie.Need-returns-20
 returns-20 c = sym (ap placeOf (c .before .x10 .given .1))
 
+returns-21 : tie.Need-returns-21
+returns-21 c = sym (ap placeOf (c .before .x11 .given .1))
+
+returns-22 : tie.Need-returns-22
+returns-22 c = sym (ap placeOf (c .before .x12 .given .1))
+
+returns-23 : tie.Need-returns-23
+returns-23 c = sym (ap placeOf (c .enum-told11 .given .1))
+
 pub place-of-spec : {M : Type 1} → statement M
 place-of-spec =
     tie.close
@@ -149,6 +167,9 @@ place-of-spec =
     enum-known-x-8
     enum-known-x-9
     enum-known-x-10
+    enum-known-x-11
+    enum-known-x-12
+    enum-told-11
     returns
     returns-2
     returns-3
@@ -168,4 +189,7 @@ place-of-spec =
     returns-17
     returns-18
     returns-19
-    returns-20)
+    returns-20
+    returns-21
+    returns-22
+    returns-23)

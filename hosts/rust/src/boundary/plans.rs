@@ -1,4 +1,4 @@
-//! The calls on plan areas.
+//! The calls on plan areas: setups and text sheets.
 
 use super::{told, Told};
 
@@ -20,6 +20,22 @@ extern "C" {
         out: *mut u8,
         out_len: usize,
     ) -> u64;
+    fn zf_sheet_read(
+        s: *const u8,
+        s_len: usize,
+        p: *mut u8,
+        p_len: usize,
+        out: *mut u8,
+        out_len: usize,
+    ) -> u64;
+    fn zf_sheet_write(
+        p: *const u8,
+        p_len: usize,
+        s: *mut u8,
+        s_len: usize,
+        out: *mut u8,
+        out_len: usize,
+    ) -> u64;
 }
 
 // SAFETY: as in the module above.
@@ -34,4 +50,12 @@ pub fn read(s: &[u8], p: &mut [u8]) -> Told {
 
 pub fn write(p: &[u8], s: &mut [u8]) -> Told {
     told(|out, n| unsafe { zf_setup_write(p.as_ptr(), p.len(), s.as_mut_ptr(), s.len(), out, n) })
+}
+
+pub fn read_sheet(s: &[u8], p: &mut [u8]) -> Told {
+    told(|out, n| unsafe { zf_sheet_read(s.as_ptr(), s.len(), p.as_mut_ptr(), p.len(), out, n) })
+}
+
+pub fn write_sheet(p: &[u8], s: &mut [u8]) -> Told {
+    told(|out, n| unsafe { zf_sheet_write(p.as_ptr(), p.len(), s.as_mut_ptr(), s.len(), out, n) })
 }

@@ -1,0 +1,51 @@
+-- `serve_setup` meets its contract. Assumes nothing.
+use mathlib.Core.Path.{sym}
+use lib.Seq.{length-take-le}
+use borrow.Author.Needs.{needs}
+use Rattle.depot.proofs.serve_setup.Statement.{statement}
+use Rattle.depot.proofs.serve_setup.Tie as tie
+
+slice-aggregate-read-input : tie.Need-slice-aggregate-read-input
+slice-aggregate-read-input c = search needs
+
+read-input-requires : tie.Need-read-input-requires
+read-input-requires c κs = search needs
+
+array-share-prefix-input : tie.Need-array-share-prefix-input
+array-share-prefix-input c = search needs
+
+slice-aggregate-setup-of-sheet : tie.Need-slice-aggregate-setup-of-sheet
+slice-aggregate-setup-of-sheet c = search needs
+
+slice-aggregate-setup-of-sheet-2 : tie.Need-slice-aggregate-setup-of-sheet-2
+slice-aggregate-setup-of-sheet-2 c = search needs
+
+setup-of-sheet-requires : tie.Need-setup-of-sheet-requires
+setup-of-sheet-requires c κs = search needs
+
+array-share-prefix-out : tie.Need-array-share-prefix-out
+array-share-prefix-out c = search needs
+
+slice-aggregate-write-all : tie.Need-slice-aggregate-write-all
+slice-aggregate-write-all c = sym (length-take-le (c .before .before .setup-of-sheet .result) (c .before .before .setup-of-sheet .last .1 .0) (c .before .before .setup-of-sheet .ensures .within))
+
+write-all-requires : tie.Need-write-all-requires
+write-all-requires c κs = search needs
+
+returns : tie.Need-returns
+returns c = search needs
+
+pub serve-setup-spec : {M : Type 1} → statement M
+serve-setup-spec =
+    tie.close
+    (tie.spec
+    slice-aggregate-read-input
+    read-input-requires
+    array-share-prefix-input
+    slice-aggregate-setup-of-sheet
+    slice-aggregate-setup-of-sheet-2
+    setup-of-sheet-requires
+    array-share-prefix-out
+    slice-aggregate-write-all
+    write-all-requires
+    returns)

@@ -1,0 +1,15 @@
+pub mod Decimals
+pub mod Steps
+pub mod Answers
+pub mod Rows
+pub mod Sheets
+pub mod Back
+pub mod Numbers
+pub mod Forth
+pub mod Faults
+pub mod Begins
+pub mod Formed
+pub mod Prefix
+pub mod Walks
+pub mod Promises
+pub mod Examples

@@ -1,0 +1,3 @@
+pub mod Writing
+pub mod Most
+pub mod Calls

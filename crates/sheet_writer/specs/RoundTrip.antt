@@ -1,0 +1,34 @@
+-- Writing and reading sheets go back and forth: the promises, of the two calls' own answers. (`Writes` is what `write_sheet` ensures, and
+-- `reads r ≡ readSheet s` what `read_sheet` does.) Theorems of these names in small letters are in proofs/Calls.antt.
+--
+--   ReadsBack    what was written is read as the same lanes; the format is not given back
+--   WritesBack   a sheet that is read is written back as the same bytes
+--   SizeMost     no sheet of a plan within the numbers has more than 698 bytes
+--
+-- Assumes nothing.
+use Prim.Native.Nat.{ℕ, _≤_}
+use mathlib.Core.Path.{_≡_}
+use mathlib.Core.List.{List, _++_}
+use lib.ListN.{length, drop, take}
+use Rattle.plan.specs.Read.{read, reads}
+use Rattle.plan.specs.declared.Plan.{Plan}
+use Rattle.plan.specs.declared.Reading.{Reading}
+use Rattle.plan.specs.declared.Outcome.the-variants.{Read}
+use Rattle.plan_writer.specs.Write.{Planned, planned, Within, size}
+use Rattle.sheet.specs.Read.{sheetFormat, readSheet}
+use Rattle.sheet_writer.specs.Write.{sizeOf, wrote, Writes}
+use Rattle.sheet_writer.specs.declared.Written.{Written}
+
+unfoldable pub ReadsBack : Type 0
+ReadsBack =
+    (p : Plan) (before after : List ℕ) (a : Written) (k : ℕ) → Writes (planned p) before a after → wrote a ≡ size k
+    → readSheet (take k after) ≡ read sheetFormat (planned p .lanes) (p .count) k
+
+unfoldable pub WritesBack : Type 0
+WritesBack =
+    (s : List ℕ) (r : Reading) (k : ℕ) → reads r ≡ readSheet s → r .outcome ≡ Read k
+    → (before after : List ℕ) (a : Written) → Writes (planned (r .plan)) before a after → length s ≤ length before
+    → (wrote a ≡ size (length s)) × (after ≡ s ++ drop (length s) before)
+
+unfoldable pub SizeMost : Type 0
+SizeMost = (p : Planned) → Within p → sizeOf p ≤ 698
