@@ -11,7 +11,7 @@
  * A byte area is a pointer and its length in bytes. Any bytes are allowed in it, at any address. What the host must see to: a pointer may be
  * read (and written, where it is not const) over its whole length and is not null, also where the length is 0; areas of one call do not overlap;
  * no other thread uses them during the call; a length is at most PTRDIFF_MAX. The library keeps no pointer, has no state of its own, takes no
- * memory from a heap, and calls nothing but the C library's memcpy and memset. On x86-64 a call uses less than 6 KiB of stack.
+ * memory from a heap, and calls nothing but the C library's memcpy and memset. On x86-64 a call uses less than 12 KiB of stack.
  */
 #ifndef ZENFROSTA_H
 #define ZENFROSTA_H
@@ -24,7 +24,7 @@ extern "C" {
 #endif
 
 /* The fixed size of a table in bytes, as zf_table_size() gives it. A lent table may be longer: bytes past the size are never touched. */
-#define ZF_TABLE_SIZE 45056
+#define ZF_TABLE_SIZE 65536
 
 /* The least length of an answer buffer. */
 #define ZF_OUT_SIZE 32
@@ -35,18 +35,19 @@ extern "C" {
 /* The greatest limit of a run. */
 #define ZF_MOST_REQUESTS 1000
 
-/* Results. 1 to 7 and 50 to 54 come from zf_make and zf_run, 10 to 16 from the other calls, 17 from zf_run. docs/REFUSALS.md says what to mend. */
+/* Results. 1 to 7 and 50 to 54 come from zf_make and zf_run, 10 to 16 from the other calls, 17 from zf_run, 7 and 10 from zf_convert.
+ * docs/REFUSALS.md says what to mend. */
 #define ZF_DONE 0
 #define ZF_CUT 1             /* a field runs past the end, or the input ends before 0x7F; place: the field's tag, or the input's length */
 #define ZF_UNKNOWN_TAG 2     /* tag unknown in this part; place: the field's tag */
 #define ZF_WRONG_LENGTH 3    /* length wrong for the tag; place: the field's tag */
 #define ZF_OUT_OF_ORDER 4    /* a field out of its order, or a byte after the last 0x7F; place: the field's tag, or that byte */
 #define ZF_WEIGHTS_OVER 6    /* the weights so far sum to more than 1,024; place: the first byte of the weight that went over */
-#define ZF_TABLE_SHORT 7     /* table shorter than ZF_TABLE_SIZE, on making one; place: 0 */
-#define ZF_NOT_GOOD 10       /* the table is not good; never on one that zf_make or zf_run made and these calls alone changed */
+#define ZF_TABLE_SHORT 7     /* table shorter than ZF_TABLE_SIZE, on making or converting one; place: 0 */
+#define ZF_NOT_GOOD 10       /* the table is not good; never on one that zf_make or zf_run made, also before an update, and these calls alone changed */
 #define ZF_NO_LANE 11        /* lane not in the setup */
 #define ZF_BAD_LENGTH 12     /* length 0, or over the lane's longest; framing bytes are not counted */
-#define ZF_LANE_FULL 13      /* the lane holds 16 records */
+#define ZF_LANE_FULL 13      /* the lane holds 64 records */
 #define ZF_CLOCK_SPENT 14    /* the clock is spent: take what is held, then restart */
 #define ZF_STILL_HOLDS 15    /* restart while a record is held */
 #define ZF_NOTHING_HELD 16   /* take or look with nothing held */
@@ -70,7 +71,7 @@ uint64_t zf_table_size(void);
 uint64_t zf_make(const uint8_t *setup, size_t setup_length, uint8_t *table, size_t table_length, uint8_t *out, size_t out_length);
 
 /* Puts a record into a lane; the record is its mark, which the unit only carries, and its length in bytes. out: how many records the lane
- * held before it, 0 to 15: so many of this lane go out first. */
+ * held before it, 0 to 63: so many of this lane go out first. */
 uint64_t zf_put(uint8_t *table, size_t table_length, uint8_t lane, uint32_t mark, uint64_t length, uint8_t *out, size_t out_length);
 
 /* Takes the next record off the table. out: its lane, mark and length. */
@@ -92,6 +93,26 @@ uint64_t zf_restart(uint8_t *table, size_t table_length, uint8_t *out, size_t ou
  * stopped (ZF_STOP_...), and a refusal's place. The result is 0 at the end field or the limit, else the number of the refusal. */
 uint64_t zf_run(const uint8_t *session, size_t session_length, uint64_t limit, uint8_t *table, size_t table_length, uint8_t *answers,
                 size_t answers_length, uint8_t *out, size_t out_length);
+
+/* ---- Tables from before an update
+ *
+ * Lanes had room for 16 records before they had room for 64, and a table was ZF_OLD_TABLE_SIZE bytes then. Put, take, look, sets, lag and restart
+ * give 10 for such a table, as it is too short for one of today. A host that kept one over the update lends it to zf_convert once, with an area
+ * of its own for the new table; on ZF_DONE it goes on with the new table and drops the old bytes. The records' marks are as they were, so the
+ * records' own bytes stay where the host has them. On 10 the old bytes are no table that a call would have taken before the update either: make a
+ * fresh one, and put again what is to be sent. Which kind a kept table is, the host must know, by its size: the bytes alone do not always tell.
+ * So lend an old table with its own length and not in a longer area, and never lend a table of today as an old one.
+ */
+
+/* The fixed size of such a table in bytes, as zf_old_table_size() gives it. Bytes past it are not looked at. */
+#define ZF_OLD_TABLE_SIZE 45056
+
+uint64_t zf_old_table_size(void);
+
+/* Takes over the old table into `table`, whatever that held: the same queues, clock, lanes with their S and F, framing bytes and tie order, and room
+ * for 64 records in each lane. The old table is read only. Takes answer from the new one as they would have from the old one. Refusals: 7 at
+ * place 0, `table` is shorter than ZF_TABLE_SIZE; then 10, the old table is not good, or shorter than ZF_OLD_TABLE_SIZE. `table` stays for both. */
+uint64_t zf_convert(const uint8_t *old_table, size_t old_length, uint8_t *table, size_t table_length, uint8_t *out, size_t out_length);
 
 /* ---- Plans: reading, editing and writing setups
  *

@@ -1,4 +1,4 @@
-/* A fuzz target over the public calls, the run, the desk's board and plans, through the static library as hosts link it.
+/* A fuzz target over the public calls, the run, the desk's board, plans and conversions, through the static library as hosts link it.
  *
  * The library's own code is not instrumented, so the lent areas lie in pages of their own: an area ends where a page begins that cannot be touched, or
  * begins where one ends. A read or a write one byte outside stops the run. Areas that a call only reads are write-protected while it runs.
@@ -10,6 +10,7 @@
  *   3  a session for zf_run, then the calls on what it left
  *   4  the desk's board: one made by calls, or bytes, changed byte by byte (three bytes: the line, the byte and how), then its calls
  *   8  plans: a setup that is read into a plan area and written back, or an area that is filled word by word (four bytes: the word, how, and a number)
+ *  16  a table of 16 places, changed word by word as in mode 1, or cut; converted, then the calls on what was made of it
  */
 #define _GNU_SOURCE
 #include <stdio.h>
@@ -85,7 +86,7 @@ static void beside(const struct area *area) {
 }
 
 static struct area input, table, answers, out;
-static uint8_t before[1 << 16], sample[ZF_TABLE_SIZE];
+static uint8_t before[1 << 17], sample[ZF_TABLE_SIZE];
 
 static uint64_t word(int index) {
   uint64_t value;
@@ -132,7 +133,7 @@ static uint64_t ask(enum call call, uint8_t lane, uint64_t length, size_t out_le
     check(word(0) < 64 && word(1) <= UINT32_MAX && word(2) >= 1 && word(2) <= 1500 && word(3) == 0, "a record outside its numbers");
   }
   if (result == ZF_DONE && call == PUT) {
-    check(word(0) < 16 && word(1) == 0 && word(2) == 0 && word(3) == 0, "a number ahead that no lane can hold");
+    check(word(0) < 64 && word(1) == 0 && word(2) == 0 && word(3) == 0, "a number ahead that no lane can hold");
   }
   if (result == ZF_DONE && call == SETS) saw(16, word(0) >> 16 ^ word(1) ^ word(2) ^ word(3));
   return result;
@@ -171,7 +172,7 @@ static size_t table_length(uint8_t choice) {
   switch (choice & 7) {
     case 0: return ZF_TABLE_SIZE - 1;
     case 1: return ZF_TABLE_SIZE + 1 + choice / 8;
-    case 2: return choice & 64 ? (size_t)(choice >> 3) * 1408 : ZF_TABLE_SIZE;
+    case 2: return choice & 64 ? (size_t)(choice >> 3) * (ZF_TABLE_SIZE / 32) : ZF_TABLE_SIZE;
     default: return ZF_TABLE_SIZE;
   }
 }
@@ -255,28 +256,88 @@ static void make_sample(void) {
   }
 }
 
-static void change(const uint8_t *data, size_t size) {
+static void change(const struct area *area, const uint8_t *data, size_t size) {
   for (size_t i = 0; i + 3 <= size && i < 3 * 8; i += 3) {
-    /* Words that mean something come first: the numbers of the whole table, those of the slot lists, the rows of the sample's lanes; then records, how
-       many stand in the lists, and the lists' places. */
-    static const size_t whole[3] = {0, 1, 4};
+    /* Words that mean something come first: the numbers of the whole table, those of the slot lists, the rows of the sample's lanes; then records'
+       lengths, how many stand in the lists, and the lists' places. Marks may be anything. */
+    static const size_t whole[4] = {0, 1, 3, 4};
     size_t d = data[i], at;
-    if (d < 3) at = whole[d];
-    else if (d < 51) at = 1360 + d - 3;
-    else if (d < 115) at = 80 + 16 * ((d - 51) / 4) + (d - 51) % 4;
-    else if (d < 155) at = 336 + (d - 115) * 26;
-    else if (d < 219) at = 1472 + d - 155;
-    else at = 1536 + (d - 219) * 110;
+    if (d < 4) at = whole[d];
+    else if (d < 52) at = 1360 + d - 4;
+    else if (d < 116) at = 80 + 16 * ((d - 52) / 4) + (d - 52) % 4;
+    else if (d < 156) at = 336 + (d - 116) * 26;
+    else if (d < 220) at = 1472 + d - 156;
+    else at = 1536 + (d - 220) * 110;
     uint64_t value, power = 1ull << (data[i + 1] & 63);
-    memcpy(&value, table.at + 8 * at, 8);
+    memcpy(&value, area->at + 8 * at, 8);
     switch (data[i + 1] >> 6) {
       case 0: value ^= power; break;
       case 1: value += (uint64_t)(int64_t)(int8_t)data[i + 2] * power; break;
       case 2: value = data[i + 2] * power; break;
-      default: memcpy(&value, table.at + 8 * (data[i + 2] * 5u), 8); break;
+      default: memcpy(&value, area->at + 8 * (data[i + 2] * 5u), 8); break;
     }
-    if (8 * at + 8 <= table.length) memcpy(table.at + 8 * at, &value, 8);
+    memcpy(area->at + 8 * at, &value, 8);
   }
+}
+
+/* ---- tables of 16 places, in the area of an input */
+
+static uint8_t old_sample[ZF_OLD_TABLE_SIZE];
+
+/* The sample as it was kept: a word for each place, mark + 2^32 times length, 16 places in a lane; all else lies where it lies today. */
+static void make_old_sample(void) {
+  memcpy(old_sample, sample, sizeof old_sample);
+  for (size_t lane = 0; lane < 64; lane += 4) {
+    uint64_t ring;
+    memcpy(&ring, sample + 8 * (82 + 4 * lane), 8);
+    uint64_t count = ring / 64;
+    check(count <= 16, "the sample's records");
+    for (uint64_t i = 0; i < count; i++) {
+      size_t place = 64 * lane + (ring + i) % 64;
+      uint16_t less_one;
+      uint32_t mark;
+      memcpy(&less_one, sample + 8 * 336 + 2 * place, 2);
+      memcpy(&mark, sample + ZF_OLD_TABLE_SIZE + 4 * place, 4);
+      uint64_t record = mark | (less_one + 1ull) << 32;
+      memcpy(old_sample + 8 * (336 + 16 * lane + i), &record, 8);
+    }
+    ring = 16 * count;
+    memcpy(old_sample + 8 * (82 + 4 * lane), &ring, 8);
+  }
+  static uint8_t converted[ZF_TABLE_SIZE];
+  uint8_t answer[ZF_OUT_SIZE];
+  check(zf_convert(old_sample, sizeof old_sample, converted, sizeof converted, answer, sizeof answer) == ZF_DONE, "the old sample is converted");
+}
+
+static void convert(const uint8_t *data, size_t size, const uint8_t *choice, int at_end) {
+  size_t length = choice[1] & 128 ? ZF_OLD_TABLE_SIZE - 1 - choice[1] % 128u * 350u : ZF_OLD_TABLE_SIZE + choice[1] % 32u;
+  lend(&input, ZF_OLD_TABLE_SIZE, at_end);
+  memcpy(input.at, old_sample, ZF_OLD_TABLE_SIZE);
+  change(&input, data, size);
+  static uint8_t kept[ZF_OLD_TABLE_SIZE];
+  memcpy(kept, input.at, ZF_OLD_TABLE_SIZE);
+  memcpy(lend(&input, length, at_end), kept, length < ZF_OLD_TABLE_SIZE ? length : ZF_OLD_TABLE_SIZE);
+  memset(lend(&table, table_length(choice[0]), at_end), choice[2], table.length);
+  lend(&out, ZF_OUT_SIZE, at_end);
+  memcpy(before, table.at, table.length);
+  only_reading(&input, 1);
+  uint64_t result = zf_convert(input.at, input.length, table.at, table.length, out.at, out.length);
+  only_reading(&input, 0);
+  saw(60, result);
+  beside(&input);
+  beside(&table);
+  beside(&out);
+  check(result == ZF_DONE || result == ZF_TABLE_SHORT || result == ZF_NOT_GOOD, "a result that converting does not give");
+  check((table.length < ZF_TABLE_SIZE) == (result == ZF_TABLE_SHORT), "7 is for short tables, and first");
+  check(word(0) == 0 && word(1) == (result == ZF_TABLE_SHORT) && word(2) == 0 && word(3) == 0, "the words of converting");
+  check(result == ZF_DONE || memcmp(before, table.at, table.length) == 0, "a refused conversion wrote the table");
+  if (result == ZF_DONE) {
+    size_t past = table.length - ZF_TABLE_SIZE;
+    check(length >= ZF_OLD_TABLE_SIZE, "a short old table is not good");
+    check(memcmp(before + ZF_TABLE_SIZE, table.at + ZF_TABLE_SIZE, past) == 0, "bytes past the table were written");
+    check(ask(LAG, 255, 0, ZF_OUT_SIZE, at_end) == ZF_NO_LANE, "a converted table is good");
+  }
+  calls(data, size, at_end);
 }
 
 /* ---- the desk's board, in the area of a table */
@@ -470,14 +531,16 @@ int LLVMFuzzerInitialize(int *argc, char ***argv) {
   (void)argc;
   (void)argv;
   check(zf_table_size() == ZF_TABLE_SIZE, "the table's size");
+  check(zf_old_table_size() == ZF_OLD_TABLE_SIZE, "an old table's size");
   check(zf_board_size() == ZF_BOARD_SIZE, "the board's size");
   check(zf_plan_size() == ZF_PLAN_SIZE, "a plan area's size");
   memset(fill, FILL, sizeof fill);
-  reserve(&input, MOST_INPUT + WATCHED);
-  reserve(&table, 1 << 16);
+  reserve(&input, ZF_OLD_TABLE_SIZE + 32 + WATCHED);
+  reserve(&table, ZF_TABLE_SIZE + 32 + WATCHED);
   reserve(&answers, ZF_ANSWER_AREA(ZF_MOST_REQUESTS) + 32 + WATCHED);
   reserve(&out, 64 + WATCHED);
   make_sample();
+  make_old_sample();
   make_sample_board();
   return 0;
 }
@@ -488,6 +551,10 @@ int LLVMFuzzerTestOneInput(const uint8_t *data, size_t size) {
   int at_end = (choice[3] & 1) == 0;
   const uint8_t *rest = data + 5;
   size_t left = size - 5;
+  if (data[0] & 16) {
+    convert(rest, left, choice, at_end);
+    return 0;
+  }
   if (data[0] & 8) {
     plans(rest, left, choice, at_end);
     return 0;
@@ -501,7 +568,7 @@ int LLVMFuzzerTestOneInput(const uint8_t *data, size_t size) {
     case 1:
       memset(lend(&table, ZF_TABLE_SIZE + choice[0] % 16u, at_end), choice[1], table.length);
       memcpy(table.at, sample, ZF_TABLE_SIZE);
-      change(rest, left);
+      change(&table, rest, left);
       calls(rest, left, at_end);
       break;
     case 2:

@@ -2,10 +2,10 @@
 //! machinery that compares the unit with it over long random lists of calls and random inputs.
 //!
 //! The implementation: [`numbers`], [`calls`], [`rules`], [`fields`], [`setup`], [`session`]; [`layout`] and [`slots`] read docs/TABLE.md's tables.
-//! [`journal`] is a second journal of the desk, [`plans`] a second writer of setups and [`sheets`] a second reader and writer of text
-//! sheets, each with its own comparison.
-//! The machinery: [`rng`], [`gen`], [`laws`], [`unit`], [`stand_in`], [`on_words`], [`driver`], [`pipes`]; [`loads`] and, with the feature `inner`, `inner` are the
-//! benchmark's.
+//! [`journal`] is a second journal of the desk, [`plans`] a second writer of setups, [`sheets`] a second reader and writer of text
+//! sheets and [`convert`] a second converter of old tables, each with its own comparison.
+//! The machinery: [`rng`], [`gen`], [`laws`], [`unit`], [`stand_in`], [`on_words`], [`driver`], [`pipes`]; [`loads`] and, with the feature `inner`,
+//! `inner` are the benchmark's.
 //!
 //! Units: a *byte* is a byte of a record; a *clock unit* is the clock's smallest step, 1,024 of them for each
 //! byte sent (QFQ calls the clock virtual time). Clock units are `i128` here, so that no sum can leave its range.
@@ -13,6 +13,7 @@
 #![deny(unsafe_code)]
 
 pub mod calls;
+pub mod convert;
 pub mod driver;
 pub mod fields;
 pub mod gen;

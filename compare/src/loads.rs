@@ -3,6 +3,7 @@
 //! They are those on which packet schedulers are commonly set side by side: equal weights and mixed ones, every flow backlogged or few of them, lengths
 //! that are uniform from the shortest to the longest.
 
+use crate::numbers;
 use crate::rng::Rng;
 use crate::rules::State;
 use crate::setup;
@@ -28,6 +29,8 @@ pub enum Weights {
 pub enum Fill {
     /// Every lane holds as many records; a pair takes one and puts the next one into the lane that was served.
     Steady,
+    /// The same with as many as there is room for.
+    Full,
     /// Few records are held in all, in lanes by chance; a pair puts one more and takes one.
     Sparse,
 }
@@ -102,12 +105,12 @@ impl List {
 }
 
 impl Load {
-    /// The ten loads; one lane has no mixture.
+    /// The fifteen loads; one lane has no mixture.
     pub fn all() -> Vec<Load> {
         let mut all = Vec::new();
         for lanes in [1, 8, 64] {
             for weights in [Weights::Equal, Weights::Mixed] {
-                for fill in [Fill::Steady, Fill::Sparse] {
+                for fill in [Fill::Steady, Fill::Full, Fill::Sparse] {
                     if lanes > 1 || weights == Weights::Equal {
                         all.push(Load { lanes, weights, fill });
                     }
@@ -136,8 +139,21 @@ impl Load {
         usize::from(self.lanes / 8).max(2)
     }
 
-    /// The calls; the rules say which lane a take serves. `depth`: the records of a lane in a steady load.
-    pub fn list(&self, depth: usize, pairs: usize) -> List {
+    /// The records that each lane holds between the pairs of a steady or a full load.
+    pub fn depth(&self) -> usize {
+        if self.fill == Fill::Full {
+            numbers::DEPTH
+        } else {
+            DEPTH
+        }
+    }
+
+    /// The calls; the rules say which lane a take serves.
+    pub fn list(&self, pairs: usize) -> List {
+        self.list_of(self.depth(), pairs)
+    }
+
+    fn list_of(&self, depth: usize, pairs: usize) -> List {
         let (mut state, mut random) = (self.plain(), Rng::new(7));
         let mut accepted = |state: &mut State, lane: Option<u8>| {
             let lane = lane.unwrap_or_else(|| random.below(u64::from(self.lanes)) as u8);
@@ -146,14 +162,14 @@ impl Load {
             put(lane, length)
         };
         let filling = match self.fill {
-            Fill::Steady => {
+            Fill::Steady | Fill::Full => {
                 (0..depth).flat_map(|_| 0..self.lanes).map(|lane| accepted(&mut state, Some(lane))).collect()
             }
             Fill::Sparse => (0..self.sparse()).map(|_| accepted(&mut state, None)).collect(),
         };
         let mut list = List { filling, pairs: Vec::new() };
         for _ in 0..pairs {
-            if self.fill == Fill::Steady {
+            if self.fill != Fill::Sparse {
                 let lane = state.take().expect("a record is held").lane;
                 list.pairs.extend([TAKE, accepted(&mut state, Some(lane))]);
             } else {
@@ -164,18 +180,18 @@ impl Load {
         list
     }
 
-    /// Records in each lane of a steady session: with 64 lanes fewer than 16, as a session has at most 1,000 requests.
+    /// Records in each lane of a session: with 64 lanes fewer than 16, as a session has at most 1,000 requests.
     fn session_depth(&self) -> usize {
-        DEPTH.min(450 / usize::from(self.lanes))
+        self.depth().min(450 / usize::from(self.lanes))
     }
 
     /// The pairs of a session of 1,000 requests.
     pub fn session_pairs(&self) -> usize {
-        (REQUESTS - self.list(self.session_depth(), 0).filling.len()) / 2
+        (REQUESTS - self.list_of(self.session_depth(), 0).filling.len()) / 2
     }
 
     pub fn session(&self, pairs: usize) -> Vec<u8> {
-        let calls = self.list(self.session_depth(), pairs).whole();
+        let calls = self.list_of(self.session_depth(), pairs).whole();
         assert!(calls.len() <= REQUESTS);
         let mut bytes = self.setup();
         for call in calls {
@@ -192,7 +208,11 @@ impl Load {
 impl std::fmt::Display for Load {
     fn fmt(&self, f: &mut std::fmt::Formatter) -> std::fmt::Result {
         let weights = if self.weights == Weights::Equal { "equal" } else { "mixed" };
-        let fill = if self.fill == Fill::Steady { "steady" } else { "sparse" };
+        let fill = match self.fill {
+            Fill::Steady => "steady",
+            Fill::Full => "full  ",
+            Fill::Sparse => "sparse",
+        };
         write!(f, "{:>5}  {weights}    {fill}", self.lanes)
     }
 }

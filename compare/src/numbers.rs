@@ -21,8 +21,10 @@ pub fn longest_unsaid(format: u16) -> u16 {
     }
 }
 
-/// "Each lane holds at most 16 records".
-pub const DEPTH: usize = 16;
+/// The records that a lane has room for: 64 since document 02, g.
+pub const DEPTH: usize = 64;
+/// What it had room for before, in the tables that are converted.
+pub const OLD_DEPTH: usize = 16;
 
 /// "c = 1,048,576 / w, rounded up: clock units per byte of this lane."
 pub const UNITS_OF_A_FULL_LINE: i128 = 1_048_576;
@@ -30,8 +32,10 @@ pub const UNITS_OF_A_FULL_LINE: i128 = 1_048_576;
 pub const UNITS_PER_BYTE_SENT: i128 = 1_024;
 /// Refusal 14: "V is 2^62 or more on put".
 pub const CLOCK_EDGE: i128 = 1 << 62;
-/// "V below 2^62 + 2^42" in a good table.
-pub const CLOCK_END: i128 = (1 << 62) + (1 << 42);
+/// In a good table V is below 2^62 + 2^44 (document 02, g).
+pub const CLOCK_END: i128 = (1 << 62) + (1 << 44);
+/// In a good table with room for 16: "V below 2^62 + 2^42".
+pub const OLD_CLOCK_END: i128 = (1 << 62) + (1 << 42);
 /// h, the framing bytes that the line charges for each record: "u8, 0 to 64".
 pub const FRAMING: RangeInclusive<u8> = 0..=64;
 

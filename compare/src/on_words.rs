@@ -3,9 +3,9 @@
 
 use crate::calls::Taken;
 use crate::fields::Fault;
-use crate::layout::{self, Clause, CLAUSES, TABLE_SIZE};
-use crate::numbers::{margin, refusal, CLOCK_END};
-use crate::rules::State;
+use crate::layout::{self, Clause, CLAUSES, NOW, TABLE_SIZE};
+use crate::numbers::{margin, refusal, CLOCK_END, DEPTH, OLD_CLOCK_END};
+use crate::rules::{Lane, State};
 use crate::session::{self, Run};
 use crate::setup;
 use crate::slots;
@@ -18,8 +18,10 @@ pub enum Lapse {
     Untested(Clause),
     /// A table that gives 10 is written.
     RefusalWrites,
-    /// V must be below 2^62 + 2^42 - 1.
+    /// V must be below 2^62 + 2^44 - 1.
     ClockStrict,
+    /// V must be below 2^62 + 2^42, as with room for 16.
+    ClockOld,
     /// S must be below V + 2s - 1.
     StartStrict,
     /// R must be above V - 2s - 1,024 (1,500 + h) + 1.
@@ -32,10 +34,16 @@ pub enum Lapse {
     FinishStrict,
     /// An eligible lane must have R below V.
     EligibleStrict,
-    /// Sixteen records are too many.
+    /// Sixty-four records are too many.
     RecordsStrict,
     /// A word that means nothing must be 0.
     FreeWordRead,
+    /// So must the bytes that are kept behind the marks.
+    KeptRead,
+    /// The places of an idle lane must hold lengths within its numbers too.
+    IdlePlacesRead,
+    /// A put to an idle lane leaves the lengths of the other places as they are.
+    PlacesLeft,
     /// A put forgets the tie order: the lanes of a list stand by their number.
     OrderLost,
     /// A group's start may be off by a multiple of 32 slots, which is the same list.
@@ -54,6 +62,7 @@ pub fn lapses() -> Vec<Lapse> {
     let others = [
         RefusalWrites,
         ClockStrict,
+        ClockOld,
         StartStrict,
         BehindStrict,
         BehindBare,
@@ -62,6 +71,9 @@ pub fn lapses() -> Vec<Lapse> {
         EligibleStrict,
         RecordsStrict,
         FreeWordRead,
+        KeptRead,
+        IdlePlacesRead,
+        PlacesLeft,
         OrderLost,
         StartModulo,
         ListsAdded,
@@ -84,6 +96,7 @@ impl OnWords {
         let state = reading.good().ok_or(refusal::NOT_GOOD)?;
         let refused = match self.lapse {
             Lapse::ClockStrict => state.clock >= CLOCK_END - 1,
+            Lapse::ClockOld => state.clock >= OLD_CLOCK_END,
             Lapse::StartStrict => state.holding().any(|lane| lane.start >= state.clock + 2 * lane.slot() - 1),
             Lapse::BehindStrict => state
                 .holding()
@@ -100,8 +113,16 @@ impl OnWords {
                 let mut holding = state.holding().peekable();
                 holding.peek().is_some() && !holding.any(|lane| lane.rounded_start < state.clock)
             }
-            Lapse::RecordsStrict => state.lanes.iter().any(|lane| lane.queue.len() == 16),
-            Lapse::FreeWordRead => layout::word(table, 3) != 0,
+            Lapse::RecordsStrict => state.lanes.iter().any(|lane| lane.queue.len() == DEPTH),
+            Lapse::FreeWordRead => layout::word(table, 2) != 0,
+            Lapse::KeptRead => table[layout::KEPT..TABLE_SIZE].iter().any(|byte| *byte != 0),
+            Lapse::IdlePlacesRead => {
+                let over = |lane: &Lane, place: u64| {
+                    (NOW.record)(table, lane.plan.number, place).length > lane.plan.longest.into()
+                };
+                let mut idle = state.lanes.iter().filter(|lane| !lane.holds());
+                idle.any(|lane| (0..NOW.depth).any(|place| over(lane, place)))
+            }
             _ => false,
         };
         if refused {
@@ -139,6 +160,19 @@ impl OnWords {
         }
     }
 
+    /// Where the lengths of the places without a record lie, and what is there: of the lanes that hold one record, if a put leaves them.
+    fn free_lengths(&self, state: &State, table: &[u8]) -> Vec<(usize, [u8; 2])> {
+        let mut free = vec![];
+        for lane in state.holding().filter(|lane| self.lapse == Lapse::PlacesLeft && lane.queue.len() == 1) {
+            let (first, _) = NOW.ring(table, lane.plan.number);
+            free.extend((1..NOW.depth).map(|place| {
+                let at = layout::length_byte(lane.plan.number, first + place);
+                (at, [table[at], table[at + 1]])
+            }));
+        }
+        free
+    }
+
     fn change<T>(&self, table: &mut [u8], call: impl Fn(&mut State) -> Result<T, u8>) -> Result<T, u8> {
         let mut state = self.read(table).map_err(|number| {
             if self.lapse == Lapse::RefusalWrites && !table.is_empty() {
@@ -154,7 +188,11 @@ impl OnWords {
         if self.lapse == Lapse::OrderLost {
             state.lanes.iter_mut().for_each(|lane| lane.since = lane.plan.number.into());
         }
+        let free = self.free_lengths(&state, table);
         layout::write(&state, table);
+        for (at, length) in free {
+            table[at..at + 2].copy_from_slice(&length);
+        }
         if self.lapse == Lapse::RingTurned {
             if let Some(lane) = state.holding().next() {
                 let at = layout::ring(lane.plan.number);

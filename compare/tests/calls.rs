@@ -34,12 +34,12 @@ fn lengths() {
 #[test]
 fn a_full_lane() {
     let mut state = fresh(&[(0, 512, 100), (1, 100, 100)]);
-    for mark in 0..16 {
-        state.put(0, mark, 50).unwrap();
+    for mark in 0..64 {
+        assert_eq!(state.put(0, mark, 50), Ok(mark.into()));
     }
-    assert_eq!(state.put(0, 16, 50), Err(13));
-    assert_eq!(state.put(0, 16, 101), Err(12), "12 before 13");
-    assert_eq!(state.put(1, 16, 50), Ok(0), "lanes share no room");
+    assert_eq!(state.put(0, 64, 50), Err(13));
+    assert_eq!(state.put(0, 64, 101), Err(12), "12 before 13");
+    assert_eq!(state.put(1, 64, 50), Ok(0), "lanes share no room");
 }
 
 #[test]

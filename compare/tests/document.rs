@@ -84,12 +84,12 @@ fn m4() {
 #[test]
 fn m7() {
     let mut state = fresh(&[(0, 512, 1500), (1, 256, 1500)]);
-    for mark in 0..16 {
+    for mark in 0..64 {
         assert_eq!(state.put(0, mark, 100), Ok(u64::from(mark)));
     }
-    assert_eq!(state.put(0, 16, 100), Err(refusal::LANE_FULL));
+    assert_eq!(state.put(0, 64, 100), Err(refusal::LANE_FULL));
     state.take().unwrap();
-    assert_eq!(state.put(0, 16, 100), Ok(15));
+    assert_eq!(state.put(0, 64, 100), Ok(63));
 }
 
 #[test]

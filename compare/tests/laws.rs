@@ -243,7 +243,7 @@ fn tables_that_are_not_good() {
         change(&mut other);
         good::check(&other).is_err()
     };
-    assert!(broken(|state| state.clock = (1 << 62) + (1 << 42)));
+    assert!(broken(|state| state.clock = (1 << 62) + (1 << 44)));
     assert!(broken(|state| state.lanes[0].finish += 1));
     assert!(broken(|state| state.lanes[0].queue[1].length = 1_501));
     assert!(broken(|state| state.lanes[0].queue[1].length = 0));

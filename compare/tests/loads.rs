@@ -10,14 +10,15 @@ fn held(state: &State) -> Vec<usize> {
 
 #[test]
 fn every_pair_leaves_as_many_records_as_the_load_says() {
-    assert_eq!(Load::all().len(), 10);
+    assert_eq!(Load::all().len(), 15);
     for load in Load::all() {
-        let list = load.list(DEPTH, 300);
+        let list = load.list(300);
         let mut state = load.plain();
         state.make(&list.filling);
         for pair in list.pairs.chunks(2) {
             match load.fill {
                 Fill::Steady => assert!(held(&state).iter().all(|&count| count == DEPTH)),
+                Fill::Full => assert!(held(&state).iter().all(|&count| count == 64)),
                 Fill::Sparse => assert_eq!(held(&state).iter().sum::<usize>(), load.sparse()),
             }
             state.make(pair);
@@ -31,7 +32,7 @@ fn every_pair_leaves_as_many_records_as_the_load_says() {
 #[test]
 fn lengths_are_uniform_from_64_to_1500() {
     for load in Load::all() {
-        let pairs = load.list(DEPTH, 20_000).pairs;
+        let pairs = load.list(20_000).pairs;
         let lengths: Vec<u64> = pairs.into_iter().filter(|&call| call != TAKE).map(length_of).collect();
         assert_eq!((lengths.iter().min(), lengths.iter().max()), (Some(&64), Some(&1_500)));
         let mean = lengths.iter().sum::<u64>() / lengths.len() as u64;
@@ -42,7 +43,7 @@ fn lengths_are_uniform_from_64_to_1500() {
 #[test]
 fn a_longer_list_begins_with_a_shorter_one() {
     for load in Load::all() {
-        let [short, long] = [40, 90].map(|pairs| load.list(DEPTH, pairs).whole());
+        let [short, long] = [40, 90].map(|pairs| load.list(pairs).whole());
         assert!(long.starts_with(&short));
     }
 }

@@ -72,10 +72,10 @@ fn calls_refused_in_a_session_go_on() {
         requests(fields, 1_000),
         is("lanes 2\nno 11\nno 11\nno 12\nno 12\nno 12\nend 5\n", 5, Stop::End)
     );
-    let full: Vec<u8> = put(0, 1, 1).repeat(17);
-    let puts: String = (0..16).map(|ahead| format!("put ok {ahead}\n")).collect();
-    let text = format!("lanes 2\n{puts}no 13\nend 17\n");
-    assert_eq!(requests(&[&full, END], 1_000), is(&text, 17, Stop::End));
+    let full: Vec<u8> = put(0, 1, 1).repeat(65);
+    let puts: String = (0..64).map(|ahead| format!("put ok {ahead}\n")).collect();
+    let text = format!("lanes 2\n{puts}no 13\nend 65\n");
+    assert_eq!(requests(&[&full, END], 1_000), is(&text, 65, Stop::End));
 }
 
 #[test]

@@ -8,28 +8,42 @@ use compare::driver::report::Tally;
 use compare::driver::{self, Budget, Kind};
 use compare::gen::tables;
 use compare::laws;
-use compare::layout::{self, Clause, CLAUSES, TABLE_SIZE};
+use compare::layout::{self, Clause, CLAUSES, NOW, TABLE_SIZE};
 use compare::on_words::{lapses, Lapse, OnWords};
 use compare::rng::Rng;
 use compare::rules::State;
 use compare::setup;
 use compare::slots;
 
-/// Document 01's session up to its sets, word by word: lane 0 holds 1/1000 and 3/500 from place 15 of its ring on, lane 1 holds 2/1000 at place 4. Each
+/// Four lengths of 1,500, less one each: what the places without a record hold.
+const FREE: u64 = 1_499 * 0x0001_0001_0001_0001;
+/// A half of a word that means nothing.
+const ONES: u64 = 0xFFFF_FFFF;
+
+/// Four free lengths but for one.
+const fn free_but(quarter: u32, length: u64) -> u64 {
+    FREE & !(0xFFFF << (16 * quarter)) | (length - 1) << (16 * quarter)
+}
+
+/// Document 01's session up to its sets, word by word: lane 0 holds 1/1000 and 3/500 from place 63 of its ring on, lane 1 holds 2/1000 at place 4. Each
 /// stands in list 0 of its group. Words that mean nothing are all ones.
 const SESSION: &[(usize, u64)] = &[
     (0, 0),
     (1, 0b11),
+    (3, 64),
     (4, 0),
     (80, 1_500 | 512 << 16 | 22 << 32 | 2_048 << 40),
     (81, 0),
-    (82, 15 + 16 * 2),
+    (82, 63 + 64 * 2),
     (84, 1_500 | 256 << 16 | 23 << 32 | 4_096 << 40),
     (85, 0),
-    (86, 4 + 16),
-    (336 + 15, 1 | 1_000 << 32),
-    (336, 3 | 500 << 32),
-    (352 + 4, 2 | 1_000 << 32),
+    (86, 4 + 64),
+    (336 + 15, free_but(3, 1_000)),
+    (336, free_but(0, 500)),
+    (352 + 1, free_but(0, 1_000)),
+    (5_632 + 31, ONES | 1 << 32),
+    (5_632, 3 | ONES << 32),
+    (5_664 + 2, 2 | ONES << 32),
     (1_360, 1 << 22 | 1 << 23),
     (1_361, 0),
     (1_382, 0),
@@ -44,6 +58,7 @@ const RINGS: &[(usize, u8)] =
 
 fn session() -> Vec<u8> {
     let mut bytes = vec![0xFF; TABLE_SIZE];
+    (336..368).for_each(|at| layout::set_word(&mut bytes, at, FREE));
     SESSION.iter().for_each(|(at, value)| layout::set_word(&mut bytes, *at, *value));
     RINGS.iter().for_each(|(at, value)| bytes[*at] = *value);
     bytes
@@ -92,7 +107,7 @@ fn the_session_s_table() {
 fn each_clause_from_both_sides() {
     use Clause::*;
     let slot = 1_u64 << 22;
-    let end = (1_u64 << 62) + (1 << 42);
+    let end = (1_u64 << 62) + (1 << 44);
     // Both lanes far on, from the clock's last value; one below its end.
     let far = |clock: u64, s0: u64, s1: u64| filed(&[(0, clock), (81, s0), (85, s1)]);
     let last = end - 1;
@@ -115,26 +130,36 @@ fn each_clause_from_both_sides() {
     assert_eq!(filed(&[(81, slot), (85, 2 * slot)]), [Eligible]);
     // Settings: weights sum to 1,024 and 1,025, longest 64 and 63, 1,500 and 1,501, no weight, a wrong c, a wrong group.
     let setting = |longest: u64, weight: u64, group: u64, c: u64| {
-        filed(&[(84, layout::setting_of(longest, weight, group, c)), (356, 64 << 32)])
+        let mut changes: Vec<(usize, u64)> = (352..368).map(|at| (at, 63 * 0x0001_0001_0001_0001)).collect();
+        changes.push((84, layout::setting_of(longest, weight, group, c)));
+        filed(&changes)
     };
     assert_eq!(setting(1_500, 512, 22, 2_048), []);
     assert_eq!(setting(1_500, 513, 22, 2_045), [WeightSum]);
     assert_eq!(setting(64, 256, 18, 4_096), []);
-    assert_eq!(setting(63, 256, 18, 4_096), [Longest, Length]);
+    assert_eq!(setting(63, 256, 18, 4_096), [Longest, Length, Places]);
     assert_eq!(setting(1_501, 256, 23, 4_096), [Longest]);
     assert_eq!(setting(1_500, 0, 23, 4_096), [Weight]);
     assert_eq!(setting(1_500, 3, 29, 349_526), []);
     assert_eq!(setting(1_500, 3, 29, 349_525), [UnitsPerByte]);
     assert_eq!(setting(1_500, 256, 24, 4_096), [Group]);
     assert_eq!(setting(1_500, 256, 22, 4_096), [Group]);
-    // Sixteen and seventeen records; lengths 0, 1, longest and longest + 1.
-    let sixteen: Vec<(usize, u64)> = (0..16).map(|place| (352 + place, 64 << 32)).collect();
-    assert_eq!(broken(&[&sixteen[..], &[(86, 3 + 16 * 16)]].concat()), []);
-    assert_eq!(broken(&[&sixteen[..], &[(86, 3 + 16 * 17)]].concat()), [Records]);
-    assert_eq!(broken(&[(336, 0)]), [Length]);
-    assert_eq!(broken(&[(336, 1 << 32)]), []);
-    assert_eq!(broken(&[(336, 1_500 << 32)]), []);
-    assert_eq!(broken(&[(336, 1_501 << 32)]), [Length]);
+    // 64 and 65 records; lengths 1, longest, longest + 1 and 65,536.
+    assert_eq!(broken(&[(86, 3 + 64 * 64)]), []);
+    assert_eq!(broken(&[(86, 3 + 64 * 65)]), [Records]);
+    assert_eq!(broken(&[(336, free_but(0, 1))]), []);
+    assert_eq!(broken(&[(336, free_but(0, 1_500))]), []);
+    assert_eq!(broken(&[(336, free_but(0, 1_501))]), [Length]);
+    assert_eq!(broken(&[(336, free_but(0, 65_536))]), [Length]);
+    // The same of a place without a record, which nobody asks of an idle lane.
+    assert_eq!(broken(&[(336, free_but(1, 1)), (351, free_but(3, 1))]), []);
+    assert_eq!(broken(&[(337, free_but(2, 1_501))]), [Places]);
+    assert_eq!(broken(&[(350, free_but(3, 65_536))]), [Places]);
+    assert_eq!(filed(&[(86, 4), (353, u64::MAX), (367, u64::MAX)]), []);
+    // The depth number.
+    for depth in [0, 16, 63, 65, 64 + (1 << 63)] {
+        assert_eq!(broken(&[(3, depth)]), [Depth], "{depth}");
+    }
     // No lane; a lane more whose words mean nothing.
     assert_eq!(broken(&[(1, 0), (1_360, 0)]), [Lanes]);
     assert!(!broken(&[(1, 0b111)]).is_empty());
@@ -187,18 +212,29 @@ fn each_clause_of_the_slot_lists() {
 
 #[test]
 fn words_that_mean_nothing() {
-    for at in [2, 3]
+    for at in [2]
         .into_iter()
         .chain(5..80)
-        .chain([83, 87, 88, 335, 337, 350, 352, 355, 357, 368, 1_359])
+        .chain([83, 87, 88, 335, 337, 350, 352, 354, 357, 368, 1_359])
         .chain(1_362..1_376)
         .chain([1_376, 1_381, 1_384, 1_391, 1_392, 1_397, 1_400, 1_407])
+        .chain([5_633, 5_662, 5_664, 5_667, 7_679, 7_680, 8_191])
     {
         assert_eq!(broken(&[(at, 0)]), [], "word {at}");
     }
     // Bytes of rings without a mark, and places of a ring without a lane.
-    for at in [11_264, 11_264 + 193, 11_775, 11_776, 11_776 + 193, 12_287, 12_288, 12_288 + 64 * 192, 45_055]
-    {
+    for at in [
+        11_264,
+        11_264 + 193,
+        11_775,
+        11_776,
+        11_776 + 193,
+        12_287,
+        12_288,
+        12_288 + 64 * 192,
+        45_055,
+        65_535,
+    ] {
         assert_eq!(spoiled(&[], &[(at, 0)]), [], "byte {at}");
     }
 }
@@ -209,8 +245,8 @@ fn two_accounts_of_a_good_table() {
     let mut rng = Rng::new(11);
     let mut agreed = [0, 0];
     for _ in 0..4_000 {
-        let mut bytes = tables::laid(&mut rng);
-        tables::damage(&mut rng, &mut bytes);
+        let mut bytes = tables::laid(&mut rng, &NOW);
+        tables::damage(&mut rng, &NOW, &mut bytes);
         let reading = layout::read(&bytes);
         let Some(state) = &reading.state else { continue };
         if reading.broken.iter().all(|clause| clause.may_be_lost() || *clause == Clause::Length) {
@@ -259,7 +295,7 @@ fn the_clock_s_edge_from_a_table_laid_near_it() {
 #[test]
 fn a_good_table_of_other_origin_may_lead_to_one_that_is_not() {
     // The clock's last value: a take moves it past the end, and the next call gives 10.
-    let last = (1_u64 << 62) + (1 << 42) - 1;
+    let last = (1_u64 << 62) + (1 << 44) - 1;
     let mut bytes = session();
     [0, 81, 85].iter().for_each(|at| layout::set_word(&mut bytes, *at, last));
     slots::write(&layout::read(&bytes).state.expect("contents"), &mut bytes);

@@ -1,13 +1,12 @@
 #!/usr/bin/env python3
 """Writes what the program is to print: python3 expected.py > stdout
 
-The rules here are worked from document 01 alone, lane by lane and with no group sets in the choice. Of the program the script knows the list of calls. A
-table is what document 01 says it encodes, and a damaged one is only known to be damaged.
+The rules here are worked from document 01, with the room of request g of document 02, lane by lane and with no group sets in the choice. Of the program
+the script knows the list of calls. A table is what document 01 says it encodes, and a damaged one is only known to be damaged.
 """
 
 SPENT = 2**62
-SIZE = 45056
-LONG = SIZE + 64
+ROOM = 64  # records that a lane holds at most
 
 
 class Lane:
@@ -56,7 +55,7 @@ class Table:
         lane = self.lanes[k]
         if length == 0 or length > lane.longest:
             raise No(12)
-        if len(lane.queue) == 16:
+        if len(lane.queue) == ROOM:
             raise No(13)
         if self.clock >= SPENT:
             raise No(14)
@@ -282,16 +281,16 @@ def calls():
 def full():
     print("- a full lane")
     t = setup()
-    fill(t, 0, 16)
-    say(t, "put", 0, 16, 100)
-    say(t, "put", 0, 16, 1501)
+    fill(t, 0, ROOM)
+    say(t, "put", 0, 64, 100)
+    say(t, "put", 0, 64, 1501)
     say(t, "restart")
     print("table kept")
-    say(t, "put", 1, 17, 100)
+    say(t, "put", 1, 65, 100)
     say(t, "take")
-    say(t, "put", 0, 18, 100)
-    say(t, "put", 0, 19, 100)
-    drain(t, 18)
+    say(t, "put", 0, 66, 100)
+    say(t, "put", 0, 67, 100)
+    drain(t, ROOM + 2)
 
 
 def sizes():
@@ -315,7 +314,7 @@ def spent():
     print("- a spent unit")
     t = setup()
     t.clock = SPENT - 1
-    fill(t, 1, 16)
+    fill(t, 1, ROOM)
     fill(t, 0, 1)
     say(t, "take")
     say(t, "put", 2, 1, 100)
@@ -324,7 +323,7 @@ def spent():
     say(t, "put", 0, 1, 100)
     say(t, "restart")
     times(t)
-    drain(t, 17)
+    drain(t, ROOM + 1)
     times(t)
     anew(t)
     print("rest kept")
@@ -340,7 +339,8 @@ def damaged():
     print("- never made")
     every(Bad())
     print("table kept")
-    for name in ["clock past its end", "slot list left out", "setting gone", "record of no length", "start too late"]:
+    for name in ["clock past its end", "depth of an older table", "slot list left out", "setting gone", "record over the longest",
+                 "place over the longest", "start too late"]:
         print("-", name)
         puts(setup())
         every(Bad())
@@ -350,6 +350,11 @@ def damaged():
     puts(t)
     every(t)
     print("table changed")
+    print("- places of an idle lane")
+    t = setup()
+    puts(t)
+    every(t)
+    drain(t, 3)
 
 
 session()

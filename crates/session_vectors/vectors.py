@@ -2,15 +2,16 @@
 """Writes the frames of session_vectors (stdin) and what is expected of them (stdout), in the folder that this file stands in.
 
 What is expected is worked here from document 01 alone: "Numbers", "The plain rules", "Setup and session fields", "Numbers given back", "A session in
-full", and from request d of document 02, framing. Nothing here runs, reads or was copied from the program. Run it after a change of them, and compare
-what changed in stdout.
+full", and from requests d and g of document 02, framing and deeper lanes. Nothing here runs, reads or was copied from the program. Run it after a change
+of them, and compare what changed in stdout.
 
 14 is not among the answers: a clock of 2^62 is out of reach of 1,000 requests.
 """
 import pathlib
 import random
 
-TABLE = 45056   # the fixed size of a table, docs/TABLE.md
+TABLE = 65536   # the fixed size of a table, docs/TABLE.md
+ROOM = 64       # records that a lane holds at most
 
 
 class No(Exception):
@@ -113,7 +114,7 @@ class Unit:
         lane = self.lanes[k]
         if not 1 <= length <= lane.longest:
             return 'no 12'
-        if len(lane.queue) == 16:
+        if len(lane.queue) == ROOM:
             return 'no 13'
         others = any(j != k for j in self.holding())
         idle = not lane.queue
@@ -303,7 +304,12 @@ def inputs():
     # 11, 12, 13, 15, 16
     add(TWO + b''.join(put(k, 9, 64) + lag(k) for k in (0, 1, 2, 63, 64, 255)) + END)
     add(TWO + b''.join(put(0, 4294967295, n) for n in (0, 1, 1500, 1501, 65535)) + RESTART + END)
-    add(setup((5, 7, 64)) + 17 * put(5, 1, 64) + TAKE + put(5, 2, 65) + put(5, 2, 64) + put(5, 3, 64) + RESTART + 16 * TAKE + LOOK + TAKE + RESTART + SETS + END)
+    # M7: the lane's room, with a mark for each record; then the ring round its end
+    full = b''.join(put(5, i, 64) for i in range(ROOM + 1))
+    add(setup((5, 7, 64)) + full + TAKE + put(5, 2, 65) + put(5, 2, 64) + put(5, 3, 64) + RESTART + ROOM * TAKE + LOOK + TAKE + RESTART + SETS + END)
+    more = b''.join(put(5, 1000 + i, 1 + i) for i in range(ROOM))
+    add(setup((5, 7, 64)) + full + 40 * TAKE + more + 50 * TAKE + more + ROOM * TAKE + LOOK + END)
+    add(setup((5, 7, 64), (6, 9, 1500)) + full + put(6, 1, 1500) + put(5, 1, 1) + TAKE + RESTART + ROOM * TAKE + SETS + lag(5) + lag(6) + END)
     # M2: a lag below zero; M4: the clock's jump
     add(TWO + REQUESTS[:-3] + put(0, 4, 100) + lag(0) + lag(1) + TAKE + lag(0) + RESTART + lag(0) + END)
     add(setup((0, 1, 64)) + put(0, 1, 64) + TAKE + lag(0) + put(0, 2, 64) + lag(0) + SETS + LOOK + END)
@@ -338,11 +344,20 @@ def inputs():
                 k = chance.choice(lanes)[0]
                 requests += chance.choice((put(k, chance.getrandbits(32), chance.randint(1, 300)), put(k, 1, 64), TAKE, SETS, lag(k), TAKE, put(k, 2, 64)))
             add(setup(*lanes, framing=field(0x11, bytes([h]))) + requests + 5 * TAKE + RESTART + END)
+    # deep lanes at random: three lanes that are full now and then, and all taken at the end
+    lanes = ((0, 500, 1500), (31, 100, 300), (63, 3, 64))
+    for _ in range(2):
+        requests = b''
+        for step in range(420):
+            k, _, longest = chance.choice(lanes)
+            requests += put(k, step, chance.randint(1, longest)) if chance.random() < 0.8 else TAKE
+        add(setup(*lanes) + requests + 3 * ROOM * TAKE + TAKE + RESTART + END)
 
 
 inputs()
 here = pathlib.Path(__file__).parent
-stdin = b''.join(b''.join(n.to_bytes(2, 'big') for n in (limit, table, area, len(data))) + data for data, limit, table, area in frames)
+stdin = b''.join(limit.to_bytes(2, 'big') + table.to_bytes(4, 'big') + area.to_bytes(2, 'big') + len(data).to_bytes(2, 'big') + data
+                 for data, limit, table, area in frames)
 assert len(stdin) <= 65536, len(stdin)
 (here / 'stdin').write_bytes(stdin)
 (here / 'stdout').write_text(''.join(expected(*frame) for frame in frames))

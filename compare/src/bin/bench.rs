@@ -11,7 +11,7 @@
 
 use compare::inner;
 use compare::linked::Linked;
-use compare::loads::{Call, Line, Load, DEPTH, REQUESTS};
+use compare::loads::{Call, Line, Load, REQUESTS};
 use compare::session;
 use compare::unit::Unit;
 use std::collections::BTreeMap;
@@ -51,7 +51,7 @@ fn run_inner(load: Load, calls: &[Call], table: &mut [u8]) {
 
 /// The inner calls leave the table that the public calls leave, byte for byte: both columns measure the same work.
 fn assert_same_work(load: Load) {
-    let calls = load.list(DEPTH, PAIRS).whole();
+    let calls = load.list(PAIRS).whole();
     let (mut unit, mut other) = (public(load), public(load));
     unit.make(&calls);
     run_inner(load, &calls, &mut other.table);
@@ -80,7 +80,7 @@ fn best(count: usize, mut batch: impl FnMut()) -> f64 {
 
 /// ns of a pair on a line that is filled and then goes on from batch to batch.
 fn best_pair(load: Load, line: &mut impl Line) -> f64 {
-    let list = load.list(DEPTH, BATCHES * PAIRS);
+    let list = load.list(BATCHES * PAIRS);
     line.make(&list.filling);
     let mut batches = list.pairs.chunks(2 * PAIRS);
     best(PAIRS, || line.make(batches.next().expect("a batch")))
@@ -109,7 +109,7 @@ fn times() {
         let test = best(PAIRS, || (0..PAIRS).for_each(|_| assert!(Linked.lag(table, 255) == Err(11))));
         let plain = best_pair(load, &mut load.plain());
         let [filled, worked] = [0, PAIRS].map(|pairs| {
-            let calls = load.list(DEPTH, pairs).whole();
+            let calls = load.list(pairs).whole();
             best(1, || run_inner(load, &calls, table))
         });
         let most = load.session_pairs();
@@ -138,7 +138,7 @@ const COUNTED: [(&str, &[&str]); 7] = [
 /// Runs so many of one kind, for callgrind.
 fn count(what: &str, load: Load, many: usize) {
     let (mut answers, mut unit) = (vec![0; AREA], public(load));
-    let calls = |pairs| load.list(DEPTH, pairs).whole();
+    let calls = |pairs| load.list(pairs).whole();
     match what {
         "public" => unit.make(&calls(many)),
         "inner" => run_inner(load, &calls(many), &mut unit.table),

@@ -1,5 +1,6 @@
 //! The comparison's command. `compare help` lists what it does.
 
+use compare::convert;
 use compare::driver::report::{Found, Tally};
 use compare::driver::{self, Budget, Kind};
 use compare::journal;
@@ -25,6 +26,8 @@ compare plans --seconds N | --cases N [--seed N] [--case N]
                                                setups read into plan areas and written from them, likewise
 compare sheets --seconds N | --cases N [--seed N] [--case N]
                                                text sheets, likewise
+compare conversions --seconds N | --cases N [--seed N] [--case N]
+                                               tables of 16 places taken over, likewise
 compare sessions PROGRAM... [--cases N] [--seed N] [--case N]
                                                sessions by pipe; --case N begins at that case
 compare clock --pairs N                        one lane up to the clock's edge, or N pairs of put and take
@@ -34,10 +37,11 @@ compare slips [--seed N]                       each slip and each lapse, and the
 const SEED: u64 = 1;
 /// The cases of a short run.
 const SHORT: u64 = 20_000;
-/// Its cases of the desk's board, of plans and of sheets, and the part of a long run that each get.
+/// Its cases of the desk's board, of plans, of sheets and of conversions, and the part of a long run that each get.
 const SHORT_BOARDS: u64 = 20_000;
 const SHORT_PLANS: u64 = 60_000;
 const SHORT_SHEETS: u64 = 100_000;
+const SHORT_CONVERSIONS: u64 = 3_000;
 const PART: u64 = 8;
 /// A slip must be found within so many cases, far fewer than a short run has.
 const SLIP: u64 = 1_500;
@@ -105,6 +109,21 @@ fn office_under_test() -> impl sheets::Office {
     sheets::slips::Slipped(sheets::slips::Slip::None)
 }
 
+/// The converter under test, likewise.
+#[cfg(feature = "unit")]
+fn converter_under_test() -> impl convert::Converter {
+    if let Err(wrong) = convert::linked::boundary() {
+        println!("DIFFERENCE at the boundary: {wrong}");
+        std::process::exit(1);
+    }
+    convert::linked::Linked
+}
+
+#[cfg(not(feature = "unit"))]
+fn converter_under_test() -> impl convert::Converter {
+    convert::slips::Slipped(convert::slips::Slip::None)
+}
+
 struct Options {
     seed: u64,
     case: Option<u64>,
@@ -144,7 +163,9 @@ fn main() -> ExitCode {
         ("short", true) => both(calls(&options, 0, Budget::Cases(SHORT), |_| true), || {
             both(boards(&options, 0, Budget::Cases(SHORT_BOARDS)), || {
                 both(planned(&options, 0, Budget::Cases(SHORT_PLANS)), || {
-                    texts(&options, 0, Budget::Cases(SHORT_SHEETS))
+                    both(texts(&options, 0, Budget::Cases(SHORT_SHEETS)), || {
+                        converted(&options, 0, Budget::Cases(SHORT_CONVERSIONS))
+                    })
                 })
             })
         }),
@@ -153,7 +174,9 @@ fn main() -> ExitCode {
             let Some(budget) = budget(&options) else { return help() };
             let beside = || {
                 both(boards(&options, 0, part(budget)), || {
-                    both(planned(&options, 0, part(budget)), || texts(&options, 0, part(budget)))
+                    both(planned(&options, 0, part(budget)), || {
+                        both(texts(&options, 0, part(budget)), || converted(&options, 0, part(budget)))
+                    })
                 })
             };
             match mode.as_str() {
@@ -174,6 +197,11 @@ fn main() -> ExitCode {
         ("sheets", true) => match (options.case, budget(&options)) {
             (case, Some(budget)) => texts(&options, case.unwrap_or(0), budget),
             (Some(case), None) => texts(&options, case, Budget::Cases(1)),
+            _ => help(),
+        },
+        ("conversions", true) => match (options.case, budget(&options)) {
+            (case, Some(budget)) => converted(&options, case.unwrap_or(0), budget),
+            (Some(case), None) => converted(&options, case, Budget::Cases(1)),
             _ => help(),
         },
         ("one", true) => match options.case {
@@ -198,7 +226,7 @@ fn budget(options: &Options) -> Option<Budget> {
     }
 }
 
-/// The part of a long run that boards, plans and sheets each get, on top of it.
+/// The part of a long run that boards, plans, sheets and conversions each get, on top of it.
 fn part(budget: Budget) -> Budget {
     match budget {
         Budget::Cases(cases) => Budget::Cases(cases / PART),
@@ -248,6 +276,15 @@ fn texts(options: &Options, first: u64, budget: Budget) -> ExitCode {
     let result = sheets::driver::compare(&mut office_under_test(), options.seed, first, more, &mut tally);
     println!("Seed {}, {:.1} s, {tally}", options.seed, begin.elapsed().as_secs_f64());
     told("sheets", options, result)
+}
+
+fn converted(options: &Options, first: u64, budget: Budget) -> ExitCode {
+    let begin = Instant::now();
+    let mut tally = convert::driver::Tally::default();
+    let more = within(budget, begin);
+    let result = convert::driver::compare(&mut converter_under_test(), options.seed, first, more, &mut tally);
+    println!("Seed {}, {:.1} s, {tally}", options.seed, begin.elapsed().as_secs_f64());
+    told("conversions", options, result)
 }
 
 fn told(mode: &str, options: &Options, result: Result<(), (u64, Found)>) -> ExitCode {
@@ -360,7 +397,13 @@ fn slips(options: &Options) -> ExitCode {
         let found = sheets::driver::compare(&mut office, options.seed, 0, |done| done < SLIP, &mut tally);
         (format!("{slip:?}"), found.err().map(|(case, _)| case))
     });
-    for (name, case) in slips.chain(lapses).chain(desks).chain(depots).chain(offices) {
+    let converters = convert::slips::slips().into_iter().map(|slip| {
+        let mut converter = convert::slips::Slipped(slip);
+        let mut tally = convert::driver::Tally::default();
+        let found = convert::driver::compare(&mut converter, options.seed, 0, |done| done < SLIP, &mut tally);
+        (format!("{slip:?}"), found.err().map(|(case, _)| case))
+    });
+    for (name, case) in slips.chain(lapses).chain(desks).chain(depots).chain(offices).chain(converters) {
         tried += 1;
         match case {
             Some(case) => println!("{name}: found in case {case}"),

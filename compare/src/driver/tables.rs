@@ -7,7 +7,7 @@ use super::lent::Lent;
 use super::report::{Found, Tally};
 use crate::calls::{Answer, Call};
 use crate::gen::{caller::Caller, setups, tables};
-use crate::layout::{self, Reading};
+use crate::layout::{self, Reading, NOW};
 use crate::numbers::refusal;
 use crate::rng::Rng;
 use crate::rules::State;
@@ -41,7 +41,7 @@ pub fn case<U: Unit>(unit: &mut U, rng: &mut Rng, tally: &mut Tally) -> Result<(
 /// A table that calls made; what it holds must be what the rules hold.
 fn made<U: Unit>(unit: &mut U, rng: &mut Rng) -> Result<Vec<u8>, Found> {
     let setup = setups::setup(rng);
-    let mut bytes = tables::blank(rng);
+    let mut bytes = tables::blank(rng, &NOW);
     let mut state = State::fresh(&setup);
     unit.make(&setups::bytes(rng, &setup), &mut bytes)
         .map_err(|fault| Found::new(format!("a valid setup gave {fault}"), vec![]))?;
@@ -61,12 +61,12 @@ fn made<U: Unit>(unit: &mut U, rng: &mut Rng) -> Result<Vec<u8>, Found> {
 /// A table and how it came to be.
 fn table(rng: &mut Rng, made: &[u8]) -> (Vec<u8>, Vec<String>) {
     let (mut bytes, changes, mut how) = match rng.below(32) {
-        0 => (tables::blank(rng), rng.below(4), vec!["noise".to_string()]),
-        1..=9 => (tables::laid(rng), rng.below(2), vec!["a table laid at the edges".to_string()]),
+        0 => (tables::blank(rng, &NOW), rng.below(4), vec!["noise".to_string()]),
+        1..=9 => (tables::laid(rng, &NOW), rng.below(2), vec!["a table laid at the edges".to_string()]),
         _ => (made.to_vec(), rng.between(1, 2), vec!["a table made by calls".to_string()]),
     };
     for _ in 0..changes {
-        how.push(tables::damage(rng, &mut bytes));
+        how.push(tables::damage(rng, &NOW, &mut bytes));
     }
     (bytes, how)
 }

@@ -1,7 +1,7 @@
-//! Tables that no call made: contents at the edges of "A good table", words and bits changed, and noise.
+//! Tables that no call made: contents at the edges of "A good table", words and bits changed, and noise; in today's layout or in the one before it.
 
 use super::setups;
-use crate::layout::{self, *};
+use crate::layout::*;
 use crate::numbers::*;
 use crate::rng::Rng;
 use crate::rules::{Lane, Record, State};
@@ -10,27 +10,37 @@ use crate::slots;
 use std::collections::VecDeque;
 
 /// Bytes that no contents give a meaning: all the same, or random.
-pub fn blank(rng: &mut Rng) -> Vec<u8> {
+pub fn blank(rng: &mut Rng, form: &Form) -> Vec<u8> {
     match rng.below(4) {
-        0 => vec![0; TABLE_SIZE],
-        1 => vec![0xFF; TABLE_SIZE],
-        _ => rng.bytes(TABLE_SIZE),
+        0 => vec![0; form.size],
+        1 => vec![0xFF; form.size],
+        _ => rng.bytes(form.size),
     }
 }
 
+/// Bytes with these contents, and anything where they have no meaning.
+pub fn written(rng: &mut Rng, form: &Form, state: &State) -> Vec<u8> {
+    let mut bytes = blank(rng, form);
+    // The clock was taken back by some multiple of 2^31, or never.
+    let back = rng.below(32) << 31;
+    set_word(&mut bytes, slots::BACK, rng.pick(&[0, back]));
+    form.write(state, &mut bytes);
+    bytes
+}
+
 /// Contents near the edges of what is good, on one side or the other, in a table of their own.
-pub fn laid(rng: &mut Rng) -> Vec<u8> {
+pub fn laid(rng: &mut Rng, form: &Form) -> Vec<u8> {
     let setup = setups::setup(rng);
     // A fault in some lane once in three tables.
     let faults = 3 * setup.lanes.len() as u64;
     let framing = setup.framing;
-    let clock = clock(rng, framing, &setup.lanes);
+    let clock = clock(rng, form, framing, &setup.lanes);
     // Of eight lanes so many hold records.
     let held = rng.pick(&[0, 1, 2, 8, 8]);
     let mut lanes: Vec<Lane> = vec![];
     for plan in setup.lanes {
         let holds = rng.below(8) < held;
-        lanes.push(lane(rng, plan, framing, clock, holds, faults));
+        lanes.push(lane(rng, form, plan, framing, clock, holds, faults));
     }
     if rng.once_in(10) {
         // No lane is eligible: each begins in the slot after the clock's.
@@ -44,21 +54,17 @@ pub fn laid(rng: &mut Rng) -> Vec<u8> {
             *lane = Lane::of(lane.plan, framing, lane.queue.clone(), now, lane.since);
         }
     }
-    let mut bytes = blank(rng);
-    // The clock was taken back by some multiple of 2^31, or never.
-    let back = rng.below(32) << 31;
-    set_word(&mut bytes, slots::BACK, rng.pick(&[0, back]));
-    layout::write(&State::of(clock, framing, lanes), &mut bytes);
-    bytes
+    written(rng, form, &State::of(clock, framing, lanes))
 }
 
-fn clock(rng: &mut Rng, framing: u8, lanes: &[LanePlan]) -> i128 {
+fn clock(rng: &mut Rng, form: &Form, framing: u8, lanes: &[LanePlan]) -> i128 {
+    let end = rng.pick(&[form.clock_end, form.clock_end, OLD_CLOCK_END]);
     match rng.below(10) {
         0 => 0,
         1 => i128::from(rng.below(1 << 34)),
         2 => CLOCK_EDGE - 1 + i128::from(rng.below(2)),
-        3 => CLOCK_END - 1 - i128::from(rng.below(3)),
-        4 => CLOCK_END + i128::from(rng.below(2)),
+        3 => end - 1 - i128::from(rng.below(3)),
+        4 => end + i128::from(rng.below(2)),
         5..=7 => {
             // 1,024 (1,500 + h) past a multiple of some lane's slot, or at the multiple, or beside those: R's lower edge is met, or the edge of being eligible.
             let slot = Lane::of(rng.pick(lanes), framing, VecDeque::new(), 0, 0).slot();
@@ -71,7 +77,15 @@ fn clock(rng: &mut Rng, framing: u8, lanes: &[LanePlan]) -> i128 {
     }
 }
 
-fn lane(rng: &mut Rng, plan: LanePlan, framing: u8, clock: i128, holds: bool, faults: u64) -> Lane {
+fn lane(
+    rng: &mut Rng,
+    form: &Form,
+    plan: LanePlan,
+    framing: u8,
+    clock: i128,
+    holds: bool,
+    faults: u64,
+) -> Lane {
     let slot = Lane::of(plan, framing, VecDeque::new(), 0, 0).slot();
     let ahead = clock + 2 * slot;
     let within = |rng: &mut Rng, span: i128| i128::from(rng.below(span as u64));
@@ -99,7 +113,8 @@ fn lane(rng: &mut Rng, plan: LanePlan, framing: u8, clock: i128, holds: bool, fa
         4 => clock + within(rng, 2 * slot),
         _ => clock - clock % slot,
     };
-    let count = if rng.once_in(3) { rng.pick(&[1, 15, 16]) } else { rng.between(1, 16) };
+    let most = form.depth;
+    let count = if rng.once_in(3) { rng.pick(&[1, most - 1, most]) } else { rng.between(1, most) };
     let queue = (0..count).map(|_| held(rng, plan.longest.into())).collect();
     Lane::of(plan, framing, queue, start, rng.below(1 << 60))
 }
@@ -110,13 +125,13 @@ fn held(rng: &mut Rng, longest: u64) -> Record {
 }
 
 /// One fault or change, told in words; some leave the table good, or even as it was.
-pub fn damage(rng: &mut Rng, bytes: &mut [u8]) -> String {
+pub fn damage(rng: &mut Rng, form: &Form, bytes: &mut [u8]) -> String {
     if rng.once_in(3) {
         return super::slots::damage(rng, bytes);
     }
-    let changed = lanes(rng, bytes);
+    let changed = lanes(rng, form, bytes);
     // A lane's S and group decide where it stands: the lists go along or stay behind.
-    match layout::read(bytes).state {
+    match form.read(bytes).state {
         Some(state) if rng.once_in(2) => {
             slots::write(&state, bytes);
             format!("{changed}, and the lists written anew")
@@ -126,47 +141,61 @@ pub fn damage(rng: &mut Rng, bytes: &mut [u8]) -> String {
 }
 
 /// A change of the clock, of the lanes, or of a word that means nothing.
-fn lanes(rng: &mut Rng, bytes: &mut [u8]) -> String {
+fn lanes(rng: &mut Rng, form: &Form, bytes: &mut [u8]) -> String {
     let lanes: Vec<u8> = present(bytes).collect();
     let lane = if lanes.is_empty() || rng.once_in(12) { rng.below(64) as u8 } else { rng.pick(&lanes) };
-    let holding: Vec<u8> = lanes.iter().copied().filter(|lane| word(bytes, ring(*lane)) >= 16).collect();
+    let holding: Vec<u8> = lanes.iter().copied().filter(|lane| form.ring(bytes, *lane).1 > 0).collect();
     let holder = if holding.is_empty() { lane } else { rng.pick(&holding) };
-    let (at, value) = match rng.below(13) {
+    let (at, value) = match rng.below(16) {
         0 => {
-            let at = rng.index(WORDS);
+            let words = rng.pick(&[WORDS, form.size / 8]);
+            let at = rng.index(words);
             flipped(rng, bytes, at)
         }
         1 | 2 => {
-            let at = meaning(rng, bytes, lane, holder);
+            let at = meaning(rng, form, bytes, lane, holder);
             flipped(rng, bytes, at)
         }
         3 => {
-            let at = meaning(rng, bytes, lane, holder);
+            let at = meaning(rng, form, bytes, lane, holder);
             (at, another(rng, bytes, at))
         }
-        4 => (CLOCK, clock_near(rng, bytes)),
-        5 if rng.once_in(2) => full_ring(rng, bytes, holder),
-        5 => (ring(holder), rng.below(16) + 16 * rng.pick(&[0, 1, 2, 14, 15, 16, 17, 18, 1 << 32, 1 << 59])),
+        4 => (CLOCK, clock_near(rng, form, bytes)),
+        5 if rng.once_in(2) => full_ring(rng, form, bytes, holder),
+        5 => {
+            let (most, high) = (form.depth, (1 << 63) / form.depth);
+            let numbers = [0, 1, 2, most - 2, most - 1, most, most + 1, most + 2, 1 << 32, high];
+            (ring(holder), rng.below(most) + most * rng.pick(&numbers))
+        }
         6 => (setting(lane), field_of_setting(rng, word(bytes, setting(lane)))),
         7 => (setting(lane), setting_at_sum(rng, bytes, &lanes, lane)),
         8 => {
-            let longest = word(bytes, setting(holder)) & 0xFFFF;
-            let length = rng.pick(&[0, 1, longest, longest + 1, longest + 65_536, 1 << 31, (1 << 32) - 1]);
-            (some_record(rng, bytes, holder), rng.below(1 << 32) | length << 32)
+            let place = some_place(rng, form, bytes, holder);
+            return length_of(rng, form, bytes, holder, place);
         }
-        9 => (clock_word(lane), clock_word_near(rng, bytes, lane)),
-        10 => {
+        // Now and then of an idle lane, of which nothing is asked.
+        9 => {
+            let lane = rng.pick(&[holder, holder, lane]);
+            let (first, count) = form.ring(bytes, lane);
+            let place = first + rng.between(count.min(form.depth - 1), form.depth - 1);
+            return length_of(rng, form, bytes, lane, place);
+        }
+        10 => (clock_word(lane), clock_word_near(rng, bytes, lane)),
+        11 => {
             let any = rng.below(64) as u8;
             (PRESENT, word(bytes, PRESENT) ^ 1 << rng.pick(&[lane, holder, any]))
         }
-        11 => (FRAMING_WORD, framing_near(rng, word(bytes, FRAMING_WORD))),
+        12 => (FRAMING_WORD, framing_near(rng, word(bytes, FRAMING_WORD))),
+        13 => (DEPTH_WORD, depth_near(rng, word(bytes, DEPTH_WORD))),
         _ => {
+            let place = rng.below(form.depth);
             let free = [
-                2 + rng.index(2),
+                2,
                 5 + rng.index(75),
                 83 + 4 * rng.index(64),
                 1_362 + rng.index(14),
-                record(lane, rng.below(16)),
+                rng.pick(&(form.words_of)(lane, place)),
+                form.size / 8 - 1 - rng.index(512),
             ];
             (rng.pick(&free), rng.word())
         }
@@ -176,36 +205,55 @@ fn lanes(rng: &mut Rng, bytes: &mut [u8]) -> String {
 }
 
 /// A word that means something.
-fn meaning(rng: &mut Rng, bytes: &[u8], lane: u8, holder: u8) -> usize {
+fn meaning(rng: &mut Rng, form: &Form, bytes: &[u8], lane: u8, holder: u8) -> usize {
+    let place = some_place(rng, form, bytes, holder);
     let words = [
         CLOCK,
         PRESENT,
+        DEPTH_WORD,
         FRAMING_WORD,
         setting(lane),
         clock_word(lane),
         clock_word(holder),
         ring(lane),
         ring(holder),
-        some_record(rng, bytes, holder),
+        rng.pick(&(form.words_of)(holder, place)),
     ];
     rng.pick(&words)
 }
 
-/// The word of one of a lane's records, or of some place of its ring.
-fn some_record(rng: &mut Rng, bytes: &[u8], lane: u8) -> usize {
-    let (first, count) = (word(bytes, ring(lane)) % 16, word(bytes, ring(lane)) / 16);
-    record(lane, first + rng.below(count.clamp(1, 16)))
+/// The place of one of a lane's records, or some place of its ring.
+fn some_place(rng: &mut Rng, form: &Form, bytes: &[u8], lane: u8) -> u64 {
+    let (first, count) = form.ring(bytes, lane);
+    first + rng.below(count.clamp(1, form.depth))
 }
 
-/// Valid records at all places of a lane's ring, and a count of 15 to 17 of them.
-fn full_ring(rng: &mut Rng, bytes: &mut [u8], lane: u8) -> (usize, u64) {
+/// A place's length at an edge.
+fn length_of(rng: &mut Rng, form: &Form, bytes: &mut [u8], lane: u8, place: u64) -> String {
+    let longest = word(bytes, setting(lane)) & 0xFFFF;
+    let edges =
+        [0, 1, longest, longest + 1, longest + 65_536, 32_768, 65_535, 65_536, 1 << 31, (1 << 32) - 1];
+    let record = Record { mark: rng.word() as u32, length: rng.pick(&edges) };
+    (form.set_record)(bytes, lane, place, record);
+    format!("place {place} of lane {lane} = {record:?}")
+}
+
+/// Valid records at all places of a lane's ring, and one less, as many or one more of them than there is room for.
+fn full_ring(rng: &mut Rng, form: &Form, bytes: &mut [u8], lane: u8) -> (usize, u64) {
     let longest = (word(bytes, setting(lane)) & 0xFFFF).clamp(1, 1_500);
-    for place in 0..16 {
+    let most = form.depth;
+    for place in 0..most {
         let held = held(rng, longest);
-        set_word(bytes, record(lane, place), u64::from(held.mark) | held.length << 32);
+        (form.set_record)(bytes, lane, place, held);
     }
-    let first = rng.pick(&[0, 0, 1, 8, 15]);
-    (ring(lane), first + 16 * rng.pick(&[15, 16, 17, 17]))
+    let first = rng.pick(&[0, 0, 1, 8, most - 1]);
+    (ring(lane), first + most * rng.pick(&[most - 1, most, most + 1, most + 1]))
+}
+
+/// Another depth number: those of both layouts, numbers beside them, and stray bits.
+fn depth_near(rng: &mut Rng, depth: u64) -> u64 {
+    let more = depth ^ 1 << rng.below(64);
+    rng.pick(&[0, 1, 16, 63, 64, 65, 128, u64::MAX, more, more])
 }
 
 /// Another framing number at an edge, or with a bit that none has.
@@ -238,11 +286,11 @@ fn another(rng: &mut Rng, bytes: &[u8], at: usize) -> u64 {
     rng.pick(&[0, 1, u64::MAX, value.wrapping_add(1), value.wrapping_sub(1), other, random, power, power - 1])
 }
 
-fn clock_near(rng: &mut Rng, bytes: &[u8]) -> u64 {
-    let (clock, end, step) = (word(bytes, CLOCK), CLOCK_END as u64, rng.below(1 << 33));
-    let choice =
-        [0, end - 1, end, 1 << 62, (1 << 62) - 1, clock.wrapping_sub(step), clock.wrapping_add(step)];
-    rng.pick(&choice)
+fn clock_near(rng: &mut Rng, form: &Form, bytes: &[u8]) -> u64 {
+    let (clock, step) = (word(bytes, CLOCK), rng.below(1 << 33));
+    let (end, older) = (form.clock_end as u64, OLD_CLOCK_END as u64);
+    let (back, on) = (clock.wrapping_sub(step), clock.wrapping_add(step));
+    rng.pick(&[0, end - 1, end, older - 1, older, 1 << 62, (1 << 62) - 1, back, on])
 }
 
 /// One number of a setting word at an edge, or beside what it was.

@@ -30,7 +30,7 @@ fn broken(lane: &Lane, clock: i128, framing: u8) -> Option<&'static str> {
         return Some("the group lies in 16 to 31");
     }
     if lane.queue.len() > DEPTH {
-        return Some("0 to 16 records");
+        return Some("0 to 64 records");
     }
     if !lane.queue.iter().all(|record| lengths.contains(&record.length)) {
         return Some("each length 1 to the lane's longest");

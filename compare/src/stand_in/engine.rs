@@ -91,9 +91,10 @@ impl Engine {
         let lane = usize::from(lane);
         let flow = self.flows.get_mut(lane).and_then(Option::as_mut).ok_or(11)?;
         let room = match self.slip {
-            Slip::RoomForFifteen => 15,
-            Slip::RoomForSeventeen => 17,
-            _ => 16,
+            Slip::RoomForSixteen => 16,
+            Slip::RoomForSixtyThree => 63,
+            Slip::RoomForSixtyFive => 65,
+            _ => 64,
         };
         let full = flow.queue.len() >= room;
         if full && self.slip == Slip::FullBeforeLength {

@@ -56,10 +56,12 @@ slips! {
     RestartKeepsClock,
     /// Restart is accepted while records are held.
     RestartDropsRecords,
-    /// A lane has room for 15.
-    RoomForFifteen,
-    /// A lane has room for 17.
-    RoomForSeventeen,
+    /// A lane has room for 16, as it had.
+    RoomForSixteen,
+    /// A lane has room for 63.
+    RoomForSixtyThree,
+    /// A lane has room for 65.
+    RoomForSixtyFive,
     /// A put's length is cut to 16 bits.
     LengthCut,
 

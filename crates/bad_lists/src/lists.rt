@@ -33,7 +33,7 @@ pub fn no_lane() {
     base::spot(b"a list names lane 64", base::place(23, 0, 0), 64);
     base::spot(b"a list names lane 255", base::place(23, 0, 0), 255);
     base::spot(b"a list names an absent lane", base::place(23, 0, 0), 5);
-    base::one(b"a list names an idle lane", 82, 0);
+    base::one(b"a list names an idle lane", base::LANE_0 + base::RING, 0);
 }
 
 pub fn left_out() {

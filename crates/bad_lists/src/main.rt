@@ -21,5 +21,7 @@ fn main() {
     slots::taken_back();
     slots::taken_back_far();
     unread::words();
+    unread::marks();
+    unread::kept();
     unread::lists();
 }

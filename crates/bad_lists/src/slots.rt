@@ -5,7 +5,7 @@ use base_table as base;
 fn pair(name: &[u8], first: u8, second: u8) {
     let mut t = [0u8; base::SIZE];
     base::base(&mut t);
-    base::put(&mut t, 84, base::setting(512, 1500, 22, 2048));
+    base::put(&mut t, base::LANE_1, base::setting(512, 1500, 22, 2048));
     base::put(&mut t, base::GROUPS, 4194304);
     base::byte(&mut t, base::COUNTS + base::ring(22, 0), 2);
     base::byte(&mut t, base::place(22, 0, 0), first);
@@ -31,14 +31,20 @@ pub fn places() {
     base::say(b"and once more at the first place", &t);
 }
 
+// Lane 2 alone is in the setup, and holds a record; lane 1's setting would do.
+fn lane_2(t: &mut [u8]) {
+    base::put(t, base::PRESENT, 4);
+    base::put(t, base::DEPTH, base::ROOM);
+    base::put(t, base::LANE_1, base::setting(512, 1500, 22, 2048));
+    base::put(t, base::LANE_2, base::setting(512, 1500, 22, 2048));
+    base::put(t, base::LANE_2 + base::RING, base::ROOM);
+    base::record(t, 2, 0, 1, 1000);
+}
+
 // Lane 2 alone holds a record, and its list names lane 1 twice: two bits whose sum is lane 2's bit. Lane 1 is not in the setup, and its words would do.
 pub fn carried() {
     let mut t = [0u8; base::SIZE];
-    base::put(&mut t, 1, 4);
-    base::put(&mut t, 84, base::setting(512, 1500, 22, 2048));
-    base::put(&mut t, 88, base::setting(512, 1500, 22, 2048));
-    base::put(&mut t, 90, 16);
-    base::put(&mut t, 368, base::record(1, 1000));
+    lane_2(&mut t);
     base::put(&mut t, base::GROUPS, 4194304);
     base::group(&mut t, 22, 0, 1);
     base::byte(&mut t, base::COUNTS + base::ring(22, 0), 2);
@@ -58,13 +64,19 @@ pub fn taken_back() {
     base::one(b"2^30 taken off", base::BACK, 1073741824);
 }
 
+// Lane 0 alone, of group 31, holds a record.
+fn slow(t: &mut [u8]) {
+    base::put(t, base::PRESENT, 1);
+    base::put(t, base::DEPTH, base::ROOM);
+    base::put(t, base::LANE_0, base::setting(1, 1500, 31, 1048576));
+    base::put(t, base::LANE_0 + base::RING, base::ROOM);
+    base::record(t, 0, 0, 1, 1000);
+}
+
 // In group 31 it is one slot.
 pub fn taken_back_far() {
     let mut t = [0u8; base::SIZE];
-    base::put(&mut t, 1, 1);
-    base::put(&mut t, 80, base::setting(1, 1500, 31, 1048576));
-    base::put(&mut t, 82, 16);
-    base::put(&mut t, 336, base::record(1, 1000));
+    slow(&mut t);
     base::put(&mut t, base::GROUPS, 2147483648);
     base::group(&mut t, 31, 0, 1);
     base::alone(&mut t, 31, 0, 0);

@@ -2,15 +2,40 @@
 use base_table as base;
 
 pub fn words() {
-    base::one(b"free word", 3, 77);
-    base::two(b"first and last free word below the rows", 2, 77, 79, 77);
-    base::one(b"a lane's free word", 83, 77);
-    base::one(b"an absent lane's words", 88, 77);
-    base::one(b"ring place without a record", 353, 77);
+    base::two(
+        b"first and last free word below the rows",
+        base::FREE,
+        77,
+        base::LAST_FREE,
+        77,
+    );
+    base::one(b"a lane's free word", base::LANE_0 + base::FREE_OF_LANE, 77);
+    base::one(b"an absent lane's words", base::LANE_2, 77);
+}
+
+// A mark is any number, a record there or not.
+pub fn marks() {
+    let mut t = [0u8; base::SIZE];
+    base::base(&mut t);
+    base::mark(&mut t, 1, 0, 255);
+    base::say(b"another mark", &t);
+    base::mark(&mut t, 1, 1, 255);
+    base::say(b"the mark of a place without a record", &t);
+}
+
+pub fn kept() {
+    base::spot(b"first kept byte", base::KEPT, 255);
+    base::spot(b"last kept byte", base::SIZE - 1, 255);
 }
 
 pub fn lists() {
-    base::two(b"first and last free word of the lists", 1362, 77, 1375, 77);
+    base::two(
+        b"first and last free word of the lists",
+        base::FREE_OF_LISTS,
+        77,
+        base::LAST_FREE_OF_LISTS,
+        77,
+    );
     base::two(
         b"words of a group without lanes",
         base::STARTS + 24,

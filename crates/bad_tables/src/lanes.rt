@@ -5,7 +5,7 @@ use base_table as base;
 fn moved(name: &[u8], setting: u64, groups: u64, g: usize) {
     let mut t = [0u8; base::SIZE];
     base::base(&mut t);
-    base::put(&mut t, 84, setting);
+    base::put(&mut t, base::LANE_1, setting);
     base::put(&mut t, base::GROUPS, groups);
     base::group(&mut t, g, 0, 1);
     base::alone(&mut t, g, 0, 1);
@@ -15,7 +15,7 @@ fn moved(name: &[u8], setting: u64, groups: u64, g: usize) {
 pub fn settings() {
     base::one(
         b"present lane of weight 0",
-        80,
+        base::LANE_0,
         base::setting(0, 1500, 22, 2048),
     );
     moved(
@@ -24,16 +24,28 @@ pub fn settings() {
         2151677952,
         31,
     );
-    base::rest(b"longest 63", 84, base::setting(256, 63, 18, 4096), 3, 0);
-    base::rest(b"longest 64", 84, base::setting(256, 64, 18, 4096), 3, 0);
-    base::one(b"longest 1501", 84, base::setting(256, 1501, 23, 4096));
+    base::rest(
+        b"longest 63",
+        base::LANE_1,
+        base::setting(256, 63, 18, 4096),
+    );
+    base::rest(
+        b"longest 64",
+        base::LANE_1,
+        base::setting(256, 64, 18, 4096),
+    );
+    base::one(
+        b"longest 1501",
+        base::LANE_1,
+        base::setting(256, 1501, 23, 4096),
+    );
 }
 
 // Lane 1 with this setting of group 22: both lanes stand in its list 0.
 fn together(name: &[u8], setting: u64) {
     let mut t = [0u8; base::SIZE];
     base::base(&mut t);
-    base::put(&mut t, 84, setting);
+    base::put(&mut t, base::LANE_1, setting);
     base::put(&mut t, base::GROUPS, 4194304);
     base::byte(&mut t, base::COUNTS + base::ring(22, 0), 2);
     base::byte(&mut t, base::place(22, 0, 1), 1);
@@ -46,8 +58,16 @@ pub fn sums() {
 }
 
 pub fn rates() {
-    base::one(b"c one more", 84, base::setting(256, 1500, 23, 4097));
-    base::one(b"c one less", 84, base::setting(256, 1500, 23, 4095));
+    base::one(
+        b"c one more",
+        base::LANE_1,
+        base::setting(256, 1500, 23, 4097),
+    );
+    base::one(
+        b"c one less",
+        base::LANE_1,
+        base::setting(256, 1500, 23, 4095),
+    );
     moved(
         b"group one more",
         base::setting(256, 1500, 24, 4096),
@@ -58,34 +78,85 @@ pub fn rates() {
 }
 
 pub fn present() {
-    base::one(b"lane present, words 0", 1, 7);
-    base::rest(b"no lane", 1, 0, 0, 0);
-    base::rest(
+    base::one(b"lane present, words 0", base::PRESENT, 7);
+    base::rest(b"no lane", base::PRESENT, 0);
+    base::rest_two(
         b"weight 1024 alone",
+        base::PRESENT,
         1,
-        1,
-        80,
+        base::LANE_0,
         base::setting(1024, 64, 16, 1024),
     );
-    base::rest(
+    base::rest_two(
         b"weight 1025 alone",
+        base::PRESENT,
         1,
-        1,
-        80,
+        base::LANE_0,
         base::setting(1025, 64, 16, 1024),
     );
 }
 
+// A record's length is kept less one in 16 bits, so each number there is a length; 0 is none of them.
 pub fn lengths() {
-    base::one(b"length 0", 352, base::record(2, 0));
-    base::one(b"length 1", 352, base::record(2, 1));
-    base::one(b"length 1501", 352, base::record(2, 1501));
-    base::one(b"second length 0", 337, base::record(3, 0));
+    base::sized(b"length 1", 1, 0, 1);
+    base::sized(b"length 1500", 1, 0, 1500);
+    base::sized(b"length 1501", 1, 0, 1501);
+    base::sized(b"length 32769", 1, 0, 32769);
+    base::sized(b"length 65536", 1, 0, 65536);
+    base::sized(b"second length 1501", 0, 1, 1501);
+}
+
+// Every place of a lane that holds records has a length within the lane's numbers, a record there or not.
+pub fn places() {
+    base::sized(b"next place of 1500, no record there", 1, 1, 1500);
+    base::sized(b"next place of 1501, no record there", 1, 1, 1501);
+    base::sized(b"middle place of 1501, no record there", 1, 30, 1501);
+    base::sized(b"last place of 1501, no record there", 1, 63, 1501);
+    base::sized(b"last place of 65536, no record there", 1, 63, 65536);
+    base::sized(b"last place of lane 0 of 1501", 0, 63, 1501);
+}
+
+// An idle lane's places, and those of a lane that is not in the setup, mean nothing.
+pub fn places_unread() {
+    base::sized(b"an absent lane's place of 65536", 2, 0, 65536);
+    let mut t = [0u8; base::SIZE];
+    base::idle(&mut t);
+    base::length(&mut t, 0, 0, 1501);
+    base::length(&mut t, 1, 63, 65536);
+    base::say(b"idle lanes' places of 1501 and 65536", &t);
+}
+
+// The depth number is the whole of its word.
+pub fn depths() {
+    base::one(b"depth 0", base::DEPTH, 0);
+    base::one(b"depth 16", base::DEPTH, 16);
+    base::one(b"depth 63", base::DEPTH, 63);
+    base::one(b"depth 65", base::DEPTH, 65);
+    base::one(b"depth 2^32 + 64", base::DEPTH, 4294967360);
+    base::rest(b"depth 16, nothing held", base::DEPTH, 16);
 }
 
 pub fn rings() {
-    base::one(b"17 records", 86, 272);
-    base::one(b"held lane counted idle", 86, 0);
-    base::one(b"another first place", 86, 31);
-    base::two(b"ring past its end", 86, 31, 367, base::record(9, 1500));
+    base::one(b"64 records", base::LANE_1 + base::RING, 64 * base::ROOM);
+    base::one(b"65 records", base::LANE_1 + base::RING, 65 * base::ROOM);
+    base::one(b"held lane counted idle", base::LANE_1 + base::RING, 0);
+    base::one(
+        b"another first place",
+        base::LANE_1 + base::RING,
+        63 + base::ROOM,
+    );
+    base::one(
+        b"ring past its end",
+        base::LANE_1 + base::RING,
+        63 + 2 * base::ROOM,
+    );
+}
+
+// The same ring, and its first record over the longest.
+pub fn ring_over() {
+    let mut t = [0u8; base::SIZE];
+    base::base(&mut t);
+    base::put(&mut t, base::LANE_1 + base::RING, 63 + 2 * base::ROOM);
+    base::record(&mut t, 1, 63, 9, 1501);
+    base::say(b"ring past its end, length 1501", &t);
 }

@@ -13,8 +13,12 @@ fn main() {
     lanes::sums();
     lanes::rates();
     lanes::present();
+    lanes::depths();
     lanes::lengths();
+    lanes::places();
+    lanes::places_unread();
     lanes::rings();
+    lanes::ring_over();
     clock::edges();
     clock::starts();
     clock::idles();

@@ -8,23 +8,69 @@ use libc::STDOUT_FILENO;
 use words::set_word;
 
 // The fixed size of a table, in bytes.
-pub const SIZE: usize = 45056;
+pub const SIZE: usize = 65536;
 
-// The words of the groups that have lanes and of what was taken off the clock; those of group 0's start and lists, if there were a group 0.
+// The words up to the rings of the slot lists.
+const WORDS: usize = 1408;
+
+// The words of the clock, of the present lanes, the first and the last free one below the rows, and those of the depth number and of the line's framing bytes.
+pub const CLOCK: usize = 0;
+
+pub const PRESENT: usize = 1;
+
+pub const FREE: usize = 2;
+
+pub const LAST_FREE: usize = 79;
+
+pub const DEPTH: usize = 3;
+
+pub const FRAMING: usize = 4;
+
+// The first word of each lane's row, and where the parts of a row lie from there: setting, clock word, ring and a free word.
+pub const LANE_0: usize = 80;
+
+pub const LANE_1: usize = 84;
+
+pub const LANE_2: usize = 88;
+
+pub const TIME: usize = 1;
+
+pub const RING: usize = 2;
+
+pub const FREE_OF_LANE: usize = 3;
+
+// Places of a lane, which is the depth number too. A ring word is the first place and this many times the number of records.
+pub const ROOM: u64 = 64;
+
+// The words of the groups that have lanes and of what was taken off the clock; the first and the last free one behind them; those of group 0's start and
+// lists, if there were a group 0.
 pub const GROUPS: usize = 1360;
 
 pub const BACK: usize = 1361;
+
+pub const FREE_OF_LISTS: usize = 1362;
+
+pub const LAST_FREE_OF_LISTS: usize = 1375;
 
 pub const STARTS: usize = 1360;
 
 pub const MAPS: usize = 1376;
 
-// The bytes of the first ring's first place, number and places.
+// The first byte of the lengths, of the slot lists, of the first ring's first place, number and places, of the marks, and of the bytes that are kept behind
+// them.
+const LENGTHS: usize = 2688;
+
+pub const LISTS: usize = 10880;
+
 pub const HEADS: usize = 11264;
 
 pub const COUNTS: usize = 11776;
 
 pub const PLACES: usize = 12288;
+
+pub const MARKS: usize = 45056;
+
+pub const KEPT: usize = 61440;
 
 // 2^16, 2^32 and 2^40: where the parts of a setting word begin.
 const WEIGHT: u64 = 65536;
@@ -33,11 +79,8 @@ const GROUP: u64 = 4294967296;
 
 const RATE: u64 = 1099511627776;
 
-// 2^32: where the length of a record begins.
-const LENGTH: u64 = 4294967296;
-
 pub fn put(t: &mut [u8], i: usize, v: u64) {
-    if i < 1408 {
+    if i < WORDS {
         if t.len() >= SIZE {
             set_word(t, i, v);
         }
@@ -63,8 +106,36 @@ pub fn setting(weight: u64, longest: u64, group: u64, c: u64) -> u64 {
     0
 }
 
-pub fn record(mark: u32, length: u32) -> u64 {
-    (mark as u64) + (length as u64) * LENGTH
+// The number of lane `k`'s place `i` among the places of all lanes.
+fn numbered(k: usize, i: usize) -> usize
+    ensures { λ r. ⌜ r < 4096 ⌝ }
+{
+    if k < 64 {
+        if i < 64 {
+            return 64 * k + i;
+        }
+    }
+    0
+}
+
+// Lane `k`'s place `i` has this length, which is kept less one: 1 to 65,536.
+pub fn length(t: &mut [u8], k: usize, i: usize, n: u64) {
+    if n > 0 {
+        let a = LENGTHS + 2 * numbered(k, i);
+        byte(t, a, ((n - 1) % 256) as u8);
+        byte(t, a + 1, ((n - 1) / 256 % 256) as u8);
+    }
+}
+
+// A byte of its mark.
+pub fn mark(t: &mut [u8], k: usize, i: usize, v: u8) {
+    byte(t, MARKS + 4 * numbered(k, i), v);
+}
+
+// Lane `k`'s place `i` holds a record.
+pub fn record(t: &mut [u8], k: usize, i: usize, v: u8, n: u64) {
+    mark(t, k, i, v);
+    length(t, k, i, n);
 }
 
 // The ring of list `b` of group `g`.
@@ -105,18 +176,19 @@ pub fn alone(t: &mut [u8], g: usize, b: usize, k: u8) {
 
 // Lanes 0 and 1 of document 01's session, and nothing held.
 pub fn idle(t: &mut [u8]) {
-    put(t, 1, 3);
-    put(t, 80, setting(512, 1500, 22, 2048));
-    put(t, 84, setting(256, 1500, 23, 4096));
+    put(t, PRESENT, 3);
+    put(t, DEPTH, ROOM);
+    put(t, LANE_0, setting(512, 1500, 22, 2048));
+    put(t, LANE_1, setting(256, 1500, 23, 4096));
 }
 
 // Its three records.
 fn records(t: &mut [u8]) {
-    put(t, 82, 32);
-    put(t, 86, 16);
-    put(t, 336, record(1, 1000));
-    put(t, 337, record(3, 500));
-    put(t, 352, record(2, 1000));
+    put(t, LANE_0 + RING, 2 * ROOM);
+    put(t, LANE_1 + RING, ROOM);
+    record(t, 0, 0, 1, 1000);
+    record(t, 0, 1, 3, 500);
+    record(t, 1, 0, 2, 1000);
 }
 
 pub fn base(t: &mut [u8]) {
@@ -131,7 +203,7 @@ pub fn base(t: &mut [u8]) {
 
 // Lane 1 has this S, which lies in slot `b` of its group; its list goes along.
 pub fn later(t: &mut [u8], s: u64, start: u64, b: usize, map: u64) {
-    put(t, 85, s);
+    put(t, LANE_1 + TIME, s);
     group(t, 23, start, map);
     alone(t, 23, b, 1);
 }
@@ -187,8 +259,24 @@ pub fn filed(name: &[u8], i: usize, v: u64, g: usize, b: usize, k: u8) {
     say(name, &t);
 }
 
+// The base with the length of lane `k`'s place `i` changed.
+pub fn sized(name: &[u8], k: usize, i: usize, n: u64) {
+    let mut t = [0u8; SIZE];
+    base(&mut t);
+    length(&mut t, k, i, n);
+    say(name, &t);
+}
+
+// The idle table with word `i` changed.
+pub fn rest(name: &[u8], i: usize, v: u64) {
+    let mut t = [0u8; SIZE];
+    idle(&mut t);
+    put(&mut t, i, v);
+    say(name, &t);
+}
+
 // The idle table with two words changed.
-pub fn rest(name: &[u8], i: usize, v: u64, j: usize, w: u64) {
+pub fn rest_two(name: &[u8], i: usize, v: u64, j: usize, w: u64) {
     let mut t = [0u8; SIZE];
     idle(&mut t);
     put(&mut t, i, v);

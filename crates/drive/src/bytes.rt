@@ -1,4 +1,4 @@
-// A table's own words (docs/TABLE.md): the clock at word 0, lane k's clock word at 81 + 4 k, which is S while it holds records and F while it is idle.
+// A table's own words (docs/TABLE.md). A lane's clock word is S while it holds records and F while it is idle.
 use crate::print;
 use words::set_word;
 use words::word;
@@ -6,11 +6,35 @@ use words::word;
 // What a table is filled with before it is made.
 pub const FILL: u8 = 165;
 
-// Bytes of a table that is longer than the fixed size.
-pub const LONG: usize = 45120;
+// Bytes of a table that is longer than the fixed size, and of one that is shorter.
+pub const LONG: usize = scheduler::SIZE + 64;
+
+pub const SHORT: usize = scheduler::SIZE - 1;
+
+// Words up to the rings of the slot lists: those of the clock, of the depth number and of the groups that have lanes, a free one, lane 1's setting, both
+// lanes' clock words, and the first ones of their lengths, four in a word, each less one.
+const WORDS: usize = 1408;
+
+pub const CLOCK: usize = 0;
+
+pub const FREE: usize = 2;
+
+pub const DEPTH: usize = 3;
+
+pub const TIME_0: usize = 81;
+
+pub const SETTING_1: usize = 84;
+
+const TIME_1: usize = 85;
+
+pub const LENGTHS_0: usize = 336;
+
+pub const LENGTHS_1: usize = 352;
+
+pub const GROUPS: usize = 1360;
 
 fn cell(t: &[u8], i: usize) -> u64 {
-    if i < 1408 {
+    if i < WORDS {
         if t.len() >= scheduler::SIZE {
             return word(t, i);
         }
@@ -20,7 +44,7 @@ fn cell(t: &[u8], i: usize) -> u64 {
 
 // Writes a word behind the library's back.
 pub fn poke(t: &mut [u8], i: usize, v: u64) {
-    if i < 1408 {
+    if i < WORDS {
         if t.len() >= scheduler::SIZE {
             set_word(t, i, v);
         }
@@ -29,15 +53,15 @@ pub fn poke(t: &mut [u8], i: usize, v: u64) {
 
 // Prints the clock, and lane 0's clock word.
 pub fn time(t: &[u8]) {
-    print::number(b"V ", cell(t, 0));
-    print::number(b", lane 0 at ", cell(t, 81));
+    print::number(b"V ", cell(t, CLOCK));
+    print::number(b", lane 0 at ", cell(t, TIME_0));
     print::line(b"");
 }
 
 // And lane 1's.
 pub fn times(t: &[u8]) {
     time(t);
-    print::number(b"lane 1 at ", cell(t, 85));
+    print::number(b"lane 1 at ", cell(t, TIME_1));
     print::line(b"");
 }
 

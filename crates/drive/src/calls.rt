@@ -2,6 +2,9 @@
 use crate::print;
 use units::Bytes;
 
+// Records that a lane holds at most.
+pub const ROOM: u32 = 64;
+
 pub fn make(setup: &[u8], t: &mut [u8]) {
     print::making(scheduler::make(setup, t));
 }

@@ -4,8 +4,11 @@ use crate::calls;
 use crate::print;
 use crate::session;
 
-// Where no good table's clock comes: 2^62 + 2^42.
-const CLOCK_END: u64 = 4611690416473899008;
+// Where no good table's clock comes: 2^62 + 2^44.
+const CLOCK_END: u64 = 4611703610613432320;
+
+// Four quarters of 65,535: lengths of 65,536.
+const ALL_ONES: u64 = 18446744073709551615;
 
 // The session's table after its three puts, with word `i` changed.
 fn with_word(name: &[u8], i: usize, v: u64) {
@@ -30,10 +33,24 @@ fn never_made() {
 
 pub fn damaged() {
     never_made();
-    with_word(b"- clock past its end", 0, CLOCK_END);
-    with_word(b"- slot list left out", 1360, 4194304);
-    with_word(b"- setting gone", 84, 0);
-    with_word(b"- record of no length", 352, 2);
-    with_word(b"- start too late", 81, 8388608);
-    with_word(b"- unread word", 3, 77);
+    with_word(b"- clock past its end", bytes::CLOCK, CLOCK_END);
+    with_word(b"- depth of an older table", bytes::DEPTH, 16);
+    with_word(b"- slot list left out", bytes::GROUPS, 4194304);
+    with_word(b"- setting gone", bytes::SETTING_1, 0);
+    with_word(b"- record over the longest", bytes::LENGTHS_1, 1500);
+    with_word(b"- place over the longest", bytes::LENGTHS_1 + 15, ALL_ONES);
+    with_word(b"- start too late", bytes::TIME_0, 8388608);
+    with_word(b"- unread word", bytes::FREE, 77);
+}
+
+// What stands in an idle lane's places means nothing, and does no harm once it holds records.
+pub fn idle_places() {
+    print::line(b"- places of an idle lane");
+    let mut t = [bytes::FILL; bytes::LONG];
+    session::setup(&mut t);
+    bytes::poke(&mut t, bytes::LENGTHS_0, ALL_ONES);
+    bytes::poke(&mut t, bytes::LENGTHS_0 + 15, ALL_ONES);
+    session::puts(&mut t);
+    calls::every(&mut t);
+    calls::drain(&mut t, 3);
 }

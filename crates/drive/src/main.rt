@@ -22,4 +22,5 @@ fn main() {
     spent::at_end();
     spent::drained();
     damage::damaged();
+    damage::idle_places();
 }

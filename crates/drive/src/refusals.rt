@@ -95,17 +95,17 @@ pub fn calls() {
 
 // 12 before 13; another lane has its own room.
 fn overfull(t: &mut [u8]) {
-    calls::put(t, 0, 16, 100);
-    calls::put(t, 0, 16, 1501);
+    calls::put(t, 0, 64, 100);
+    calls::put(t, 0, 64, 1501);
     calls::restart(t);
 }
 
-// M7: 16 puts to one lane accepted, the 17th gives 13; after one take a put is accepted.
+// M7: 64 puts to one lane accepted, the 65th gives 13; after one take a put is accepted.
 pub fn full() {
     print::line(b"- a full lane");
     let mut t = [bytes::FILL; bytes::LONG];
     session::setup(&mut t);
-    calls::fill(&mut t, 0, 16);
+    calls::fill(&mut t, 0, calls::ROOM);
     let before = t;
     overfull(&mut t);
     bytes::compare(&before, &t);
@@ -113,17 +113,17 @@ pub fn full() {
 }
 
 fn after_full(t: &mut [u8]) {
-    calls::put(t, 1, 17, 100);
+    calls::put(t, 1, 65, 100);
     calls::take(t);
-    calls::put(t, 0, 18, 100);
-    calls::put(t, 0, 19, 100);
-    calls::drain(t, 18);
+    calls::put(t, 0, 66, 100);
+    calls::put(t, 0, 67, 100);
+    calls::drain(t, calls::ROOM + 2);
 }
 
 // A byte too short: 7 comes before the setup's own refusals, and every call gives 10. At the fixed size, all is well.
 pub fn sizes() {
     print::line(b"- sizes");
-    let mut t = [bytes::FILL; 10879];
+    let mut t = [bytes::FILL; bytes::SHORT];
     let before = t;
     session::setup(&mut t);
     calls::make(b"", &mut t);

@@ -42,7 +42,7 @@ pub fn drained() {
     let mut t = [bytes::FILL; bytes::LONG];
     session::setup(&mut t);
     bytes::poke(&mut t, 0, SPENT - 1);
-    calls::fill(&mut t, 1, 16);
+    calls::fill(&mut t, 1, calls::ROOM);
     calls::fill(&mut t, 0, 1);
     calls::take(&mut t);
     drain(&mut t);
@@ -51,7 +51,7 @@ pub fn drained() {
 fn drain(t: &mut [u8]) {
     in_rising_number(t);
     bytes::times(t);
-    calls::drain(t, 17);
+    calls::drain(t, calls::ROOM + 1);
     bytes::times(t);
     anew(t);
     bytes::tail(t);

@@ -26,7 +26,7 @@ use Rattle.rules.proofs.Lowest.{lowest}
 use Rattle.rules.proofs.GroupRule.{in-group, group-low}
 use Rattle.rules.proofs.Queues.{served-given}
 use Rattle.rules.proofs.Ties.{Tied, take-tied}
-use Rattle.table.specs.Layout.{SIZE, WORDS, cells, rowAt}
+use Rattle.table.specs.Layout.{SIZE, Behind, cells, rowAt}
 use Rattle.table.specs.Means.{meant, Sound, Leaves, withClock}
 use Rattle.table.specs.declared.LaneRow.{LaneRow}
 use Rattle.table.specs.declared.Entry.{Entry}
@@ -45,7 +45,7 @@ use Rattle.choice.specs.declared.Place.{Place}
 use Rattle.engine.specs.Turns.{Holds, Turns, Reaching, Settled}
 use Rattle.engine.specs.Does.{Serves}
 use Rattle.engine.proofs.Ends.{lanes-same, known-holds}
-use Rattle.table.proofs.Lists.{cells-apart, solid-stays, agrees-stay, past-stays}
+use Rattle.table.proofs.Lists.{cells-apart, solid-stays, agrees-stay, past-stays, past-rings}
 use Rattle.engine.proofs.Serving.{At, f, x, is-first, holds-k, finish-small, served-busy, entry-is, lanes-after, sound-after, inside, solid-after, agrees₁, first₁, start₁}
 
 -- ---- where the clock settles
@@ -143,7 +143,7 @@ module _ (t : List ℕ) (s : State) (g r k : ℕ) (a : At t s g r k) (t₁ : Lis
   pub holds-after : (t₃ : List ℕ) (v : ℕ) → length t₃ ≡ length t₂ → v ≡ s .clock + lineRate * charge (laneAt s k .given) (x t s g r k a .len) → Settled t₂ t₃ v → Holds t₃ u
   unfolding serve
   holds-after t₃ v len₃ ev st =
-      let rest₃ : drop (WORDS * 8) t₃ ≡ drop (WORDS * 8) t₂ = st .leaves .rest in
+      let rest₃ : Behind t₂ t₃ = st .leaves .rest in
       record {
         sound = record {
           room = omega (arith, sound₂ .room, len₃);
@@ -156,7 +156,7 @@ module _ (t : List ℕ) (s : State) (g r k : ℕ) (a : At t s g r k) (t₁ : Lis
       }
 
   pub past-after : (t₃ : List ℕ) (v : ℕ) → Settled t₂ t₃ v → drop SIZE t₃ ≡ drop SIZE t
-  past-after t₃ v st = past-stays t₂ t₃ (st .leaves .rest) ∙ re .apart .rest ∙ past-stays t t₁ (taken .leaves .rest)
+  past-after t₃ v st = past-stays t₂ t₃ (st .leaves .rest) ∙ past-rings t₁ t₂ (re .apart .rest) ∙ past-stays t t₁ (taken .leaves .rest)
 
 -- the group that was served is eligible still
 pub settled-stays : (t t′ : List ℕ) (v r : ℕ) → v < never → r ≤ v → (r ≡ never) ⊎ Reaching t v r → Leaves t t′ (withClock (meant t) v) → Settled t t′ v

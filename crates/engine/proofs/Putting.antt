@@ -35,7 +35,7 @@ use Rattle.table.specs.declared.LaneRow.{LaneRow}
 use Rattle.table.specs.declared.Entry.{Entry}
 use Rattle.table.proofs.Few.{room-idle}
 use Rattle.table.proofs.Rows.{weight-present}
-use Rattle.queue.specs.Queue.{waiting}
+use Rattle.queue.specs.Queue.{Fitting, waiting}
 use Rattle.choice.proofs.Held.{lanes-many}
 use Rattle.engine.specs.Does.{Idle}
 use Rattle.engine.proofs.RowIs.{RowIs, row-is}
@@ -50,7 +50,7 @@ use Rattle.lane_moves.specs.Moves.{Added}
 use Rattle.lane_moves.proofs.Rules.{add-agrees}
 use Rattle.engine.specs.Turns.{Holds, Turns}
 use Rattle.engine.proofs.Ends.{lanes-same, clock-same, nobody, somebody}
-use Rattle.table.proofs.Lists.{cells-apart, solid-stays, agrees-stay, past-stays}
+use Rattle.table.proofs.Lists.{cells-apart, solid-stays, agrees-stay, past-stays, past-rings}
 
 module _ (t : List ℕ) (s : State) (h : Holds t s) (good : Good s) (k : ℕ) (e : Entry) (a : Allowed s k (e .length .0)) (idle : Idle s k) where
   abbrev pub x : Rec
@@ -71,8 +71,8 @@ module _ (t : List ℕ) (s : State) (h : Holds t s) (good : Good s) (k : ℕ) (e
   pub idle-t : holds (laneAt (meant t) k) ≡ false
   idle-t = rw same-lane idle
 
-  pub bytes : e .length .0 < 2 ^ 32
-  bytes = omega (arith, a .fits, longest-at s (good .setup) k)
+  pub bytes : Fitting (laneAt (meant t) k) e
+  bytes = rw same-lane (a .some-bytes, a .fits)
 
   pub row : (l : LaneRow) → l ≡ rowAt (cells t) k → RowIs (laneAt s k) l
   row l el = subst (λ (m : Lane). RowIs m l) same-lane (subst (RowIs (laneAt (meant t) k)) (sym el) (row-is t (h .sound) k small (weight-present (cells t) _ k small weight)))
@@ -134,7 +134,7 @@ module _ (t : List ℕ) (s : State) (h : Holds t s) (good : Good s) (k : ℕ) (e
       clock₂ = clock-same t₁ t₂ cs ∙ ap (λ (z : State). z .clock) (woke .state) ∙ h .clock
 
       past₂ : drop SIZE t₂ ≡ drop SIZE t
-      past₂ = added .apart .rest ∙ past-stays t t₁ (woke .rest)
+      past₂ = past-rings t₁ t₂ (added .apart .rest) ∙ past-stays t t₁ (woke .rest)
 
       -- others hold records
       pub put-beside : (groupsAt t ≡ 0 → ⊥) → Turns t t₂ (accept s k x)

@@ -25,7 +25,7 @@ use Rattle.rules.proofs.Lists.{set-cases}
 use Rattle.rules.proofs.Figures.{longest-at, slot-at}
 use Rattle.rules.proofs.Serve.{served-ind}
 use Rattle.rules.proofs.Queues.{held-inside, served-waiting, served-given}
-use Rattle.table.specs.Layout.{WORDS, cells, rowAt}
+use Rattle.table.specs.Layout.{Behind, cells, rowAt}
 use Rattle.table.specs.Means.{givenOf, meant, Sound}
 use Rattle.table.specs.declared.LaneRow.{LaneRow}
 use Rattle.table.specs.declared.Entry.{Entry}
@@ -143,7 +143,7 @@ module _ (t : List ℕ) (s : State) (g r k : ℕ) (a : At t s g r k) where
         ap (λ (y : State). y .lanes) (taken .leaves .state) ∙ ap (λ (l : Lane). set (meant t .lanes) k (served l)) same-lane
         ∙ ap (λ (ls : List Lane). set ls k new) (h .lanes)
 
-    bytes-stay : drop (WORDS * 8) t₁ ≡ drop (WORDS * 8) t
+    bytes-stay : Behind t t₁
     bytes-stay = taken .leaves .rest
 
     pub sound-after : Sound t₁
@@ -194,10 +194,10 @@ module _ (t : List ℕ) (s : State) (g r k : ℕ) (a : At t s g r k) where
     same-list = ap (λ (b : ℕ). (r + b) / 2 ^ g % 32) (back-stays t t₁ bytes-stay)
 
     pub first₁ : headOf (listAt t₁ g (listOf t₁ g r)) ≡ some k
-    first₁ = ap (λ (b : ℕ). headOf (listAt t₁ g b)) same-list ∙ ap headOf (lists-stay t t₁ bytes-stay g (listOf t g r)) ∙ a .first
+    first₁ = ap (λ (b : ℕ). headOf (listAt t₁ g b)) same-list ∙ ap headOf (lists-stay t t₁ bytes-stay g (listOf t g r) (a .high) (omega arith)) ∙ a .first
 
     pub start₁ : startAt t₁ g ≡ some r
-    start₁ = starts-stay t t₁ bytes-stay g (a .low) ∙ a .start
+    start₁ = starts-stay t t₁ bytes-stay g (a .high) ∙ a .start
 
     pub some-after : 0 < length (listAt t₁ g (listOf t₁ g r))
     some-after = go (listAt t₁ g (listOf t₁ g r)) first₁

@@ -13,13 +13,14 @@ use Rattle.words.specs.Bits.{bit}
 use Rattle.words.specs.Runs.{tab, tabFrom}
 use Rattle.words.proofs.Bits.{bit-above, bit-add-same, bit-add-other}
 use Rattle.words.proofs.Runs.{tab-ext, tab-set, eq-or-ne}
-use Rattle.rules.specs.State.{Setting, Lane, laneAt, noSetting}
+use Rattle.rules.specs.State.{Setting, Lane, laneAt, laneDepth, noSetting}
 use Rattle.rules.specs.Calls.{idle, fresh}
 use Rattle.slot_lists.specs.Lists.{listAt}
 use Rattle.filing.specs.Filing.{inARow}
-use Rattle.table.specs.Layout.{WORDS, presentWord, framingWord, laneWord, rowAt, rowOf, cells}
+use Rattle.table.specs.Layout.{CELLS, presentWord, depthWord, framingWord, laneWord, rowAt, rowOf, cells}
 use Rattle.table.specs.Means.{presentAt, ringOf, RowAgrees, laneOf, stateOf, meant, Beside, Sound, withLane}
-use Rattle.table.proofs.Footprint.{lane-kept, lane-is, row-kept}
+use Rattle.table.specs.declared.LaneRow.{LaneRow}
+use Rattle.table.proofs.Footprint.{SameLane, lane-kept, lane-is, agrees-kept, places-kept}
 use Rattle.table.proofs.Next.{bit-present, bit-absent}
 use Rattle.table.proofs.Rows.{lane-present, lane-absent, given-row}
 use Rattle.table.proofs.Timed.{timed-idle}
@@ -28,12 +29,15 @@ use Rattle.fresh.proofs.Mixed.{mixed-none, map-tab}
 
 -- ---- begin
 
-module _ (w : List ℕ) (h : ℕ) (len : length w ≡ WORDS) where
+module _ (w : List ℕ) (h : ℕ) (len : length w ≡ CELLS) where
   abbrev cleared : List ℕ
   cleared = set (set w 0 0) 1 0
 
+  abbrev numbered : List ℕ
+  numbered = set cleared depthWord laneDepth
+
   abbrev pub begun : List ℕ
-  begun = set cleared framingWord h
+  begun = set numbered framingWord h
 
   clear-word : (i : ℕ) → i < 2 → getD cleared i 0 ≡ 0
   clear-word zero b = getD-set-other (set w 0 0) 1 0 0 0 (omega arith) ∙ getD-set-same w 0 0 0 (omega arith)
@@ -42,10 +46,13 @@ module _ (w : List ℕ) (h : ℕ) (len : length w ≡ WORDS) where
       rw e (getD-set-same (set w 0 0) 1 0 0 (rw length-set (omega arith)))
 
   zero-word : (i : ℕ) → i < 2 → getD begun i 0 ≡ 0
-  zero-word i b = getD-set-other cleared framingWord i h 0 (omega arith) ∙ clear-word i b
+  zero-word i b = getD-set-other numbered framingWord i h 0 (omega arith) ∙ getD-set-other cleared depthWord i laneDepth 0 (omega arith) ∙ clear-word i b
+
+  begun-depth : getD begun depthWord 0 ≡ laneDepth
+  begun-depth = getD-set-other numbered framingWord depthWord h 0 (omega arith) ∙ getD-set-same cleared depthWord laneDepth 0 (rw (length-set, length-set) (omega arith))
 
   pub begun-framing : getD begun framingWord 0 ≡ h
-  begun-framing = getD-set-same cleared framingWord h 0 (rw (length-set, length-set) (omega arith))
+  begun-framing = getD-set-same numbered framingWord h 0 (rw (length-set, length-set, length-set) (omega arith))
 
   none-present : (k : ℕ) → presentAt begun k ≡ false
   none-present k = bit-absent begun k (rw (zero-word 1 (omega arith)) (bit-above k 0 (pow-pos k)))
@@ -57,7 +64,7 @@ module _ (w : List ℕ) (h : ℕ) (len : length w ≡ WORDS) where
       rw (zero-word 0 (omega arith), lanes)
 
   pub begun-beside : Beside begun
-  begun-beside = record { rows = λ k b p. absurd (false≢true (sym (none-present k) ∙ p)) }
+  begun-beside = record { depth = begun-depth; places = λ k b p n. absurd (false≢true (sym (none-present k) ∙ p)); rows = λ k b p. absurd (false≢true (sym (none-present k) ∙ p)) }
 
 -- ---- add_lane
 
@@ -73,14 +80,14 @@ weightless t k s h e =
     let no = eqb-false (bit k (getD (cells t) presentWord 0)) 1 (by-weight t k (presentAt (cells t) k) refl s h e) in
     omega (arith, no)
 
-module _ (w : List ℕ) (k word : ℕ) (g : Setting) (len : length w ≡ WORDS) (hk : k < 64) (off : bit k (getD w presentWord 0) ≡ 0) (a : SettingWord g word) (f : getD w framingWord 0 ≡ g .framing) where
+module _ (w : List ℕ) (k word : ℕ) (g : Setting) (len : length w ≡ CELLS) (hk : k < 64) (off : bit k (getD w presentWord 0) ≡ 0) (a : SettingWord g word) (f : getD w framingWord 0 ≡ g .framing) where
   abbrev pub stored : List ℕ
   stored = set (set (set w (laneWord k) word) (laneWord k + 1) 0) (laneWord k + 2) 0
 
   abbrev pub added : List ℕ
   added = set stored presentWord (2 ^ k + getD w presentWord 0)
 
-  long : length stored ≡ WORDS
+  long : length stored ≡ CELLS
   long = length-set (set (set w (laneWord k) word) (laneWord k + 1) 0) (laneWord k + 2) 0 ∙ length-set (set w (laneWord k) word) (laneWord k + 1) 0 ∙ length-set w (laneWord k) word ∙ len
 
   pub stored-other : (i : ℕ) → ((laneWord k ≤ i) → (i < laneWord k + 3) → ⊥) → getD stored i 0 ≡ getD w i 0
@@ -116,24 +123,38 @@ module _ (w : List ℕ) (k word : ℕ) (g : Setting) (len : length w ≡ WORDS) 
   unfolding ringOf tab tabFrom
   lane-here = lane-present added k here ∙ rw (row-here, a .given 0 0) (sym (timed-idle g))
 
+  lane-other : (j : ℕ) → j < 64 → (j ≡ k → ⊥) → SameLane w added j
+  lane-other j h ne =
+      record {
+        present = elsewhere j ne;
+        framing = other framingWord (omega arith) (λ x y. omega arith);
+        row = λ i p q. other i (omega arith) (λ x y. omega arith);
+        lengths = λ i p q. other i (omega arith) (λ x y. omega arith);
+        marks = λ i p q. other i (omega arith) (λ x y. omega arith);
+      }
+
   pub added-state : (o : List ℕ) → stateOf added o ≡ withLane (stateOf w o) k (idle g)
   unfolding stateOf
   added-state o =
       let clock : getD added 0 0 ≡ getD w 0 0 = other 0 (omega arith) (λ p q. omega arith) in
-      let lanes : tab 64 (laneOf added) ≡ set (tab 64 (laneOf w)) k (laneOf added k) = tab-set 64 k (laneOf w) (laneOf added) hk (λ j h ne. lane-kept w added j (record {
-        present = elsewhere j ne;
-        framing = other framingWord (omega arith) (λ x y. omega arith);
-        row = λ i p q. other i (omega arith) (λ x y. omega arith);
-        ring = λ i p q. other i (omega arith) (λ x y. omega arith);
-      })) in
+      let lanes : tab 64 (laneOf added) ≡ set (tab 64 (laneOf w)) k (laneOf added k) = tab-set 64 k (laneOf w) (laneOf added) hk (λ j h ne. lane-kept w added j (lane-other j h ne)) in
       rw (clock, lanes, lane-here)
+
+  idle-here : rowAt added k .count ≡ 0
+  idle-here = ap (λ (l : LaneRow). l .count) row-here
 
   pub added-beside : Beside w → Beside added
   added-beside b =
       record {
+        depth = other depthWord (omega arith) (λ x y. omega arith) ∙ b .depth;
+        places = λ j h p n.
+            ⊎-elim
+            (λ (e : j ≡ k). absurd (omega (arith, idle-here, subst (λ (i : ℕ). 0 < rowAt added i .count) e n)))
+            (λ (ne : j ≡ k → ⊥). places-kept w added j (lane-other j h ne) b h p n)
+            (eq-or-ne j k);
         rows = λ j h p.
             ⊎-elim
-            (λ (e : j ≡ k). subst (λ (i : ℕ). RowAgrees (rowAt added i)) (sym e) (subst (λ l. RowAgrees l) (sym row-here) (a .agrees 0 0)))
-            (λ (ne : j ≡ k → ⊥). subst (λ l. RowAgrees l) (sym (row-kept w added j (other framingWord (omega arith) (λ x y. omega arith)) (λ i x y. other i (omega arith) (λ x′ y′. omega arith)))) (b .rows j h (sym (elsewhere j ne) ∙ p)))
+            (λ (e : j ≡ k). subst (λ (i : ℕ). RowAgrees (rowAt added i)) (sym e) (subst RowAgrees (sym row-here) (a .agrees 0 0)))
+            (λ (ne : j ≡ k → ⊥). agrees-kept w added j (lane-other j h ne) b h p)
             (eq-or-ne j k);
       }

@@ -16,11 +16,11 @@ use Rattle.filing.specs.Filing.{inARow}
 use Rattle.table.specs.Layout.{Now, cells, presentWord, framingWord, laneWord, rowAt, putRow}
 use Rattle.table.specs.Means.{Next, ringOf, givenOf, laneOf, stateOf, meant, Sound, Leaves, withLane}
 use Rattle.table.specs.declared.LaneRow.{LaneRow}
-use Rattle.table.proofs.Stores.{length-cells, now-then}
+use Rattle.table.proofs.Stores.{length-cells, now-then, behind-refl}
 use Rattle.table.proofs.Footprint.{lane-is}
 use Rattle.table.proofs.Leave.{meant-now, leave-lane, leaves-then}
 use Rattle.table.proofs.Next.{bit-present, bit-absent}
-use Rattle.table.proofs.Rows.{retimed, outside-row, lane-put, given-row, lane-absent, weight-present}
+use Rattle.table.proofs.Rows.{retimed, outside-row, row-put, lane-put, given-row, lane-absent, weight-present}
 use Rattle.table.proofs.Timed.{timed-idle}
 use Rattle.fresh.specs.Makes.{SettingWord, restedTo}
 use Rattle.fresh.proofs.States.{rested-none, rested-at, rested-more, rested-next}
@@ -67,7 +67,9 @@ rest-at t t′ k hk weight n =
     let o = inARow (listAt t) in
     let p = weight-present w o k hk weight in
     let given : laneAt (meant t) k .given ≡ givenOf (rowAt w k) = ap (λ (l : Lane). l .given) (lane-is w o k hk) ∙ given-row w k p in
+    let none : rowAt (putRow w k (retimed (rowAt w k) 0 0 0)) k .count ≡ 0 = ap (λ (l : LaneRow). l .count) (row-put w k 0 0 0 (length-cells t) hk (omega arith)) in
     leave-lane t t′ (putRow w k (retimed (rowAt w k) 0 0 0)) k (idle (laneAt (meant t) k .given)) hk n (outside-row w k (retimed (rowAt w k) 0 0 0)) (lane-put w k 0 0 0 (length-cells t) hk (omega arith) p ∙ sym (timed-idle (givenOf (rowAt w k))) ∙ ap idle (sym given))
+    (λ b q some. absurd (omega (arith, none)))
 
 pub rest-leaves : (t t′ : List ℕ) (k : ℕ) (l : LaneRow) → l ≡ rowAt (cells t) k → k < 64 → 0 < laneAt (meant t) k .given .weight → Now t t′ (putRow (cells t) k (retimed l 0 0 0))
     → Leaves t t′ (withLane (meant t) k (idle (laneAt (meant t) k .given)))
@@ -96,7 +98,7 @@ module _ (t₀ : List ℕ) (lanes : ℕ) (word : lanes ≡ getD (cells t₀) pre
       rested-next (meant t₀) (lanes-size t₀) n k (x .on) (x .ends) (λ i p q. unnamed-lane t₀ i (omega (arith, x .ends)) (subst (λ (m : ℕ). bit i m ≡ 0) word (x .absent i p q)))
 
   pub rest-none : (k : ℕ) → Next lanes 0 k → Leaves t₀ t₀ (restedTo k (meant t₀))
-  rest-none k x = record { state = sym (rested-none (meant t₀) (lanes-size t₀)) ∙ passed 0 k x; beside = λ b. b; rest = refl }
+  rest-none k x = record { state = sym (rested-none (meant t₀) (lanes-size t₀)) ∙ passed 0 k x; beside = λ b. b; rest = behind-refl }
 
   module _ (t : List ℕ) (k : ℕ) (hk : k < 64) (l : Leaves t₀ t (restedTo k (meant t₀))) where
     pub rest-weight : Sound t₀ → bit k lanes ≡ 1 → 0 < laneAt (meant t) k .given .weight

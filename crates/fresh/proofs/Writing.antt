@@ -18,7 +18,7 @@ use Rattle.table.specs.Layout.{Room, Now, cells, framingWord}
 use Rattle.table.specs.Means.{stateOf, meant, Beside, Sound, Leaves, withLane, withClock}
 use Rattle.table.proofs.Stores.{length-cells}
 use Rattle.table.proofs.Leave.{leaves-then}
-use Rattle.table.proofs.Lists.{cells-below, empty-stays, past-stays, row-empty}
+use Rattle.table.proofs.Lists.{cells-around, empty-stays, past-rings, row-empty}
 use Rattle.fresh.specs.Makes.{Makes, settings, FramedBy, upTo, restedTo}
 use Rattle.plan.specs.Read.{settingOf}
 use Rattle.plan.specs.declared.Lane as plan
@@ -51,7 +51,7 @@ module _ (lanes : List plan.Lane) (t₀ t : List ℕ) (k : ℕ) (hk : k < 64) (m
   pub write-more : (t′ : List ℕ) → Leaves t t′ (withLane (meant t) k (idle (settingOf (getD lanes k none)))) → Makes t₀ t′ (upTo (k + 1) (settings lanes))
   write-more t′ l =
       let step : withLane (meant t) k (idle (settingOf (getD lanes k none))) ≡ fresh (upTo (k + 1) (settings lanes)) = ap (λ (s : State). withLane s k (idle (settingOf (getD lanes k none)))) (m .state) ∙ ap (λ (g : Setting). withLane (fresh (upTo k (settings lanes))) k (idle g)) (sym at) ∙ up-more (settings lanes) k hk in
-      record { state = l .state ∙ step; beside = l .beside (m .beside); empty = empty-stays t t′ (l .rest) (m .empty); rest = past-stays t t′ (l .rest) ∙ m .rest }
+      record { state = l .state ∙ step; beside = l .beside (m .beside); empty = empty-stays t t′ (l .rest) (m .empty); rest = l .rest .past ∙ m .rest }
 
   pub write-skip : Setup (settings lanes) → getD lanes k none .weight ≡ 0 → Makes t₀ t (upTo (k + 1) (settings lanes))
   write-skip s e =
@@ -113,16 +113,16 @@ write-all lanes t t₀ t′ k e s a b =
 -- ---- begin and renew: the last store empties the lists
 
 pub emptied-state : (t t′ : List ℕ) → Emptied t t′ → meant t′ ≡ stateOf (cells t) []
-emptied-state t t′ e = ap (λ (w : List ℕ). stateOf w (inARow (listAt t′))) (cells-below t t′ (e .below)) ∙ ap (stateOf (cells t)) (row-empty t′ (e .empty))
+emptied-state t t′ e = ap (λ (w : List ℕ). stateOf w (inARow (listAt t′))) (cells-around t t′ (e .below) (e .rest)) ∙ ap (stateOf (cells t)) (row-empty t′ (e .empty))
 
 pub begin-makes : (t u t′ : List ℕ) (h : ℕ) → Now t u (begun (cells t) h (length-cells t)) → Emptied u t′ → Makes t t′ (upTo 0 []) × (getD (cells t′) framingWord 0 ≡ h)
 begin-makes t u t′ h n e =
-    let words = cells-below u t′ (e .below) ∙ n .words in (
+    let words = cells-around u t′ (e .below) (e .rest) ∙ n .words in (
       record {
         state = emptied-state u t′ e ∙ ap (λ (w : List ℕ). stateOf w []) (n .words) ∙ begun-state (cells t) h (length-cells t);
         beside = subst Beside (sym words) (begun-beside (cells t) h (length-cells t));
         empty = e .empty;
-        rest = e .rest ∙ past-stays t u (n .rest);
+        rest = past-rings u t′ (e .rest) ∙ n .rest .past;
       },
       ap (λ (w : List ℕ). getD w framingWord 0) words ∙ begun-framing (cells t) h (length-cells t),
     )
@@ -140,7 +140,7 @@ renew-makes t t₁ t₂ t′ s a b e =
     let c = leaves-then a b in
     record {
       state = emptied-state t₂ t′ e ∙ no-order t₂ ∙ ap withNoOrder (b .state ∙ ap (λ (s : State). withClock s 0) (a .state)) ∙ rw (rested-all (meant t) (lanes-size t));
-      beside = subst Beside (sym (cells-below t₂ t′ (e .below))) (c .beside (s .beside));
+      beside = subst Beside (sym (cells-around t₂ t′ (e .below) (e .rest))) (c .beside (s .beside));
       empty = e .empty;
-      rest = e .rest ∙ past-stays t t₂ (c .rest);
+      rest = past-rings t₂ t′ (e .rest) ∙ c .rest .past;
     }

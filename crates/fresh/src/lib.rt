@@ -16,6 +16,8 @@ ghost use Rattle.fresh.specs.Makes.{Makes, SettingWord, settings, Framed
 use plan::Lane;
 use slot_lists::empty;
 use table::CLOCK;
+use table::DEPTH;
+use table::DEPTH_NUMBER;
 use table::FRAMING;
 use table::GROUP_UNIT;
 use table::LANES;
@@ -65,6 +67,7 @@ pub fn begin(t: &mut [u8], h: Bytes)
 {
     set_cell(t, CLOCK, 0);
     set_cell(t, PRESENT, 0);
+    set_cell(t, DEPTH_NUMBER, DEPTH);
     set_cell(t, FRAMING, h.0);
     empty(t);
 }

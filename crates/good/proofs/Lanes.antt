@@ -15,29 +15,29 @@ use Rattle.units.specs.Numbers.{roundDown}
 use Rattle.waiting.specs.Waiting.{Waiting, first, head}
 use Rattle.rules.specs.State.{Rec, Setting, Lane, holds, some?, eligible, slot, noLane}
 use Rattle.units.specs.Plain.{anyBelow, wordOf}
-use Rattle.table.specs.Layout.{rowAt, presentWord}
-use Rattle.table.specs.Means.{presentAt, Next, ringOf, givenOf, timed, laneOf, RowAgrees}
+use Rattle.table.specs.Layout.{presentWord}
+use Rattle.table.specs.Means.{presentAt, Next, givenOf, timed}
 use Rattle.table.specs.declared.LaneRow.{LaneRow}
-use Rattle.table.proofs.Rows.{lane-present, lane-absent, given-row, waiting-row, length-ring}
-use Rattle.lane_test.specs.Says.{LaneGood}
+use Rattle.table.proofs.Next.{bit-absent}
+use Rattle.lane_test.specs.Says.{LaneFine}
 use Rattle.lane_test.proofs.Setting.{group-at-most}
 use Rattle.good.specs.Pass.{Noted, FoundSays, sumTo, holdsAt, eligibleAt}
 use Rattle.good.specs.declared.Found.{Found}
-use Rattle.table.proofs.Next.{bit-absent}
+use Rattle.good.proofs.Kept.{Kept, given-kept, waiting-kept}
 
-pub found-none : (v : ℕ) (w : List ℕ) → FoundSays v w 0 (record { weights = 0; held = 0; eligible = false })
+pub found-none : (v : ℕ) (w : List ℕ) (lane : ℕ → Lane) (P : ℕ → Type 0) → FoundSays v w lane P 0 (record { weights = 0; held = 0; eligible = false })
 unfolding sumTo wordOf anyBelow
-found-none v w = record { lanes = λ k h. absurd (omega arith); weights = refl; held = refl; eligible = refl }
+found-none v w lane P = record { lanes = λ k h. absurd (omega arith); weights = refl; held = refl; eligible = refl }
 
 -- ---- a lane that is not in the setup
 
-module _ (v : ℕ) (w : List ℕ) where
-  found-absent : (n : ℕ) (f : Found) → presentAt w n ≡ false → FoundSays v w n f → FoundSays v w (suc n) f
+module _ (v : ℕ) (w : List ℕ) (x : Kept w) (P : ℕ → Type 0) where
+  found-absent : (n : ℕ) (f : Found) → presentAt w n ≡ false → FoundSays v w (x .lane) P n f → FoundSays v w (x .lane) P (suc n) f
   unfolding sumTo wordOf anyBelow eligible
   found-absent n f a s =
-      let e : laneOf w n ≡ noLane = lane-absent w n a in
-      let idle : holdsAt w n ≡ false = ap holds e in
-      let late : eligibleAt v w n ≡ false = ap (eligible v) e in
+      let e : x .lane n ≡ noLane = x .absent n a in
+      let idle : holdsAt (x .lane) n ≡ false = ap holds e in
+      let late : eligibleAt v (x .lane) n ≡ false = ap (eligible v) e in
       record {
         lanes = λ k h p.
             ⊎-elim
@@ -50,63 +50,62 @@ module _ (v : ℕ) (w : List ℕ) where
       }
 
   -- nor are those up to the next one
-  skip : (d n : ℕ) (f : Found) → ((i : ℕ) → n ≤ i → i < n + d → presentAt w i ≡ false) → FoundSays v w n f → FoundSays v w (n + d) f
+  skip : (d n : ℕ) (f : Found) → ((i : ℕ) → n ≤ i → i < n + d → presentAt w i ≡ false) → FoundSays v w (x .lane) P n f → FoundSays v w (x .lane) P (n + d) f
   skip zero n f a s = rw add-zero s
   skip (suc d) n f a s =
       rw add-suc (found-absent (n + d) f (a (n + d) (omega arith) (omega arith)) (skip d n f (λ i p q. a i p (omega arith)) s))
 
-  pub found-next : (lanes n k : ℕ) (f : Found) → lanes ≡ getD w presentWord 0 → Next lanes n k → FoundSays v w n f → FoundSays v w k f
-  found-next lanes n k f e x s =
-      let d : n + (k - n) ≡ k = omega (arith, x .on) in
-      subst (λ (m : ℕ). FoundSays v w m f) d (skip (k - n) n f (λ i p q. bit-absent w i (rw (← e) (x .absent i p (omega (arith, x .on))))) s)
+  pub found-next : (lanes n k : ℕ) (f : Found) → lanes ≡ getD w presentWord 0 → Next lanes n k → FoundSays v w (x .lane) P n f → FoundSays v w (x .lane) P k f
+  found-next lanes n k f e next s =
+      let d : n + (k - n) ≡ k = omega (arith, next .on) in
+      subst (λ (m : ℕ). FoundSays v w (x .lane) P m f) d (skip (k - n) n f (λ i p q. bit-absent w i (rw (← e) (next .absent i p (omega (arith, next .on))))) s)
 
   -- ---- a lane in the setup
 
-  module _ (k : ℕ) (p : presentAt w k ≡ true) (a : RowAgrees (rowAt w k)) where
+  module _ (fine : (k : ℕ) → P k → LaneFine v (x .row k) (x .lane k)) (k : ℕ) (p : presentAt w k ≡ true) (g : P k) where
     abbrev row : LaneRow
-    row = rowAt w k
+    row = x .row k
 
     some-count : (q : List Rec) → length q ≡ row .count → some? (head q) ≡ ltb 0 (row .count)
     some-count [] e = sym (le-ltb 0 (row .count) (omega arith))
     some-count (r ∷ rs) e = sym (lt-ltb 0 (row .count) (omega arith))
 
-    holds-is : holdsAt w k ≡ ltb 0 (row .count)
-    holds-is = ap (λ (x : Waiting). some? (first x)) (waiting-row w k p) ∙ some-count (ringOf w k (row .head) (row .count)) (length-ring w k (row .head) (row .count))
+    holds-is : holdsAt (x .lane) k ≡ ltb 0 (row .count)
+    holds-is = ap (λ (l : Waiting). some? (first l)) (waiting-kept w x k p) ∙ some-count (x .queue k) (x .size k)
 
     slot-is : slot (givenOf row) ≡ 2 ^ (row .group)
     unfolding slot
-    slot-is = ap (λ (i : ℕ). 2 ^ i) (sym (a .grouped))
+    slot-is = ap (λ (i : ℕ). 2 ^ i) (sym (fine k g .agrees .grouped))
 
     eligible-of : (q : List Rec) → length q ≡ row .count → eligible v (timed (givenOf row) (row .time .0) q) ≡ (ltb 0 (row .count) && leb (roundDown (2 ^ (row .group)) (row .time .0)) v)
     unfolding eligible timed
     eligible-of [] e = rw (le-ltb 0 (row .count) (omega arith))
     eligible-of (r ∷ rs) e = rw (lt-ltb 0 (row .count) (omega arith), slot-is)
 
-    eligible-is : eligibleAt v w k ≡ (ltb 0 (row .count) && leb (roundDown (2 ^ (row .group)) (row .time .0)) v)
-    eligible-is = ap (eligible v) (lane-present w k p) ∙ eligible-of (ringOf w k (row .head) (row .count)) (length-ring w k (row .head) (row .count))
+    eligible-is : eligibleAt v (x .lane) k ≡ (ltb 0 (row .count) && leb (roundDown (2 ^ (row .group)) (row .time .0)) v)
+    eligible-is = ap (eligible v) (x .present k p) ∙ eligible-of (x .queue k) (x .size k)
 
-    found-row : (f r : Found) → LaneGood v w k → FoundSays v w k f → Noted f k row v r → FoundSays v w (suc k) r
+    found-row : (f r : Found) → FoundSays v w (x .lane) P k f → Noted f k row v r → FoundSays v w (x .lane) P (suc k) r
     unfolding sumTo wordOf anyBelow
-    found-row f r g s n =
+    found-row f r s n =
         record {
           lanes = λ j h q.
               ⊎-elim
-              (λ (e : j ≡ k). subst (λ (j : ℕ). LaneGood v w j) (sym e) g)
+              (λ (e : j ≡ k). subst P (sym e) g)
               (λ (ne : j ≡ k → ⊥). s .lanes j (omega arith) q)
               (eq-or-ne j k);
-          weights = omega (arith, n .weights, s .weights, ap (λ (g : Setting). g .weight) (given-row w k p));
+          weights = omega (arith, n .weights, s .weights, ap (λ (g : Setting). g .weight) (given-kept w x k p));
           held = rw (holds-is, ← s .held) (n .held);
           eligible = rw (eligible-is, ← s .eligible) (n .eligible);
         }
 
-  module _ (k : ℕ) (l : LaneRow) (e : l ≡ rowAt w k) (g : LaneGood v w k) where
-    pub found-noted : (f r : Found) → presentAt w k ≡ true → FoundSays v w k f → Noted f k l v r → FoundSays v w (k + 1) r
-    found-noted f r p s n =
-        rw add-one (found-row k p (g .agrees) f r g s (subst (λ (l : LaneRow). Noted f k l v r) e n))
+    module _ (l : LaneRow) (e : l ≡ x .row k) where
+      pub found-noted : (f r : Found) → FoundSays v w (x .lane) P k f → Noted f k l v r → FoundSays v w (x .lane) P (k + 1) r
+      found-noted f r s n = rw add-one (found-row f r s (subst (λ (l : LaneRow). Noted f k l v r) e n))
 
-    pub note-weight : l .weight ≤ 1024
-    note-weight = subst (λ (l : LaneRow). l .weight ≤ 1024) (sym e) (g .agrees .numbers .weight-high)
+      pub note-weight : l .weight ≤ 1024
+      note-weight = subst (λ (l : LaneRow). l .weight ≤ 1024) (sym e) (fine k g .agrees .numbers .weight-high)
 
-    pub note-group : l .group ≤ 31
-    note-group =
-        subst (λ (l : LaneRow). l .group ≤ 31) (sym e) (group-at-most (rowAt w k) (g .agrees .rated) (g .agrees .numbers .longest-high) (g .agrees .framing) (g .agrees .grouped))
+      pub note-group : l .group ≤ 31
+      note-group =
+          subst (λ (l : LaneRow). l .group ≤ 31) (sym e) (group-at-most (x .row k) (fine k g .agrees .rated) (fine k g .agrees .numbers .longest-high) (fine k g .agrees .framing) (fine k g .agrees .grouped))

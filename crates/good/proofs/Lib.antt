@@ -1,6 +1,8 @@
 pub mod Rest
+pub mod Kept
 pub mod Lanes
+pub mod Walk
 pub mod Sums
-pub mod Every
+pub mod Told
 pub mod Whole
 pub mod Encodes

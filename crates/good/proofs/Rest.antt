@@ -1,25 +1,17 @@
 -- The walk over the word of present lanes by clearing its lowest set bit. Assumes nothing.
 use mathlib.Core.Path.{_≡_, refl, sym, ap, _∙_}
-use mathlib.Core.Bool.{true}
 use mathlib.Core.Logic.{⊎-elim}
-use mathlib.Core.List.{List}
-use Prim.Native.Nat.{ℕ, zero, suc, _+_, _-_, _*_, _^_, _≤_, _<_}
-use native.Mathlib.Nat.{pow-suc}
+use Prim.Native.Nat.{ℕ, zero, suc, _+_, _-_, _*_, _/_, _%_, _^_, _≤_, _<_, min}
+use native.Mathlib.Nat.{pow-suc, eq-zero-or-pos}
 use native.Mathlib.Omega.{arith}
 use native.Mathlib.Decide.{decLt}
 use lib.Bits.{bitAnd, and-le-l}
 use lib.Count.{trailingZeros}
-use lib.ListN.{getD}
 use Rattle.words.specs.Bits.{bit}
 use Rattle.words.proofs.Bits.{bit-above, low-set, low-below}
 use Rattle.words.proofs.Cleared.{cleared}
 use Rattle.words.proofs.Runs.{eq-or-ne}
-use Rattle.table.specs.Layout.{presentWord}
-use Rattle.table.specs.Means.{presentAt, Next}
-use Rattle.table.proofs.Next.{bit-present}
-use Rattle.good.specs.Pass.{FoundSays}
-use Rattle.good.specs.declared.Found.{Found}
-use Rattle.good.proofs.Lanes.{found-next}
+use Rattle.table.specs.Means.{Next}
 
 -- ---- what is left of a word: its bits from n on
 
@@ -78,36 +70,3 @@ module _ (lanes rest n : ℕ) (r : Rest lanes rest n) where
       where
         less : (i : ℕ) → i < k + 1 → (i ≡ k → ⊥) → i < k
         less i q e = omega arith
-
--- ---- the pass so far: some lanes are found good, and the rest of the word is left
-
-pub record Walked (v : ℕ) (w : List ℕ) (rest : ℕ) (f : Found) : Type 0 where
-  pub n : ℕ
-  pub left : Rest (getD w presentWord 0) rest n
-  pub found : FoundSays v w n f
-  pub weights : f .weights ≤ 1024 * n
-
--- the next lane
-module _ (v : ℕ) (w : List ℕ) (rest : ℕ) (f : Found) (x : Walked v w rest f) (some : 0 < rest) where
-  pub lane-small : trailingZeros 64 rest < 64
-  lane-small = rest-small (getD w presentWord 0) rest (x .n) (x .left) some
-
-  next : Next (getD w presentWord 0) (x .n) (trailingZeros 64 rest)
-  next = rest-next (getD w presentWord 0) rest (x .n) (x .left) some
-
-  pub lane-here : presentAt w (trailingZeros 64 rest) ≡ true
-  lane-here = bit-present w (trailingZeros 64 rest) (next .present lane-small)
-
-  pub lane-found : FoundSays v w (trailingZeros 64 rest) f
-  lane-found = found-next v w (getD w presentWord 0) (x .n) (trailingZeros 64 rest) f refl next (x .found)
-
-  pub lane-weights : f .weights ≤ 1024 * trailingZeros 64 rest
-  lane-weights = omega (arith, x .weights, next .on)
-
-  pub walked-on : (r : Found) → FoundSays v w (trailingZeros 64 rest + 1) r → r .weights ≤ f .weights + 1024 → Walked v w (bitAnd rest (rest - 1)) r
-  walked-on r s h = record {
-    n = trailingZeros 64 rest + 1;
-    left = rest-more (getD w presentWord 0) rest (x .n) (x .left) some;
-    found = s;
-    weights = omega (arith, lane-weights);
-  }

@@ -9,12 +9,16 @@ ghost use mathlib.Core.Bool.{true};
 ghost use Prim.Native.Nat.{_+_, _^_, _<_, _≤_};
 ghost use lib.ListN.{getD};
 ghost use Rattle.table.specs.Layout.{Room, cells, framingWord};
-ghost use Rattle.lane_test.specs.Says.{Says};
+ghost use Rattle.table.specs.Means.{laneOf};
+ghost use Rattle.rings.specs.Rings.{Long};
+ghost use Rattle.lane_test.specs.Says.{Says, LaneGood};
 ghost use Rattle.lists_test.specs.Stored.{Stored};
 ghost use Rattle.good.specs.Pass.{Noted, PassSays};
 ghost use Rattle.good.specs.Table.{GoodTable};
 use lane_test::lane_good;
 use lists_test::lists_good;
+use table::DEPTH;
+use table::DEPTH_NUMBER;
 use table::FRAMING;
 use table::LaneRow;
 use table::PRESENT;
@@ -26,8 +30,8 @@ use units::Clock;
 use units::not_after;
 use units::rounded_start;
 
-// V stays below 2^62 + 2^42.
-const CLOCK_END: u64 = 4611690416473899008;
+// V stays below 2^62 + 2^44.
+const CLOCK_END: u64 = 4611703610613432320;
 
 // The line's framing bytes are 0 to 64.
 const MOST_FRAMING: u64 = 64;
@@ -46,7 +50,7 @@ pub enum Pass {
 }
 
 // What is found, once lane `k` with the row `l` is seen too.
-fn note(f: Found, k: usize, l: LaneRow, v: Clock) -> Found
+pub fn note(f: Found, k: usize, l: LaneRow, v: Clock) -> Found
     requires { ⌜ (k < 64) × (f .weights + l .weight < 2 ^ 64) × (f .held < 2 ^ k) × (l .group ≤ 31) ⌝ }
     ensures { λ r. ⌜ Noted f k l (v .0) r ⌝ }
 {
@@ -77,7 +81,7 @@ fn note(f: Found, k: usize, l: LaneRow, v: Clock) -> Found
 // The pass over the lanes of the setup.
 fn lanes_good(t: &[u8], v: Clock) -> Pass
     requires { ⌜ Room (now t) × (v .0 < 2 ^ 63) × (getD (cells (now t)) framingWord 0 ≤ 64) ⌝ }
-    ensures { λ r. ⌜ PassSays (v .0) (cells (now (t .entry))) r ⌝ }
+    ensures { λ r. ⌜ PassSays (v .0) (cells (now (t .entry))) (laneOf (cells (now (t .entry)))) (LaneGood (v .0) (cells (now (t .entry)))) r ⌝ }
 {
     let mut rest = cell(t, PRESENT);
     let mut found = Found {
@@ -110,8 +114,8 @@ fn live_good(f: Found) -> bool
 }
 
 // Whether what the pass found makes a good table: a setup, an eligible lane if any holds, and slot lists of the lanes that hold records.
-fn found_good(t: &[u8], f: Found) -> bool
-    requires { ⌜ Room (now t) ⌝ }
+pub fn found_good(t: &[u8], f: Found) -> bool
+    requires { ⌜ Long (now t) ⌝ }
     ensures { λ r. ⌜ Says r ((0 < f .weights) × (f .weights ≤ 1024) × (0 < f .held → f .eligible ≡ true) × Stored (now (t .entry)) (f .held)) ⌝ }
 {
     if f.weights < 1 {
@@ -142,7 +146,10 @@ pub fn good(t: &[u8]) -> bool
     if not_after(Clock(CLOCK_END), v) {
         return false;
     }
-    // One number for the whole table, so it is tested once, before the lanes.
+    // Numbers of the whole table, so they are tested once, before the lanes.
+    if cell(t, DEPTH_NUMBER) != DEPTH {
+        return false;
+    }
     if cell(t, FRAMING) > MOST_FRAMING {
         return false;
     }

@@ -1,57 +1,74 @@
 -- Laws behind the test of a lane: lengths record by record, times by the row's one clock word. Assumes nothing.
-use mathlib.Core.Path.{_≡_, refl, sym, ap, subst}
-use mathlib.Core.Bool.{true}
-use Prim.Native.Nat.{ℕ, zero, suc, _+_, _-_, _*_, _/_, _^_, _≤_, _<_}
+use mathlib.Core.Path.{_≡_, refl, sym, ap, subst, _∙_}
+use mathlib.Core.Bool.{Bool, true, false}
+use Prim.Native.Nat.{ℕ, zero, suc, _+_, _*_, _/_, _%_, _^_, _≤_, _<_}
 use mathlib.Core.List.{List, [], _∷_}
 use native.Mathlib.Omega.{arith}
+use borrow.Author.Tests.{eqb-true, eqb-false}
+use lib.Bits.{bitAnd}
+use lib.Dec.{eqb}
 use lib.ListN.{length, getD}
+use Rattle.words.specs.Words.{wordAt}
+use Rattle.words.specs.Runs.{tab, tabFrom}
 use Rattle.words.proofs.Runs.{getD-tab}
 use Rattle.units.specs.Numbers.{roundDown}
-use Rattle.waiting.specs.Waiting.{first, head, Lengths, GoodWaiting}
+use Rattle.waiting.specs.Waiting.{plain, first, head, Lengths, GoodWaiting}
 use Rattle.rules.specs.State.{Rec, Setting, Lane, firstOf, slot, group, laneDepth}
 use Rattle.rules.specs.Setup.{margin}
 use Rattle.rules.specs.Good.{Times}
-use Rattle.table.specs.Layout.{rowAt, placeWord}
-use Rattle.table.specs.Means.{presentAt, recOf, ringOf, givenOf, timed, RowAgrees, laneOf}
+use Rattle.digits.specs.Digits.{digit}
+use Rattle.digits.specs.Under.{AllUnder, Clear, Gathered}
+use Rattle.digits.proofs.Under.{tops-clear, clear-tops}
+use Rattle.table.specs.Layout.{cells, lengthsCell, lengthCell, placeOf, rowAt, entryAt}
+use Rattle.table.specs.Means.{presentAt, recOf, ringOf, givenOf, timed, RowAgrees, PlacesFit, laneOf}
 use Rattle.table.specs.declared.LaneRow.{LaneRow}
-use Rattle.table.proofs.Rows.{lane-present, length-ring, given-row, waiting-row}
-use Rattle.table.proofs.Timed.{timed-waiting}
-use Rattle.lane_test.specs.Says.{TimeGood, LaneGood}
+use Rattle.table.proofs.Stores.{cell-is, word-before}
+use Rattle.table.proofs.Rows.{lane-present, length-ring}
+use Rattle.table.proofs.Timed.{timed-given, timed-waiting}
+use Rattle.lane_test.specs.Says.{Says, TimeGood, LaneFine, LaneGood}
 
 -- ---- lengths
 
--- a length of 1 to m
-abbrev pub InLength : ℕ → ℕ → Type 0
-InLength m n = (1 ≤ n) × (n ≤ m)
+-- the places, four to a word
+module _ (t : List ℕ) (k : ℕ) (l : LaneRow) (hk : k < 64) where
+  place-word : (i : ℕ) → i < 16 → getD (cells t) (lengthsCell + (16 * k + i)) 0 ≡ wordAt t (lengthsCell + 16 * k + i)
+  place-word i h =
+      let at : lengthsCell + (16 * k + i) ≡ lengthsCell + 16 * k + i = omega arith in
+      cell-is t (lengthsCell + (16 * k + i)) (omega arith) ∙ ap (wordAt t) (word-before (lengthsCell + (16 * k + i)) (omega arith) ∙ at)
 
-noRec : Rec
+  -- place i is quarter i % 4 of word i / 4
+  place-length : (i : ℕ) → i < laneDepth → entryAt (cells t) (placeOf k i) .length .0 ≡ digit 16 (i % 4) (wordAt t (lengthsCell + 16 * k + i / 4)) + 1
+  unfolding entryAt
+  place-length i h =
+      let which : placeOf k i % 4 ≡ i % 4 = omega arith in
+      let cell : lengthCell (placeOf k i) ≡ lengthsCell + (16 * k + i / 4) = omega arith in
+      rw (which, cell, place-word (i / 4) (omega arith))
+
+  pub places-under : PlacesFit (cells t) k l → AllUnder t (lengthsCell + 16 * k) 16 (l .longest .0)
+  places-under f i h d hd =
+      let whole : (4 * i + d) / 4 ≡ i = omega arith in
+      let part : (4 * i + d) % 4 ≡ d = omega arith in
+      let at : digit 16 ((4 * i + d) % 4) (wordAt t (lengthsCell + 16 * k + (4 * i + d) / 4)) < l .longest .0 = omega (arith, f (4 * i + d) (omega arith), place-length (4 * i + d) (omega arith)) in
+      rw (whole, part) at at
+
+  pub under-places : AllUnder t (lengthsCell + 16 * k) 16 (l .longest .0) → PlacesFit (cells t) k l
+  under-places f i h = omega (arith, place-length i h, f (i / 4) (omega arith) (i % 4) (omega arith))
+
+-- then each record's length is within
+pub noRec : Rec
 noRec = record { mark = 0; len = 0 }
 
-lengths-at : (g : Setting) (q : List Rec) (i : ℕ) → i < length q → Lengths (g .longest) q → InLength (g .longest) (getD q i noRec .len)
-lengths-at g [] i h l = absurd (omega arith)
-lengths-at g (r ∷ rs) zero h l = (l .0, l .1)
-lengths-at g (r ∷ rs) (suc i) h l = lengths-at g rs i (omega arith) (l .2)
+pub lengths-all : (m : ℕ) (q : List Rec) → ((i : ℕ) → i < length q → (1 ≤ getD q i noRec .len) × (getD q i noRec .len ≤ m)) → Lengths m q
+lengths-all m [] f = tt
+lengths-all m (r ∷ rs) f = (f 0 (omega arith) .0, f 0 (omega arith) .1, lengths-all m rs (λ i h. f (suc i) (omega arith)))
 
-lengths-all : (g : Setting) (q : List Rec) → ((i : ℕ) → i < length q → InLength (g .longest) (getD q i noRec .len)) → Lengths (g .longest) q
-lengths-all g [] f = tt
-lengths-all g (r ∷ rs) f = (f 0 (omega arith) .0, f 0 (omega arith) .1, lengths-all g rs (λ i h. f (suc i) (omega arith)))
-
-module _ (g : Setting) (w : List ℕ) (k h n : ℕ) where
-  entry : ℕ → ℕ
-  entry i = getD w (placeWord k (h + i)) 0 / 2 ^ 32
-
-  length-of : (i : ℕ) → i < n → getD (ringOf w k h n) i noRec .len ≡ entry i
-  unfolding ringOf entry
-  length-of i p = ap (λ (r : Rec). r .len) (getD-tab n i (λ j. recOf (getD w (placeWord k (h + j)) 0)) noRec p)
-
-  pub ring-length : (i : ℕ) → i < n → Lengths (g .longest) (ringOf w k h n) → InLength (g .longest) (getD w (placeWord k (h + i)) 0 / 2 ^ 32)
-  unfolding entry
-  ring-length i p l = subst (InLength (g .longest)) (length-of i p) (lengths-at g (ringOf w k h n) i (omega (arith, length-ring w k h n)) l)
-
-  pub ring-lengths : ((i : ℕ) → i < n → InLength (g .longest) (getD w (placeWord k (h + i)) 0 / 2 ^ 32)) → Lengths (g .longest) (ringOf w k h n)
-  unfolding entry
-  ring-lengths f =
-      lengths-all g (ringOf w k h n) (λ i p. let q : i < n = omega (arith, length-ring w k h n) in subst (InLength (g .longest)) (sym (length-of i q)) (f i q))
+ring-lengths : (w : List ℕ) (k h n : ℕ) (l : LaneRow) → PlacesFit w k l → Lengths (l .longest .0) (ringOf w k h n)
+unfolding ringOf entryAt
+ring-lengths w k h n l f =
+    lengths-all (l .longest .0) (ringOf w k h n) (λ i p. let q : i < n = omega (arith, length-ring w k h n) in rw (getD-tab n i (λ j. recOf (entryAt w (placeOf k (h + j)))) noRec q) (omega arith, at (h + i)))
+  where
+    at : (j : ℕ) → entryAt w (placeOf k j) .length .0 ≤ l .longest .0
+    at j = let same : placeOf k (j % laneDepth) ≡ placeOf k j = omega arith in rw same at (f (j % laneDepth) (omega arith))
 
 -- ---- times
 
@@ -75,7 +92,39 @@ time-of v l (r ∷ rs) e a t =
       above = λ h. subst (λ (s : ℕ). v < roundDown s (l .time .0) + 2 * s + margin (givenOf l .framing)) (sym (slot-is l a)) (t .2);
     }
 
--- ---- a lane in the setup
+-- ---- a lane in the setup, by its row and its queue, however a table keeps them
+
+module _ (v : ℕ) (row : LaneRow) (q : List Rec) (l : Lane) (is : l ≡ timed (givenOf row) (row .time .0) q) (size : length q ≡ row .count) where
+  given-is : l .given ≡ givenOf row
+  given-is = ap (λ (l : Lane). l .given) is ∙ timed-given _ _ _
+
+  waiting-is : l .waiting ≡ plain q
+  waiting-is = ap (λ (l : Lane). l .waiting) is ∙ timed-waiting _ _ _
+
+  pub fine-made : RowAgrees row → row .count ≤ laneDepth → TimeGood v row → Lengths (row .longest .0) q → LaneFine v row l
+  unfolding GoodWaiting
+  fine-made a r t f =
+      record {
+        agrees = a;
+        waiting = rw (given-is, waiting-is) (omega (arith, size), f);
+        numbers = subst (λ (l : Lane). Times v l (firstOf l)) (sym is) (subst (Times v (timed (givenOf row) (row .time .0) q)) (sym (ap first (timed-waiting _ _ _))) (times-of v row q size a t));
+      }
+
+  module _ (g : LaneFine v row l) where
+    parts : (length q ≤ laneDepth) × Lengths (givenOf row .longest) q
+    unfolding GoodWaiting
+    parts = rw (given-is, waiting-is) at (g .waiting)
+
+    pub fine-room : row .count ≤ laneDepth
+    fine-room = omega (arith, parts .0, size)
+
+    pub fine-lengths : Lengths (row .longest .0) q
+    fine-lengths = parts .1
+
+    pub fine-time : TimeGood v row
+    fine-time = time-of v row q size (g .agrees) (subst (Times v (timed (givenOf row) (row .time .0) q)) (ap first (timed-waiting _ _ _)) (subst (λ (l : Lane). Times v l (firstOf l)) is (g .numbers)))
+
+-- ---- in this layout
 
 module _ (v : ℕ) (w : List ℕ) (k : ℕ) (p : presentAt w k ≡ true) where
   abbrev row : LaneRow
@@ -84,31 +133,32 @@ module _ (v : ℕ) (w : List ℕ) (k : ℕ) (p : presentAt w k ≡ true) where
   abbrev ring : List Rec
   ring = ringOf w k (row .head) (row .count)
 
-  is : laneOf w k ≡ timed (givenOf row) (row .time .0) ring
-  is = lane-present w k p
+  within : (n : ℕ) → (0 < n → PlacesFit w k row) → Lengths (row .longest .0) (ringOf w k (row .head) n)
+  unfolding ringOf tab tabFrom
+  within zero f = tt
+  within (suc n) f = ring-lengths w k (row .head) (suc n) row (f (omega arith))
 
-  count-is : length ring ≡ row .count
-  count-is = length-ring w k (row .head) (row .count)
+  pub lane-made : RowAgrees row → row .count ≤ laneDepth → TimeGood v row → (0 < row .count → PlacesFit w k row) → LaneGood v w k
+  lane-made a r t f = record { fine = fine-made v row ring _ (lane-present w k p) (length-ring w k (row .head) (row .count)) a r t (within (row .count) f); places = f }
 
-  pub lane-made : RowAgrees row → row .count ≤ laneDepth → TimeGood v row → Lengths (givenOf row .longest) ring → LaneGood v w k
-  unfolding GoodWaiting
-  lane-made a r t l =
-      record {
-        agrees = a;
-        waiting = rw (given-row w k p, waiting-row w k p) (omega (arith, count-is), l);
-        numbers = subst (λ (l : Lane). Times v l (firstOf l)) (sym is) (subst (Times v (timed (givenOf row) (row .time .0) ring)) (sym (ap first (timed-waiting _ _ _))) (times-of v row ring count-is a t));
-      }
+  pub lane-room : LaneGood v w k → row .count ≤ laneDepth
+  lane-room g = fine-room v row ring _ (lane-present w k p) (length-ring w k (row .head) (row .count)) (g .fine)
 
-  module _ (g : LaneGood v w k) where
-    parts : (length ring ≤ laneDepth) × Lengths (givenOf row .longest) ring
-    unfolding GoodWaiting
-    parts = rw (given-row w k p, waiting-row w k p) at (g .waiting)
+  pub lane-time : LaneGood v w k → TimeGood v row
+  lane-time g = fine-time v row ring _ (lane-present w k p) (length-ring w k (row .head) (row .count)) (g .fine)
 
-    pub lane-room : row .count ≤ laneDepth
-    lane-room = omega (arith, parts .0, count-is)
+-- ---- the test's own answers
 
-    pub lane-time : TimeGood v row
-    lane-time = time-of v row ring count-is (g .agrees) (subst (Times v (timed (givenOf row) (row .time .0) ring)) (ap first (timed-waiting _ _ _)) (subst (λ (l : Lane). Times v l (firstOf l)) is (g .numbers)))
+says-same : (b : Bool) (P Q : Type 0) → (P → Q) → (Q → P) → Says b P → Says b Q
+says-same true P Q to from s = to s
+says-same false P Q to from s = λ q. s (from q)
 
-    pub lane-lengths : Lengths (givenOf row .longest) ring
-    lane-lengths = parts .1
+clear-says : (x : ℕ) (b : Bool) → eqb (bitAnd x 9223512776490647552) 0 ≡ b → Says b (Clear 4 x)
+clear-says x true e = tops-clear x (eqb-true (bitAnd x 9223512776490647552) 0 e)
+clear-says x false e = λ c. eqb-false (bitAnd x 9223512776490647552) 0 e (clear-tops x c)
+
+pub tops-say : (x : ℕ) → Says (eqb (bitAnd x 9223512776490647552) 0) (Clear 4 x)
+tops-say x = clear-says x _ refl
+
+pub places-say : (t : List ℕ) (k r : ℕ) (l : LaneRow) (b : Bool) → k < 64 → Gathered t (lengthsCell + 16 * k) 16 (l .longest .0) r → Says b (Clear 4 r) → Says b (PlacesFit (cells t) k l)
+places-say t k r l b hk g s = says-same b _ _ (λ c. under-places t k l hk (g .shows c)) (λ f. g .clear (places-under t k l hk f)) s

@@ -7,14 +7,16 @@ ghost use mathlib.Core.Bool.{true};
 ghost use Prim.Native.Nat.{_+_, _*_, _^_, _<_, _≤_};
 ghost use Rattle.units.specs.Numbers.{perByte};
 ghost use Rattle.rules.specs.State.{group, laneDepth};
-ghost use Rattle.waiting.specs.Waiting.{Lengths};
 ghost use Rattle.table.specs.Layout.{Room, cells, rowAt};
-ghost use Rattle.table.specs.Means.{RowAgrees, givenOf, ringOf, presentAt};
+ghost use Rattle.digits.specs.Under.{Clear};
+ghost use Rattle.table.specs.Means.{RowAgrees, PlacesFit, givenOf, presentAt};
 ghost use Rattle.lane_test.specs.Says.{Says, TimeGood, LaneGood};
+use digits::gather;
 use table::DEPTH;
+use table::LENGTH_WORDS;
+use table::LENGTHS;
 use table::LaneRow;
 use table::charged;
-use table::record_at;
 use units::Bytes;
 use units::Clock;
 use units::RATE_OF_WEIGHT_ONE;
@@ -75,7 +77,7 @@ fn group_good(l: LaneRow) -> bool
 }
 
 // Whether a lane's setting is within the numbers, and its c and group are those of its setting.
-fn setting_good(l: LaneRow) -> bool
+pub fn setting_good(l: LaneRow) -> bool
     requires { ⌜ (l .rate .0 < 2 ^ 24) × (l .framing .0 ≤ 64) ⌝ }
     ensures { λ r. ⌜ Says r (RowAgrees l) ⌝ }
 {
@@ -103,7 +105,7 @@ fn setting_good(l: LaneRow) -> bool
 }
 
 // Whether a lane's clock word is near enough to V.
-fn time_good(l: LaneRow, v: Clock) -> bool
+pub fn time_good(l: LaneRow, v: Clock) -> bool
     requires { ⌜ (l .group ≤ 31) × (v .0 < 2 ^ 63) × (l .framing .0 ≤ 64) ⌝ }
     ensures { λ r. ⌜ Says r (TimeGood (v .0) l) ⌝ }
 {
@@ -123,26 +125,22 @@ fn time_good(l: LaneRow, v: Clock) -> bool
     true
 }
 
-// Whether each record of a lane's queue has a length of 1 to the lane's longest.
-fn lengths_good(t: &[u8], k: usize, l: LaneRow) -> bool
-    requires { ⌜ Room (now t) × (k < 64) × (l .head < laneDepth) × (l .count ≤ laneDepth) ⌝ }
-    ensures { λ r. ⌜ Says r (Lengths (givenOf l .longest) (ringOf (cells (now (t .entry))) k (l .head) (l .count))) ⌝ }
+// The top bit of each quarter of a word.
+const TOPS: u64 = 9223512776490647552;
+
+// Whether no quarter of a word has its top bit.
+fn no_top(x: u64) -> bool
+    ensures { λ r. ⌜ Says r (Clear 4 x) ⌝ }
 {
-    let head = l.head;
-    let count = l.count;
-    let longest = l.longest.0;
-    let mut i = 0;
-    while i < count {
-        let length = record_at(t, k, head + i).length.0;
-        if length < 1 {
-            return false;
-        }
-        if length > longest {
-            return false;
-        }
-        i += 1;
-    }
-    true
+    x & TOPS == 0
+}
+
+// Whether each place of a lane's ring holds a length of 1 to the lane's longest, a record there or not: sixteen words without a branch.
+fn places_good(t: &[u8], k: usize, l: LaneRow) -> bool
+    requires { ⌜ Room (now t) × (k < 64) × (0 < l .longest .0) × (l .longest .0 ≤ 2 ^ 15) ⌝ }
+    ensures { λ r. ⌜ Says r (PlacesFit (cells (now (t .entry))) k l) ⌝ }
+{
+    no_top(gather(t, LENGTHS + LENGTH_WORDS * k, l.longest.0))
 }
 
 // Whether lane `k`, which is in the setup and has the row `l`, is good. The line's framing bytes are the whole table's, tested before its lanes.
@@ -161,8 +159,11 @@ pub fn lane_good(t: &[u8], k: usize, l: LaneRow, v: Clock) -> bool
     if !timed {
         return false;
     }
-    let lengths = lengths_good(t, k, l);
-    if !lengths {
+    if l.count == 0 {
+        return true;
+    }
+    let places = places_good(t, k, l);
+    if !places {
         return false;
     }
     true

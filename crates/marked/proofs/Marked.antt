@@ -59,6 +59,6 @@ marked =
       m5 = (refl, refl);
       m6 = refl;
       lone = refl;
-      m7 = given (alone (setting 512 1500)) full (λ rs v ls. rs ≡ acceptedTo 16 ++ (refused 13 none ∷ taken 0 7 1000 ∷ accepted 15 ∷ [])) refl;
+      m7 = given (alone (setting 512 1500)) full (λ rs v ls. rs ≡ acceptedTo 64 ++ (refused 13 none ∷ taken 0 7 1000 ∷ accepted 63 ∷ [])) refl;
       m8 = (refl, refl);
     }

@@ -3,7 +3,7 @@
 --   alone       the settings of a setup whose only lane is lane 0
 --   Given       of any list of just these public calls, on any table that `make` left for the settings: their replies and what the bytes mean
 --   toThird     the calls of document 01's session up to its third take
---   full        M7's calls: 17 puts to lane 0, a take, a put
+--   full        M7's calls: 65 puts to lane 0, a take, a put
 --   Marked      the table
 --
 -- What depends on a table is said of the public calls' own answers and of the state that the table's bytes mean; `session`, `lone` and `light` say that a
@@ -43,7 +43,7 @@ abbrev pub toThirdReplies : List Reply
 toThirdReplies = accepted 0 ∷ accepted 0 ∷ accepted 1 ∷ words 12582912 0 0 0 ∷ taken 0 1 1000 ∷ taken 0 3 500 ∷ taken 1 2 1000 ∷ []
 
 abbrev pub full : List Call
-full = replicate 17 (put 0 7 1000) ++ (take ∷ put 0 8 1000 ∷ [])
+full = replicate 65 (put 0 7 1000) ++ (take ∷ put 0 8 1000 ∷ [])
 
 -- n accepted puts to one lane, one after another: each finds those before it
 unfoldable pub acceptedTo : ℕ → List Reply
@@ -77,7 +77,7 @@ pub record Marked : Type 0 where
   pub m6 : rate (setting 3 1500) ≡ 349526
   -- the setup of M7: 01 0002 0001, 10 0005 00 0200 05DC, 7F 0000
   pub lone : readSetup (formatField ++ (16 ∷ 0 ∷ 5 ∷ 0 ∷ 2 ∷ 0 ∷ 5 ∷ 220 ∷ []) ++ endField) ≡ plan.read 1 (alone (setting 512 1500)) 1 16
-  -- "M7 16 puts to one lane accepted, the 17th gives 13; after one take a put is accepted."
-  pub m7 : Given (alone (setting 512 1500)) full (λ rs s. rs ≡ acceptedTo 16 ++ (refused 13 none ∷ taken 0 7 1000 ∷ accepted 15 ∷ []))
+  -- M7 with the room of request g: 64 puts to one lane are accepted, the 65th gives 13; after one take a put is accepted
+  pub m7 : Given (alone (setting 512 1500)) full (λ rs s. rs ≡ acceptedTo 64 ++ (refused 13 none ∷ taken 0 7 1000 ∷ accepted 63 ∷ []))
   -- "M8 weights summing to 1,024 read; 1,025 gives 6": at the field that goes over
   pub m8 : (readSetup (twoWeights 24) ≡ plan.read 1 (twoLanes 1000 24 1500) 2 22) × (readSetup (twoWeights 25) ≡ plan.refused 6 (some 17))

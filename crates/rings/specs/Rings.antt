@@ -1,6 +1,5 @@
 -- 512 rings of numbers in bytes: where they lie, and what stands in one.
 --
---   ringsFrom, ringsEnd   the first byte of the rings, and the first byte past them
 --   Long                  bytes that are long enough for them
 --   headByte, countByte   a ring's first place, and how many stand in it
 --   placeByte             a place of a ring, counted on past the ring's end
@@ -13,12 +12,7 @@ use Prim.Native.Nat.{ℕ, _+_, _*_, _%_, _≤_, _<_}
 use mathlib.Core.List.{List}
 use lib.ListN.{length, drop, getD}
 use Rattle.words.specs.Runs.{tab}
-
-abbrev pub ringsFrom : ℕ
-ringsFrom = 11264
-
-abbrev pub ringsEnd : ℕ
-ringsEnd = 45056
+pub use Rattle.parts.specs.Parts.{ringsFrom, ringsEnd}
 
 abbrev pub Long : List ℕ → Type 0
 Long t = ringsEnd ≤ length t

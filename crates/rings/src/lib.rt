@@ -10,11 +10,11 @@ ghost use lib.ListN.{length, getD, set, drop};
 ghost use Rattle.rings.specs.Rings.{Long, ringAt, Rung};
 
 // Where the first places, the numbers and the places begin.
-const HEADS: usize = 11264;
+const HEADS: usize = parts::RINGS;
 
-const COUNTS: usize = 11776;
+const COUNTS: usize = HEADS + RINGS;
 
-const PLACES: usize = 12288;
+const PLACES: usize = COUNTS + RINGS;
 
 // Rings, and places of a ring.
 const RINGS: usize = 512;

@@ -8,7 +8,7 @@ use lib.ListN.{replicate}
 use Rattle.rules.specs.State.{Setting, noSetting, settingAt, rate, slot}
 use Rattle.rules.specs.Setup.{InNumbers, framingOf, Setup}
 use Rattle.rules.specs.Fair.{bytesSentOf, Fair, Demand3, Compared, TwoLanes}
-use Rattle.rules.specs.Examples.{twoLanes, Session, Waits, SideBySide}
+use Rattle.rules.specs.Examples.{twoLanes, Session, Waits, SideBySide, acceptedTo, Depth}
 use Rattle.rules.proofs.Computes.{rules}
 use Rattle.rules.proofs.Fair.{demand3}
 use Rattle.rules.proofs.Fair as proved
@@ -16,6 +16,10 @@ use Rattle.rules.proofs.Fair as proved
 pub session : Session
 unfolding Session rules
 session = refl
+
+pub depth : Depth
+unfolding Depth acceptedTo rules
+depth = refl
 
 none-given : (n k : ℕ) → settingAt (replicate n noSetting) k ≡ noSetting
 none-given zero k = refl

@@ -4,9 +4,10 @@
 --   Session    its eight requests and the rules' replies to them
 --   Waits      in any list of calls, while lane 0 holds a record and none of its bytes is sent, fewer than 17,884 bytes are
 --   SideBySide in any list of calls, while both lanes hold records: lane 0's bytes and twice lane 1's differ by less than 26,076
+--   Depth      M7 as request g has it: 64 puts to one lane, the 65th, a take, a put
 --
 -- Assumes nothing.
-use Prim.Native.Nat.{ℕ, _+_, _*_, _<_}
+use Prim.Native.Nat.{ℕ, zero, suc, _+_, _*_, _<_}
 use mathlib.Core.Path.{_≡_}
 use mathlib.Core.List.{List, [], _∷_, _++_, map}
 use mathlib.Core.Option.{none}
@@ -44,3 +45,13 @@ SideBySide = (calls : List Call) (past stretch rest : List Event)
     → ((p q : List Event) → p ++ q ≡ stretch → Holding 1 (past ++ p))
     → (bytesSentOf twoLanes 0 stretch < 2 * bytesSentOf twoLanes 1 stretch + 26076)
     × (2 * bytesSentOf twoLanes 1 stretch < bytesSentOf twoLanes 0 stretch + 26076)
+
+-- n accepted puts to one lane, one after another: each finds those before it
+unfoldable pub acceptedTo : ℕ → List Reply
+acceptedTo zero = []
+acceptedTo (suc n) = acceptedTo n ++ (accepted n ∷ [])
+
+unfoldable pub Depth : Type 0
+Depth =
+    replies (trace (fresh twoLanes) (replicate 65 (put 0 7 1000) ++ (take ∷ put 0 8 1000 ∷ [])))
+    ≡ acceptedTo 64 ++ (refused 13 none ∷ taken 0 7 1000 ∷ accepted 63 ∷ [])

@@ -22,9 +22,9 @@ Times v l (some r) =
 pub record Good (s : State) : Type 0 where
   -- "a setup within the numbers above"
   pub setup : Setup (setupOf s)
-  -- "queues of 0 to 16 records, each length 1 to the lane's longest"
+  -- no more records than the lane has room for, each of length 1 to the lane's longest
   pub waiting : (k : ℕ) → GoodWaiting ((laneAt s k) .given .longest) ((laneAt s k) .waiting)
-  -- "V below 2^62 + 2^42"
+  -- V below 2^62 + 2^44 (document 02, g)
   pub clock : s .clock < clockEdge
   pub numbers : (k : ℕ) → Times (s .clock) (laneAt s k) (firstOf (laneAt s k))
   -- "an eligible lane if any holds"

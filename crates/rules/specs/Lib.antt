@@ -6,6 +6,7 @@ pub mod Runs
 pub mod Setup
 pub mod Fair
 pub mod Good
+pub mod Older
 pub mod Reads
 pub mod Chosen
 pub mod Lowest

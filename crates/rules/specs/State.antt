@@ -86,7 +86,7 @@ abbrev pub clockSpent : ℕ
 clockSpent = 2 ^ 62
 
 abbrev pub clockEdge : ℕ
-clockEdge = 2 ^ 62 + 2 ^ 42
+clockEdge = 2 ^ 62 + 2 ^ 44
 
 -- ---- the lanes together
 

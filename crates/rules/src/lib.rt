@@ -42,7 +42,7 @@ pub enum Refusal {
     NoLane,
     // 12: length 0 or over the lane's longest.
     BadLength,
-    // 13: lane holds 16.
+    // 13: lane holds 64.
     LaneFull,
     // 14: V is 2^62 or more on put.
     ClockSpent,

@@ -1,8 +1,8 @@
 // Runs sessions and prints what each run answers and writes.
 //
-// Standard input has frames, each of four two-byte numbers, high byte first, and a session: the limit, how many bytes of table and of answer area are
-// lent, how many bytes the session has, and these. All runs are on one table and one answer area, which keep what the runs before left in them. For
-// each frame there is a line
+// Standard input has frames, each of four numbers, high byte first, and a session: the limit, how many bytes of table and of answer area are lent, how
+// many bytes the session has, and these. Each number has two bytes, that of the table four. All runs are on one table and one answer area, which keep
+// what the runs before left in them. For each frame there is a line
 //
 //     = ANSWERED WRITTEN end|limit|no NUMBER [PLACE]
 //
@@ -13,7 +13,13 @@ use libc::STDOUT_FILENO;
 use lines::Place;
 use walk::Stop;
 
-const FRAME: usize = 8;
+// Bytes of a frame before its session.
+const FRAME: usize = 10;
+
+// The most bytes of table, a few past the fixed size, and of answer area.
+const TABLE: usize = table::SIZE + 20;
+
+const AREA: usize = 65000;
 
 fn print_place(p: Place) {
     match p {
@@ -81,9 +87,11 @@ fn run_frame(frames: &[u8], at: usize, table: &mut [u8], area: &mut [u8]) -> usi
         return frames.len();
     }
     let limit = fields::u16_at(frames, at) as u64;
-    let tables = fields::u16_at(frames, at + 2) as usize;
-    let areas = fields::u16_at(frames, at + 4) as usize;
-    let n = fields::u16_at(frames, at + 6) as usize;
+    let high = fields::u16_at(frames, at + 2) as usize;
+    let low = fields::u16_at(frames, at + 4) as usize;
+    let tables = high * 65536 + low;
+    let areas = fields::u16_at(frames, at + 6) as usize;
+    let n = fields::u16_at(frames, at + 8) as usize;
     let from = at + FRAME;
     if frames.len() - from < n {
         return frames.len();
@@ -103,7 +111,7 @@ fn run(frames: &[u8], table: &mut [u8], area: &mut [u8]) {
 fn main() {
     let mut frames = io::large_buffer();
     let n = io::read_full(libc::STDIN_FILENO, &mut frames);
-    let mut table = [7u8; 45076];
-    let mut area = [7u8; 65000];
+    let mut table = [7u8; TABLE];
+    let mut area = [7u8; AREA];
     run(&frames[..n], &mut table, &mut area);
 }

@@ -17,8 +17,8 @@ ghost use Rattle.plan.specs.declared.parse.SetupField.the-variants as fields;
 ghost use Rattle.sheet.specs.Judge.{fieldOf};
 ghost use Rattle.sheet.specs.Read.{sheetFormat, blank, readSheet};
 
-pub mod form;
-pub mod judge;
+mod form;
+mod judge;
 
 use form::Line;
 use form::Part;

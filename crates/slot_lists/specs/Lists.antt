@@ -1,6 +1,5 @@
 -- The slot lists of a table: for each group 16 to 31 and each of its 32 list numbers the lanes that stand there, the first first.
 --
---   listsFrom              the first word of this part of a table
 --   groupsWord, backWord   the words of the groups that have lanes, and of what was taken off the clock
 --   startWord, mapWord     group g's words: its start, and which of its lists have lanes
 --   ringNumber             the ring that keeps list b of group g
@@ -24,9 +23,7 @@ use Rattle.units.specs.Plain.{if_then_else_}
 use Rattle.words.specs.Bits.{bit}
 use Rattle.words.specs.Words.{wordAt}
 use Rattle.rings.specs.Rings.{ringAt}
-
-abbrev pub listsFrom : ℕ
-listsFrom = 1360
+pub use Rattle.parts.specs.Parts.{listsFrom}
 
 abbrev pub groupsWord : ℕ
 groupsWord = listsFrom

@@ -15,6 +15,7 @@ ghost use Rattle.rings.specs.Rings.{Long};
 ghost use Rattle.words.specs.Words.{wordAt};
 ghost use Rattle.slot_lists.specs.Lists.{startWord, ringNumber, groupsAt, mapOf, listIn, Fills};
 ghost use Rattle.slot_lists.specs.Changes.{Moved, Stored, Emptied, Nearest};
+use parts::LISTS;
 use rings::begin;
 use rings::entry;
 use rings::pop;
@@ -22,16 +23,16 @@ use rings::push;
 use words::set_word;
 
 // The words of the groups that have lanes and of what was taken off the clock; those of the groups' starts and of their lists, less the group index.
-pub const GROUPS: usize = 1360;
+pub const GROUPS: usize = LISTS;
 
-pub const BACK: usize = 1361;
+pub const BACK: usize = LISTS + 1;
 
-pub const STARTS: usize = 1360;
+pub const STARTS: usize = LISTS;
 
-pub const MAPS: usize = 1376;
+pub const MAPS: usize = LISTS + 16;
 
 // Lists of a group, and the lowest group.
-const LISTS: u64 = 32;
+const IN_GROUP: u64 = 32;
 
 const LOWEST: usize = 16;
 
@@ -43,7 +44,7 @@ pub fn list_number(time: u64, back: u64, g: u32) -> u32
     requires { ⌜ (time < 2 ^ 63) × (back < 2 ^ 36) × (back % 2 ^ 31 ≡ 0) × (g ≤ 31) ⌝ }
     ensures { λ r. ⌜ (r ≡ (time + back) / 2 ^ g % 32) × (r < 32) ⌝ }
 {
-    (((time >> g) + (back >> g)) % LISTS) as u32
+    (((time >> g) + (back >> g)) % IN_GROUP) as u32
 }
 
 // The ring of a list.
@@ -51,7 +52,7 @@ pub fn ring_number(g: u32, b: u32) -> usize
     requires { ⌜ (16 ≤ g) × (g ≤ 31) × (b < 32) ⌝ }
     ensures { λ r. ⌜ (r ≡ ringNumber g b) × (r < 512) ⌝ }
 {
-    (LISTS as usize) * ((g as usize) - LOWEST) + (b as usize)
+    (IN_GROUP as usize) * ((g as usize) - LOWEST) + (b as usize)
 }
 
 // The first lane of a list that has lanes.

@@ -1,23 +1,29 @@
 -- Which words a lane and a state depend on. Assumes nothing.
-use mathlib.Core.Path.{_≡_, sym, ap, _∙_}
+use mathlib.Core.Path.{_≡_, sym, ap, subst, _∙_}
+use mathlib.Core.Bool.{true}
+use mathlib.Core.Logic.{⊎-elim}
 use Prim.Native.Nat.{ℕ, _+_, _*_, _≤_, _<_}
 use mathlib.Core.List.{List}
 use native.Mathlib.Omega.{arith}
 use lib.ListN.{length, getD, set}
 use lib.Seq.{getD-set-same, getD-set-other}
 use Rattle.words.specs.Runs.{tab}
-use Rattle.words.proofs.Runs.{tab-ext, tab-set, getD-tab}
-use Rattle.rules.specs.State.{noLane, laneAt, laneDepth}
-use Rattle.table.specs.Layout.{WORDS, placesWord, presentWord, framingWord, laneWord, placeWord, rowAt, rowOf}
-use Rattle.table.specs.Means.{presentAt, recOf, ringOf, rowLane, laneOf, stateOf, RowAgrees, Beside, withClock, withLane}
+use Rattle.words.proofs.Runs.{eq-or-ne, tab-ext, tab-set, getD-tab}
+use Rattle.rules.specs.State.{noLane, laneAt}
+use Rattle.table.specs.Layout.{CELLS, presentWord, depthWord, framingWord, laneWord, lengthsCell, marksCell, placeOf, entryAt, rowAt, rowOf}
+use Rattle.table.specs.Means.{presentAt, recOf, ringOf, rowLane, laneOf, stateOf, RowAgrees, PlacesFit, Beside, withClock, withLane}
+use Rattle.table.specs.declared.LaneRow.{LaneRow}
+use Rattle.table.specs.declared.Entry.{Entry}
 use Rattle.table.proofs.Stores.{rowOf-eq}
+use Rattle.table.proofs.Entries.{entry-kept}
 
 -- words that agree on lane k
 pub record SameLane (w u : List ℕ) (k : ℕ) : Type 0 where
   pub present : presentAt u k ≡ presentAt w k
   pub framing : getD u framingWord 0 ≡ getD w framingWord 0
   pub row : (i : ℕ) → laneWord k ≤ i → i < laneWord k + 3 → getD u i 0 ≡ getD w i 0
-  pub ring : (i : ℕ) → placesWord + laneDepth * k ≤ i → i < placesWord + laneDepth * k + laneDepth → getD u i 0 ≡ getD w i 0
+  pub lengths : (i : ℕ) → lengthsCell + 16 * k ≤ i → i < lengthsCell + 16 * k + 16 → getD u i 0 ≡ getD w i 0
+  pub marks : (i : ℕ) → marksCell + 32 * k ≤ i → i < marksCell + 32 * k + 32 → getD u i 0 ≡ getD w i 0
 
 pub present-kept : (w u : List ℕ) (k : ℕ) → getD u presentWord 0 ≡ getD w presentWord 0 → presentAt u k ≡ presentAt w k
 unfolding presentAt
@@ -28,14 +34,22 @@ unfolding rowAt
 row-kept w u k h s =
     rowOf-eq _ _ _ _ _ _ _ _ h (s (laneWord k) (omega arith) (omega arith)) (s (laneWord k + 1) (omega arith) (omega arith)) (s (laneWord k + 2) (omega arith) (omega arith))
 
-pub ring-kept : (w u : List ℕ) (k h n : ℕ) → ((i : ℕ) → placesWord + laneDepth * k ≤ i → i < placesWord + laneDepth * k + laneDepth → getD u i 0 ≡ getD w i 0) → ringOf u k h n ≡ ringOf w k h n
-unfolding ringOf
-ring-kept w u k h n s =
-    tab-ext n _ _ (λ i p. ap recOf (s (placeWord k (h + i)) (omega arith) (omega arith)))
+-- a lane's places
+module _ (w u : List ℕ) (k : ℕ) (lengths : (i : ℕ) → lengthsCell + 16 * k ≤ i → i < lengthsCell + 16 * k + 16 → getD u i 0 ≡ getD w i 0)
+    (marks : (i : ℕ) → marksCell + 32 * k ≤ i → i < marksCell + 32 * k + 32 → getD u i 0 ≡ getD w i 0) where
+  pub place-kept : (i : ℕ) → entryAt u (placeOf k i) ≡ entryAt w (placeOf k i)
+  place-kept i = entry-kept w u (placeOf k i) (lengths _ (omega arith) (omega arith)) (marks _ (omega arith) (omega arith))
+
+  pub ring-kept : (h n : ℕ) → ringOf u k h n ≡ ringOf w k h n
+  unfolding ringOf
+  ring-kept h n = tab-ext n _ _ (λ i p. ap recOf (place-kept (h + i)))
+
+  pub fit-kept : (l : LaneRow) → PlacesFit w k l → PlacesFit u k l
+  fit-kept l f i h = rw (place-kept i) (f i h)
 
 pub lane-kept : (w u : List ℕ) (k : ℕ) → SameLane w u k → laneOf u k ≡ laneOf w k
 unfolding laneOf rowLane
-lane-kept w u k s = rw (s .present, row-kept w u k (s .framing) (s .row), ring-kept w u k _ _ (s .ring))
+lane-kept w u k s = rw (s .present, row-kept w u k (s .framing) (s .row), ring-kept w u k (s .lengths) (s .marks) _ _)
 
 pub lane-is : (w o : List ℕ) (k : ℕ) → k < 64 → laneAt (stateOf w o) k ≡ laneOf w k
 unfolding stateOf
@@ -44,61 +58,88 @@ lane-is w o k h = getD-tab 64 k (laneOf w) noLane h
 -- ---- a change in one lane's words but its setting
 
 pub record Outside (w u : List ℕ) (k : ℕ) : Type 0 where
-  pub kept : (i : ℕ) → ((laneWord k + 1 ≤ i) → (i < laneWord k + 3) → ⊥) → ((placesWord + laneDepth * k ≤ i) → (i < placesWord + laneDepth * k + laneDepth) → ⊥) → getD u i 0 ≡ getD w i 0
+  pub kept : (i : ℕ) → ((laneWord k + 1 ≤ i) → (i < laneWord k + 3) → ⊥) → ((lengthsCell + 16 * k ≤ i) → (i < lengthsCell + 16 * k + 16) → ⊥) → ((marksCell + 32 * k ≤ i) → (i < marksCell + 32 * k + 32) → ⊥) → getD u i 0 ≡ getD w i 0
 
 module _ (w u : List ℕ) (k : ℕ) (hk : k < 64) (o : Outside w u k) where
+  -- a word that is in no lane
+  pub single-kept : (i : ℕ) → i < 80 → getD u i 0 ≡ getD w i 0
+  single-kept i h = o .kept i (λ p q. omega arith) (λ p q. omega arith) (λ p q. omega arith)
+
+  -- every other lane
+  pub others-kept : (j : ℕ) → j < 64 → (j ≡ k → ⊥) → SameLane w u j
+  others-kept j h ne =
+      record {
+        present = present-kept w u j (single-kept 1 (omega arith));
+        framing = single-kept framingWord (omega arith);
+        row = λ i p q. o .kept i (λ x y. omega arith) (λ x y. omega arith) (λ x y. omega arith);
+        lengths = λ i p q. o .kept i (λ x y. omega arith) (λ x y. omega arith) (λ x y. omega arith);
+        marks = λ i p q. o .kept i (λ x y. omega arith) (λ x y. omega arith) (λ x y. omega arith);
+      }
+
   -- leaves the state with that lane changed
   pub lane-changed : (order : List ℕ) → stateOf u order ≡ withLane (stateOf w order) k (laneOf u k)
   unfolding stateOf
   lane-changed order =
-      let clock : getD u 0 0 ≡ getD w 0 0 = o .kept 0 (λ p q. omega arith) (λ p q. omega arith) in
-      let lanes : tab 64 (laneOf u) ≡ set (tab 64 (laneOf w)) k (laneOf u k) = tab-set 64 k (laneOf w) (laneOf u) hk (λ j h ne. lane-kept w u j (record {
-        present = present-kept w u j (o .kept 1 (λ p q. omega arith) (λ p q. omega arith));
-        framing = o .kept framingWord (λ p q. omega arith) (λ p q. omega arith);
-        row = λ i p q. o .kept i (λ x y. omega arith) (λ x y. omega arith);
-        ring = λ i p q. o .kept i (λ x y. omega arith) (λ x y. omega arith);
-      })) in
-      rw (clock, lanes)
+      let lanes : tab 64 (laneOf u) ≡ set (tab 64 (laneOf w)) k (laneOf u k) = tab-set 64 k (laneOf w) (laneOf u) hk (λ j h ne. lane-kept w u j (others-kept j h ne)) in
+      rw (single-kept 0 (omega arith), lanes)
 
 -- ---- what is stored beside the state
 
--- words that agree on the settings keep what is stored beside the state
-pub record SameSettings (w u : List ℕ) : Type 0 where
-  pub present : getD u presentWord 0 ≡ getD w presentWord 0
-  pub framing : getD u framingWord 0 ≡ getD w framingWord 0
-  pub setting : (k : ℕ) → k < 64 → getD u (laneWord k) 0 ≡ getD w (laneWord k) 0
-
-row-agrees : (h s x y x′ y′ : ℕ) → RowAgrees (rowOf h s x y) → RowAgrees (rowOf h s x′ y′)
+pub row-agrees : (h s x y x′ y′ : ℕ) → RowAgrees (rowOf h s x y) → RowAgrees (rowOf h s x′ y′)
 row-agrees h s x y x′ y′ a = record { numbers = a .numbers; framing = a .framing; rated = a .rated; grouped = a .grouped }
 
-pub beside-kept : (w u : List ℕ) → SameSettings w u → Beside w → Beside u
-unfolding rowAt
-beside-kept w u s b =
-    record {
-      rows = λ k h p. rw (s .framing, s .setting k h) (row-agrees (getD w framingWord 0) (getD w (laneWord k) 0) (getD w (laneWord k + 1) 0) (getD w (laneWord k + 2) 0) (getD u (laneWord k + 1) 0) (getD u (laneWord k + 2) 0) (b .rows k h (sym (present-kept w u k (s .present)) ∙ p)));
-    }
+-- a lane that is as it was
+module _ (w u : List ℕ) (k : ℕ) (s : SameLane w u k) (b : Beside w) (hk : k < 64) (p : presentAt u k ≡ true) where
+  same-row : rowAt u k ≡ rowAt w k
+  same-row = row-kept w u k (s .framing) (s .row)
 
-pub outside-settings : (w u : List ℕ) (k : ℕ) → Outside w u k → SameSettings w u
-outside-settings w u k o =
+  pub agrees-kept : RowAgrees (rowAt u k)
+  agrees-kept = rw same-row (b .rows k hk (sym (s .present) ∙ p))
+
+  pub places-kept : 0 < rowAt u k .count → PlacesFit u k (rowAt u k)
+  places-kept n = rw same-row (fit-kept w u k (s .lengths) (s .marks) (rowAt w k) (b .places k hk (sym (s .present) ∙ p) (rw same-row at n)))
+
+-- a change in one lane's words but its setting: that lane's places have to be within its numbers again
+pub beside-changed : (w u : List ℕ) (k : ℕ) → k < 64 → Outside w u k → (Beside w → presentAt u k ≡ true → 0 < rowAt u k .count → PlacesFit u k (rowAt u k)) → Beside w → Beside u
+unfolding rowAt
+beside-changed w u k hk o f b =
     record {
-      present = o .kept 1 (λ p q. omega arith) (λ p q. omega arith);
-      framing = o .kept framingWord (λ p q. omega arith) (λ p q. omega arith);
-      setting = λ j h. o .kept (laneWord j) (λ p q. omega arith) (λ p q. omega arith);
+      depth = single-kept w u k hk o depthWord (omega arith) ∙ b .depth;
+      places = λ j h p n. ⊎-elim (λ (e : j ≡ k). at-k j e p n) (λ (ne : j ≡ k → ⊥). places-kept w u j (others-kept w u k hk o j h ne) b h p n) (eq-or-ne j k);
+      rows = λ j h p.
+          let present : presentAt w j ≡ true = sym (present-kept w u j (single-kept w u k hk o 1 (omega arith))) ∙ p in
+          rw (single-kept w u k hk o framingWord (omega arith), o .kept (laneWord j) (λ x y. omega arith) (λ x y. omega arith) (λ x y. omega arith)) (row-agrees (getD w framingWord 0) (getD w (laneWord j) 0) (getD w (laneWord j + 1) 0) (getD w (laneWord j + 2) 0) (getD u (laneWord j + 1) 0) (getD u (laneWord j + 2) 0) (b .rows j h present));
     }
+  where
+    at-k : (j : ℕ) → j ≡ k → presentAt u j ≡ true → 0 < rowAt u j .count → PlacesFit u j (rowAt u j)
+    at-k j e = subst (λ (i : ℕ). presentAt u i ≡ true → 0 < rowAt u i .count → PlacesFit u i (rowAt u i)) (sym e) (f b)
 
 -- ---- a change in the clock
 
-lanes-kept : (w u : List ℕ) → getD u 1 0 ≡ getD w 1 0 → getD u framingWord 0 ≡ getD w framingWord 0 → ((i : ℕ) → 80 ≤ i → getD u i 0 ≡ getD w i 0) → tab 64 (laneOf u) ≡ tab 64 (laneOf w)
-lanes-kept w u e h f =
-    tab-ext 64 (laneOf u) (laneOf w) (λ k b. lane-kept w u k (record { present = present-kept w u k e; framing = h; row = λ i p q. f i (omega arith); ring = λ i p q. f i (omega arith) }))
+module _ (w : List ℕ) (v : ℕ) where
+  clock-other : (i : ℕ) → 0 < i → getD (set w 0 v) i 0 ≡ getD w i 0
+  clock-other i h = getD-set-other w 0 i v 0 (omega arith)
 
-pub clock-changed : (w o : List ℕ) (v : ℕ) → length w ≡ WORDS → stateOf (set w 0 v) o ≡ withClock (stateOf w o) v
-unfolding stateOf
-clock-changed w o v len =
-    let other : (i : ℕ) → 0 < i → getD (set w 0 v) i 0 ≡ getD w i 0 = λ i h. getD-set-other w 0 i v 0 (omega arith) in
-    let lanes : tab 64 (laneOf (set w 0 v)) ≡ tab 64 (laneOf w) = lanes-kept w (set w 0 v) (other 1 (omega arith)) (other framingWord (omega arith)) (λ i h. other i (omega arith)) in
-    rw (getD-set-same w 0 v 0 (omega arith), lanes)
+  clock-lane : (k : ℕ) → SameLane w (set w 0 v) k
+  clock-lane k =
+      record {
+        present = present-kept w (set w 0 v) k (clock-other 1 (omega arith));
+        framing = clock-other framingWord (omega arith);
+        row = λ i p q. clock-other i (omega arith);
+        lengths = λ i p q. clock-other i (omega arith);
+        marks = λ i p q. clock-other i (omega arith);
+      }
 
-pub clock-settings : (w : List ℕ) (v : ℕ) → SameSettings w (set w 0 v)
-clock-settings w v =
-    record { present = getD-set-other w 0 1 v 0 (omega arith); framing = getD-set-other w 0 framingWord v 0 (omega arith); setting = λ k h. getD-set-other w 0 (laneWord k) v 0 (omega arith) }
+  pub clock-changed : (o : List ℕ) → length w ≡ CELLS → stateOf (set w 0 v) o ≡ withClock (stateOf w o) v
+  unfolding stateOf
+  clock-changed o len =
+      let lanes : tab 64 (laneOf (set w 0 v)) ≡ tab 64 (laneOf w) = tab-ext 64 _ _ (λ k b. lane-kept w (set w 0 v) k (clock-lane k)) in
+      rw (getD-set-same w 0 v 0 (omega arith), lanes)
+
+  pub clock-beside : Beside w → Beside (set w 0 v)
+  clock-beside b =
+      record {
+        depth = clock-other depthWord (omega arith) ∙ b .depth;
+        places = λ k h p n. places-kept w (set w 0 v) k (clock-lane k) b h p n;
+        rows = λ k h p. agrees-kept w (set w 0 v) k (clock-lane k) b h p;
+      }

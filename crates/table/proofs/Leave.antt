@@ -1,5 +1,6 @@
 -- From the words that a function leaves to the state that it leaves. Assumes nothing.
 use mathlib.Core.Path.{_≡_, ap, _∙_}
+use mathlib.Core.Bool.{true}
 use Prim.Native.Nat.{ℕ, _<_}
 use mathlib.Core.List.{List}
 use lib.ListN.{length}
@@ -7,25 +8,28 @@ use native.Mathlib.Omega.{arith}
 use Rattle.rules.specs.State.{Lane, State}
 use Rattle.slot_lists.specs.Lists.{listAt}
 use Rattle.filing.specs.Filing.{inARow}
-use Rattle.table.specs.Layout.{Now, cells}
-use Rattle.table.specs.Means.{laneOf, stateOf, meant, Sound, Leaves, withLane}
-use Rattle.table.proofs.Footprint.{Outside, lane-changed, beside-kept, outside-settings}
+use Rattle.table.specs.Layout.{Now, cells, rowAt}
+use Rattle.table.specs.Means.{presentAt, PlacesFit, Beside, laneOf, stateOf, meant, Sound, Leaves, withLane}
+use Rattle.table.proofs.Stores.{behind-then}
+use Rattle.table.proofs.Footprint.{Outside, lane-changed, beside-changed}
 use Rattle.table.proofs.Lists.{row-stays}
 
 -- one function after another
 pub leaves-then : {t u v : List ℕ} {s s′ : State} → Leaves t u s → Leaves u v s′ → Leaves t v s′
-leaves-then a b = record { state = b .state; beside = λ x. b .beside (a .beside x); rest = b .rest ∙ a .rest }
+leaves-then a b = record { state = b .state; beside = λ x. b .beside (a .beside x); rest = behind-then (a .rest) (b .rest) }
 
 -- the words u were left, and no list moved
 pub meant-now : (t t′ u : List ℕ) → Now t t′ u → meant t′ ≡ stateOf u (inARow (listAt t))
 meant-now t t′ u n = ap (λ (w : List ℕ). stateOf w (inARow (listAt t′))) (n .words) ∙ ap (stateOf u) (row-stays t t′ (n .rest))
 
 -- a lane's words were changed, and the lane is now l
-pub leave-lane : (t t′ u : List ℕ) (k : ℕ) (l : Lane) → k < 64 → Now t t′ u → Outside (cells t) u k → laneOf u k ≡ l → Leaves t t′ (withLane (meant t) k l)
-leave-lane t t′ u k l hk n o e =
+pub leave-lane : (t t′ u : List ℕ) (k : ℕ) (l : Lane) → k < 64 → Now t t′ u → Outside (cells t) u k → laneOf u k ≡ l
+    → (Beside (cells t) → presentAt u k ≡ true → 0 < rowAt u k .count → PlacesFit u k (rowAt u k))
+    → Leaves t t′ (withLane (meant t) k l)
+leave-lane t t′ u k l hk n o e f =
     record {
       state = meant-now t t′ u n ∙ lane-changed (cells t) u k hk o (inARow (listAt t)) ∙ ap (withLane (meant t) k) e;
-      beside = λ b. rw (n .words) (beside-kept (cells t) u (outside-settings (cells t) u k o) b);
+      beside = λ b. rw (n .words) (beside-changed (cells t) u k hk o f b);
       rest = n .rest;
     }
 

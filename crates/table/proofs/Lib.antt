@@ -1,4 +1,6 @@
 pub mod Stores
+pub mod Entries
+pub mod Places
 pub mod Footprint
 pub mod Lists
 pub mod Leave

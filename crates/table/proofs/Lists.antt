@@ -1,97 +1,141 @@
--- The slot lists lie behind the first part of a table: what stores in the one leaves the other. Assumes nothing.
+-- The slot lists lie between a table's cells: what stores in the one leaves the other. Assumes nothing.
 use mathlib.Core.Path.{_≡_, refl, sym, ap, subst, _∙_}
-use Prim.Native.Nat.{ℕ, _+_, _-_, _*_, _%_, _^_, _≤_, _<_}
+use mathlib.Core.Logic.{⊎-elim}
+use Prim.Native.Nat.{ℕ, _+_, _-_, _*_, _/_, _%_, _^_, _≤_, _<_}
 use mathlib.Core.List.{List, []}
 use native.Mathlib.Omega.{arith}
 use lib.ListN.{length, getD, drop}
 use lib.Seq.{getD-drop, drop-drop}
 use Rattle.words.specs.Bits.{bit}
-use Rattle.words.specs.Words.{leVal, wordAt, wordsOf}
-use Rattle.words.proofs.Runs.{reads-ext, tab-ext}
+use Rattle.words.specs.Words.{leVal, wordAt}
+use Rattle.words.proofs.Runs.{le-or-lt, reads-ext, tab-ext}
 use Rattle.rules.specs.State.{Setting, State}
 use Rattle.rules.specs.Calls.{fresh}
-use Rattle.table.specs.Layout.{SIZE, WORDS, cells}
+use Rattle.table.specs.Layout.{CELLS, SIZE, marksCell, Behind, cells}
 use Rattle.table.specs.Means.{meant, Listed}
-use Rattle.rings.specs.Rings.{headByte, countByte, placeByte, ringOf, ringAt}
-use Rattle.slot_lists.specs.Lists.{listsFrom, groupsWord, backWord, startWord, mapWord, ringNumber, groupsAt, backAt, mapOf, listIn, listAt, startAt, Fills, Solid, Empty}
+use Rattle.rings.specs.Rings.{ringsEnd, headByte, countByte, placeByte, ringOf, ringAt}
+use Rattle.slot_lists.specs.Lists.{listsFrom, groupsAt, groupsWord, backWord, startWord, mapWord, ringNumber, backAt, mapOf, listIn, listAt, startAt, Fills, Solid, Empty}
 use Rattle.slot_lists.proofs.Emptied.{no-list, no-start, empty-solid}
 use Rattle.slot_lists.specs.Changes.{Apart}
 use Rattle.filing.specs.Filing.{flat, inARow, Agrees}
 use Rattle.filing.proofs.Flat.{flat-none, flat-ext}
 use Rattle.filing.proofs.Others.{fresh-agrees}
+use Rattle.table.proofs.Stores.{word-before, word-behind}
 
--- ---- a change of the lists leaves the words below them
+-- ---- a change of the lists leaves the cells before and behind them
 
-pub cells-below : (t u : List ℕ) → ((j : ℕ) → j < listsFrom → wordAt u j ≡ wordAt t j) → cells u ≡ cells t
-unfolding cells wordsOf
-cells-below t u a = tab-ext WORDS (wordAt u) (wordAt t) a
+-- a word that lies behind what is dropped
+word-dropped : (n : ℕ) (t u : List ℕ) → drop n u ≡ drop n t → (j : ℕ) → n ≤ j * 8 → wordAt u j ≡ wordAt t j
+unfolding wordAt
+word-dropped n t u e j h = ap leVal (reads-ext t u (j * 8) 8 (λ i p q. byte i (omega arith)))
+  where
+    byte : (a : ℕ) → n ≤ a → getD u a 0 ≡ getD t a 0
+    byte a h =
+        let at : n + (a - n) ≡ a = omega arith in
+        ap (λ (x : ℕ). getD u x 0) (sym at) ∙ sym (getD-drop n u (a - n) 0) ∙ ap (λ (l : List ℕ). getD l (a - n) 0) e ∙ getD-drop n t (a - n) 0 ∙ ap (λ (x : ℕ). getD t x 0) at
+
+pub cells-around : (t u : List ℕ) → ((j : ℕ) → j < listsFrom → wordAt u j ≡ wordAt t j) → drop ringsEnd u ≡ drop ringsEnd t → cells u ≡ cells t
+unfolding cells
+cells-around t u below rest = tab-ext CELLS _ _ (λ i h. ⊎-elim (λ (p : marksCell ≤ i). rw (word-behind i p) (behind (i - marksCell + ringsEnd / 8) (omega arith))) (λ (p : i < marksCell). rw (word-before i p) (below i p)) (le-or-lt marksCell i))
+  where
+    behind : (j : ℕ) → ringsEnd ≤ j * 8 → wordAt u j ≡ wordAt t j
+    behind j h = word-dropped ringsEnd t u rest j h
+
+-- what lies past the table lies past the lists
+pub past-rings : (t u : List ℕ) → drop ringsEnd u ≡ drop ringsEnd t → drop SIZE u ≡ drop SIZE t
+past-rings t u e = sym (drop-drop (SIZE - ringsEnd) ringsEnd u) ∙ ap (drop (SIZE - ringsEnd)) e ∙ drop-drop (SIZE - ringsEnd) ringsEnd t
 
 pub cells-apart : (t u : List ℕ) → Apart t u → cells u ≡ cells t
-cells-apart t u a = cells-below t u (a .below)
+cells-apart t u a = cells-around t u (a .below) (a .rest)
 
--- ---- and a store below them leaves the lists
+-- ---- bytes with the same slot lists
 
-module _ (t u : List ℕ) (rest : drop (WORDS * 8) u ≡ drop (WORDS * 8) t) where
-  byte : (a : ℕ) → WORDS * 8 ≤ a → getD u a 0 ≡ getD t a 0
-  byte a h =
-      let e : WORDS * 8 + (a - WORDS * 8) ≡ a = omega arith in
-      ap (λ (x : ℕ). getD u x 0) (sym e) ∙ sym (getD-drop (WORDS * 8) u (a - WORDS * 8) 0) ∙ ap (λ (l : List ℕ). getD l (a - WORDS * 8) 0) rest ∙ getD-drop (WORDS * 8) t (a - WORDS * 8) 0 ∙ ap (λ (x : ℕ). getD t x 0) e
+abbrev pub SameLists : List ℕ → List ℕ → Type 0
+SameLists t u = (a : ℕ) → listsFrom * 8 ≤ a → a < ringsEnd → getD u a 0 ≡ getD t a 0
 
-  word : (j : ℕ) → listsFrom ≤ j → wordAt u j ≡ wordAt t j
+module _ (t u : List ℕ) (same : SameLists t u) where
+  word : (j : ℕ) → listsFrom ≤ j → j * 8 + 8 ≤ ringsEnd → wordAt u j ≡ wordAt t j
   unfolding wordAt
-  word j h = ap leVal (reads-ext t u (j * 8) 8 (λ i p q. byte i (omega arith)))
+  word j h k = ap leVal (reads-ext t u (j * 8) 8 (λ i p q. same i (omega arith) (omega arith)))
 
-  ring : (i : ℕ) → ringAt u i ≡ ringAt t i
+  ring : (i : ℕ) → i < 512 → ringAt u i ≡ ringAt t i
   unfolding ringAt ringOf
-  ring i = rw (byte (headByte i) (omega arith), byte (countByte i) (omega arith)) (tab-ext _ _ _ (λ x p. byte (placeByte i (getD t (headByte i) 0 + x)) (omega arith)))
+  ring i h = rw (same (headByte i) (omega arith) (omega arith), same (countByte i) (omega arith) (omega arith)) (tab-ext _ _ _ (λ x p. same (placeByte i (getD t (headByte i) 0 + x)) (omega arith) (omega arith)))
 
-  map : (g : ℕ) → mapOf u g ≡ mapOf t g
+  map : (g : ℕ) → g ≤ 31 → mapOf u g ≡ mapOf t g
   unfolding mapOf
-  map g = rw (word groupsWord (omega arith), word (mapWord g) (omega arith))
+  map g hi = rw (word groupsWord (omega arith) (omega arith), word (mapWord g) (omega arith) (omega arith))
 
-  pub groups-stay : groupsAt u ≡ groupsAt t
-  groups-stay = word groupsWord (omega arith)
+  pub groups-same : groupsAt u ≡ groupsAt t
+  groups-same = word groupsWord (omega arith) (omega arith)
 
-  pub back-stays : backAt u ≡ backAt t
-  back-stays = word backWord (omega arith)
+  pub back-same : backAt u ≡ backAt t
+  back-same = word backWord (omega arith) (omega arith)
 
-  pub lists-stay : (g b : ℕ) → listAt u g b ≡ listAt t g b
+  pub lists-same : (g b : ℕ) → g ≤ 31 → b < 32 → listAt u g b ≡ listAt t g b
   unfolding listIn
-  lists-stay g b = rw (map g, ring (ringNumber g b))
+  lists-same g b hi hb = rw (map g hi, ring (ringNumber g b) (omega arith))
 
-  pub row-stays : inARow (listAt u) ≡ inARow (listAt t)
+  pub order-same : inARow (listAt u) ≡ inARow (listAt t)
   unfolding inARow
-  row-stays = flat-ext 16 _ _ (λ i h. flat-ext 32 _ _ (λ b p. lists-stay (16 + i) b))
+  order-same = flat-ext 16 _ _ (λ i h. flat-ext 32 _ _ (λ b p. lists-same (16 + i) b (omega arith) p))
 
-  pub starts-stay : (g : ℕ) → 16 ≤ g → startAt u g ≡ startAt t g
+  pub starts-same : (g : ℕ) → g ≤ 31 → startAt u g ≡ startAt t g
   unfolding startAt
-  starts-stay g h = rw (word groupsWord (omega arith), word (startWord g) (omega arith))
+  starts-same g hi = rw (groups-same, word (startWord g) (omega arith) (omega arith))
 
-  pub solid-stays : Solid t → Solid u
-  solid-stays s =
+  pub solid-same : Solid t → Solid u
+  solid-same s =
       record {
         fills = λ g lo hi.
-            rw (map g) (record { narrow = s .fills g lo hi .narrow; filled = λ b hb e. rw (ring (ringNumber g b)) (s .fills g lo hi .filled b hb e) });
-        groups = λ g e. s .groups g (ap (bit g) (sym (word groupsWord (omega arith))) ∙ e);
-        some-list = λ g e. rw (map g) (s .some-list g (ap (bit g) (sym (word groupsWord (omega arith))) ∙ e));
-        high = rw (word groupsWord (omega arith)) (s .high);
-        back-whole = rw back-stays (s .back-whole);
-        back-small = rw back-stays (s .back-small);
+            rw (map g hi) (record { narrow = s .fills g lo hi .narrow; filled = λ b hb e. rw (ring (ringNumber g b) (omega arith)) (s .fills g lo hi .filled b hb e) });
+        groups = λ g e. s .groups g (set g e);
+        some-list = λ g e. rw (map g (s .groups g (set g e) .1)) (s .some-list g (set g e));
+        high = rw groups-same (s .high);
+        back-whole = rw back-same (s .back-whole);
+        back-small = rw back-same (s .back-small);
       }
+    where
+      set : (g : ℕ) → bit g (groupsAt u) ≡ 1 → bit g (groupsAt t) ≡ 1
+      set g e = ap (bit g) (sym groups-same) ∙ e
 
-  pub agrees-stay : (s : State) → Agrees (backAt t) (listAt t) (startAt t) s → Agrees (backAt u) (listAt u) (startAt u) s
-  agrees-stay s a =
-      rw back-stays
+  pub agrees-same : (s : State) → Agrees (backAt t) (listAt t) (startAt t) s → Agrees (backAt u) (listAt u) (startAt u) s
+  agrees-same s a =
+      rw back-same
       (record {
-        filed = λ g b lo hi hb. lists-stay g b ∙ a .filed g b lo hi hb;
-        started = λ g lo hi. starts-stay g lo ∙ a .started g lo hi;
+        filed = λ g b lo hi hb. lists-same g b hi hb ∙ a .filed g b lo hi hb;
+        started = λ g lo hi. starts-same g hi ∙ a .started g lo hi;
       })
 
+-- ---- so a store in the cells leaves the lists
+
+module _ (t u : List ℕ) (rest : Behind t u) where
+  pub groups-stay : groupsAt u ≡ groupsAt t
+  groups-stay = groups-same t u (rest .lists)
+
+  pub back-stays : backAt u ≡ backAt t
+  back-stays = back-same t u (rest .lists)
+
+  pub lists-stay : (g b : ℕ) → g ≤ 31 → b < 32 → listAt u g b ≡ listAt t g b
+  lists-stay = lists-same t u (rest .lists)
+
+  pub row-stays : inARow (listAt u) ≡ inARow (listAt t)
+  row-stays = order-same t u (rest .lists)
+
+  pub starts-stay : (g : ℕ) → g ≤ 31 → startAt u g ≡ startAt t g
+  starts-stay = starts-same t u (rest .lists)
+
+  pub solid-stays : Solid t → Solid u
+  solid-stays = solid-same t u (rest .lists)
+
+  pub agrees-stay : (s : State) → Agrees (backAt t) (listAt t) (startAt t) s → Agrees (backAt u) (listAt u) (startAt u) s
+  agrees-stay = agrees-same t u (rest .lists)
+
   pub empty-stays : Empty t → Empty u
-  empty-stays e = record { groups = word groupsWord (omega arith) ∙ e .groups; back = back-stays ∙ e .back }
+  empty-stays e = record { groups = groups-same t u (rest .lists) ∙ e .groups; back = back-stays ∙ e .back }
 
   pub past-stays : drop SIZE u ≡ drop SIZE t
-  past-stays = sym (drop-drop (SIZE - WORDS * 8) (WORDS * 8) u) ∙ ap (drop (SIZE - WORDS * 8)) rest ∙ drop-drop (SIZE - WORDS * 8) (WORDS * 8) t
+  past-stays = rest .past
 
 -- ---- empty lists
 

@@ -2,36 +2,41 @@
 -- Assumes nothing.
 use mathlib.Core.Path.{_≡_, refl, sym, ap, _∙_}
 use mathlib.Core.Bool.{Bool, true, false}
-use Prim.Native.Nat.{ℕ, _+_, _*_, _/_, _%_, _<_}
+use Prim.Native.Nat.{ℕ, _+_, _*_, _/_, _%_, _≤_, _<_}
 use mathlib.Core.List.{List}
 use native.Mathlib.Omega.{arith}
 use lib.ListN.{length, getD, set, length-set}
 use lib.Seq.{getD-set-same, getD-set-other}
-use Rattle.table.specs.Layout.{WORDS, presentWord, framingWord, laneWord, placeWord, rowAt, putRow}
+use Rattle.table.specs.Layout.{CELLS, presentWord, framingWord, laneWord, placeOf, lengthsCell, rowAt, putRow, putEntry, clearLengths, entryAt}
 use Rattle.table.specs.Means.{presentAt, ringOf, givenOf, timed, rowLane, laneOf, stateOf}
 use Rattle.table.specs.declared.LaneRow.{LaneRow}
+use Rattle.table.specs.declared.Entry.{Entry}
 use Rattle.words.proofs.Runs.{length-tab}
 use Rattle.waiting.specs.Waiting.{plain, held}
 use Rattle.rules.specs.State.{Lane, laneAt, holds, noLane, laneDepth}
 use Rattle.table.proofs.Timed.{timed-given, timed-waiting}
-use Rattle.table.proofs.Footprint.{Outside, present-kept, row-kept, ring-kept, lane-is}
+use Rattle.table.proofs.Entries.{put-other, clear-other}
+use Rattle.table.proofs.Footprint.{Outside, present-kept, row-kept, place-kept, ring-kept, lane-is}
 
 -- ---- where the stores lie
 
 pub outside-trans : (w u v : List ℕ) (k : ℕ) → Outside w u k → Outside u v k → Outside w v k
-outside-trans w u v k a b = record { kept = λ i p q. b .kept i p q ∙ a .kept i p q }
+outside-trans w u v k a b = record { kept = λ i p q r. b .kept i p q r ∙ a .kept i p q r }
 
 pub outside-row : (w : List ℕ) (k : ℕ) (l : LaneRow) → Outside w (putRow w k l) k
 unfolding putRow
 outside-row w k l =
     record {
-      kept = λ i p q.
+      kept = λ i p q r.
           getD-set-other (set w (laneWord k + 1) (l .time .0)) (laneWord k + 2) i (l .head + laneDepth * l .count) 0 (λ e. p (omega arith) (omega arith))
           ∙ getD-set-other w (laneWord k + 1) i (l .time .0) 0 (λ e. p (omega arith) (omega arith));
     }
 
-pub outside-place : (w : List ℕ) (k i e : ℕ) → Outside w (set w (placeWord k i) e) k
-outside-place w k i e = record { kept = λ j p q. getD-set-other w (placeWord k i) j e 0 (λ x. q (omega arith) (omega arith)) }
+pub outside-place : (w : List ℕ) (k i : ℕ) (e : Entry) → Outside w (putEntry w (placeOf k i) e) k
+outside-place w k i e = record { kept = λ j p q r. put-other w (placeOf k i) e j (λ x. q (omega arith) (omega arith)) (λ x. r (omega arith) (omega arith)) }
+
+pub outside-cleared : (w : List ℕ) (k : ℕ) → Outside w (clearLengths w (lengthsCell + 16 * k) 16) k
+outside-cleared w k = record { kept = λ j p q r. clear-other w (lengthsCell + 16 * k) 16 j q }
 
 -- ---- a row stored and read again
 
@@ -39,7 +44,7 @@ outside-place w k i e = record { kept = λ j p q. getD-set-other w (placeWord k 
 abbrev pub retimed : LaneRow → ℕ → ℕ → ℕ → LaneRow
 retimed l x h n = record { longest = l .longest; framing = l .framing; weight = l .weight; group = l .group; rate = l .rate; time = record { 0 = x }; head = h; count = n }
 
-pub row-put : (w : List ℕ) (k x h n : ℕ) → length w ≡ WORDS → k < 64 → h < laneDepth → rowAt (putRow w k (retimed (rowAt w k) x h n)) k ≡ retimed (rowAt w k) x h n
+pub row-put : (w : List ℕ) (k x h n : ℕ) → length w ≡ CELLS → k < 64 → h < laneDepth → rowAt (putRow w k (retimed (rowAt w k) x h n)) k ≡ retimed (rowAt w k) x h n
 unfolding rowAt putRow
 row-put w k x h n len hk small =
     let u = set w (laneWord k + 1) x in
@@ -53,25 +58,41 @@ row-put w k x h n len hk small =
 
 pub present-put : (w : List ℕ) (k : ℕ) (l : LaneRow) → presentAt (putRow w k l) k ≡ presentAt w k
 present-put w k l =
-    present-kept w (putRow w k l) k (outside-row w k l .kept presentWord (λ p q. omega arith) (λ p q. omega arith))
+    present-kept w (putRow w k l) k (outside-row w k l .kept presentWord (λ p q. omega arith) (λ p q. omega arith) (λ p q. omega arith))
+
+-- a row's store leaves every place
+pub places-put : (w : List ℕ) (k i : ℕ) (l : LaneRow) → k < 64 → lengthsCell ≤ i → getD (putRow w k l) i 0 ≡ getD w i 0
+unfolding putRow
+places-put w k i l hk h = getD-set-other (set w (laneWord k + 1) (l .time .0)) (laneWord k + 2) i (l .head + laneDepth * l .count) 0 (omega arith) ∙ getD-set-other w (laneWord k + 1) i (l .time .0) 0 (omega arith)
+
+pub entry-put : (w : List ℕ) (k i : ℕ) (l : LaneRow) → k < 64 → entryAt (putRow w k l) (placeOf k i) ≡ entryAt w (placeOf k i)
+entry-put w k i l hk = place-kept w (putRow w k l) k (λ j p q. places-put w k j l hk (omega arith)) (λ j p q. places-put w k j l hk (omega arith)) i
 
 ring-put : (w : List ℕ) (k h n : ℕ) (l : LaneRow) → k < 64 → ringOf (putRow w k l) k h n ≡ ringOf w k h n
-unfolding putRow
-ring-put w k h n l hk =
-    ring-kept w (putRow w k l) k h n (λ i p q. getD-set-other (set w (laneWord k + 1) (l .time .0)) (laneWord k + 2) i (l .head + laneDepth * l .count) 0 (omega arith) ∙ getD-set-other w (laneWord k + 1) i (l .time .0) 0 (omega arith))
+ring-put w k h n l hk = ring-kept w (putRow w k l) k (λ j p q. places-put w k j l hk (omega arith)) (λ j p q. places-put w k j l hk (omega arith)) h n
 
 -- the lane, once its row is stored
-pub lane-put : (w : List ℕ) (k x h n : ℕ) → length w ≡ WORDS → k < 64 → h < laneDepth → presentAt w k ≡ true → laneOf (putRow w k (retimed (rowAt w k) x h n)) k ≡ timed (givenOf (rowAt w k)) x (ringOf w k h n)
+pub lane-put : (w : List ℕ) (k x h n : ℕ) → length w ≡ CELLS → k < 64 → h < laneDepth → presentAt w k ≡ true → laneOf (putRow w k (retimed (rowAt w k) x h n)) k ≡ timed (givenOf (rowAt w k)) x (ringOf w k h n)
 unfolding laneOf rowLane
 lane-put w k x h n len hk small p =
     rw (present-put w k (retimed (rowAt w k) x h n), p, row-put w k x h n len hk small, ring-put w k h n (retimed (rowAt w k) x h n) hk)
 
--- a record stored in a ring leaves its lane's row
-pub row-place : (w : List ℕ) (k i e : ℕ) → k < 64 → rowAt (set w (placeWord k i) e) k ≡ rowAt w k
-row-place w k i e hk = row-kept w (set w (placeWord k i) e) k (getD-set-other w (placeWord k i) framingWord e 0 (omega arith)) (λ j p q. getD-set-other w (placeWord k i) j e 0 (omega arith))
+-- ---- a change of places alone leaves every row
 
-pub present-place : (w : List ℕ) (k i e : ℕ) → presentAt (set w (placeWord k i) e) k ≡ presentAt w k
-present-place w k i e = present-kept w (set w (placeWord k i) e) k (getD-set-other w (placeWord k i) presentWord e 0 (omega arith))
+abbrev pub SameRows : List ℕ → List ℕ → Type 0
+SameRows w u = (i : ℕ) → i < lengthsCell → getD u i 0 ≡ getD w i 0
+
+pub rows-place : (w : List ℕ) (p : ℕ) (e : Entry) → SameRows w (putEntry w p e)
+rows-place w p e i h = put-other w p e i (λ x. omega arith) (λ x. omega arith)
+
+pub rows-cleared : (w : List ℕ) (k : ℕ) → SameRows w (clearLengths w (lengthsCell + 16 * k) 16)
+rows-cleared w k i h = clear-other w (lengthsCell + 16 * k) 16 i (λ p q. omega arith)
+
+pub row-same : (w u : List ℕ) (k : ℕ) → k < 64 → SameRows w u → rowAt u k ≡ rowAt w k
+row-same w u k hk s = row-kept w u k (s framingWord (omega arith)) (λ j p q. s j (omega arith))
+
+pub present-same : (w u : List ℕ) (k : ℕ) → SameRows w u → presentAt u k ≡ presentAt w k
+present-same w u k s = present-kept w u k (s presentWord (omega arith))
 
 -- every row has the line's framing bytes
 pub row-framing : (w : List ℕ) (k : ℕ) → rowAt w k .framing .0 ≡ getD w framingWord 0

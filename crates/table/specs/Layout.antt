@@ -1,48 +1,77 @@
--- Where a table's parts lie (docs/TABLE.md), and what a store leaves. The first 1,360 words are single words, the lanes' rows and the rings of their
--- records; behind them lie the slot lists (crate slot_lists).
+-- Where a table's parts lie (docs/TABLE.md), and what a store leaves. First come single words, the lanes' rows and their records' lengths, 1,360 words;
+-- then the slot lists (crate slot_lists); then the records' marks.
 --
 --   SIZE, Room       the fixed size of a table, in bytes; bytes that are long enough for it
---   placesWord       the first word of the rings' places
---   WORDS, cells     the number of the first part's words; the words themselves
---   Now              what a store in the first part leaves: its words, and every byte behind it
+--   keptBytes        the last bytes of a table, which mean nothing
+--   Front            bytes that are long enough for the words before the slot lists
+--   CELLS, cells     the words before and behind the slot lists, one after another; their number
+--   wordOf           the word that a cell is
+--   Behind           the bytes that are no cell stay: the slot lists, and all past the table
+--   Now              what a store in the cells leaves
 --   laneWord         the first of lane k's words: setting, clock, ring
---   placeWord        the word of lane k's place i, i counted on past the ring's end
+--   depthWord        the word of a lane's room, which tells this layout from those before it
 --   framingWord      the word of h, the line's framing bytes
 --   rowOf, rowAt     a lane's three words, taken apart, with the line's framing bytes
---   entryOf          a record's word, taken apart
+--   placeOf          the number of lane k's place i among all places, i counted on past the ring's end
+--   lengthCell       the cell of a place's length less one, four in a cell; markCell: of its mark, two in a cell
+--   entryAt          the record at a place; putEntry: the cells with a record stored there
+--   clearLengths     the cells with n cells of 0 from a cell on
 --
 -- Assumes nothing.
 use mathlib.Core.Path.{_≡_}
-use Prim.Native.Nat.{ℕ, _+_, _*_, _/_, _%_, _^_, _≤_}
+use Prim.Native.Nat.{ℕ, zero, suc, _+_, _-_, _*_, _/_, _%_, _^_, _≤_, _<_}
 use mathlib.Core.List.{List}
+use lib.Dec.{ltb}
 use lib.ListN.{length, drop, getD, set}
-use Rattle.words.specs.Words.{wordsOf}
-use Rattle.rings.specs.Rings.{ringsEnd}
+use Rattle.units.specs.Plain.{if_then_else_}
+use Rattle.words.specs.Runs.{tab}
+use Rattle.words.specs.Words.{wordAt}
+use Rattle.digits.specs.Digits.{digit, putDigit}
+use Rattle.parts.specs.Parts.{rowsFrom, lengthsFrom, listsFrom, ringsEnd, marksEnd}
 use Rattle.rules.specs.State.{laneDepth}
 use Rattle.table.specs.declared.LaneRow.{LaneRow}
 use Rattle.table.specs.declared.Entry.{Entry}
 
--- 45,056: the rings of the slot lists come last
+-- the first cell of the lengths, behind the 64 rows
+abbrev pub lengthsCell : ℕ
+lengthsCell = lengthsFrom
+
+-- the first cell of the marks: the first word behind the slot lists
+abbrev pub marksCell : ℕ
+marksCell = listsFrom
+
+-- 3,408
+abbrev pub CELLS : ℕ
+CELLS = marksCell + 64 * laneDepth / 2
+
+-- bytes behind the marks that no call looks at, kept for what is to come (docs/TABLE.md)
+abbrev pub keptBytes : ℕ
+keptBytes = 4096
+
+-- 65,536
 abbrev pub SIZE : ℕ
-SIZE = ringsEnd
+SIZE = marksEnd + keptBytes
 
 abbrev pub Room : List ℕ → Type 0
 Room t = SIZE ≤ length t
 
--- the first word of the places, behind the 64 rows
-abbrev pub placesWord : ℕ
-placesWord = 336
+-- long enough for the words before the slot lists: what reading those asks
+abbrev pub Front : List ℕ → Type 0
+Front t = marksCell * 8 ≤ length t
 
--- 1,360
-abbrev pub WORDS : ℕ
-WORDS = placesWord + laneDepth * 64
+unfoldable pub wordOf : ℕ → ℕ
+wordOf i = if ltb i marksCell then i else i - marksCell + ringsEnd / 8
 
 unfoldable pub cells : List ℕ → List ℕ
-cells t = wordsOf WORDS t
+cells t = tab CELLS (λ i. wordAt t (wordOf i))
+
+pub record Behind (before after : List ℕ) : Type 0 where
+  pub lists : (a : ℕ) → listsFrom * 8 ≤ a → a < ringsEnd → getD after a 0 ≡ getD before a 0
+  pub past : drop SIZE after ≡ drop SIZE before
 
 pub record Now (before after w : List ℕ) : Type 0 where
   pub words : cells after ≡ w
-  pub rest : drop (WORDS * 8) after ≡ drop (WORDS * 8) before
+  pub rest : Behind before after
 
 -- ---- the single words
 
@@ -52,17 +81,17 @@ clockWord = 0
 abbrev pub presentWord : ℕ
 presentWord = 1
 
--- "a fixed number of framing bytes" that each record costs beside its own: one number for the whole table
+abbrev pub depthWord : ℕ
+depthWord = 3
+
+-- the line's framing bytes: one number for the whole table
 abbrev pub framingWord : ℕ
 framingWord = 4
 
 -- ---- a lane
 
 abbrev pub laneWord : ℕ → ℕ
-laneWord k = 80 + 4 * k
-
-abbrev pub placeWord : ℕ → ℕ → ℕ
-placeWord k i = placesWord + laneDepth * k + i % laneDepth
+laneWord k = rowsFrom + 4 * k
 
 abbrev pub rowOf : ℕ → ℕ → ℕ → ℕ → LaneRow
 rowOf framing setting time ring = record {
@@ -89,8 +118,30 @@ putRing w k head count = set w (laneWord k + 2) (head + laneDepth * count)
 
 -- ---- a record
 
-abbrev pub entryOf : ℕ → Entry
-entryOf e = record { mark = e % 2 ^ 32; length = record { 0 = e / 2 ^ 32 } }
+abbrev pub placeOf : ℕ → ℕ → ℕ
+placeOf k i = laneDepth * k + i % laneDepth
 
-abbrev pub entryWord : Entry → ℕ
-entryWord e = e .mark + e .length .0 * 2 ^ 32
+abbrev pub lengthCell : ℕ → ℕ
+lengthCell p = lengthsCell + p / 4
+
+abbrev pub markCell : ℕ → ℕ
+markCell p = marksCell + p / 2
+
+unfoldable pub entryAt : List ℕ → ℕ → Entry
+entryAt w p = record {
+  mark = digit 32 (p % 2) (getD w (markCell p) 0);
+  length = record { 0 = digit 16 (p % 4) (getD w (lengthCell p) 0) + 1 };
+}
+
+unfoldable pub putLength : List ℕ → ℕ → ℕ → List ℕ
+putLength w p n = set w (lengthCell p) (putDigit 16 (p % 4) (n - 1) (getD w (lengthCell p) 0))
+
+unfoldable pub putMark : List ℕ → ℕ → ℕ → List ℕ
+putMark w p m = set w (markCell p) (putDigit 32 (p % 2) m (getD w (markCell p) 0))
+
+abbrev pub putEntry : List ℕ → ℕ → Entry → List ℕ
+putEntry w p e = putMark (putLength w p (e .length .0)) p (e .mark)
+
+unfoldable pub clearLengths : List ℕ → ℕ → ℕ → List ℕ
+clearLengths w from zero = w
+clearLengths w from (suc n) = set (clearLengths w from n) (from + n) 0

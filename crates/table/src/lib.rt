@@ -1,5 +1,6 @@
-// The lent table: a state of `rules` in 45,056 lent bytes (docs/TABLE.md). This crate reads and stores its first 1,360 words: the clock, the lanes' rows
-// and the rings of their records. Behind them lie the slot lists, by which a table has its tie order: crates `slot_lists` and `filing`.
+// The lent table: a state of `rules` in 65,536 lent bytes (docs/TABLE.md). This crate reads and stores its cells: the clock, the lanes' rows and their
+// records' lengths, 1,360 words, and behind the slot lists the records' marks. By the slot lists a table has its tie order: crates `slot_lists` and
+// `filing`.
 //
 // Three views, each over the one below: bytes; words (`cells`), where a store is one `set`; and the state that they mean (`meant`,
 // specs/Means.antt). `Encodes` (specs/Encodes.antt) says when bytes encode a state. Queues, fresh tables and the good-table test are in
@@ -9,9 +10,14 @@
 ghost use mathlib.Core.Path.{_≡_};
 ghost use Prim.Native.Nat.{_+_, _*_, _^_, _<_, _≤_};
 ghost use lib.ListN.{getD, set};
-ghost use Rattle.table.specs.Layout.{Room, WORDS, Now, cells, rowAt, putRow, putRing, entryOf, entryWord, placeWord};
+ghost use Rattle.table.specs.Layout.{Room, Front, marksCell, lengthsCell, Now, cells, rowAt, putRow, putRing, entryAt, putEntry, placeOf, clearLengths};
 ghost use Rattle.rules.specs.State.{charge, laneDepth};
 ghost use Rattle.table.specs.Means.{presentAt, Next, givenOf, meant, Sound, Leaves, withClock};
+use digits::half;
+use digits::quarter;
+use digits::set_half;
+use digits::set_quarter;
+use parts::PLACES;
 use rings::END;
 use units::Bytes;
 use units::Clock;
@@ -19,30 +25,36 @@ use units::Rate;
 use words::set_word;
 use words::word;
 
-// Lanes are numbered 0 to 63.
-pub const LANES: usize = 64;
+// Lanes, and the room of each.
+pub const LANES: usize = parts::LANES;
 
-// Each lane holds at most 16 records.
-pub const DEPTH: u64 = 16;
+pub const DEPTH: u64 = parts::DEPTH;
 
-// The words of the clock, of the present lanes, of the line's framing bytes, and the first ones of the rows and the rings.
+// The words of the clock, of the present lanes, of the depth, of the line's framing bytes, and the first ones of the rows, the lengths and the marks.
 pub const CLOCK: usize = 0;
 
 pub const PRESENT: usize = 1;
 
+pub const DEPTH_NUMBER: usize = 3;
+
 pub const FRAMING: usize = 4;
 
-pub const ROWS: usize = 80;
+pub const ROWS: usize = parts::ROWS;
 
-const PLACES: usize = 336;
+pub const LENGTHS: usize = parts::LENGTHS;
 
-// Words of a row, and of a ring: one for each place.
+const MARKS: usize = END / 8;
+
+// Words of a row, and of the lengths of a lane's places, four in a word.
 pub const ROW_WORDS: usize = 4;
 
-const RING_WORDS: usize = DEPTH as usize;
+pub const LENGTH_WORDS: usize = PLACES / 4;
 
-// The fixed size of a table, in bytes: 45,056, where the rings of the slot lists end.
-pub const SIZE: usize = END;
+// Bytes behind the marks, four bytes each, that no call looks at (docs/TABLE.md).
+const KEPT: usize = 4096;
+
+// The fixed size of a table, in bytes: 65,536.
+pub const SIZE: usize = END + 4 * LANES * PLACES + KEPT;
 
 // Where weight, group and c begin in a setting word, after longest.
 pub const WEIGHT_UNIT: u64 = 65536;
@@ -55,9 +67,6 @@ pub const RATE_UNIT: u64 = 1099511627776;
 const PART: u64 = 65536;
 
 const GROUPS: u64 = 256;
-
-// Where the length begins in a record's word: after the mark's 32 bits.
-const LENGTH_UNIT: u64 = 4294967296;
 
 // A lane as the table keeps it: its setting, the line's framing bytes, its one clock word (S while it holds records, F while it is idle), and its ring.
 pub struct LaneRow {
@@ -77,9 +86,9 @@ pub struct Entry {
     pub length: Bytes,
 }
 
-// Word `i` of the table.
+// Word `i` of the table, one before the slot lists.
 pub fn cell(t: &[u8], i: usize) -> u64
-    requires { ⌜ Room (now t) × (i < WORDS) ⌝ }
+    requires { ⌜ Front (now t) × (i < marksCell) ⌝ }
     ensures { λ r. ⌜ r ≡ getD (cells (now (t .entry))) i 0 ⌝ }
 {
     word(t, i)
@@ -87,7 +96,7 @@ pub fn cell(t: &[u8], i: usize) -> u64
 
 // Changes word `i` of the table.
 pub fn set_cell(t: &mut [u8], i: usize, v: u64)
-    requires { ⌜ Room (now t) × (i < WORDS) ⌝ }
+    requires { ⌜ Room (now t) × (i < marksCell) ⌝ }
     ensures { λ _. ⌜ Now (now (t .entry)) (now (t .exit)) (set (cells (now (t .entry))) i v) ⌝ }
 {
     set_word(t, i, v);
@@ -95,7 +104,7 @@ pub fn set_cell(t: &mut [u8], i: usize, v: u64)
 
 // Lane `k`'s words, taken apart, with the line's framing bytes.
 pub fn row(t: &[u8], k: usize) -> LaneRow
-    requires { ⌜ Room (now t) × (k < 64) ⌝ }
+    requires { ⌜ Front (now t) × (k < 64) ⌝ }
     ensures { λ r. ⌜ (r ≡ rowAt (cells (now (t .entry))) k) × (r .head < laneDepth) × (r .rate .0 < 2 ^ 24) ⌝ }
 {
     let base = ROWS + ROW_WORDS * k;
@@ -136,27 +145,43 @@ pub fn set_ring(t: &mut [u8], k: usize, head: u64, count: u64)
 // The record at place `i` of lane `k`'s ring, `i` counted on past the ring's end.
 pub fn record_at(t: &[u8], k: usize, i: u64) -> Entry
     requires { ⌜ Room (now t) × (k < 64) ⌝ }
-    ensures { λ r. ⌜ (r ≡ entryOf (getD (cells (now (t .entry))) (placeWord k i) 0)) × (r .length .0 < 2 ^ 32) ⌝ }
+    ensures { λ r. ⌜ (r ≡ entryAt (cells (now (t .entry))) (placeOf k i)) × (r .length .0 ≤ 2 ^ 16) ⌝ }
 {
-    let e = cell(t, PLACES + RING_WORDS * k + (i % DEPTH) as usize);
+    let place = PLACES * k + (i % DEPTH) as usize;
+    let length = quarter(t, 4 * LENGTHS + place) + 1;
+    let mark = half(t, 2 * MARKS + place);
     Entry {
-        mark: (e % LENGTH_UNIT) as u32,
-        length: Bytes(e / LENGTH_UNIT),
+        mark: mark as u32,
+        length: Bytes(length),
     }
 }
 
 // Stores a record at place `i` of lane `k`'s ring.
 pub fn set_record(t: &mut [u8], k: usize, i: u64, e: Entry)
-    requires { ⌜ Room (now t) × (k < 64) × (e .length .0 < 2 ^ 32) ⌝ }
-    ensures { λ _. ⌜ Now (now (t .entry)) (now (t .exit)) (set (cells (now (t .entry))) (placeWord k i) (entryWord e)) ⌝ }
+    requires { ⌜ Room (now t) × (k < 64) × (0 < e .length .0) × (e .length .0 ≤ 2 ^ 16) ⌝ }
+    ensures { λ _. ⌜ Now (now (t .entry)) (now (t .exit)) (putEntry (cells (now (t .entry))) (placeOf k i) e) ⌝ }
 {
-    let word = (e.mark as u64) + e.length.0 * LENGTH_UNIT;
-    set_cell(t, PLACES + RING_WORDS * k + (i % DEPTH) as usize, word);
+    let place = PLACES * k + (i % DEPTH) as usize;
+    set_quarter(t, 4 * LENGTHS + place, e.length.0 - 1);
+    set_half(t, 2 * MARKS + place, e.mark as u64);
+}
+
+// Makes the length of each place of lane `k`'s ring 1: what stood there may have been anything.
+pub fn clear_lengths(t: &mut [u8], k: usize)
+    requires { ⌜ Room (now t) × (k < 64) ⌝ }
+    ensures { λ _. ⌜ Now (now (t .entry)) (now (t .exit)) (clearLengths (cells (now (t .entry))) (lengthsCell + 16 * k) 16) ⌝ }
+{
+    let from = LENGTHS + LENGTH_WORDS * k;
+    let mut i = 0;
+    while i < LENGTH_WORDS {
+        set_cell(t, from + i, 0);
+        i += 1;
+    }
 }
 
 // Whether lane `k` is in the setup.
 pub fn present(t: &[u8], k: usize) -> bool
-    requires { ⌜ Room (now t) × (k < 64) ⌝ }
+    requires { ⌜ Front (now t) × (k < 64) ⌝ }
     ensures { λ r. ⌜ r ≡ presentAt (cells (now (t .entry))) k ⌝ }
 {
     let lanes = cell(t, PRESENT);
@@ -180,7 +205,7 @@ pub fn next_present(lanes: u64, from: usize) -> usize
 
 // The clock V.
 pub fn clock(t: &[u8]) -> Clock
-    requires { ⌜ Room (now t) ⌝ }
+    requires { ⌜ Front (now t) ⌝ }
     ensures { λ r. ⌜ r .0 ≡ meant (now (t .entry)) .clock ⌝ }
 {
     Clock(cell(t, CLOCK))

@@ -20,9 +20,9 @@ use mathlib.Core.Option.{Option, none, some}
 use lib.Dec.{leb}
 use lib.ListN.{length}
 
--- "Each lane holds at most 16 records, so lanes share no room."
+-- how many records a lane has room for (document 02, g); lanes share no room
 abbrev pub laneDepth : ℕ
-laneDepth = 16
+laneDepth = 64
 
 pub record Rec : Type 0 where
   pub mark : ℕ
@@ -76,7 +76,7 @@ abbrev pub Lengths : ℕ → List Rec → Type 0
 Lengths L [] = Unit {0}
 Lengths L (r ∷ rs) = (1 ≤ r .len) × (r .len ≤ L) × Lengths L rs
 
--- "queues of 0 to 16 records"
+-- no more records than the lane has room for
 unfoldable pub GoodWaiting : ℕ → Waiting → Type 0
 GoodWaiting L (plain q) = (length q ≤ laneDepth) × Lengths L q
 

@@ -18,7 +18,7 @@ leVal-leBytes zero v h = omega arith
 leVal-leBytes (suc k) v h = rw (leVal-leBytes k (v / 256) (omega (arith, rw pow-suc at h))) (omega arith)
 
 -- what eight reads give
-pub word-sum : (t : List ℕ) (a : ℕ) → getD t a 0 + getD t (a + 1) 0 * 256 + getD t (a + 2) 0 * 65536 + getD t (a + 3) 0 * 16777216 + getD t (a + 4) 0 * 4294967296 + getD t (a + 5) 0 * 1099511627776 + getD t (a + 6) 0 * 281474976710656 + getD t (a + 7) 0 * 72057594037927936 ≡ leVal (reads t a 8)
+pub word-sum : (t : List ℕ) (a : ℕ) → (getD t a 0 + getD t (a + 1) 0 * 256 + (getD t (a + 2) 0 + getD t (a + 3) 0 * 256) * 65536) + (getD t (a + 4) 0 + getD t (a + 5) 0 * 256 + (getD t (a + 6) 0 + getD t (a + 7) 0 * 256) * 65536) * 4294967296 ≡ leVal (reads t a 8)
 unfolding leVal
 word-sum t a = simp towards-suc (omega arith)
 

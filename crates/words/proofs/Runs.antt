@@ -59,6 +59,10 @@ reads-ext l m a zero h = refl
 reads-ext l m a (suc n) h =
     rw (h a (omega arith) (omega arith), reads-ext l m (suc a) n (λ i p q. h i (omega arith) (omega arith)))
 
+pub length-reads : (l : List ℕ) (a n : ℕ) → length (reads l a n) ≡ n
+length-reads l a zero = refl
+length-reads l a (suc n) = ap suc (length-reads l (suc a) n)
+
 -- ---- lists made by a rule
 
 module _ {A : Type 0} where

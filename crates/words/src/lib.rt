@@ -21,14 +21,9 @@ pub fn word(t: &[u8], i: usize) -> u64
     ensures { λ r. ⌜ r ≡ wordAt (now (t .entry)) i ⌝ }
 {
     let a = i * 8;
-    byte(t, a)
-        + byte(t, a + 1) * 256
-        + byte(t, a + 2) * 65536
-        + byte(t, a + 3) * 16777216
-        + byte(t, a + 4) * 4294967296
-        + byte(t, a + 5) * 1099511627776
-        + byte(t, a + 6) * 281474976710656
-        + byte(t, a + 7) * 72057594037927936
+    (byte(t, a) + byte(t, a + 1) * 256 + (byte(t, a + 2) + byte(t, a + 3) * 256) * 65536)
+        + (byte(t, a + 4) + byte(t, a + 5) * 256 + (byte(t, a + 6) + byte(t, a + 7) * 256) * 65536)
+            * 4294967296
 }
 
 // Changes word `i` of the bytes to `v`.

@@ -22,7 +22,7 @@ use Rattle.zenfrosta.specs.declared.Four.{Four}
 use Rattle.zenfrosta.specs.Heard.{Begun, HostMakes}
 
 -- no refusal has the number 0
-number-not-0 : (x : Refusal) → number x ≡ 0 → ⊥
+pub number-not-0 : (x : Refusal) → number x ≡ 0 → ⊥
 number-not-0 (Cut p) e = omega arith
 number-not-0 (UnknownTag p) e = omega arith
 number-not-0 (WrongLength p) e = omega arith

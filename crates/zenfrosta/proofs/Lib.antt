@@ -3,3 +3,4 @@ pub mod AfterRun
 pub mod Heard
 pub mod HostLists
 pub mod HostMakes
+pub mod HostConverts

@@ -3,3 +3,4 @@ pub mod AfterRun
 pub mod Heard
 pub mod Board
 pub mod Plans
+pub mod Old

@@ -19,6 +19,7 @@ ghost use Rattle.session.specs.Ran.{Ran};
 ghost use Rattle.zenfrosta.specs.Crossing.{four, code, values, stopCode, runValues, refusalWords, Spoken, CrossesCall, CrossesMaking, CrossesRun};
 
 pub mod board;
+pub mod old;
 pub mod plans;
 pub mod sheets;
 

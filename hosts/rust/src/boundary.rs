@@ -11,6 +11,15 @@ const OUT: usize = 32;
 extern "C" {
     fn zf_table_size() -> u64;
     fn zf_make(s: *const u8, s_len: usize, t: *mut u8, t_len: usize, out: *mut u8, out_len: usize) -> u64;
+    fn zf_old_table_size() -> u64;
+    fn zf_convert(
+        old: *const u8,
+        old_len: usize,
+        t: *mut u8,
+        t_len: usize,
+        out: *mut u8,
+        out_len: usize,
+    ) -> u64;
     fn zf_put(
         t: *mut u8,
         t_len: usize,
@@ -57,6 +66,14 @@ pub fn table_size() -> u64 {
 
 pub fn make(s: &[u8], t: &mut [u8]) -> Told {
     told(|out, n| unsafe { zf_make(s.as_ptr(), s.len(), t.as_mut_ptr(), t.len(), out, n) })
+}
+
+pub fn old_table_size() -> u64 {
+    unsafe { zf_old_table_size() }
+}
+
+pub fn convert(old: &[u8], t: &mut [u8]) -> Told {
+    told(|out, n| unsafe { zf_convert(old.as_ptr(), old.len(), t.as_mut_ptr(), t.len(), out, n) })
 }
 
 pub fn put(t: &mut [u8], lane: u8, mark: u32, length: u64) -> Told {

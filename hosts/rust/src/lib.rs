@@ -1,7 +1,8 @@
 //! Zenfrosta for hosts in Rust: the public calls on a lent table, and the session run. Every function takes any bytes; a refusal changes no table.
 //!
-//! A table is [`TABLE_SIZE`] bytes or more that [`make`] has written; it may be kept, moved or copied between calls. [`Board`] is the desk's
-//! board of which train is in which cell; it has nothing to do with a table. [`Plan`] is a setup or a text sheet to be edited.
+//! A table is [`TABLE_SIZE`] bytes or more that [`make`] has written; it may be kept, moved or copied between calls. One that was kept over the
+//! update from lanes of 16 records is taken over by [`convert`], once. [`Board`] is the desk's board of which train is in which cell; it has
+//! nothing to do with a table. [`Plan`] is a setup or a text sheet to be edited.
 
 #![deny(missing_docs, unsafe_code)]
 
@@ -13,7 +14,10 @@ pub use board::{board_size, Board, BoardRefusal, Handover, Kind, BOARD_SIZE, LIN
 pub use plan::{plan_size, Plan, PlanLane, PLAN_SIZE, SETUP_MOST, SHEET_MOST};
 
 /// The fixed size of a table in bytes; bytes past it are never touched.
-pub const TABLE_SIZE: usize = 45_056;
+pub const TABLE_SIZE: usize = 65_536;
+
+/// The fixed size in bytes of a table from before lanes had room for 64 records; only [`convert`] takes such a one.
+pub const OLD_TABLE_SIZE: usize = 45_056;
 
 /// The greatest limit of a run.
 pub const MOST_REQUESTS: u64 = 1_000;
@@ -148,7 +152,21 @@ pub fn make(setup: &[u8], table: &mut [u8]) -> Result<u64, Refusal> {
     answer(boundary::make(setup, table)).map(|words| words[0])
 }
 
-/// Puts a record into a lane; how many records the lane held before it, 0 to 15: so many of this lane go out first.
+/// The size of a table to be converted as the library has it; [`OLD_TABLE_SIZE`].
+pub fn old_table_size() -> u64 {
+    boundary::old_table_size()
+}
+
+/// Takes over a table from before lanes had room for 64 records into the lent bytes, whatever they held: the same records, clock, lanes and tie
+/// order. Takes answer from it as they would have from the old one, which may then be dropped.
+///
+/// Refused with 7 at place 0 if `table` is shorter than [`TABLE_SIZE`], then with 10 if the old table is not good or shorter than
+/// [`OLD_TABLE_SIZE`]. What kind a kept table is, the host knows by its length: `old` must not be a table of today.
+pub fn convert(old: &[u8], table: &mut [u8]) -> Result<(), Refusal> {
+    answer(boundary::convert(old, table)).map(|_| ())
+}
+
+/// Puts a record into a lane; how many records the lane held before it, 0 to 63: so many of this lane go out first.
 pub fn put(table: &mut [u8], lane: u8, mark: u32, length: u64) -> Result<u64, Refusal> {
     answer(boundary::put(table, lane, mark, length)).map(|words| words[0])
 }

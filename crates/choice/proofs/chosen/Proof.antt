@@ -27,7 +27,7 @@ clock-requires c κs = search needs
 next-group-requires : tie.Need-next-group-requires
 next-group-requires c κs =
     let p = c .before .before .pre in
-    (p .sound .room, p .listed .solid, starts-early _ (meant _) (p .good) (p .listed .agrees))
+    (omega (arith, p .sound .room), p .listed .solid, starts-early _ (meant _) (p .good) (p .listed .agrees))
 
 returns : tie.Need-returns
 returns c =
@@ -83,7 +83,7 @@ first-requires c κs =
     let em = c .word2 .ensures ∙ sym (map-on t g (start-some t g (a .from) (a .start) .0)) in
     let eb = c .before .list-number .ensures .0 ∙ ap (λ (y : ℕ). (y + c .before .before .word .result) / 2 ^ g % 32) e₀ ∙ ap (λ (x : ℕ). (a .from + x) / 2 ^ g % 32) (c .before .before .word .ensures) in
     let some-lane = list-some t (meant t) (p .good) (p .listed .solid .back-whole) (p .listed .agrees) _ (c .before .before .before .before .before .before .before .clock .ensures) f (c .before .before .before .before .before .before .next-group .ensures) a in
-    (p .sound .room, a .low, a .high, c .before .list-number .ensures .1, subst (λ (l : List ℕ). 0 < length l) (ap (λ (b : ℕ). listAt t g b) (sym eb) ∙ ap (λ (m : ℕ). listIn t g m (c .before .list-number .result)) (sym em)) some-lane)
+    (omega (arith, p .sound .room), a .low, a .high, c .before .list-number .ensures .1, subst (λ (l : List ℕ). 0 < length l) (ap (λ (b : ℕ). listAt t g b) (sym eb) ∙ ap (λ (m : ℕ). listIn t g m (c .before .list-number .result)) (sym em)) some-lane)
 
 returns-2 : tie.Need-returns-2
 returns-2 c =

@@ -31,7 +31,7 @@ abbrev μ-loop : tie.MeasureT-loop
 μ-loop t v a₀ left₀ a left = left
 
 clock-requires : tie.Need-clock-requires Inv-loop μ-loop
-clock-requires c κs = c .before .pre .sound .room
+clock-requires c κs = omega (arith, c .before .pre .sound .room)
 
 word-requires : tie.Need-word-requires Inv-loop μ-loop
 word-requires c κs = omega (arith, c .before .before .pre .sound .room)

@@ -22,7 +22,7 @@ use Rattle.units.proofs.rounded_start.Reads as rounded-start-reads
 row-requires : tie.Need-row-requires
 row-requires c κs =
     let p = c .before .before .pre in
-    (p .0 .sound .room, small _ (meant _) (known-holds _ (p .0)) (p .0 .good) _ (c .before .before .args .e) (p .1) (p .2))
+    (omega (arith, p .0 .sound .room), small _ (meant _) (known-holds _ (p .0)) (p .0 .good) _ (c .before .before .args .e) (p .1) (p .2))
 
 clock-requires : tie.Need-clock-requires
 clock-requires c κs = search needs

@@ -1,3 +1,4 @@
+use native.Mathlib.Omega.{arith}
 -- `put_record` meets its contract. Assumes nothing.
 use Prim.Native.Nat.{ℕ}
 use mathlib.Core.Path.{_≡_, sym, _∙_}
@@ -29,7 +30,7 @@ use Rattle.table.proofs.row.Reads as row-reads
 row-requires : tie.Need-row-requires
 row-requires c κs =
     let s = c .before .before in
-    (s .pre .0 .sound .room, put-small (s .args .t .now) (s .pre .0) (s .args .k) (s .args .e .length .0) (s .pre .1))
+    (omega (arith, s .pre .0 .sound .room), put-small (s .args .t .now) (s .pre .0) (s .args .k) (s .args .e .length .0) (s .pre .1))
 
 put-first-requires : tie.Need-put-first-requires
 put-first-requires c κs =
@@ -44,7 +45,7 @@ append-requires c κs =
     let t = s .args .t .now in
     let is : RowIs (laneAt (meant t) (s .args .k)) (c .before .before .before .row .result) = rw (c .before .before .before .row .ensures .0) (put-row t (s .pre .0) (s .args .k) (s .args .e .length .0) (s .pre .1)) in
     let a = s .pre .1 in
-    (s .pre .0 .sound, put-small t (s .pre .0) (s .args .k) (s .args .e .length .0) a, put-length t (s .pre .0) (s .args .k) (s .args .e .length .0) a, count-holds (laneAt (meant t) (s .args .k)) _ (s .pre .0 .good .waiting (s .args .k)) (is .held) (pos-of-ne-zero (c .before .if1 .left)), leb-false laneDepth (held (laneAt (meant t) (s .args .k) .waiting)) (sym (full-plain (laneAt (meant t) (s .args .k) .waiting)) ∙ a .room))
+    (s .pre .0 .sound, put-small t (s .pre .0) (s .args .k) (s .args .e .length .0) a, (a .some-bytes, a .fits), count-holds (laneAt (meant t) (s .args .k)) _ (s .pre .0 .good .waiting (s .args .k)) (is .held) (pos-of-ne-zero (c .before .if1 .left)), leb-false laneDepth (held (laneAt (meant t) (s .args .k) .waiting)) (sym (full-plain (laneAt (meant t) (s .args .k) .waiting)) ∙ a .room))
 
 same-length : tie.Need-same-length
 same-length c = search needs

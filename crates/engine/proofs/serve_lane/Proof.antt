@@ -25,7 +25,7 @@ use Rattle.units.proofs.plus.Reads as plus-reads
 row-requires : tie.Need-row-requires
 row-requires c κs =
     let ch = c .before .before .pre in
-    (ch .0 .sound .room, lane-small _ (meant _) _ _ _ (at-chosen _ (ch .0) _ (ch .1)))
+    (omega (arith, ch .0 .sound .room), lane-small _ (meant _) _ _ _ (at-chosen _ (ch .0) _ (ch .1)))
 
 clock-requires : tie.Need-clock-requires
 clock-requires c κs = search needs

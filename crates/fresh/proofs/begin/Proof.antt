@@ -13,6 +13,9 @@ set-cell-requires-2 c κs = search needs
 set-cell-requires-3 : tie.Need-set-cell-requires-3
 set-cell-requires-3 c κs = search needs
 
+set-cell-requires-4 : tie.Need-set-cell-requires-4
+set-cell-requires-4 c κs = search needs
+
 empty-requires : tie.Need-empty-requires
 empty-requires c κs = search needs
 
@@ -20,15 +23,20 @@ same-length : tie.Need-same-length
 same-length c = search needs
 
 returns : tie.Need-returns
-returns c =
-    let s = c .before .before .before .before .before .before .before .before .before .before .before .before .before .before .before .before .before in
-    let t = s .args .t .now in
-    let h = s .args .h .0 in
-    let two = now-then _ _ _ (c .before .before .before .before .before .before .before .before .before .before .before .before .before .before .set-cell .ensures) (c .before .before .before .before .before .before .before .before .before .before .set-cell2 .ensures) in
-    let n = now-then _ _ _ two (c .before .before .before .before .before .before .set-cell3 .ensures) in
-    begin-makes t _ _ h n (c .before .before .empty .ensures)
+returns c = let s = c .before .before .before .before .before .before .before .before .before .before .before .before .before .before .before .before .before .before .before .before .before in
+    let two = now-then _ _ _ (c .before .before .before .before .before .before .before .before .before .before .before .before .before .before .before .before .before .before .set-cell .ensures) (c .before .before .before .before .before .before .before .before .before .before .before .before .before .before .set-cell2 .ensures) in
+    let three = now-then _ _ _ two (c .before .before .before .before .before .before .before .before .before .before .set-cell3 .ensures) in
+    let n = now-then _ _ _ three (c .before .before .before .before .before .before .set-cell4 .ensures) in
+    begin-makes (s .args .t .now) _ _ (s .args .h .0) n (c .before .before .empty .ensures)
 
 pub begin-spec : {M : Type 1} → statement M
 begin-spec =
     tie.close
-    (tie.spec set-cell-requires set-cell-requires-2 set-cell-requires-3 empty-requires same-length returns)
+    (tie.spec
+    set-cell-requires
+    set-cell-requires-2
+    set-cell-requires-3
+    set-cell-requires-4
+    empty-requires
+    same-length
+    returns)

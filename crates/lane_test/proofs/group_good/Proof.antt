@@ -8,14 +8,6 @@ use Rattle.units.proofs.Compare.{is-before, is-not-before, is-not-after, is-aft
 use borrow.Author.Needs.{needs}
 use Rattle.lane_test.proofs.group_good.Statement.{statement}
 use Rattle.lane_test.proofs.group_good.Tie as tie
-use Rattle.lane_test.proofs.group_good.Reads as reads
-use Rattle.lane_test.proofs.group_good.Lts as lts
-use Rattle.table.proofs.charged.Reads as charged-reads
-use Rattle.units.proofs.before.Reads as before-reads
-use Rattle.units.proofs.lane_charge.Reads as lane-charge-reads
-use Rattle.units.proofs.not_after.Reads as not-after-reads
-use Rattle.units.proofs.plus.Reads as plus-reads
-use Rattle.units.proofs.slot.Reads as slot-reads
 
 returns : tie.Need-returns
 returns c = λ same. omega (arith, group-at-most (c .before .args .l) (c .before .pre .2) (c .before .pre .1) (c .before .pre .5) same, c .if1 .taken)

@@ -1,13 +1,12 @@
-use Rattle.lane_test.proofs.Lane.{lane-made, lane-room, lane-time, lane-lengths}
+use Rattle.lane_test.proofs.Lane.{lane-made, lane-room, lane-time}
 use Rattle.lane_test.proofs.Setting.{says-yes, says-no, group-at-most}
 use Rattle.lane_test.specs.Says.{TimeGood}
 use Rattle.table.specs.declared.LaneRow.{LaneRow}
-use Rattle.table.specs.Means.{RowAgrees, ringOf, givenOf}
+use Rattle.table.specs.Means.{RowAgrees, PlacesFit}
 use Rattle.table.specs.Layout.{cells}
-use Rattle.waiting.specs.Waiting.{Lengths}
 use Rattle.rules.specs.State.{laneDepth}
-use Prim.Native.Nat.{_≤_}
-use mathlib.Core.Path.{sym, subst}
+use Prim.Native.Nat.{_≤_, _<_}
+use mathlib.Core.Path.{_≡_, sym, subst}
 use native.Mathlib.Omega.{arith}
 use borrow.Author.Needs.{needs}
 use Rattle.lane_test.proofs.lane_good.Statement.{statement}
@@ -19,62 +18,62 @@ setting-good-requires c κs = search needs
 returns : tie.Need-returns
 returns c =
     let s = c .before .before .before in
-    let e = s .pre .3 in
-    let w = cells (s .args .t .now) in
-    let k = s .args .k in
-    let v = s .args .v .0 in
-    λ g. says-no (c .before .setting-good .result) (c .before .setting-good .ensures) (c .if1 .taken) (subst (λ (l : LaneRow). RowAgrees l) (sym e) (g .agrees))
+    λ g. says-no (c .before .setting-good .result) (c .before .setting-good .ensures) (c .if1 .taken) (subst RowAgrees (sym (s .pre .3)) (g .fine .agrees))
 
 returns-2 : tie.Need-returns-2
 returns-2 c =
     let s = c .before .before .before .before .before in
-    let e = s .pre .3 in
-    let w = cells (s .args .t .now) in
-    let k = s .args .k in
-    let v = s .args .v .0 in
-    λ g. let few : s .args .l .count ≤ laneDepth = subst (λ (l : LaneRow). l .count ≤ laneDepth) (sym e) (lane-room v w k (s .pre .2) g) in omega (arith, few, c .if2 .taken)
+    λ g. let few : s .args .l .count ≤ laneDepth = subst (λ (l : LaneRow). l .count ≤ laneDepth) (sym (s .pre .3)) (lane-room (s .args .v .0) (cells (s .args .t .now)) (s .args .k) (s .pre .2) g) in omega (arith, few, c .if2 .taken)
 
 time-good-requires : tie.Need-time-good-requires
 time-good-requires c κs =
     let s = c .before .before .before .before .before in
-    let e = s .pre .3 in
-    let w = cells (s .args .t .now) in
-    let k = s .args .k in
-    let v = s .args .v .0 in
     let a = says-yes (c .before .before .before .setting-good .result) (c .before .before .before .setting-good .ensures) (c .before .before .if1 .left) in
     (group-at-most (s .args .l) (a .rated) (a .numbers .longest-high) (s .pre .7) (a .grouped), s .pre .6, s .pre .7)
 
 returns-3 : tie.Need-returns-3
 returns-3 c =
     let s = c .before .before .before .before .before .before .before in
-    let e = s .pre .3 in
-    let w = cells (s .args .t .now) in
-    let k = s .args .k in
     let v = s .args .v .0 in
-    λ g. says-no (c .before .time-good .result) (c .before .time-good .ensures) (c .if3 .taken) (subst (λ (l : LaneRow). TimeGood v l) (sym e) (lane-time v w k (s .pre .2) g))
+    λ g. says-no (c .before .time-good .result) (c .before .time-good .ensures) (c .if3 .taken) (subst (TimeGood v) (sym (s .pre .3)) (lane-time v (cells (s .args .t .now)) (s .args .k) (s .pre .2) g))
 
-lengths-good-requires : tie.Need-lengths-good-requires
-lengths-good-requires c κs = search needs
-
+-- an idle lane has no place to look at
 returns-4 : tie.Need-returns-4
 returns-4 c =
     let s = c .before .before .before .before .before .before .before .before .before in
-    let e = s .pre .3 in
+    let v = s .args .v .0 in
     let w = cells (s .args .t .now) in
     let k = s .args .k in
-    let v = s .args .v .0 in
-    λ g. says-no (c .before .lengths-good .result) (c .before .lengths-good .ensures) (c .if4 .taken) (subst (λ (l : LaneRow). Lengths (givenOf l .longest) (ringOf w k (l .head) (l .count))) (sym e) (lane-lengths v w k (s .pre .2) g))
+    let e = s .pre .3 in
+    let a = says-yes (c .before .before .before .before .before .before .before .setting-good .result) (c .before .before .before .before .before .before .before .setting-good .ensures) (c .before .before .before .before .before .before .if1 .left) in
+    let idle : s .args .l .count ≡ 0 = c .if4 .taken in
+    lane-made v w k (s .pre .2) (subst RowAgrees e a) (subst (λ (l : LaneRow). l .count ≤ laneDepth) e (omega (arith, idle))) (subst (TimeGood v) e (says-yes (c .before .before .before .time-good .result) (c .before .before .before .time-good .ensures) (c .before .before .if3 .left)))
+    (λ some. absurd (omega (arith, subst (λ (l : LaneRow). l .count ≡ 0) e idle)))
+
+places-good-requires : tie.Need-places-good-requires
+places-good-requires c κs =
+    let s = c .before .before .before .before .before .before .before .before .before in
+    let a = says-yes (c .before .before .before .before .before .before .before .setting-good .result) (c .before .before .before .before .before .before .before .setting-good .ensures) (c .before .before .before .before .before .before .if1 .left) in
+    (s .pre .0, s .pre .1, omega (arith, a .numbers .longest-low), omega (arith, a .numbers .longest-high))
 
 returns-5 : tie.Need-returns-5
 returns-5 c =
-    let s = c .before .before .before .before .before .before .before .before .before in
-    let e = s .pre .3 in
+    let s = c .before .before .before .before .before .before .before .before .before .before .before in
     let w = cells (s .args .t .now) in
     let k = s .args .k in
+    let e = s .pre .3 in
+    λ g. says-no (c .before .places-good .result) (c .before .places-good .ensures) (c .if5 .taken) (subst (PlacesFit w k) (sym e) (g .places (subst (λ (l : LaneRow). 0 < l .count) e (omega (arith, c .before .before .if4 .left)))))
+
+returns-6 : tie.Need-returns-6
+returns-6 c =
+    let s = c .before .before .before .before .before .before .before .before .before .before .before in
     let v = s .args .v .0 in
-    let a = says-yes (c .before .before .before .before .before .before .before .setting-good .result) (c .before .before .before .before .before .before .before .setting-good .ensures) (c .before .before .before .before .before .before .if1 .left) in
-    lane-made v w k (s .pre .2) (subst (λ (l : LaneRow). RowAgrees l) e a) (subst (λ (l : LaneRow). l .count ≤ laneDepth) e (c .before .before .before .before .if2 .left)) (subst (λ (l : LaneRow). TimeGood v l) e (says-yes (c .before .before .before .time-good .result) (c .before .before .before .time-good .ensures) (c .before .before .if3 .left)))
-    (subst (λ (l : LaneRow). Lengths (givenOf l .longest) (ringOf w k (l .head) (l .count))) e (says-yes (c .before .lengths-good .result) (c .before .lengths-good .ensures) (c .if4 .left)))
+    let w = cells (s .args .t .now) in
+    let k = s .args .k in
+    let e = s .pre .3 in
+    let a = says-yes (c .before .before .before .before .before .before .before .before .before .setting-good .result) (c .before .before .before .before .before .before .before .before .before .setting-good .ensures) (c .before .before .before .before .before .before .before .before .if1 .left) in
+    lane-made v w k (s .pre .2) (subst RowAgrees e a) (subst (λ (l : LaneRow). l .count ≤ laneDepth) e (c .before .before .before .before .before .before .if2 .left)) (subst (TimeGood v) e (says-yes (c .before .before .before .before .before .time-good .result) (c .before .before .before .before .before .time-good .ensures) (c .before .before .before .before .if3 .left)))
+    (λ some. subst (PlacesFit w k) e (says-yes (c .before .places-good .result) (c .before .places-good .ensures) (c .if5 .left)))
 
 pub lane-good-spec : {M : Type 1} → statement M
 lane-good-spec =
@@ -85,6 +84,7 @@ lane-good-spec =
     returns-2
     time-good-requires
     returns-3
-    lengths-good-requires
     returns-4
-    returns-5)
+    places-good-requires
+    returns-5
+    returns-6)

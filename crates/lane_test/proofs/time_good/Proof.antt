@@ -4,14 +4,6 @@ use Rattle.units.proofs.Compare.{is-not-after, is-after}
 use borrow.Author.Needs.{needs}
 use Rattle.lane_test.proofs.time_good.Statement.{statement}
 use Rattle.lane_test.proofs.time_good.Tie as tie
-use Rattle.lane_test.proofs.time_good.Reads as reads
-use Rattle.lane_test.proofs.time_good.Lts as lts
-use Rattle.table.proofs.charged.Reads as charged-reads
-use Rattle.units.proofs.line_charge.Reads as line-charge-reads
-use Rattle.units.proofs.not_after.Reads as not-after-reads
-use Rattle.units.proofs.plus.Reads as plus-reads
-use Rattle.units.proofs.rounded_start.Reads as rounded-start-reads
-use Rattle.units.proofs.two_slots.Reads as two-slots-reads
 
 two-slots-requires : tie.Need-two-slots-requires
 two-slots-requires c κs = search needs

@@ -18,7 +18,7 @@ charged-requires : tie.Need-charged-requires
 charged-requires c κs =
     let s = c .before .before .before .before .before in
     let r = c .before .before .row in
-    (framing-row (s .args .t .now) (s .args .k) (r .result) (r .ensures .0) (s .pre .0) (s .pre .1) (s .pre .2), c .record-at .ensures .1)
+    (framing-row (s .args .t .now) (s .args .k) (r .result) (r .ensures .0) (s .pre .0) (s .pre .1) (s .pre .2), omega (arith, c .record-at .ensures .1))
 
 lane-charge-requires : tie.Need-lane-charge-requires
 lane-charge-requires c κs =
@@ -48,7 +48,7 @@ set-row-requires : tie.Need-set-row-requires
 set-row-requires c κs =
     let s = c .before .before .before .before .before .before .before .before .before .before in
     let r = c .before .before .before .before .before .before .before .row in
-    (s .pre .0 .room, s .pre .1, omega arith, omega (arith, room-row (s .args .t .now) (s .args .k) laneDepth (r .result) (r .ensures .0) (s .pre .1) (s .pre .2) (s .pre .3)))
+    (s .pre .0 .room, s .pre .1, omega arith, omega (arith, room-row (s .args .t .now) (s .args .k) 64 (r .result) (r .ensures .0) (s .pre .1) (s .pre .2) (s .pre .3)))
 
 same-length : tie.Need-same-length
 same-length c = search needs

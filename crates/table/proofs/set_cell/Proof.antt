@@ -1,10 +1,13 @@
-use mathlib.Core.Path.{ap, _∙_}
-use Prim.Native.Nat.{_*_}
-use lib.ListN.{drop}
+use mathlib.Core.Path.{sym, subst}
+use Prim.Native.Nat.{ℕ}
+use mathlib.Core.List.{List}
 use native.Mathlib.Omega.{arith}
-use Rattle.words.specs.Words.{wordsOf}
-use Rattle.words.proofs.Laws.{wordsOf-putWord, drop-putWord}
-use Rattle.table.specs.Layout.{WORDS, cells}
+use lib.ListN.{set}
+use Rattle.words.specs.Words.{putWord}
+use Rattle.digits.specs.Digits.{Stored}
+use Rattle.digits.proofs.Bytes.{word-stored}
+use Rattle.table.specs.Layout.{Now, cells}
+use Rattle.table.proofs.Stores.{now-stored, word-before}
 use borrow.Author.Needs.{needs}
 use Rattle.table.proofs.set_cell.Statement.{statement}
 use Rattle.table.proofs.set_cell.Tie as tie
@@ -16,14 +19,14 @@ same-length : tie.Need-same-length
 same-length c = search needs
 
 returns : tie.Need-returns
-unfolding cells
 returns c =
     let s = c .before .before .before .before .before in
-    let e = c .before .before .set-word .ensures in
-    record {
-      words = ap (wordsOf WORDS) e ∙ wordsOf-putWord WORDS (s .args .t .now) (s .args .i) (s .args .v) (s .pre .1) (omega (arith, s .pre .0)) (s .fits .v .fits);
-      rest = ap (drop (WORDS * 8)) e ∙ drop-putWord WORDS (s .args .t .now) (s .args .i) (s .args .v) (s .pre .1);
-    }
+    let t = s .args .t .now in
+    let i = s .args .i in
+    let v = s .args .v in
+    subst (λ (u : List ℕ). Now t u (set (cells t) i v)) (sym (c .before .before .set-word .ensures))
+    (now-stored t (putWord t i v) i v (omega (arith, s .pre .1))
+    (subst (λ (j : ℕ). Stored t (putWord t i v) j v) (sym (word-before i (s .pre .1))) (word-stored t i v (omega (arith, s .pre .0, s .pre .1)) (s .fits .v .fits))))
 
 pub set-cell-spec : {M : Type 1} → statement M
 set-cell-spec = tie.close (tie.spec set-word-requires same-length returns)

@@ -2,7 +2,7 @@ use mathlib.Core.Path.{_∙_}
 use Rattle.slot_lists.specs.Lists.{listAt}
 use Rattle.filing.specs.Filing.{inARow}
 use Rattle.table.proofs.Leave.{meant-now}
-use Rattle.table.proofs.Footprint.{clock-changed, beside-kept, clock-settings}
+use Rattle.table.proofs.Footprint.{clock-changed, clock-beside}
 use Rattle.table.proofs.Stores.{length-cells}
 use Rattle.table.specs.Layout.{cells}
 use borrow.Author.Needs.{needs}
@@ -22,8 +22,8 @@ returns c =
     let v = s .args .v .0 in
     let n = c .before .before .set-cell .ensures in
     record {
-      state = meant-now (s .args .t .now) _ _ n ∙ clock-changed w (inARow (listAt (s .args .t .now))) v (length-cells (s .args .t .now));
-      beside = λ b. rw (n .words) (beside-kept w _ (clock-settings w v) b);
+      state = meant-now (s .args .t .now) _ _ n ∙ clock-changed w v (inARow (listAt (s .args .t .now))) (length-cells (s .args .t .now));
+      beside = λ b. rw (n .words) (clock-beside w v b);
       rest = n .rest;
     }
 

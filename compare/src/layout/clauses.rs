@@ -1,0 +1,104 @@
+//! The clauses of document 01's "A good table", with what is stored beside the contents, and what a reader says of a table's bytes.
+
+use crate::rules::State;
+
+#[derive(Clone, Copy, Debug, PartialEq, Eq)]
+pub enum Clause {
+    /// "it is long enough"
+    Long,
+    /// The depth number, which tells this layout from the one before it.
+    Depth,
+    /// h: 0 to 64, and no other bit of its word.
+    Framing,
+    /// "Lanes 1 to 64"
+    Lanes,
+    /// "Weight w: 1 to 1,024"
+    Weight,
+    /// "weights sum to at most 1,024"
+    WeightSum,
+    /// "Longest record of a lane: 64 to 1,500 bytes."
+    Longest,
+    /// The stored c.
+    UnitsPerByte,
+    /// The stored group.
+    Group,
+    /// No more records than a lane has room for.
+    Records,
+    /// "each length 1 to the lane's longest"
+    Length,
+    /// In a lane that holds records the places without one have a length of 1 to the lane's longest too.
+    Places,
+    /// V below its end.
+    Clock,
+    /// "S below V + 2s"
+    StartAhead,
+    /// R above V - 2s - 1,024 (1,500 + h)
+    StartBehind,
+    /// "for an idle lane F below V + 2s"
+    FinishAhead,
+    /// "an eligible lane if any holds"
+    Eligible,
+    /// What was taken off the clock is a multiple of 2^31 below 2^36.
+    Back,
+    /// Only groups 16 to 31 and lists 0 to 31 are marked; a marked group has a marked list, and a marked list a lane.
+    Marks,
+    /// "a tie order": each holding lane stands once, in the list of its group and its S, and no other lane stands in one.
+    Lists,
+    /// The stored start of a group is the least R of its lanes.
+    Starts,
+}
+
+pub const CLAUSES: &[Clause] = &[
+    Clause::Long,
+    Clause::Depth,
+    Clause::Framing,
+    Clause::Lanes,
+    Clause::Weight,
+    Clause::WeightSum,
+    Clause::Longest,
+    Clause::UnitsPerByte,
+    Clause::Group,
+    Clause::Records,
+    Clause::Length,
+    Clause::Places,
+    Clause::Clock,
+    Clause::StartAhead,
+    Clause::StartBehind,
+    Clause::FinishAhead,
+    Clause::Eligible,
+    Clause::Back,
+    Clause::Marks,
+    Clause::Lists,
+    Clause::Starts,
+];
+
+impl Clause {
+    /// Whether a call on a good table may leave one that breaks the clause: "a good table of other origin may lead to one that gives 10". What is
+    /// stored is never spoiled.
+    pub fn may_be_lost(self) -> bool {
+        use Clause::*;
+        matches!(self, Clock | StartAhead | StartBehind | FinishAhead | Eligible)
+    }
+}
+
+/// What the bytes say.
+#[derive(Clone, Debug)]
+pub struct Reading {
+    /// The clauses that they break: none, if the table is good.
+    pub broken: Vec<Clause>,
+    /// The contents, where words can be read as some at all.
+    pub state: Option<State>,
+}
+
+impl Reading {
+    /// The contents of a good table.
+    pub fn good(self) -> Option<State> {
+        self.state.filter(|_| self.broken.is_empty())
+    }
+
+    pub fn breaks(&mut self, clause: Clause, when: bool) {
+        if when && !self.broken.contains(&clause) {
+            self.broken.push(clause);
+        }
+    }
+}

@@ -1,0 +1,145 @@
+//! A table read and written, over what tells one layout from another: today's ([`NOW`](super::NOW)) and the one before it ([`THEN`](super::old::THEN)).
+
+use super::{clock_word, present, ring, set_word, setting, setting_of, word, Clause, Reading};
+use super::{CLOCK, FRAMING_WORD, PRESENT};
+use crate::numbers::*;
+use crate::rules::{Lane, Record, State};
+use crate::setup::LanePlan;
+use crate::slots;
+use std::collections::VecDeque;
+
+pub struct Form {
+    /// A table's fixed size in bytes.
+    pub size: usize,
+    /// The places of a lane's ring. The ring's word is the first place + this times the number of records.
+    pub depth: u64,
+    /// The word that holds that number too, if there is one. Then every place of a lane that holds records has a length within the lane's numbers.
+    pub depth_word: Option<usize>,
+    /// V of a good table is below this.
+    pub clock_end: i128,
+    /// The record at a place of a lane's ring; places are counted on past the ring's end.
+    pub record: fn(&[u8], u8, u64) -> Record,
+    pub set_record: fn(&mut [u8], u8, u64, Record),
+    /// The words in which it lies.
+    pub words_of: fn(u8, u64) -> Vec<usize>,
+}
+
+impl Form {
+    /// A lane's first place and its number of records.
+    pub fn ring(&self, bytes: &[u8], lane: u8) -> (u64, u64) {
+        let word = word(bytes, ring(lane));
+        (word % self.depth, word / self.depth)
+    }
+
+    pub fn read(&self, bytes: &[u8]) -> Reading {
+        let mut reading = Reading { broken: vec![], state: None };
+        if bytes.len() < self.size {
+            reading.breaks(Clause::Long, true);
+            return reading;
+        }
+        reading.breaks(Clause::Depth, self.depth_word.is_some_and(|at| word(bytes, at) != self.depth));
+        // Where the number is none that h can be, the other clauses go by the nearest to its low bits.
+        let framing = (word(bytes, FRAMING_WORD) % 128).min(u64::from(*FRAMING.end())) as u8;
+        reading.breaks(Clause::Framing, word(bytes, FRAMING_WORD) > u64::from(*FRAMING.end()));
+        let order: Vec<u8> = slots::standing(bytes).into_iter().map(|(.., lane)| lane).collect();
+        let lanes: Option<Vec<Lane>> =
+            present(bytes).map(|lane| self.lane(bytes, lane, framing, &order, &mut reading)).collect();
+        let Some(lanes) = lanes else { return reading };
+        let clock = i128::from(word(bytes, CLOCK));
+        let weights: u32 = lanes.iter().map(|lane| u32::from(lane.plan.weight)).sum();
+        reading.breaks(Clause::Lanes, lanes.is_empty());
+        reading.breaks(Clause::WeightSum, weights > WEIGHT_SUM);
+        reading.breaks(Clause::Clock, clock >= self.clock_end);
+        for lane in &lanes {
+            let ahead = clock + 2 * lane.slot();
+            if lane.holds() {
+                reading.breaks(Clause::StartAhead, lane.start >= ahead);
+                let behind = clock - 2 * lane.slot() - margin(framing);
+                reading.breaks(Clause::StartBehind, lane.rounded_start <= behind);
+            } else {
+                reading.breaks(Clause::FinishAhead, lane.finish >= ahead);
+            }
+        }
+        let held = lanes.iter().any(|lane| lane.holds());
+        let eligible = lanes.iter().any(|lane| lane.eligible(clock));
+        reading.breaks(Clause::Eligible, held && !eligible);
+        for clause in slots::broken(bytes, &lanes) {
+            reading.breaks(clause, true);
+        }
+        reading.state = Some(State::of(clock, framing, lanes));
+        reading
+    }
+
+    /// A present lane, or nothing if its words are no lane's at all.
+    fn lane(
+        &self,
+        bytes: &[u8],
+        number: u8,
+        framing: u8,
+        order: &[u8],
+        reading: &mut Reading,
+    ) -> Option<Lane> {
+        let setting = word(bytes, setting(number));
+        let plan = LanePlan { number, weight: (setting >> 16) as u16, longest: setting as u16 };
+        reading.breaks(Clause::Weight, !WEIGHT.contains(&plan.weight));
+        reading.breaks(Clause::Longest, !LONGEST.contains(&plan.longest));
+        let (first, count) = self.ring(bytes, number);
+        reading.breaks(Clause::Records, count > self.depth);
+        if plan.weight == 0 || count > self.depth {
+            return None;
+        }
+        let record = |place: u64| (self.record)(bytes, number, first + place);
+        let fits = |record: &Record| (1..=u64::from(plan.longest)).contains(&record.length);
+        let queue: VecDeque<Record> = (0..count).map(record).collect();
+        reading.breaks(Clause::Length, !queue.iter().all(fits));
+        let asked = self.depth_word.is_some() && count > 0;
+        reading.breaks(Clause::Places, asked && !(count..self.depth).map(record).all(|free| fits(&free)));
+        let turn = order.iter().position(|lane| *lane == number);
+        let (time, since) = (i128::from(word(bytes, clock_word(number))), turn.map_or(0, |at| at as u64));
+        let lane = Lane::of(plan, framing, queue, time, since);
+        reading.breaks(Clause::UnitsPerByte, i128::from(setting >> 40) != lane.units_per_byte);
+        reading.breaks(Clause::Group, setting >> 32 & 0xFF != u64::from(lane.group));
+        Some(lane)
+    }
+
+    /// Writes contents: the words that mean something, and no other. A ring begins at the place that the bytes have for it. Where every place of a
+    /// holding lane must fit, the lengths of the others go by what the bytes have for them.
+    pub fn write(&self, state: &State, bytes: &mut [u8]) {
+        let number = |value: i128| u64::try_from(value).expect("a clock word");
+        set_word(bytes, CLOCK, number(state.clock));
+        set_word(bytes, FRAMING_WORD, state.framing.into());
+        set_word(bytes, PRESENT, state.lanes.iter().map(|lane| 1 << lane.plan.number).sum());
+        if let Some(at) = self.depth_word {
+            set_word(bytes, at, self.depth);
+        }
+        slots::write(state, bytes);
+        for lane in &state.lanes {
+            let (at, plan) = (lane.plan.number, lane.plan);
+            let units = number(lane.units_per_byte);
+            set_word(
+                bytes,
+                setting(at),
+                setting_of(plan.longest.into(), plan.weight.into(), lane.group.into(), units),
+            );
+            set_word(bytes, clock_word(at), number(if lane.holds() { lane.start } else { lane.finish }));
+            self.write_queue(lane, bytes);
+        }
+    }
+
+    fn write_queue(&self, lane: &Lane, bytes: &mut [u8]) {
+        let (at, count) = (lane.plan.number, lane.queue.len() as u64);
+        let (first, _) = self.ring(bytes, at);
+        set_word(bytes, ring(at), first + self.depth * count);
+        for (place, held) in (first..).zip(&lane.queue) {
+            (self.set_record)(bytes, at, place, *held);
+        }
+        if self.depth_word.is_none() || !lane.holds() {
+            return;
+        }
+        for place in first + count..first + self.depth {
+            let free = (self.record)(bytes, at, place);
+            let length = (free.length - 1) % u64::from(lane.plan.longest.max(1)) + 1;
+            (self.set_record)(bytes, at, place, Record { length, ..free });
+        }
+    }
+}

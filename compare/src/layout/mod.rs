@@ -1,0 +1,100 @@
+//! docs/TABLE.md read by itself: a lent table's words, what they mean, and which clauses of document 01's "A good table" they break. It shares nothing
+//! with the unit's own reading. The slot lists are in [`slots`](crate::slots).
+//!
+//! - [`clauses`] — the clauses, and what a reader says of bytes
+//! - [`form`] — reading and writing, over what tells one layout from another
+//! - [`old`] — the layout before this one, with 16 places in a lane
+
+pub mod clauses;
+pub mod form;
+pub mod old;
+
+pub use clauses::{Clause, Reading, CLAUSES};
+pub use form::Form;
+
+use crate::numbers::*;
+use crate::rules::{Record, State};
+
+/// A table is 65,536 bytes: 1,408 words of 64 bits, low byte first; the bytes of the slot lists' rings; the words of the marks; bytes that mean nothing.
+pub const WORDS: usize = 1_408;
+pub const TABLE_SIZE: usize = 65_536;
+/// Where the marks end, and with them what a call looks at.
+pub const KEPT: usize = 61_440;
+
+/// Where the words lie.
+pub const CLOCK: usize = 0;
+pub const PRESENT: usize = 1;
+pub const DEPTH_WORD: usize = 3;
+pub const FRAMING_WORD: usize = 4;
+
+pub fn setting(lane: u8) -> usize {
+    80 + 4 * usize::from(lane)
+}
+
+pub fn clock_word(lane: u8) -> usize {
+    setting(lane) + 1
+}
+
+pub fn ring(lane: u8) -> usize {
+    setting(lane) + 2
+}
+
+/// Today's layout: a place's length less one lies in 16 bits, four places to a word, and its mark in 32 bits behind the slot lists.
+pub const NOW: Form = Form {
+    size: TABLE_SIZE,
+    depth: DEPTH as u64,
+    depth_word: Some(DEPTH_WORD),
+    clock_end: CLOCK_END,
+    record: |bytes, lane, place| {
+        let length: [u8; 2] = bytes[length_byte(lane, place)..][..2].try_into().expect("two bytes");
+        let mark: [u8; 4] = bytes[mark_byte(lane, place)..][..4].try_into().expect("four bytes");
+        Record { mark: u32::from_le_bytes(mark), length: u64::from(u16::from_le_bytes(length)) + 1 }
+    },
+    set_record: |bytes, lane, place, record| {
+        let less_one = record.length.wrapping_sub(1) as u16;
+        bytes[length_byte(lane, place)..][..2].copy_from_slice(&less_one.to_le_bytes());
+        bytes[mark_byte(lane, place)..][..4].copy_from_slice(&record.mark.to_le_bytes());
+    },
+    words_of: |lane, place| vec![length_byte(lane, place) / 8, mark_byte(lane, place) / 8],
+};
+
+/// The number of a place among those of all lanes.
+fn place_of(lane: u8, place: u64) -> usize {
+    DEPTH * usize::from(lane) + place as usize % DEPTH
+}
+
+/// Low bytes first, so that a quarter or a half of a word is where its bytes are.
+pub fn length_byte(lane: u8, place: u64) -> usize {
+    8 * 336 + 2 * place_of(lane, place)
+}
+
+pub fn mark_byte(lane: u8, place: u64) -> usize {
+    45_056 + 4 * place_of(lane, place)
+}
+
+/// A setting word of these numbers.
+pub fn setting_of(longest: u64, weight: u64, group: u64, units_per_byte: u64) -> u64 {
+    longest | weight << 16 | group << 32 | units_per_byte << 40
+}
+
+pub fn word(bytes: &[u8], at: usize) -> u64 {
+    u64::from_le_bytes(bytes[8 * at..8 * at + 8].try_into().expect("eight bytes"))
+}
+
+pub fn set_word(bytes: &mut [u8], at: usize, value: u64) {
+    bytes[8 * at..8 * at + 8].copy_from_slice(&value.to_le_bytes());
+}
+
+pub fn present(bytes: &[u8]) -> impl Iterator<Item = u8> {
+    let lanes = word(bytes, PRESENT);
+    (0..LANES).filter(move |lane| lanes >> lane & 1 == 1)
+}
+
+/// What a table of today's layout says.
+pub fn read(bytes: &[u8]) -> Reading {
+    NOW.read(bytes)
+}
+
+pub fn write(state: &State, bytes: &mut [u8]) {
+    NOW.write(state, bytes);
+}

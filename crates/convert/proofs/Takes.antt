@@ -1,0 +1,65 @@
+-- Takes answer from both tables alike before the old one's first 10. Assumes nothing.
+use Prim.Native.Nat.{ℕ}
+use mathlib.Core.Path.{_≡_, refl, sym, _∙_}
+use mathlib.Core.Logic.{inl, inr}
+use mathlib.Core.List.{List, [], _∷_}
+use Rattle.rules.specs.State.{State}
+use Rattle.rules.specs.Calls.{Reply, take, step}
+use Rattle.rules.specs.Good.{Good}
+use Rattle.rules.specs.Reads.{reads}
+use Rattle.rules.specs.declared.Answer.{Answer}
+use Rattle.alike.specs.Alike.{Alike}
+use Rattle.alike.proofs.Alike.{alike-refl, alike-sym, alike-trans, alike-good, step-alike}
+use Rattle.table.specs.Encodes.{Encodes}
+use Rattle.good.proofs.Encodes.{encodes-good}
+use Rattle.scheduler.specs.Step.{Step}
+use Rattle.old_table.specs.Old.{oldMeant, OldTable, OldEncodes}
+use Rattle.convert.specs.Converts.{TakenOver}
+use Rattle.convert.specs.Takes.{OldTakes, oldDone, oldThen, refuses, takes, Takes, done, then, UntilTen, SameTakes}
+
+-- the new bytes encode a state like the one that the old bytes mean
+pub record Along (t u : List ℕ) : Type 0 where
+  pub state : State
+  pub encodes : Encodes u state
+  pub alike : Alike state (oldMeant t)
+
+-- one take by each, the old table being good
+pub record Alongside (t u : List ℕ) (p : Along t u) (a : Answer) (t₁ u₁ : List ℕ) : Type 0 where
+  pub good : Good (p .state)
+  pub ruled : reads a ≡ (step (p .state) take) .reply
+  pub same : (step (oldMeant t) take) .reply ≡ reads a
+  pub next : Along t₁ u₁
+
+pub along-over : (old before after : List ℕ) → TakenOver old before after → Along old after
+along-over old before after o = record { state = oldMeant old; encodes = o .encodes; alike = alike-refl (oldMeant old) }
+
+pub along-take : (t u t₁ u₁ : List ℕ) (p : Along t u) (a : Answer) → OldTable t → OldEncodes t₁ ((step (oldMeant t) take) .state) → Step take u a u₁ → Alongside t u p a t₁ u₁
+along-take t u t₁ u₁ p a g after y =
+    let s = p .state in
+    let s₁ = (step s take) .state in
+    let good = alike-good (oldMeant t) s (alike-sym s (oldMeant t) (p .alike)) (g .good .good) in
+    let table = encodes-good u s (p .encodes) good in
+    let same = step-alike s (oldMeant t) good (p .alike) take in
+    record {
+      good = good;
+      ruled = y .reply table s (p .encodes);
+      same = sym (y .reply table s (p .encodes) ∙ same .reply);
+      next = record {
+        state = s₁;
+        encodes = y .state table s (p .encodes);
+        alike = alike-trans s₁ ((step (oldMeant t) take) .state) (oldMeant t₁) (same .state) (alike-sym (oldMeant t₁) ((step (oldMeant t) take) .state) (after .alike));
+      };
+    }
+
+along-takes : {t t′ u u′ : List ℕ} {rs qs : List Reply} → Along t u → OldTakes t rs t′ → Takes u qs u′ → UntilTen rs qs
+unfolding UntilTen
+along-takes p oldDone new = tt
+along-takes p (oldThen x more) done = tt
+along-takes p (oldThen (refuses bad) more) (then y rest) = inl refl
+along-takes {t} {u = u} p (oldThen {u = t₁} (takes g after) more) (then {u = u₁} {a = a} y rest) =
+    let one = along-take t u t₁ u₁ p a g after y in
+    inr (one .same, along-takes (one .next) more rest)
+
+pub same-takes : SameTakes
+unfolding SameTakes
+same-takes old before after a room g c rs qs u v x y = along-takes (along-over old before after (c .converts room g .1)) x y

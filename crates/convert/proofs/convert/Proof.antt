@@ -1,0 +1,31 @@
+-- `convert` meets its contract. Assumes nothing.
+use Rattle.lane_test.proofs.Setting.{says-yes, says-no}
+use Rattle.convert.proofs.Answering.{converts-short, converts-bad, converts-done}
+use borrow.Author.Needs.{needs}
+use Rattle.convert.proofs.convert.Statement.{statement}
+use Rattle.convert.proofs.convert.Tie as tie
+
+returns : tie.Need-returns
+returns c = let s = c .before .before .before in converts-short (s .args .old .now) (s .args .new .now) (c .if1 .taken)
+
+good-requires : tie.Need-good-requires
+good-requires c κs = search needs
+
+returns-2 : tie.Need-returns-2
+returns-2 c = let s = c .before .before .before .before .before in converts-bad (s .args .old .now) (s .args .new .now) (c .before .before .if1 .left) (says-no (c .before .good2 .result) (c .before .good2 .ensures) (c .if2 .taken))
+
+write-requires : tie.Need-write-requires
+write-requires c κs = (says-yes (c .before .before .good2 .result) (c .before .before .good2 .ensures) (c .before .if2 .left), c .before .before .before .if1 .left)
+
+same-length : tie.Need-same-length
+same-length c = search needs
+
+returns-3 : tie.Need-returns-3
+returns-3 c =
+    let s = c .before .before .before .before .before .before .before .before .before in
+    let w = c .before .before .write in
+    converts-done (s .args .old .now) (s .args .new .now) _ (c .before .before .before .before .before .before .if1 .left) (says-yes (c .before .before .before .before .before .good2 .result) (c .before .before .before .before .before .good2 .ensures) (c .before .before .before .before .if2 .left)) (w .kept .1 .0) (w .ensures .0) (w .ensures .1)
+
+pub convert-spec : {M : Type 1} → statement M
+convert-spec =
+    tie.close (tie.spec returns good-requires returns-2 write-requires same-length returns-3)

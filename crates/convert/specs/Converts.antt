@@ -1,0 +1,43 @@
+-- The promise of the converter, whole: for every old table and all new bytes.
+--
+--   Reply      what converting answers: it is done, or a refusal's number and its place
+--   reads      the code's answer as a `Reply`
+--   Converts   the promise
+--
+-- The old table is lent to be read alone, so it stays. Assumes nothing.
+use Prim.Native.Nat.{ℕ, _≤_, _<_}
+use mathlib.Core.Path.{_≡_}
+use mathlib.Core.List.{List}
+use mathlib.Core.Option.{Option, none, some}
+use lib.ListN.{length, drop}
+use Rattle.rules.specs.Reads.{number, placeOf}
+use Rattle.table.specs.Layout.{SIZE}
+use Rattle.table.specs.Encodes.{Encodes}
+use Rattle.good.specs.Table.{GoodTable}
+use Rattle.old_table.specs.Old.{oldMeant, OldTable}
+use Rattle.convert.specs.declared.Converting.{Converting}
+use Rattle.convert.specs.declared.Converting.the-variants.{Converted, Refused}
+
+pub data Reply : Type 0 where
+  converted : Reply
+  notConverted : ℕ → Option ℕ → Reply
+
+abbrev pub reads : Converting → Reply
+reads Converted = converted
+reads (Refused x) = notConverted (number x) (placeOf x)
+
+-- the bytes `after` are a table with the old one's queues, V, S, F and tie order; those past it are as they were
+pub record TakenOver (old before after : List ℕ) : Type 0 where
+  pub encodes : Encodes after (oldMeant old)
+  pub good : GoodTable after
+  pub rest : drop SIZE after ≡ drop SIZE before
+
+pub record Converts (old before : List ℕ) (a : Converting) (after : List ℕ) : Type 0 where
+  -- 7 for too little room, at place 0; it goes before 10
+  pub short : length before < SIZE → (reads a ≡ notConverted 7 (some 0)) × (after ≡ before)
+  -- 10 for an old table that is not good by the rule of its time
+  pub not-good : SIZE ≤ length before → (OldTable old → ⊥) → (reads a ≡ notConverted 10 none) × (after ≡ before)
+  pub converts : SIZE ≤ length before → OldTable old → (reads a ≡ converted) × TakenOver old before after
+  -- and so an answer that it is done says that the old table was good
+  pub was-good : reads a ≡ converted → OldTable old
+  pub size : length after ≡ length before

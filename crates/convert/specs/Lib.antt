@@ -1,0 +1,4 @@
+pub mod Over
+pub mod Converts
+pub mod Takes
+pub mod Lists

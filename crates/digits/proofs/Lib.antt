@@ -1,0 +1,4 @@
+pub mod Laws
+pub mod Bytes
+pub mod Widths
+pub mod Under

@@ -1,0 +1,64 @@
+-- `old_tables::bytes::fill` meets its contract. Assumes nothing.
+use Prim.Native.Nat.{_≤_, _-_}
+use lib.ListN.{length}
+use mathlib.Core.Path.{_≡_}
+use borrow.Author.Needs.{needs}
+use Rattle.old_tables.proofs.bytes.fill.Statement.{statement}
+use Rattle.old_tables.proofs.bytes.fill.Tie as tie
+
+abbrev Inv-loop : tie.InvT-loop
+Inv-loop t₀ i₀ t i = (i ≤ 16) × (length t ≡ length t₀)
+
+abbrev μ-loop : tie.MeasureT-loop
+μ-loop t₀ i₀ t i = 16 - i
+
+loop-holds : tie.Need-loop-holds Inv-loop μ-loop
+loop-holds c = search needs
+
+cast-put : tie.Need-cast-put Inv-loop μ-loop
+cast-put c = search needs
+
+add-put : tie.Need-add-put Inv-loop μ-loop
+add-put c = search needs
+
+add-record : tie.Need-add-record Inv-loop μ-loop
+add-record c = search needs
+
+record-requires : tie.Need-record-requires Inv-loop μ-loop
+record-requires c κs = search needs
+
+put-requires : tie.Need-put-requires Inv-loop μ-loop
+put-requires c κs = search needs
+
+add-i : tie.Need-add-i Inv-loop μ-loop
+add-i c = search needs
+
+loop-less : tie.Need-loop-less Inv-loop μ-loop
+loop-less c = search needs
+
+loop-again : tie.Need-loop-again Inv-loop μ-loop
+loop-again c = search needs
+
+same-length : tie.Need-same-length Inv-loop μ-loop
+same-length c = search needs
+
+returns : tie.Need-returns Inv-loop μ-loop
+returns c = search needs
+
+pub fill-spec : {M : Type 1} → statement M
+fill-spec =
+    tie.close
+    (tie.spec
+    Inv-loop
+    μ-loop
+    loop-holds
+    cast-put
+    add-put
+    add-record
+    record-requires
+    put-requires
+    add-i
+    loop-less
+    loop-again
+    same-length
+    returns)

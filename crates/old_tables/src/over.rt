@@ -1,0 +1,76 @@
+// Converting a case, and the calls on what it became.
+use crate::print;
+use convert::Converting;
+use convert::NEW_SIZE;
+use convert::convert;
+use units::Bytes;
+
+// Room for a table and eight bytes behind it.
+pub const ROOM: usize = 65544;
+
+// What the new bytes hold before.
+pub const MARK: u8 = 9;
+
+// Whether all bytes from `from` on are as they were.
+fn stays(new: &[u8], from: usize) -> bool {
+    let mut i = from;
+    while i < new.len() {
+        if new[i] != MARK {
+            return false;
+        }
+        i += 1;
+    }
+    true
+}
+
+fn kept(new: &[u8], from: usize) {
+    if stays(new, from) {
+        print::line(b" stays");
+    } else {
+        print::line(b" CHANGED");
+    }
+}
+
+// Converts, and says what was answered and whether the bytes stay that have to.
+pub fn over(name: &[u8], old: &[u8], new: &mut [u8]) {
+    print::word(name);
+    print::word(b": ");
+    let r = convert(old, new);
+    match r {
+        Converting::Converted => {
+            print::word(b"converted, the rest");
+            kept(new, NEW_SIZE);
+        }
+        Converting::Refused(x) => {
+            print::refusal(x);
+            print::word(b", all");
+            kept(new, 0);
+        }
+    }
+}
+
+// A case that is not looked at further.
+pub fn only(name: &[u8], old: &[u8]) {
+    let mut new = [MARK; ROOM];
+    over(name, old, &mut new);
+}
+
+pub fn put(t: &mut [u8], lane: u8, mark: u32, length: u64) {
+    print::answer(scheduler::put(t, lane, mark, Bytes(length)));
+}
+
+pub fn lag(t: &[u8], lane: u8) {
+    print::answer(scheduler::lag(t, lane));
+}
+
+fn take(t: &mut [u8]) {
+    print::answer(scheduler::take(t));
+}
+
+pub fn takes(t: &mut [u8], n: u32) {
+    let mut i: u32 = 0;
+    while i < n {
+        take(t);
+        i += 1;
+    }
+}

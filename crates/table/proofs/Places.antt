@@ -1,0 +1,58 @@
+-- From digits of words to records in the cells. Assumes nothing.
+use mathlib.Core.Path.{_≡_, refl, sym, ap, _∙_}
+use Prim.Native.Nat.{ℕ, _+_, _-_, _*_, _/_, _%_, _<_}
+use mathlib.Core.List.{List}
+use native.Mathlib.Numerals.{add-one}
+use native.Mathlib.Omega.{arith}
+use lib.ListN.{getD, set}
+use Rattle.words.specs.Words.{wordAt}
+use Rattle.rings.specs.Rings.{ringsEnd}
+use Rattle.digits.specs.Digits.{digit, putDigit, Stored}
+use Rattle.table.specs.Layout.{lengthsCell, marksCell, lengthCell, markCell, wordOf, Now, cells, entryAt, putLength, putMark, clearLengths}
+use Rattle.table.specs.declared.Entry.{Entry}
+use Rattle.table.proofs.Stores.{cell-is, word-before, word-behind, now-stored, now-then, behind-refl, behind-then}
+
+-- the digits that a place is, among all quarters and all halves of the bytes
+abbrev quarterOf : ℕ → ℕ
+quarterOf p = 4 * lengthsCell + p
+
+abbrev halfOf : ℕ → ℕ
+halfOf p = 2 * (ringsEnd / 8) + p
+
+module _ (p : ℕ) (hp : p < 4096) where
+  length-word : quarterOf p / 4 ≡ wordOf (lengthCell p)
+  length-word = let at : quarterOf p / 4 ≡ lengthCell p = omega arith in at ∙ sym (word-before (lengthCell p) (omega arith))
+
+  mark-word : halfOf p / 2 ≡ wordOf (markCell p)
+  mark-word = let at : halfOf p / 2 ≡ markCell p - marksCell + ringsEnd / 8 = omega arith in at ∙ sym (word-behind (markCell p) (omega arith))
+
+  length-digit : quarterOf p % 4 ≡ p % 4
+  length-digit = omega arith
+
+  mark-digit : halfOf p % 2 ≡ p % 2
+  mark-digit = omega arith
+
+  pub entry-read : (t : List ℕ) (q h : ℕ) → q ≡ digit 16 (quarterOf p % 4) (wordAt t (quarterOf p / 4)) → h ≡ digit 32 (halfOf p % 2) (wordAt t (halfOf p / 2)) → record { mark = h; length = record { 0 = q + 1 } } ≡ entryAt (cells t) p
+  unfolding entryAt
+  entry-read t q h a b = rw (a, b, length-word, mark-word, length-digit, mark-digit, cell-is t (lengthCell p) (omega arith), cell-is t (markCell p) (omega arith))
+
+  pub length-stored : (t u : List ℕ) (n : ℕ) → Stored t u (quarterOf p / 4) (putDigit 16 (quarterOf p % 4) (n - 1) (wordAt t (quarterOf p / 4))) → Now t u (putLength (cells t) p n)
+  unfolding putLength
+  length-stored t u n s = rw (cell-is t (lengthCell p) (omega arith)) (now-stored t u (lengthCell p) _ (omega arith) (rw (length-word, length-digit) at s))
+
+  pub mark-stored : (t u : List ℕ) (m : ℕ) → Stored t u (halfOf p / 2) (putDigit 32 (halfOf p % 2) m (wordAt t (halfOf p / 2))) → Now t u (putMark (cells t) p m)
+  unfolding putMark
+  mark-stored t u m s = rw (cell-is t (markCell p) (omega arith)) (now-stored t u (markCell p) _ (omega arith) (rw (mark-word, mark-digit) at s))
+
+  pub entry-stored : (t u v : List ℕ) (e : Entry) → Now t u (putLength (cells t) p (e .length .0)) → Now u v (putMark (cells u) p (e .mark)) → Now t v (putMark (putLength (cells t) p (e .length .0)) p (e .mark))
+  entry-stored t u v e a b = record { words = b .words ∙ ap (λ (w : List ℕ). putMark w p (e .mark)) (a .words); rest = behind-then (a .rest) (b .rest) }
+
+-- ---- lengths cleared one after another
+
+pub cleared-none : (t : List ℕ) (from : ℕ) → Now t t (clearLengths (cells t) from 0)
+unfolding clearLengths
+cleared-none t from = record { words = refl; rest = behind-refl }
+
+pub cleared-more : (t u v : List ℕ) (from n : ℕ) → Now t u (clearLengths (cells t) from n) → Now u v (set (cells u) (from + n) 0) → Now t v (clearLengths (cells t) from (n + 1))
+unfolding clearLengths
+cleared-more t u v from n a b = rw add-one (now-then v (from + n) 0 a b)
