@@ -4,8 +4,8 @@
 use crate::calls::Taken;
 use crate::fields::Fault;
 use crate::layout::{self, Clause, CLAUSES, NOW, TABLE_SIZE};
-use crate::numbers::{margin, refusal, CLOCK_END, DEPTH, OLD_CLOCK_END};
-use crate::rules::{Lane, State};
+use crate::numbers::*;
+use crate::rules::{taken_off, Lane, State};
 use crate::session::{self, Run};
 use crate::setup;
 use crate::slots;
@@ -54,6 +54,38 @@ pub enum Lapse {
     RingTurned,
     /// A take leaves the clock where it was, if it is the last one.
     ClockKept,
+    /// A put at 2^62 or more gives 14, as it did.
+    SpentAsBefore,
+    /// The clock is taken back from 2^61 + 1 on.
+    BackStrict,
+    /// From 2^62 on.
+    BackLate,
+    /// Only by a put to an idle lane.
+    BackByIdleAlone,
+    /// By a refused put, too.
+    BackByRefused,
+    /// By a take, too.
+    BackByTake,
+    /// By a multiple of 2^30.
+    BackByHalfUnits,
+    /// By the largest multiple of 2^31 not above V - 2^32.
+    BackTooFar,
+    /// The multiple that is above V - 2^33 where V is none itself.
+    BackRoundedUp,
+    /// V alone goes back.
+    BackOfClockAlone,
+    /// The lane with the lowest number is left out.
+    BackLeavesFirstLane,
+    /// An idle lane's F below what is taken off stays.
+    BackKeepsLowFinish,
+    /// Every idle lane's F becomes 0.
+    BackForgetsFinish,
+    /// The groups' starts stay.
+    BackLeavesStarts,
+    /// What was taken off is not remembered, and the lists stay.
+    BackForgotten,
+    /// B is not taken modulo 2^36.
+    BackGrows,
 }
 
 /// Every lapse.
@@ -79,6 +111,22 @@ pub fn lapses() -> Vec<Lapse> {
         ListsAdded,
         RingTurned,
         ClockKept,
+        SpentAsBefore,
+        BackStrict,
+        BackLate,
+        BackByIdleAlone,
+        BackByRefused,
+        BackByTake,
+        BackByHalfUnits,
+        BackTooFar,
+        BackRoundedUp,
+        BackOfClockAlone,
+        BackLeavesFirstLane,
+        BackKeepsLowFinish,
+        BackForgetsFinish,
+        BackLeavesStarts,
+        BackForgotten,
+        BackGrows,
     ];
     CLAUSES.iter().map(|clause| Untested(*clause)).chain(others).collect()
 }
@@ -173,6 +221,38 @@ impl OnWords {
         free
     }
 
+    /// What a put does before it appends a record.
+    fn take_back(&self, state: &mut State, lane: u8) -> Result<(), u8> {
+        let clock = state.clock;
+        if self.lapse == Lapse::SpentAsBefore && clock >= OLD_CLOCK_EDGE {
+            return Err(14);
+        }
+        let down = |kept: i128, step: i128| (clock - kept) - (clock - kept) % step;
+        let off = match self.lapse {
+            _ if clock < CLOCK_FAR => 0,
+            Lapse::BackStrict if clock == CLOCK_FAR => 0,
+            Lapse::BackLate if clock < OLD_CLOCK_EDGE => 0,
+            Lapse::BackByIdleAlone if state.lane(lane).is_some_and(Lane::holds) => 0,
+            Lapse::BackByHalfUnits => down(CLOCK_KEPT, CLOCK_STEP / 2),
+            Lapse::BackTooFar => down(CLOCK_KEPT / 2, CLOCK_STEP),
+            Lapse::BackRoundedUp => down(CLOCK_KEPT - CLOCK_STEP + 1, CLOCK_STEP),
+            _ => down(CLOCK_KEPT, CLOCK_STEP),
+        };
+        let before = state.lanes.clone();
+        state.lower(off);
+        for (at, (lane, was)) in state.lanes.iter_mut().zip(before).enumerate() {
+            match self.lapse {
+                Lapse::BackOfClockAlone => *lane = was,
+                Lapse::BackLeavesFirstLane if at == 0 => *lane = was,
+                Lapse::BackKeepsLowFinish if !lane.holds() && was.finish < off => lane.finish = was.finish,
+                Lapse::BackForgetsFinish if !lane.holds() && off > 0 => lane.finish = 0,
+                Lapse::BackTooFar => lane.start = lane.start.max(0),
+                _ => {}
+            }
+        }
+        Ok(())
+    }
+
     fn change<T>(&self, table: &mut [u8], call: impl Fn(&mut State) -> Result<T, u8>) -> Result<T, u8> {
         let mut state = self.read(table).map_err(|number| {
             if self.lapse == Lapse::RefusalWrites && !table.is_empty() {
@@ -180,7 +260,7 @@ impl OnWords {
             }
             number
         })?;
-        let before = state.clock;
+        let (before, back) = (state.clock, state.back);
         let answer = call(&mut state)?;
         if self.lapse == Lapse::ClockKept && state.holding().next().is_none() && state.clock > 0 {
             state.clock = before;
@@ -192,6 +272,17 @@ impl OnWords {
         layout::write(&state, table);
         for (at, length) in free {
             table[at..at + 2].copy_from_slice(&length);
+        }
+        let off = state.back - back;
+        match self.lapse {
+            Lapse::BackForgotten if off > 0 => layout::set_word(table, slots::BACK, back as u64),
+            Lapse::BackGrows if off > 0 => layout::set_word(table, slots::BACK, state.back as u64),
+            Lapse::BackLeavesStarts if off > 0 => {
+                for at in slots::groups(table).into_iter().map(slots::start) {
+                    layout::set_word(table, at, layout::word(table, at) + off as u64);
+                }
+            }
+            _ => {}
         }
         if self.lapse == Lapse::RingTurned {
             if let Some(lane) = state.holding().next() {
@@ -222,11 +313,28 @@ impl Unit for OnWords {
     }
 
     fn put(&mut self, table: &mut [u8], lane: u8, mark: u32, length: u64) -> Result<u64, u8> {
-        self.change(table, |state| state.put(lane, mark, length))
+        let answer = self.change(table, |state| {
+            state.accepts(lane, length)?;
+            self.take_back(state, lane)?;
+            state.put_endless(lane, mark, length)
+        });
+        if self.lapse == Lapse::BackByRefused && answer.is_err() && answer != Err(refusal::NOT_GOOD) {
+            self.change(table, |state| {
+                state.lower(taken_off(state.clock));
+                Ok(())
+            })?;
+        }
+        answer
     }
 
     fn take(&mut self, table: &mut [u8]) -> Result<Taken, u8> {
-        self.change(table, State::take)
+        self.change(table, |state| {
+            let taken = state.take()?;
+            if self.lapse == Lapse::BackByTake {
+                state.lower(taken_off(state.clock));
+            }
+            Ok(taken)
+        })
     }
 
     fn look(&mut self, table: &mut [u8]) -> Result<Taken, u8> {
