@@ -3,6 +3,10 @@
 //! A lane keeps its S, R and F as they were worked out when it got its S, and the number of that event, which
 //! orders lanes by who "got its present S earliest".
 
+mod back;
+
+pub use back::taken_off;
+
 use crate::calls::{Answer, Call, Taken};
 use crate::numbers::{refusal, *};
 use crate::setup::{LanePlan, Setup};
@@ -90,15 +94,6 @@ pub struct State {
     events: u64,
 }
 
-/// K, "the largest multiple of 2^31 not above V - 2^33", where V is 2^61 or more; else nothing.
-pub fn taken_off(clock: i128) -> i128 {
-    if clock < CLOCK_FAR {
-        return 0;
-    }
-    let most = clock - CLOCK_KEPT;
-    most - most % CLOCK_STEP
-}
-
 impl State {
     /// "Fresh: V = 0, each lane idle with F = 0."
     pub fn fresh(setup: &Setup) -> State {
@@ -165,26 +160,6 @@ impl State {
             return Err(refusal::LANE_FULL);
         }
         Ok(())
-    }
-
-    /// Takes so much off V and every S and F; "an idle lane's F below K becomes 0".
-    pub fn lower(&mut self, off: i128) {
-        self.clock -= off;
-        self.back += off;
-        for lane in &mut self.lanes {
-            lane.finish -= off;
-            if lane.holds() {
-                lane.start -= off;
-                lane.rounded_start = lane.start - lane.start % lane.slot();
-            } else {
-                lane.finish = lane.finish.max(0);
-            }
-        }
-    }
-
-    /// The contents that the same calls would have made, had so much less been taken off the clock.
-    pub fn lift(&mut self, up: i128) {
-        self.lower(-up);
     }
 
     /// A put by an endless clock, which is never taken back.
@@ -283,16 +258,6 @@ impl State {
         // A table has no format, and none is asked of it: each lane's longest is there.
         *self = State::fresh(&Setup { format: *FORMATS.end(), framing: self.framing, lanes });
         Ok(())
-    }
-
-    /// The answer of an endless clock.
-    pub fn answer_endless(&mut self, call: Call) -> Answer {
-        match call {
-            Call::Put { lane, mark, length } => {
-                self.put_endless(lane, mark, length).map_or_else(Answer::No, Answer::Put)
-            }
-            _ => self.answer(call),
-        }
     }
 
     pub fn answer(&mut self, call: Call) -> Answer {

@@ -71,8 +71,11 @@ impl<'a, U: Unit> Drive<'a, U> {
         if answer != expected {
             return Err(found(format!("at V = {clock}: {call} gave {answer}, the rules say {expected}")));
         }
-        self.endless.step(call, answer, &self.state).map_err(found)?;
+        self.endless.answers(call, answer).map_err(found)?;
         endless::early(&self.state).map_err(found)?;
+        if call.only_reads() {
+            self.endless.beside(&self.state).map_err(found)?;
+        }
         Ok(answer)
     }
 

@@ -17,16 +17,25 @@ impl Endless {
 
     /// One more call, its answer, and the table's contents after it.
     pub fn step(&mut self, call: Call, answer: Answer, after: &State) -> Result<(), String> {
+        self.answers(call, answer)?;
+        self.beside(after)
+    }
+
+    pub fn answers(&mut self, call: Call, answer: Answer) -> Result<(), String> {
         let endless = self.twin.answer_endless(call);
         if answer != endless {
             return Err(format!("{call} gave {answer}, where an endless clock gives {endless}"));
         }
-        beside(after, &self.twin)
+        Ok(())
+    }
+
+    pub fn beside(&self, table: &State) -> Result<(), String> {
+        beside(table, &self.twin)
     }
 }
 
 /// The twin is the same but for a clock that is further on by what was taken off since they were the same.
-pub fn beside(table: &State, twin: &State) -> Result<(), String> {
+fn beside(table: &State, twin: &State) -> Result<(), String> {
     let on = twin.clock - table.clock;
     // B is told up to multiples of 2^36.
     if (table.back - twin.back - on).rem_euclid(1 << 36) != 0 {

@@ -104,12 +104,14 @@ impl Engine {
         }
     }
 
+    /// With a slip a lane may not have been lowered, and is lifted again and again; past this it differs anyway.
     pub fn lift(&mut self, up: u64) {
+        let lifted = |time: u64| (time + up).min(1 << 62);
         self.clock += up;
         for flow in self.flows.iter_mut().flatten() {
-            flow.finish += up;
+            flow.finish = lifted(flow.finish);
             if !flow.queue.is_empty() {
-                flow.start += up;
+                flow.start = lifted(flow.start);
             }
         }
     }
