@@ -48,7 +48,6 @@ extern "C" {
 #define ZF_NO_LANE 11        /* lane not in the setup */
 #define ZF_BAD_LENGTH 12     /* length 0, or over the lane's longest; framing bytes are not counted */
 #define ZF_LANE_FULL 13      /* the lane holds 64 records */
-#define ZF_CLOCK_SPENT 14    /* the clock is spent: take what is held, then restart */
 #define ZF_STILL_HOLDS 15    /* restart while a record is held */
 #define ZF_NOTHING_HELD 16   /* take or look with nothing held */
 #define ZF_RUN_BOUNDS 17     /* a run's limit over 1,000, or its answer area too short */
@@ -101,7 +100,9 @@ uint64_t zf_run(const uint8_t *session, size_t session_length, uint64_t limit, u
  * of its own for the new table; on ZF_DONE it goes on with the new table and drops the old bytes. The records' marks are as they were, so the
  * records' own bytes stay where the host has them. On 10 the old bytes are no table that a call would have taken before the update either: make a
  * fresh one, and put again what is to be sent. Which kind a kept table is, the host must know, by its size: the bytes alone do not always tell.
- * So lend an old table with its own length and not in a longer area, and never lend a table of today as an old one.
+ * So lend an old table with its own length and not in a longer area, and never lend a table of today as an old one. A clock that was spent then, so
+ * that puts were refused, is none today: the next put takes it back. (That a taken over table never gives 10 is proved where no put before the update
+ * found its clock at 2^61 or more.)
  */
 
 /* The fixed size of such a table in bytes, as zf_old_table_size() gives it. Bytes past it are not looked at. */

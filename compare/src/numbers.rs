@@ -30,8 +30,16 @@ pub const OLD_DEPTH: usize = 16;
 pub const UNITS_OF_A_FULL_LINE: i128 = 1_048_576;
 /// "Sending one byte of any lane moves the clock V by 1,024."
 pub const UNITS_PER_BYTE_SENT: i128 = 1_024;
-/// Refusal 14: "V is 2^62 or more on put".
-pub const CLOCK_EDGE: i128 = 1 << 62;
+/// A put that finds V here or further takes the clock back (document 02, h).
+pub const CLOCK_FAR: i128 = 1 << 61;
+/// It takes off a multiple of this, the greatest slot of all,
+pub const CLOCK_STEP: i128 = 1 << 31;
+/// and leaves V at this or more: every S of a good table lies less than that behind V.
+pub const CLOCK_KEPT: i128 = 1 << 33;
+/// So in a table that calls made V stays below this.
+pub const CLOCK_EARLY: i128 = CLOCK_FAR + (1 << 44);
+/// Where refusal 14 stood, which is not given any more.
+pub const OLD_CLOCK_EDGE: i128 = 1 << 62;
 /// In a good table V is below 2^62 + 2^44 (document 02, g).
 pub const CLOCK_END: i128 = (1 << 62) + (1 << 44);
 /// In a good table with room for 16: "V below 2^62 + 2^42".
@@ -68,7 +76,6 @@ pub mod refusal {
     pub const NO_SUCH_LANE: u8 = 11;
     pub const LENGTH: u8 = 12;
     pub const LANE_FULL: u8 = 13;
-    pub const CLOCK_SPENT: u8 = 14;
     pub const STILL_HELD: u8 = 15;
     pub const NOTHING_HELD: u8 = 16;
     pub const RUN_AREA: u8 = 17;

@@ -3,6 +3,10 @@
 //! A lane keeps its S, R and F as they were worked out when it got its S, and the number of that event, which
 //! orders lanes by who "got its present S earliest".
 
+mod back;
+
+pub use back::taken_off;
+
 use crate::calls::{Answer, Call, Taken};
 use crate::numbers::{refusal, *};
 use crate::setup::{LanePlan, Setup};
@@ -85,6 +89,8 @@ pub struct State {
     pub clock: i128,
     pub framing: u8,
     pub lanes: Vec<Lane>,
+    /// What was taken off the clock so far: V and this make the endless clock.
+    pub back: i128,
     events: u64,
 }
 
@@ -92,13 +98,13 @@ impl State {
     /// "Fresh: V = 0, each lane idle with F = 0."
     pub fn fresh(setup: &Setup) -> State {
         let lanes = setup.lanes.iter().map(|plan| Lane::fresh(*plan, setup.framing)).collect();
-        State { clock: 0, framing: setup.framing, lanes, events: 0 }
+        State { clock: 0, framing: setup.framing, lanes, back: 0, events: 0 }
     }
 
     /// Contents of any origin.
-    pub fn of(clock: i128, framing: u8, lanes: Vec<Lane>) -> State {
+    pub fn of(clock: i128, framing: u8, lanes: Vec<Lane>, back: i128) -> State {
         let events = lanes.iter().map(|lane| lane.since).max().unwrap_or(0);
-        State { clock, framing, lanes, events }
+        State { clock, framing, lanes, back, events }
     }
 
     /// The same contents, but for the turns of lanes that no call compares: a tie is between lanes of one group with the same R.
@@ -107,17 +113,17 @@ impl State {
             let start = lane.holds().then_some((lane.start, lane.rounded_start));
             (lane.plan, lane.units_per_byte, lane.group, lane.queue.clone(), lane.finish, start)
         };
-        let turns = |state: &State| {
-            let mut turns: Vec<_> = state
-                .holding()
-                .map(|lane| (lane.group, lane.rounded_start, lane.since, lane.plan.number))
-                .collect();
-            turns.sort_unstable();
-            turns.into_iter().map(|(.., number)| number).collect::<Vec<u8>>()
-        };
         (self.clock, self.framing) == (other.clock, other.framing)
             && self.lanes.iter().map(lane).eq(other.lanes.iter().map(lane))
-            && turns(self) == turns(other)
+            && self.turns() == other.turns()
+    }
+
+    /// The lanes that hold records: by group and R, and where those tie, the one first that got its present S earliest.
+    pub fn turns(&self) -> Vec<u8> {
+        let turn = |lane: &Lane| (lane.group, lane.rounded_start, lane.since, lane.plan.number);
+        let mut turns: Vec<_> = self.holding().map(turn).collect();
+        turns.sort_unstable();
+        turns.into_iter().map(|(.., number)| number).collect()
     }
 
     pub fn lane(&self, number: u8) -> Option<&Lane> {
@@ -137,19 +143,30 @@ impl State {
         self.events
     }
 
-    /// Answers how many records the lane held before (document 02, b).
+    /// Answers how many records the lane held before (document 02, b). A put that is not refused takes a clock that is far on back first (h).
     pub fn put(&mut self, number: u8, mark: u32, length: u64) -> Result<u64, u8> {
-        let at = self.place(number)?;
-        let lane = &self.lanes[at];
+        self.accepts(number, length)?;
+        self.lower(taken_off(self.clock));
+        self.put_endless(number, mark, length)
+    }
+
+    /// Whether a put is refused, by 11 to 13.
+    pub fn accepts(&self, number: u8, length: u64) -> Result<(), u8> {
+        let lane = &self.lanes[self.place(number)?];
         if length == 0 || length > u64::from(lane.plan.longest) {
             return Err(refusal::LENGTH);
         }
         if lane.queue.len() >= DEPTH {
             return Err(refusal::LANE_FULL);
         }
-        if self.clock >= CLOCK_EDGE {
-            return Err(refusal::CLOCK_SPENT);
-        }
+        Ok(())
+    }
+
+    /// A put by an endless clock, which is never taken back.
+    pub fn put_endless(&mut self, number: u8, mark: u32, length: u64) -> Result<u64, u8> {
+        self.accepts(number, length)?;
+        let at = self.place(number)?;
+        let lane = &self.lanes[at];
         let (was_idle, ahead) = (!lane.holds(), lane.queue.len() as u64);
         let (event, framing) = (self.event(), self.framing);
         let lane = &mut self.lanes[at];

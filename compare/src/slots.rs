@@ -43,6 +43,12 @@ pub fn may_be_back(back: u64) -> bool {
     back % (1 << 31) == 0 && back < 1 << 36
 }
 
+/// The B that is stored for what was taken off so far, which is a multiple of 2^31.
+pub fn stored(back: i128) -> u64 {
+    let back = back.rem_euclid(1 << 36);
+    (back - back % (1 << 31)) as u64
+}
+
 /// The list in which a lane belongs, by the clock that was never taken back.
 pub fn list_of(lane: &Lane, back: u64) -> u32 {
     ((lane.start + i128::from(back)) / lane.slot() % i128::from(LISTS)) as u32
@@ -109,13 +115,11 @@ pub fn broken(bytes: &[u8], lanes_read: &[Lane]) -> Vec<Clause> {
     clauses.into_iter().filter(|(_, breaks)| *breaks).map(|(clause, _)| clause).collect()
 }
 
-/// Writes the lists of contents: the words and bytes that mean something, and no other. A ring begins at the place that the bytes have for it, and B is
-/// what the bytes have for it, if it can be one. Lanes whose group is none are left out.
+/// Writes the lists of contents: the words and bytes that mean something, and no other. A ring begins at the place that the bytes have for it. Lanes whose
+/// group is none are left out.
 pub fn write(state: &State, bytes: &mut [u8]) {
-    if !may_be_back(word(bytes, BACK)) {
-        set_word(bytes, BACK, 0);
-    }
-    let back = word(bytes, BACK);
+    let back = stored(state.back);
+    set_word(bytes, BACK, back);
     let mut order: Vec<&Lane> = state.holding().filter(|lane| GROUPS.contains(&lane.group)).collect();
     order.sort_by_key(|lane| lane.since);
     set_word(bytes, MARKED, order.iter().fold(0, |marked, lane| marked | 1 << lane.group));

@@ -4,6 +4,7 @@
 
 use crate::calls::{Answer, Call, Taken};
 use crate::fields::Fault;
+use crate::layout;
 use crate::numbers::refusal;
 use crate::rules::State;
 use crate::session::{self, Run};
@@ -28,6 +29,12 @@ pub trait Unit {
     fn restart(&mut self, table: &mut [u8]) -> Result<(), u8>;
     fn run(&mut self, session: &[u8], limit: u64, table: &mut [u8], answers: &mut [u8]) -> Run;
 
+    /// No call of the unit: moves a good table's clock on by a multiple of 2^31, as if so much less had been taken off it, so that lists come to where the
+    /// clock is taken back.
+    fn lift(&mut self, table: &mut [u8], up: u64) {
+        layout::lift(table, up);
+    }
+
     fn answer(&mut self, table: &mut [u8], call: Call) -> Answer {
         let answer = match call {
             Call::Put { lane, mark, length } => self.put(table, lane, mark, length).map(Answer::Put),
@@ -48,11 +55,6 @@ pub struct Reference {
 }
 
 impl Reference {
-    /// A table with any contents, those too that calls would take long to make.
-    pub fn lay(&mut self, state: State, table: &mut [u8]) {
-        self.shelf.put(state, table);
-    }
-
     /// A call that changes the state unless it is refused.
     fn change<T>(&mut self, table: &mut [u8], call: impl Fn(&mut State) -> Result<T, u8>) -> Result<T, u8> {
         let answer = call(self.shelf.open(table).ok_or(refusal::NOT_GOOD)?)?;
@@ -101,6 +103,11 @@ impl Unit for Reference {
 
     fn restart(&mut self, table: &mut [u8]) -> Result<(), u8> {
         self.change(table, State::restart)
+    }
+
+    fn lift(&mut self, table: &mut [u8], up: u64) {
+        self.shelf.open(table).expect("the table that is kept").lift(up.into());
+        self.shelf.sign(table);
     }
 
     fn run(&mut self, session: &[u8], limit: u64, table: &mut [u8], answers: &mut [u8]) -> Run {

@@ -4,7 +4,7 @@ mod common;
 use common::*;
 use compare::calls::Taken;
 use compare::fields::Fault;
-use compare::rules::State;
+use compare::rules::{taken_off, State};
 use compare::unit::{Reference, Unit};
 
 fn taken(lane: u8, mark: u32, length: u64) -> Result<Taken, u8> {
@@ -53,20 +53,70 @@ fn how_many_are_ahead() {
 }
 
 #[test]
-fn the_clocks_edge() {
-    let mut state = fresh(&[(0, 512, 1500), (1, 256, 1500)]);
+fn what_is_taken_off() {
+    const FAR: i128 = 1 << 61;
+    const STEP: i128 = 1 << 31;
+    // 2^61 and 2^33 are multiples of 2^31 themselves.
+    assert_eq!([0, 1 << 40, FAR - 1].map(taken_off), [0; 3]);
+    assert_eq!([FAR, FAR + 1, FAR + STEP - 1].map(taken_off), [FAR - 4 * STEP; 3]);
+    assert_eq!(taken_off(FAR + STEP), FAR - 3 * STEP);
+    assert_eq!(taken_off(1 << 62), 2 * FAR - 4 * STEP, "where 14 was given");
+}
+
+/// Lane 0 holds a record, lanes 1 to 3 are idle with an F of long ago, of one below what is taken off, and ahead of the clock.
+fn far_on() -> State {
+    let mut state = fresh(&[(0, 512, 1500), (1, 256, 1500), (2, 128, 1500), (3, 64, 1500)]);
     state.put(0, 1, 100).unwrap();
-    state.clock = (1 << 62) - 1;
+    state.lift(1 << 61);
+    state.clock += 5;
+    let off = (1 << 61) - (1 << 33);
+    for (lane, finish) in [(1, 7), (2, off - 1), (3, (1 << 61) + 9)] {
+        state.lanes[lane].finish = finish;
+    }
+    state
+}
+
+#[test]
+fn a_clock_that_is_taken_back() {
+    let mut state = far_on();
+    let before = state.clone();
+    for (lane, length, number) in [(4, 100, 11), (1, 0, 12), (1, 1_501, 12)] {
+        assert_eq!(state.put(lane, 2, length), Err(number));
+    }
+    assert_eq!(state, before, "a refused put takes nothing off");
+    assert_eq!((state.lag(0), state.lag(1), state.lag(3)), (Ok(5), Ok(0), Ok(-4)));
+    assert_eq!(state.look(), taken(0, 1, 100));
+    assert_eq!(state.clock, before.clock, "nor does another call");
+    // A put to a lane that holds records.
     assert_eq!(state.put(0, 2, 100), Ok(1));
-    state.clock = 1 << 62;
-    assert_eq!(state.put(0, 3, 100), Err(14), "on a lane that holds records too");
-    assert_eq!(state.put(1, 3, 100), Err(14));
-    assert_eq!(state.put(1, 3, 0), Err(12), "12 before 14");
-    assert_eq!(state.take(), taken(0, 1, 100), "a take is never refused for 14");
-    assert_eq!(state.restart(), Err(15));
-    assert_eq!(state.take(), taken(0, 2, 100));
+    assert_eq!((state.clock, state.back), ((1 << 33) + 5, (1 << 61) - (1 << 33) - (1 << 61)));
+    let lane = &state.lanes[0];
+    assert_eq!((lane.start, lane.rounded_start, lane.finish), (1 << 33, 1 << 33, (1 << 33) + 204_800));
+    let idle: Vec<i128> = state.lanes[1..].iter().map(|lane| lane.finish).collect();
+    assert_eq!(idle, [0, 0, (1 << 33) + 9]);
+    assert_eq!((state.lag(0), state.lag(1), state.lag(3)), (Ok(5), Ok(0), Ok(-4)), "as before");
+    // The next one finds the clock early.
+    assert_eq!((state.put(1, 3, 100), state.clock), (Ok(0), (1 << 33) + 5));
+    assert_eq!(state.lanes[1].start, (1 << 33) + 5);
+}
+
+#[test]
+fn a_full_lane_takes_nothing_back() {
+    let mut state = far_on();
+    state.clock -= 1 << 40;
+    (1..64).for_each(|mark| assert_eq!(state.put(0, mark, 100), Ok(mark.into())));
+    state.clock += 1 << 40;
+    let before = state.clone();
+    assert_eq!((state.put(0, 64, 100), state), (Err(13), before));
+}
+
+#[test]
+fn a_take_takes_nothing_back() {
+    let mut state = far_on();
+    assert_eq!(state.take(), taken(0, 1, 100));
+    assert_eq!(state.clock, (1 << 61) + 5 + 102_400);
     assert_eq!(state.restart(), Ok(()));
-    assert_eq!((state.clock, state.put(0, 4, 100)), (0, Ok(0)));
+    assert_eq!((state.clock, state.back, state.put(0, 4, 100)), (0, 0, Ok(0)));
 }
 
 #[test]

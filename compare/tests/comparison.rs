@@ -3,7 +3,6 @@
 use compare::driver::report::Tally;
 use compare::driver::{self, clock, Budget};
 use compare::pipes;
-use compare::rules::State;
 use compare::stand_in::{Slip, StandIn, ALL};
 use compare::unit::{Reference, Unit};
 use std::path::Path;
@@ -23,6 +22,7 @@ fn the_reference_with_itself_and_with_the_stand_in() {
     assert_eq!(itself, other, "the same seed gives the same cases");
     assert!(itself.calls > 100_000 && itself.inputs() > 5_000, "{itself}");
     assert!(itself.refused.iter().enumerate().all(|(at, count)| at == 4 || *count > 100), "{itself}");
+    assert!(itself.taken_back > 500 && itself.refused[4] == 0, "{itself}");
     assert!(itself.words.iter().all(|count| *count > 10), "{itself}");
 }
 
@@ -55,26 +55,26 @@ fn a_difference_in_a_list_is_shown_by_a_short_list() {
 }
 
 #[test]
-fn toward_the_clocks_edge() {
+fn toward_the_clocks_far_end() {
     let mut tally = Tally::default();
-    let spent = clock::drive(&mut StandIn::new(Slip::None), 20_000, &mut tally).map_err(|found| found.what);
-    assert_eq!((spent, tally.calls), (Ok(false), 40_021));
+    let times = clock::drive(&mut StandIn::new(Slip::None), 20_000, &mut tally).map_err(|found| found.what);
+    assert_eq!((times, tally.calls), (Ok(0), 1 + 40_000 + 20 * 4 + 11));
     let slip = clock::drive(&mut StandIn::new(Slip::ClockBeforeNewStart), 20_000, &mut tally);
     assert!(slip.is_err(), "the clock stays behind the only lane");
 }
 
 #[test]
-fn at_the_clocks_edge() {
-    let mut state = State::fresh(&clock::setup());
-    // As after very many pairs: the lane is idle, and V is 2^33 below the edge.
-    state.clock = (1 << 62) - (1 << 33);
-    state.lanes[0].finish = state.clock;
-    let mut unit = Reference::default();
-    let mut table = vec![0; unit.table_size()];
-    unit.lay(state.clone(), &mut table);
-    let mut tally = Tally::default();
-    let spent = clock::drive_from(&mut unit, &mut table, state, 10, &mut tally).map_err(|found| found.what);
-    assert_eq!(spent, Ok(true), "14 within ten pairs; the rest of the drive follows");
+fn past_the_clocks_far_end() {
+    let all = Ok(clock::TIMES);
+    let times =
+        clock::drive_near(&mut Reference::default(), &mut Tally::default()).map_err(|found| found.what);
+    assert_eq!(times, all, "within ten pairs each time; the rest of the drive follows");
+    let times = clock::drive_near(&mut StandIn::new(Slip::None), &mut Tally::default());
+    assert_eq!(times.map_err(|found| found.what), all);
+    for slip in [Slip::FarIsRefused, Slip::BackOfClockAlone, Slip::BackLeavesFinish] {
+        let found = clock::drive_near(&mut StandIn::new(slip), &mut Tally::default());
+        assert!(found.is_err(), "{slip:?}");
+    }
 }
 
 #[test]

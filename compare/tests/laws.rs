@@ -4,6 +4,7 @@ mod common;
 use common::*;
 use compare::calls::{Answer, Call, Taken};
 use compare::gen::{caller::Caller, setups};
+use compare::laws::endless::{self, Endless};
 use compare::laws::{compared::Compared, fairness::Fairness, good, groups, order::Order, Laws};
 use compare::rng::Rng;
 use compare::rules::{Lane, State};
@@ -253,4 +254,78 @@ fn tables_that_are_not_good() {
     assert_eq!(two_slots + 1_536_000, 9_924_608);
     assert!(!broken(|state| state.clock = 9_924_607), "R above V - 2s - 1,536,000");
     assert!(broken(|state| state.clock = 9_924_608));
+}
+
+/// Two lanes of the greatest slot hold a record each, the second one behind the first in the turn; a third is idle.
+fn beside_itself() -> (State, Endless) {
+    let mut state = fresh(&[(0, 1, 1_500), (1, 1, 1_500), (2, 512, 1_500)]);
+    for lane in [2, 1, 0] {
+        state.put(lane, 1, 1_500).unwrap();
+    }
+    state.take().unwrap();
+    state.lift(1 << 61);
+    let endless = Endless::new(&state);
+    (state, endless)
+}
+
+#[test]
+fn an_endless_clock_gives_the_same() {
+    let (mut state, mut endless) = beside_itself();
+    let put = Call::Put { lane: 2, mark: 2, length: 64 };
+    for call in
+        [Call::Sets, put, Call::Lag { lane: 1 }, Call::Sets, Call::Take, Call::Take, put, Call::Restart]
+    {
+        let answer = state.answer(call);
+        endless.step(call, answer, &state).unwrap();
+    }
+    assert!(state.clock < 1 << 34, "the clock was taken back");
+    endless::early(&state).unwrap();
+    state.lift(1 << 61);
+    endless::early(&state).unwrap();
+    state.lift(1 << 44);
+    assert!(endless::early(&state).is_err());
+}
+
+#[test]
+fn what_an_endless_clock_would_not_give() {
+    let off = (1 << 61) - (1 << 33);
+    let wrongs: [fn(&mut State, i128); 7] = [
+        |state, off| state.lower(off + (1 << 30)),
+        |state, off| {
+            state.lower(off);
+            state.back += 1 << 31;
+        },
+        |state, off| state.clock -= off,
+        |state, off| {
+            state.lower(off);
+            state.lanes[0].start += 1;
+        },
+        |state, off| {
+            state.lower(off);
+            state.lanes[1].finish += off;
+        },
+        |state, off| {
+            state.lower(off);
+            state.lanes[2].finish += off;
+        },
+        |state, off| {
+            state.lower(off);
+            state.lanes[0].since = 0;
+        },
+    ];
+    let look = |state: &mut State, endless: &mut Endless| {
+        let answer = state.answer(Call::Sets);
+        endless.step(Call::Sets, answer, state)
+    };
+    let (mut state, mut endless) = beside_itself();
+    state.lower(off);
+    look(&mut state, &mut endless).unwrap();
+    for (at, wrong) in wrongs.iter().enumerate() {
+        let (mut state, mut endless) = beside_itself();
+        wrong(&mut state, off);
+        assert!(look(&mut state, &mut endless).is_err(), "{at}");
+    }
+    let (state, mut endless) = beside_itself();
+    assert!(endless.step(Call::Lag { lane: 1 }, Answer::Lag(1), &state).is_err(), "another answer");
+    assert!(endless.step(Call::Lag { lane: 1 }, Answer::No(14), &state).is_err(), "a refusal");
 }

@@ -271,7 +271,7 @@ fn nothing_differs_without_a_lapse() {
     result.unwrap_or_else(|difference| panic!("{difference}"));
     assert!(tally.tables_good > 2_000 && tally.tables - tally.tables_good > 2_000, "{tally}");
     assert!(tally.broken_alone.iter().all(|count| *count > 10), "{tally}");
-    assert!(tally.tables_spent > 20 && tally.tables_lost > 5, "{tally}");
+    assert!(tally.tables_taken_back > 500 && tally.tables_lost > 5, "{tally}");
 }
 
 #[test]
@@ -287,9 +287,29 @@ fn every_lapse_is_found() {
 }
 
 #[test]
-fn the_clock_s_edge_from_a_table_laid_near_it() {
-    let spent = driver::clock::drive_near(&mut OnWords { lapse: Lapse::None }, &mut Tally::default());
-    assert!(matches!(spent, Ok(true)), "14 within ten pairs; the rest of the drive follows");
+fn the_clock_s_far_end_from_near_it() {
+    let drive = |lapse| {
+        driver::clock::drive_near(&mut OnWords { lapse }, &mut Tally::default()).map_err(|found| found.what)
+    };
+    assert_eq!(drive(Lapse::None), Ok(driver::clock::TIMES));
+    for lapse in [Lapse::BackForgotten, Lapse::BackGrows, Lapse::BackLeavesStarts, Lapse::BackOfClockAlone] {
+        assert!(drive(lapse).is_err(), "{lapse:?}");
+    }
+}
+
+/// A table whose clock is lifted word by word is the one whose contents are lifted.
+#[test]
+fn a_table_lifted() {
+    let up = 9 << 31;
+    let mut bytes = session();
+    layout::lift(&mut bytes, up);
+    let read = layout::read(&bytes).good().expect("a good table");
+    let mut state = layout::read(&session()).good().expect("a good table");
+    state.lift(up.into());
+    assert!(read.alike(&state));
+    assert_eq!(read.back, 23 << 31, "2^36 less 9 times 2^31");
+    layout::write(&state, &mut bytes);
+    assert_eq!(layout::read(&bytes).broken, []);
 }
 
 #[test]

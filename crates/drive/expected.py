@@ -1,11 +1,15 @@
 #!/usr/bin/env python3
 """Writes what the program is to print: python3 expected.py > stdout
 
-The rules here are worked from document 01, with the room of request g of document 02, lane by lane and with no group sets in the choice. Of the program
-the script knows the list of calls. A table is what document 01 says it encodes, and a damaged one is only known to be damaged.
+The rules here are worked from document 01, with the room of request g and the clock of request h of document 02, lane by lane and with no group sets in
+the choice. Of the program the script knows the list of calls. A table is what document 01 says it encodes, and a damaged one is only known to be damaged.
+Where a clock is taken back the same calls are worked with an endless clock too, and must be answered alike.
 """
 
-SPENT = 2**62
+import copy
+
+FAR = 2**61  # from here on a put takes the clock back
+LAST = 2**62 + 2**44 - 1  # a good table's last clock
 ROOM = 64  # records that a lane holds at most
 
 
@@ -37,6 +41,7 @@ class Table:
 
     def __init__(self, lanes):
         self.lanes, self.clock, self.turns = lanes, 0, 0
+        self.ends, self.twin = True, None
 
     def holding(self):
         return [k for k, l in self.lanes.items() if l.queue]
@@ -57,8 +62,8 @@ class Table:
             raise No(12)
         if len(lane.queue) == ROOM:
             raise No(13)
-        if self.clock >= SPENT:
-            raise No(14)
+        if self.ends and self.clock >= FAR:
+            self.take_back()
         others = [j for j in self.holding() if j != k]
         lane.queue.append((mark, length))
         if len(lane.queue) == 1:
@@ -66,6 +71,13 @@ class Table:
             if not others and self.clock < lane.rounded():
                 self.clock = lane.rounded()
         return f"put ok {len(lane.queue) - 1}"
+
+    def take_back(self):
+        k = (self.clock - 2**33) // 2**31 * 2**31
+        self.clock -= k
+        for lane in self.lanes.values():
+            assert not lane.queue or lane.start >= k
+            lane.start, lane.finish = max(lane.start - k, 0), max(lane.finish - k, 0)
 
     def chosen(self):
         if not self.holding():
@@ -117,6 +129,7 @@ class Table:
 
 class Bad:
     """A table that is not good."""
+    twin = None
 
     def __getattr__(self, name):
         def call(*args):
@@ -124,11 +137,24 @@ class Bad:
         return call
 
 
-def say(t, name, *args):
+def answer(t, name, *args):
     try:
-        print(getattr(t, name)(*args))
+        return getattr(t, name)(*args)
     except No as n:
-        print("no", n)
+        return f"no {n}"
+
+
+def say(t, name, *args):
+    text = answer(t, name, *args)
+    assert t.twin is None or answer(t.twin, name, *args) == text
+    print(text)
+
+
+def set_clock(t, v):
+    """And from now on the same with an endless clock."""
+    t.clock, t.twin = v, None
+    t.twin = copy.deepcopy(t)
+    t.twin.ends = False
 
 
 def every(t):
@@ -220,13 +246,22 @@ def one_lane():
     time(t)
 
 
-def four_groups():
-    print("- four groups")
+def four_lanes():
     print("lanes 4")
     t = Table({0: Lane(600, 1500), 1: Lane(300, 64), 2: Lane(100, 199), 63: Lane(1, 1500)})
     assert [l.group for l in t.lanes.values()] == [22, 18, 21, 31]
+    return t
+
+
+def nine_puts(t):
     for put in [(63, 1, 1500), (63, 2, 64), (2, 3, 199), (2, 4, 199), (2, 5, 1), (1, 6, 64), (1, 7, 64), (0, 8, 1500), (0, 9, 1500)]:
         say(t, "put", *put)
+
+
+def four_groups():
+    print("- four groups")
+    t = four_lanes()
+    nine_puts(t)
     looks_and_takes(t, 10)
     times(t)
     print("rest kept")
@@ -302,37 +337,72 @@ def sizes():
     every(setup())
 
 
-def spent():
-    print("- clock at its end")
-    t = setup()
-    t.clock = SPENT
-    say(t, "put", 0, 1, 100)
-    say(t, "put", 0, 1, 0)
-    say(t, "take")
-    print("table kept")
-    anew(t)
-    print("- a spent unit")
-    t = setup()
-    t.clock = SPENT - 1
-    fill(t, 1, ROOM)
-    fill(t, 0, 1)
-    say(t, "take")
+def looks(t):
     say(t, "put", 2, 1, 100)
     say(t, "put", 1, 1, 0)
-    say(t, "put", 1, 1, 100)
-    say(t, "put", 0, 1, 100)
-    say(t, "restart")
-    times(t)
-    drain(t, ROOM + 1)
-    times(t)
-    anew(t)
-    print("rest kept")
+    say(t, "look")
+    say(t, "sets")
+    say(t, "lag", 0)
+    say(t, "lag", 1)
 
 
 def anew(t):
     say(t, "restart")
     times(t)
+    print("rest kept")
+
+
+def far():
+    print("- clock at its last value")
+    t = setup()
+    set_clock(t, LAST)
+    looks(t)
+    say(t, "take")
+    print("table kept")
     say(t, "put", 0, 1, 100)
+    assert 2**33 <= t.clock < 2**33 + 2**31
+    times(t)
+    say(t, "take")
+    anew(t)
+    print("- clock taken back")
+    t = setup()
+    say(t, "put", 0, 1, 100)
+    say(t, "take")
+    set_clock(t, FAR - 1)
+    fill(t, 1, 3)
+    times(t)
+    say(t, "take")
+    looks(t)
+    say(t, "restart")
+    times(t)
+    assert t.clock >= FAR
+    say(t, "put", 1, 3, 100)
+    assert at(t, 0) == 0 and t.clock == t.twin.clock - (2**61 - 2**33)
+    times(t)
+    looks(t)
+    say(t, "put", 0, 9, 100)
+    times(t)
+    drain(t, 5)
+    anew(t)
+
+
+def far_groups():
+    print("- clock taken back with four groups")
+    t = four_lanes()
+    set_clock(t, FAR - 1000)
+    nine_puts(t)
+    looks_and_takes(t, 3)
+    assert t.clock >= FAR
+    say(t, "put", 1, 10, 64)
+    assert t.clock < 2**34
+    times(t)
+    looks_and_takes(t, 8)
+    set_clock(t, FAR + 12345)
+    say(t, "put", 63, 11, 1500)
+    say(t, "put", 0, 12, 1500)
+    times(t)
+    looks_and_takes(t, 3)
+    print("rest kept")
 
 
 def damaged():
@@ -365,5 +435,6 @@ making()
 calls()
 full()
 sizes()
-spent()
+far()
+far_groups()
 damaged()

@@ -16,7 +16,8 @@ pub fn table(rng: &mut Rng) -> (Vec<u8>, Vec<String>) {
         1 => (tables::laid(rng, &NOW), &NOW, "a table of today's layout"),
         2..=8 => (tables::laid(rng, &THEN), &THEN, "a table laid at the edges"),
         _ => {
-            let state = called(rng);
+            let mut state = called(rng);
+            state.back = tables::back(rng);
             (tables::written(rng, &THEN, &state), &THEN, "contents that calls made")
         }
     };

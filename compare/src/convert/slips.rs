@@ -126,7 +126,7 @@ impl Slipped {
             }
         }
         let clock = if self.0 == Slip::ClockCut { state.clock % (1 << 62) } else { state.clock };
-        State::of(clock, framing, state.lanes)
+        State::of(clock, framing, state.lanes, state.back)
     }
 
     /// Lengths and marks of one lane, written anew.

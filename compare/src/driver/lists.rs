@@ -6,10 +6,13 @@ use super::shrink;
 use crate::calls::{Answer, Call};
 use crate::gen::{caller::Caller, setups};
 use crate::laws::Laws;
-use crate::numbers::refusal;
+use crate::layout;
+use crate::numbers::{refusal, CLOCK_FAR, CLOCK_STEP};
 use crate::rng::Rng;
 use crate::rules::State;
+use crate::slots;
 use crate::unit::Unit;
+use std::fmt;
 
 pub fn case<U: Unit>(unit: &mut U, rng: &mut Rng, tally: &mut Tally) -> Result<(), Found> {
     let setup = setups::setup(rng);
@@ -24,7 +27,9 @@ pub fn case<U: Unit>(unit: &mut U, rng: &mut Rng, tally: &mut Tally) -> Result<(
         ));
     }
     let fresh = State::fresh(&setup);
-    let mut list = List::new(unit, table, fresh.clone());
+    let lifts = rng.once_in(2).then(|| Lifts::drawn(rng));
+    shown_by.extend(lifts.map(|lifts| lifts.to_string()));
+    let mut list = List::new(unit, table, fresh.clone(), lifts);
     let result = list.run(rng, tally);
     tally.lists += 1;
     tally.stretch_ends += list.laws.fairness.checked;
@@ -33,7 +38,7 @@ pub fn case<U: Unit>(unit: &mut U, rng: &mut Rng, tally: &mut Tally) -> Result<(
     tally.closest_pair = tally.closest_pair.max(list.laws.compared.closest);
     let (mut calls, unit) = (list.calls, list.unit);
     result.map_err(|what| {
-        let mut differs = |calls: &[Call]| replay(unit, &bytes, &fresh, calls);
+        let mut differs = |calls: &[Call]| replay(unit, &bytes, &fresh, lifts, calls);
         let short = shrink::list(calls.iter().map(|(call, _)| *call).collect(), &mut differs);
         let what = match short {
             Some((list, what)) => {
@@ -51,14 +56,45 @@ pub fn case<U: Unit>(unit: &mut U, rng: &mut Rng, tally: &mut Tally) -> Result<(
 pub type Replayed = (Vec<(Call, Answer)>, String);
 
 /// The calls again on a new table: nothing, or where they differ.
-fn replay<U: Unit>(unit: &mut U, setup: &[u8], fresh: &State, calls: &[Call]) -> Option<Replayed> {
+fn replay<U: Unit>(
+    unit: &mut U,
+    setup: &[u8],
+    fresh: &State,
+    lifts: Option<Lifts>,
+    calls: &[Call],
+) -> Option<Replayed> {
     let mut table = Lent::new(&mut Rng::new(0), unit.table_size());
     unit.make(setup, table.bytes()).ok()?;
-    let mut list = List::new(unit, table, fresh.clone());
+    let mut list = List::new(unit, table, fresh.clone(), lifts);
     let mut tally = Tally::default();
     let differs = calls.iter().find_map(|call| list.call(*call, &mut tally).err());
-    let differs = differs.or_else(|| list.laws.end(&list.state).err());
+    let differs = differs.or_else(|| list.laws.end(&list.state).err()).or_else(|| list.contents().err());
     differs.map(|what| (list.calls, what))
+}
+
+/// Where random lists would take years to come: before every so many calls the clock is lifted to where a put takes it back, or just before it. The
+/// endless twin is not lifted, so what is lifted is what it would be.
+#[derive(Clone, Copy, Debug)]
+struct Lifts {
+    every: usize,
+    /// V is at most this after it, and less than 2^31 below.
+    to: i128,
+}
+
+impl Lifts {
+    fn drawn(rng: &mut Rng) -> Lifts {
+        let every = if rng.once_in(3) { rng.between(1, 8) } else { rng.between(9, 200) } as usize;
+        let bits = rng.between(1, 33);
+        let before = i128::from(rng.below(1 << bits));
+        Lifts { every, to: CLOCK_FAR + rng.pick(&[0, 1, CLOCK_STEP - 1]) - before }
+    }
+}
+
+impl fmt::Display for Lifts {
+    fn fmt(&self, f: &mut fmt::Formatter) -> fmt::Result {
+        let Lifts { every, to } = self;
+        write!(f, "before every {every} calls V, S and F are lifted by a multiple of 2^31 to {to} at most")
+    }
 }
 
 /// A list in the making.
@@ -67,14 +103,45 @@ struct List<'a, U: Unit> {
     table: Lent,
     state: State,
     laws: Laws,
+    lifts: Option<Lifts>,
     /// The calls so far, with the answers that the rules give.
     calls: Vec<(Call, Answer)>,
 }
 
 impl<U: Unit> List<'_, U> {
-    fn new(unit: &mut U, table: Lent, fresh: State) -> List<'_, U> {
+    fn new(unit: &mut U, table: Lent, fresh: State, lifts: Option<Lifts>) -> List<'_, U> {
         let laws = Laws::new(&fresh);
-        List { unit, table, state: fresh, laws, calls: vec![] }
+        List { unit, table, state: fresh, laws, lifts, calls: vec![] }
+    }
+
+    fn lift(&mut self) -> Result<(), String> {
+        let Some(lifts) = self.lifts.filter(|lifts| self.calls.len() % lifts.every == 0) else {
+            return Ok(());
+        };
+        let up = lifts.to - self.state.clock;
+        let up = up - up % CLOCK_STEP;
+        if up > 0 {
+            self.contents()?;
+            self.state.lift(up);
+            self.unit.lift(self.table.bytes(), up as u64);
+        }
+        Ok(())
+    }
+
+    /// What the table holds, where that can be read.
+    fn contents(&self) -> Result<(), String> {
+        if !self.unit.documented_layout() {
+            return Ok(());
+        }
+        match layout::read(&self.table.copy()).good() {
+            Some(read)
+                if read.alike(&self.state) && read.back == i128::from(slots::stored(self.state.back)) =>
+            {
+                Ok(())
+            }
+            Some(_) => Err("the table does not hold what the rules hold".to_string()),
+            None => Err("the table is not good".to_string()),
+        }
     }
 
     fn run(&mut self, rng: &mut Rng, tally: &mut Tally) -> Result<(), String> {
@@ -99,7 +166,10 @@ impl<U: Unit> List<'_, U> {
 
     /// One call on both sides: the answer, and what the table's bytes may do.
     fn call(&mut self, call: Call, tally: &mut Tally) -> Result<Answer, String> {
+        self.lift()?;
+        let back = self.state.back;
         let expected = self.state.answer(call);
+        tally.taken_back += u64::from(self.state.back > back && !matches!(call, Call::Restart));
         self.calls.push((call, expected));
         let stays = call.only_reads() || expected.refused();
         let before = stays.then(|| self.table.copy());
@@ -138,6 +208,7 @@ impl<U: Unit> List<'_, U> {
         for call in look_around(&self.state) {
             self.call(call, tally)?;
         }
+        self.contents()?;
         if rng.once_in(2) {
             return Ok(());
         }

@@ -6,7 +6,7 @@
 //! - [`tables`] — tables that no call made: whether they are good, and what each call makes of them
 //! - [`lent`] — lent bytes at any address, with guard bytes around them
 //! - [`shrink`] — a list that shows a difference made shorter
-//! - [`clock`] — one lane driven up to the clock's edge, through the calls alone
+//! - [`clock`] — one lane driven to where the clock is taken back, through the calls alone
 //! - [`report`] — what was compared, and the reproducer of a difference
 
 pub mod clock;

@@ -2,7 +2,6 @@
 
 use crate::calls::Answer;
 use crate::layout::{Reading, CLAUSES};
-use crate::numbers::refusal;
 use std::fmt;
 
 /// Counts of a comparison.
@@ -15,8 +14,11 @@ pub struct Tally {
     /// Calls that only show what a table holds after `make` or `run`, not counted among those.
     pub shown: u64,
     pub taken: u64,
-    /// Calls refused, by the refusal's last digit: 0 for 10, up to 6 for 16.
+    /// Calls refused, by the refusal's last digit: 0 for 10, up to 6 for 16. 14 is not given any more.
     pub refused: [u64; 7],
+    /// Puts that took the clock back, in the lists and on tables that no call made.
+    pub taken_back: u64,
+    pub tables_taken_back: u64,
     /// Answers to sets in which the first, second, third, fourth word is not 0.
     pub words: [u64; 4],
     /// Setups given to `make`, and how many were accepted.
@@ -30,9 +32,8 @@ pub struct Tally {
     pub tables: u64,
     pub tables_good: u64,
     pub broken_alone: [u64; CLAUSES.len()],
-    /// Calls on them, how many of those gave 14, and how many good tables a call made into one that is not.
+    /// Calls on them, and how many good tables a call made into one that is not.
     pub table_calls: u64,
-    pub tables_spent: u64,
     pub tables_lost: u64,
     /// Lanes and points of the lists at which demand 3 was checked for all stretches that end there.
     pub stretch_ends: u64,
@@ -69,9 +70,8 @@ impl Tally {
     }
 
     /// One more call on such a table.
-    pub fn table_call(&mut self, answer: Answer) {
+    pub fn table_call(&mut self) {
         self.table_calls += 1;
-        self.tables_spent += u64::from(answer == Answer::No(refusal::CLOCK_SPENT));
     }
 
     /// Setups and sessions together.
@@ -107,9 +107,17 @@ impl fmt::Display for Tally {
 impl Tally {
     fn of_lists(&self, f: &mut fmt::Formatter) -> fmt::Result {
         write!(f, "\n  {} lists, {} records taken", self.lists, self.taken)?;
-        let refused: Vec<String> =
-            (10..).zip(self.refused).map(|(number, n)| format!("{number}: {n}")).collect();
+        let refused: Vec<String> = (10..)
+            .zip(self.refused)
+            .filter(|(number, _)| *number != 14)
+            .map(|(number, n)| format!("{number}: {n}"))
+            .collect();
         write!(f, "\n  calls refused by {}", refused.join(", "))?;
+        write!(
+            f,
+            "\n  the clock taken back {} times; every answer that of an endless clock",
+            self.taken_back
+        )?;
         write!(f, "\n  answers to sets in which each of the four words names a group: {:?}", self.words)?;
         write!(
             f,
@@ -140,11 +148,11 @@ impl Tally {
     fn of_tables(&self, f: &mut fmt::Formatter) -> fmt::Result {
         write!(
             f,
-            "\n  tables that no call made: {} good, {} not good; {} calls on them, {} refused by 14; {} good ones led to one that is not",
+            "\n  tables that no call made: {} good, {} not good; {} calls on them, {} took the clock back; {} good ones led to one that is not",
             self.tables_good,
             self.tables - self.tables_good,
             self.table_calls,
-            self.tables_spent,
+            self.tables_taken_back,
             self.tables_lost
         )?;
         let alone: Vec<String> =

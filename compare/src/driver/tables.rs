@@ -1,16 +1,19 @@
 //! Tables that no call made. Each is read by [`layout`] alone: whether it is good, and what it holds. Then the unit is asked every call on it:
 //!
 //! - a table that is not good gives 10 in every call, and is not written;
-//! - a good one gives the answer of the plain rules on its contents, and the table after it encodes what the rules make of them.
+//! - a good one gives the answer of the plain rules on its contents, and the table after it encodes what the rules make of them;
+//! - as long as it is good its answers are those of an endless clock.
 
 use super::lent::Lent;
 use super::report::{Found, Tally};
 use crate::calls::{Answer, Call};
 use crate::gen::{caller::Caller, setups, tables};
+use crate::laws::endless::Endless;
 use crate::layout::{self, Reading, NOW};
 use crate::numbers::refusal;
 use crate::rng::Rng;
 use crate::rules::State;
+use crate::slots;
 use crate::unit::Unit;
 
 const TABLES: u64 = 24;
@@ -28,7 +31,8 @@ pub fn case<U: Unit>(unit: &mut U, rng: &mut Rng, tally: &mut Tally) -> Result<(
         let (bytes, how) = table(rng, &made);
         let reading = layout::read(&bytes);
         tally.table(&reading);
-        Table { unit, lent: &mut lent, bytes: &bytes, reading: &reading, tally }.compare(rng).map_err(
+        let last = Answer::Restarted;
+        Table { unit, lent: &mut lent, bytes: &bytes, reading: &reading, tally, last }.compare(rng).map_err(
             |what| {
                 let broken = format!("clauses of a good table that it breaks: {:?}", reading.broken);
                 Found::new(what, [how, vec![broken]].concat())
@@ -52,7 +56,7 @@ fn made<U: Unit>(unit: &mut U, rng: &mut Rng) -> Result<Vec<u8>, Found> {
         unit.answer(&mut bytes, call);
     }
     match layout::read(&bytes).good() {
-        Some(read) if read.alike(&state) => Ok(bytes),
+        Some(read) if read.alike(&state) && read.back == state.back => Ok(bytes),
         Some(_) => Err(Found::new("a table made by calls does not hold what the rules hold", vec![])),
         None => Err(Found::new("a table made by calls is not good", vec![])),
     }
@@ -77,6 +81,8 @@ struct Table<'a, U: Unit> {
     bytes: &'a [u8],
     reading: &'a Reading,
     tally: &'a mut Tally,
+    /// The last answer.
+    last: Answer,
 }
 
 impl<U: Unit> Table<'_, U> {
@@ -122,10 +128,14 @@ impl<U: Unit> Table<'_, U> {
     /// One call on the table that is lent, which reads as `reading`: the answer, and the bytes after it.
     fn call(&mut self, call: Call, reading: &Reading) -> Result<Reading, String> {
         let mut state = reading.clone().good();
+        let back = state.as_ref().map(|state| state.back);
         let expected = state.as_mut().map_or(Answer::No(refusal::NOT_GOOD), |state| state.answer(call));
+        let taken_back = matches!(call, Call::Put { .. }) && state.as_ref().map(|state| state.back) != back;
+        self.tally.tables_taken_back += u64::from(taken_back);
         let before = self.lent.copy();
         let answer = self.unit.answer(self.lent.bytes(), call);
-        self.tally.table_call(answer);
+        self.tally.table_call();
+        self.last = answer;
         if answer != expected {
             return Err(format!("{call}: the unit gave {answer}, the rules {expected}"));
         }
@@ -143,7 +153,8 @@ impl<U: Unit> Table<'_, U> {
             return Err(format!("{call} left a table that breaks {clause:?}"));
         }
         match (&after.state, &state) {
-            (Some(after), Some(state)) if after.alike(state) => {}
+            (Some(after), Some(state))
+                if after.alike(state) && after.back == i128::from(slots::stored(state.back)) => {}
             (after, state) => return Err(format!("{call} left {after:?}, the rules {state:?}")),
         }
         Ok(after)
@@ -153,6 +164,7 @@ impl<U: Unit> Table<'_, U> {
     fn walk(&mut self, rng: &mut Rng) -> Result<(), String> {
         let mut caller = Caller::new(rng);
         let mut reading = self.reading.clone();
+        let mut endless = reading.state.as_ref().map(Endless::new);
         for _ in 0..rng.below(WALK + 1) {
             let Some(state) = &reading.state else { return Ok(()) };
             let call = caller.next(rng, state);
@@ -160,6 +172,9 @@ impl<U: Unit> Table<'_, U> {
             reading = self.call(call, &reading)?;
             if !good {
                 return Ok(());
+            }
+            if let (Some(endless), Some(after)) = (&mut endless, &reading.state) {
+                endless.step(call, self.last, after)?;
             }
             self.tally.tables_lost += u64::from(!reading.broken.is_empty());
         }
@@ -172,7 +187,7 @@ impl<U: Unit> Table<'_, U> {
         self.lay();
         for call in self.each_call(rng) {
             let answer = self.unit.answer(self.lent.short(length), call);
-            self.tally.table_call(answer);
+            self.tally.table_call();
             if answer != Answer::No(refusal::NOT_GOOD) {
                 return Err(format!("{call} on the table's first {length} bytes gave {answer}"));
             }

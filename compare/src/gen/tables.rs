@@ -4,7 +4,7 @@ use super::setups;
 use crate::layout::*;
 use crate::numbers::*;
 use crate::rng::Rng;
-use crate::rules::{Lane, Record, State};
+use crate::rules::{taken_off, Lane, Record, State};
 use crate::setup::LanePlan;
 use crate::slots;
 use std::collections::VecDeque;
@@ -21,9 +21,6 @@ pub fn blank(rng: &mut Rng, form: &Form) -> Vec<u8> {
 /// Bytes with these contents, and anything where they have no meaning.
 pub fn written(rng: &mut Rng, form: &Form, state: &State) -> Vec<u8> {
     let mut bytes = blank(rng, form);
-    // The clock was taken back by some multiple of 2^31, or never.
-    let back = rng.below(32) << 31;
-    set_word(&mut bytes, slots::BACK, rng.pick(&[0, back]));
     form.write(state, &mut bytes);
     bytes
 }
@@ -54,15 +51,25 @@ pub fn laid(rng: &mut Rng, form: &Form) -> Vec<u8> {
             *lane = Lane::of(lane.plan, framing, lane.queue.clone(), now, lane.since);
         }
     }
-    written(rng, form, &State::of(clock, framing, lanes))
+    let back = back(rng);
+    written(rng, form, &State::of(clock, framing, lanes, back))
+}
+
+/// The clock was taken back by some multiple of 2^31, or never.
+pub fn back(rng: &mut Rng) -> i128 {
+    let back = rng.below(32) << 31;
+    rng.pick(&[0, back]).into()
 }
 
 fn clock(rng: &mut Rng, form: &Form, framing: u8, lanes: &[LanePlan]) -> i128 {
     let end = rng.pick(&[form.clock_end, form.clock_end, OLD_CLOCK_END]);
-    match rng.below(10) {
+    match rng.below(13) {
         0 => 0,
         1 => i128::from(rng.below(1 << 34)),
-        2 => CLOCK_EDGE - 1 + i128::from(rng.below(2)),
+        2 => OLD_CLOCK_EDGE - 1 + i128::from(rng.below(2)),
+        10 | 11 => CLOCK_FAR - 1 + i128::from(rng.below(3)),
+        // Where what is taken off grows by another 2^31.
+        12 => CLOCK_FAR + CLOCK_STEP * i128::from(rng.below(1 << 28)) - 1 + i128::from(rng.below(3)),
         3 => end - 1 - i128::from(rng.below(3)),
         4 => end + i128::from(rng.below(2)),
         5..=7 => {
@@ -90,8 +97,10 @@ fn lane(
     let ahead = clock + 2 * slot;
     let within = |rng: &mut Rng, span: i128| i128::from(rng.below(span as u64));
     if !holds {
-        let finish = match rng.below(5) {
+        let finish = match rng.below(6) {
             _ if rng.once_in(faults) => ahead + within(rng, 2),
+            // Beside what a put takes off.
+            5 if taken_off(clock) > 0 => taken_off(clock) - 1 + within(rng, 3),
             0 => 0,
             1 => ahead - 1,
             2 => clock,
@@ -290,7 +299,8 @@ fn clock_near(rng: &mut Rng, form: &Form, bytes: &[u8]) -> u64 {
     let (clock, step) = (word(bytes, CLOCK), rng.below(1 << 33));
     let (end, older) = (form.clock_end as u64, OLD_CLOCK_END as u64);
     let (back, on) = (clock.wrapping_sub(step), clock.wrapping_add(step));
-    rng.pick(&[0, end - 1, end, older - 1, older, 1 << 62, (1 << 62) - 1, back, on])
+    let far = CLOCK_FAR as u64;
+    rng.pick(&[0, end - 1, end, older - 1, older, 1 << 62, (1 << 62) - 1, far - 1, far, back, on])
 }
 
 /// One number of a setting word at an edge, or beside what it was.

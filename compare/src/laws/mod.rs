@@ -6,8 +6,10 @@
 //! - [`order`] — accepted records are handed out once, in order, or still held; a put tells how many are ahead of it
 //! - [`groups`] — the four words part the groups, name the chosen lane's group, and are in order of finish
 //! - [`good`] — the clock's range and every other clause of "A good table"
+//! - [`endless`] — every answer is that of a clock which is never taken back, and the clock is taken back in time
 
 pub mod compared;
+pub mod endless;
 pub mod fairness;
 pub mod good;
 pub mod groups;
@@ -21,6 +23,8 @@ pub struct Laws {
     pub fairness: fairness::Fairness,
     pub compared: compared::Compared,
     pub order: order::Order,
+    pub endless: endless::Endless,
+    /// The endless clock.
     clock: i128,
 }
 
@@ -30,7 +34,8 @@ impl Laws {
             fairness: fairness::Fairness::new(fresh),
             compared: compared::Compared::new(fresh),
             order: order::Order::default(),
-            clock: fresh.clock,
+            endless: endless::Endless::new(fresh),
+            clock: fresh.clock + fresh.back,
         }
     }
 
@@ -39,15 +44,18 @@ impl Laws {
         self.fairness.step(call, answer)?;
         self.compared.step(call, answer)?;
         self.order.step(call, answer)?;
+        self.endless.step(call, answer, after)?;
         if call.only_reads() || answer.refused() {
             return Ok(());
         }
         groups::check(after)?;
         good::check(after)?;
-        if answer != Answer::Restarted && after.clock < self.clock {
-            return Err(format!("the clock fell from {} to {}", self.clock, after.clock));
+        endless::early(after)?;
+        let clock = after.clock + after.back;
+        if answer != Answer::Restarted && clock < self.clock {
+            return Err(format!("the endless clock fell from {} to {clock}", self.clock));
         }
-        self.clock = after.clock;
+        self.clock = clock;
         Ok(())
     }
 

@@ -66,7 +66,7 @@ impl Form {
         for clause in slots::broken(bytes, &lanes) {
             reading.breaks(clause, true);
         }
-        reading.state = Some(State::of(clock, framing, lanes));
+        reading.state = Some(State::of(clock, framing, lanes, i128::from(word(bytes, slots::BACK))));
         reading
     }
 

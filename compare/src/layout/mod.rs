@@ -14,6 +14,7 @@ pub use form::Form;
 
 use crate::numbers::*;
 use crate::rules::{Record, State};
+use crate::slots;
 
 /// A table is 65,536 bytes: 1,408 words of 64 bits, low byte first; the bytes of the slot lists' rings; the words of the marks; bytes that mean nothing.
 pub const WORDS: usize = 1_408;
@@ -97,4 +98,16 @@ pub fn read(bytes: &[u8]) -> Reading {
 
 pub fn write(state: &State, bytes: &mut [u8]) {
     NOW.write(state, bytes);
+}
+
+/// Moves the clock of a good table on by a multiple of 2^31, word by word, as if so much less had been taken off it: V, each S and F, the groups' starts,
+/// and B the other way. No lane moves to another list.
+pub fn lift(bytes: &mut [u8], up: u64) {
+    let lanes = present(bytes).map(clock_word);
+    let starts = slots::groups(bytes).into_iter().map(slots::start);
+    for at in [CLOCK].into_iter().chain(lanes).chain(starts).collect::<Vec<usize>>() {
+        set_word(bytes, at, word(bytes, at) + up);
+    }
+    let back = i128::from(word(bytes, slots::BACK)) - i128::from(up);
+    set_word(bytes, slots::BACK, slots::stored(back));
 }

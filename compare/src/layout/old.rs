@@ -26,7 +26,8 @@ fn at(lane: u8, place: u64) -> usize {
     336 + OLD_DEPTH * usize::from(lane) + place as usize % OLD_DEPTH
 }
 
-/// The rules of that time on contents: a put to a lane that holds 16 gave 13. All else was as it is.
+/// The rules of that time on contents: a put to a lane that holds 16 gave 13. All else was as it is; the clock's far end, where a put gave 14 and is taken
+/// back today, is further on than the lists of that time come here.
 pub fn answer(state: &mut State, call: Call) -> Answer {
     if let Call::Put { lane, length, .. } = call {
         let full = |lane: &&crate::rules::Lane| {

@@ -80,6 +80,42 @@ impl Engine {
         }
     }
 
+    /// A clock at 2^61 or more goes back to 2^33 and at most 2^31 more.
+    fn take_back(&mut self) {
+        if self.clock >> 61 == 0 {
+            return;
+        }
+        let step = if self.slip == Slip::BackByHalfUnits { 30 } else { 31 };
+        let off = (self.clock - (1 << 33)) >> step << step;
+        self.clock -= off;
+        for flow in self.flows.iter_mut().flatten() {
+            match (self.slip, flow.queue.is_empty()) {
+                (Slip::BackOfClockAlone, _) => {}
+                (Slip::BackLeavesIdleLanes, true) => {}
+                (Slip::BackKeepsLowFinish, true) if flow.finish < off => {}
+                (Slip::BackForgetsFinish, true) => flow.finish = 0,
+                (Slip::BackLeavesFinish, false) => flow.start -= off,
+                (_, true) => flow.finish = flow.finish.saturating_sub(off),
+                (_, false) => {
+                    flow.start -= off;
+                    flow.finish -= off;
+                }
+            }
+        }
+    }
+
+    /// With a slip a lane may not have been lowered, and is lifted again and again; past this it differs anyway.
+    pub fn lift(&mut self, up: u64) {
+        let lifted = |time: u64| (time + up).min(1 << 62);
+        self.clock += up;
+        for flow in self.flows.iter_mut().flatten() {
+            flow.finish = lifted(flow.finish);
+            if !flow.queue.is_empty() {
+                flow.start = lifted(flow.start);
+            }
+        }
+    }
+
     /// How many records wait before this one.
     pub fn put(&mut self, lane: u8, mark: u32, mut length: u64) -> Result<u64, u8> {
         if self.slip == Slip::LengthCut {
@@ -108,9 +144,11 @@ impl Engine {
         if full {
             return Err(13);
         }
-        if self.clock >> 62 != 0 {
+        if self.slip == Slip::FarIsRefused && self.clock >> 61 != 0 {
             return Err(14);
         }
+        self.take_back();
+        let flow = self.flows[lane].as_mut().expect("the lane is in the setup");
         flow.queue.push((mark, length));
         let ahead = match self.slip {
             Slip::CountsItself => flow.queue.len(),

@@ -95,4 +95,9 @@ impl Unit for StandIn {
     fn run(&mut self, session: &[u8], limit: u64, table: &mut [u8], answers: &mut [u8]) -> Run {
         session::run(self, session, limit, table, answers)
     }
+
+    fn lift(&mut self, table: &mut [u8], up: u64) {
+        self.shelf.open(table).expect("the table that is kept").lift(up);
+        self.shelf.sign(table);
+    }
 }

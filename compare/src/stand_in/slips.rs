@@ -65,6 +65,22 @@ slips! {
     /// A put's length is cut to 16 bits.
     LengthCut,
 
+    // A clock that is taken back.
+    /// A put at 2^61 or more gives 14.
+    FarIsRefused,
+    /// By a multiple of 2^30.
+    BackByHalfUnits,
+    /// V alone goes back.
+    BackOfClockAlone,
+    /// The F of idle lanes stays.
+    BackLeavesIdleLanes,
+    /// An idle lane's F that is below what is taken off stays.
+    BackKeepsLowFinish,
+    /// Every idle lane's F becomes 0.
+    BackForgetsFinish,
+    /// S goes back, and the F of a lane that holds records stays.
+    BackLeavesFinish,
+
     // A put's answer.
     /// The record itself is counted among those ahead of it.
     CountsItself,

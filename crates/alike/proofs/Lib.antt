@@ -1,4 +1,5 @@
 pub mod Places
 pub mod SameChoice
+pub mod Turns
 pub mod Alike
 pub mod Reached

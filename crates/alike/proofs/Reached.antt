@@ -1,26 +1,32 @@
 -- A state that is alike one that calls make from a fresh state is as good. Assumes nothing.
 use Prim.Native.Nat.{ℕ}
-use mathlib.Core.Path.{_≡_, sym, ap, subst, _∙_}
-use mathlib.Core.Bool.{Bool}
+use mathlib.Core.Path.{_≡_, refl, sym, subst, _∙_}
 use mathlib.Core.List.{List}
-use lib.ListN.{getD}
-use Rattle.units.specs.Plain.{if_then_else_, times}
-use Rattle.rules.specs.State.{Lane, State, noLane, holds}
+use Rattle.units.specs.Plain.{times}
+use Rattle.rules.specs.State.{Lane, State}
 use Rattle.rules.proofs.AlwaysGood.{Reached}
 use Rattle.rules.proofs.Live.{Live}
 use Rattle.rules.proofs.Ties.{Tied}
 use Rattle.alike.specs.Alike.{Alike}
 
--- only `tied` speaks of the tie order, and both name the same lanes
+-- only `tied` speaks of the tie order, and both name the same lanes; the twin by the endless rules gets the same order
 tied-with : (s : State) (o : List ℕ) → ((k : ℕ) → times k (s .order) ≡ times k o) → Reached s → Reached (record { clock = s .clock; lanes = s .lanes; order = o })
 unfolding Live Tied
-tied-with s o e r = record {
-  setup = r .setup;
-  kept = r .kept;
-  range = record { lane = r .range .lane; few = r .range .few; clock = r .range .clock };
-  live = r .live;
-  tied = λ k. sym (e k) ∙ r .tied k;
-}
+tied-with s o e r =
+    let w = r .twins in
+    let b = w .beside in
+    record {
+      by = r .by;
+      twin = record { clock = r .twin .clock; lanes = r .twin .lanes; order = o };
+      twins = record {
+        setup = w .setup;
+        range = record { lane = w .range .lane; few = w .range .few; clock = w .range .clock };
+        tied = λ k. sym (e k) ∙ w .tied k;
+        beside = record { clock = b .clock; order = refl; size = b .size; lane = b .lane };
+        kept = w .kept;
+        live = w .live;
+      };
+    }
 
 pub alike-reached : (s t : State) → Alike s t → Reached s → Reached t
 alike-reached s t a r =

@@ -1,5 +1,6 @@
-// The table that the programs `bad_tables` and `bad_lists` change: document 01's session after its three puts. Lane 0 (weight 512, longest 1,500, c 2,048, group 22) holds records of
-// 1,000 and 500 bytes, lane 1 (weight 256, longest 1,500, c 4,096, group 23) one of 1,000; V and both S are 0, so each lane stands in list 0 of its group.
+// The table that the programs `bad_tables` and `bad_lists` change: document 01's session after its three puts. Lane 0 (weight 512, longest 1,500,
+// c 2,048, group 22) holds records of 1,000 and 500 bytes, lane 1 (weight 256, longest 1,500, c 4,096, group 23) one of 1,000; V and both S are 0, so each
+// lane stands in list 0 of its group.
 //
 // It is written word by word and byte by byte from docs/TABLE.md, and not by the library's own functions. Each case has a name, and is written with
 // whether its table is good.

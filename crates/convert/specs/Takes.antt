@@ -6,7 +6,7 @@
 --   UntilTen    two lists of answers are the same, as far as both go, before the first list's first 10
 --   SameTakes   the claim
 --
--- The rules of a take have not changed: only the room of a lane and the clock's edge have, and no take looks at either. A good table of other origin may
+-- The rules of a take have not changed: only the room of a lane and the clock's edge have, at which no take looks, and a put. A good table of other origin may
 -- lead to one that is not good; so a list of the old unit's takes may reach its 10. Assumes nothing.
 use Prim.Native.Nat.{ℕ, _≤_}
 use mathlib.Core.Path.{_≡_}

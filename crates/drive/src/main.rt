@@ -5,10 +5,10 @@
 mod bytes;
 mod calls;
 mod damage;
+mod far;
 mod print;
 mod refusals;
 mod session;
-mod spent;
 
 fn main() {
     session::session();
@@ -19,8 +19,9 @@ fn main() {
     refusals::calls();
     refusals::full();
     refusals::sizes();
-    spent::at_end();
-    spent::drained();
+    far::at_last();
+    far::taken_back();
+    far::groups();
     damage::damaged();
     damage::idle_places();
 }

@@ -79,18 +79,21 @@ pub fn one_lane() {
 }
 
 // Lanes 0, 1, 2 and 63 of weights 600, 300, 100 and 1, and longest 1,500, 64, 199 and 1,500: groups 22, 18, 21 and 31.
-fn four_lanes(t: &mut [u8]) {
+pub fn four_lanes(t: &mut [u8]) {
     calls::make(
         b"\x01\x00\x02\x00\x01\x10\x00\x03\x00\x02\x58\x10\x00\x05\x01\x01\x2C\x00\x40\x10\x00\x05\x02\x00\x64\x00\xC7\x10\x00\x03\x3F\x00\x01\x7F\x00\x00",
         t,
     );
+}
+
+pub fn first(t: &mut [u8]) {
     calls::put(t, 63, 1, 1500);
     calls::put(t, 63, 2, 64);
     calls::put(t, 2, 3, 199);
     calls::put(t, 2, 4, 199);
 }
 
-fn more(t: &mut [u8]) {
+pub fn more(t: &mut [u8]) {
     calls::put(t, 2, 5, 1);
     calls::put(t, 1, 6, 64);
     calls::put(t, 1, 7, 64);
@@ -107,7 +110,7 @@ fn look_and_take(t: &mut [u8]) {
     calls::take(t);
 }
 
-fn looks_and_takes(t: &mut [u8], n: u32) {
+pub fn looks_and_takes(t: &mut [u8], n: u32) {
     let mut i: u32 = 0;
     while i < n {
         look_and_take(t);
@@ -119,6 +122,7 @@ pub fn four_groups() {
     print::line(b"- four groups");
     let mut t = [bytes::FILL; bytes::LONG];
     four_lanes(&mut t);
+    first(&mut t);
     more(&mut t);
     looks_and_takes(&mut t, 10);
     bytes::times(&t);

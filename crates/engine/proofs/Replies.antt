@@ -6,10 +6,12 @@ use mathlib.Core.Bool.{true, false, false≢true}
 use mathlib.Core.List.{List, [], _∷_}
 use mathlib.Core.Option.{Option, none, some}
 use lib.IntN.{ℤ, subℕ}
+use lib.ListN.{length}
 use borrow.Author.Tests.{lt-ltb, le-ltb}
+use Rattle.waiting.specs.Waiting.{Waiting, queueOf}
 use Rattle.rules.specs.State.{anyHolds, Rec, State, firstOf, holds, laneAt, setupOf}
 use Rattle.rules.specs.Choice.{Candidate, choose}
-use Rattle.rules.specs.Calls.{restart, fresh, doRestart, Call, put, take, look, lag, lagged, lagOf, doLag, refused, Outcome, no, putRefusal, accept, accepted, ahead, putOf, doPut, Pick, pickFirst, pickOf, picked, serve, takeOf, doTake, lookOf, doLook, step}
+use Rattle.rules.specs.Calls.{restart, fresh, doRestart, Call, put, take, look, lag, lagged, lagOf, doLag, refused, Outcome, no, putRefusal, accept, accepted, ahead, shifted, putOf, doPut, Pick, pickFirst, pickOf, picked, serve, takeOf, doTake, lookOf, doLook, step}
 use Rattle.rules.specs.Reads.{number, placeOf}
 use Rattle.rules.specs.declared.Refusal.{Refusal}
 use Rattle.rules.specs.declared.Answer.the-variants.{Restarted, Accepted, Taken, Seen, Refused}
@@ -18,10 +20,12 @@ use Rattle.rules.specs.Good.{Times, Good}
 use Rattle.rules.proofs.Figures.{slot-at}
 use Rattle.rules.proofs.Moves.{idle-first}
 use Rattle.rules.proofs.Keep.{Picked, PickIs, pick-is, Allowed, PutOk, put-ok}
+use Rattle.rules.proofs.Shift.{shifted-waiting, shifted-allowed}
 use Rattle.rules.proofs.Chosen.{Choice, chosen}
 use Rattle.rules.proofs.BySets.{laneOf}
 use Rattle.table.specs.Means.{meant}
 use Rattle.choice.specs.Known.{Known}
+use Rattle.back.specs.Back.{TakesBack}
 use Rattle.engine.specs.Turns.{Holds, Turns}
 use Rattle.engine.proofs.Ends.{known-holds, step-encodes}
 use Rattle.engine.specs.Does.{Says, Does, Serves}
@@ -52,15 +56,26 @@ put-accepted s j m n e = ap (putOf s j (record { mark = m; len = n })) (sym e)
 pub put-allowed : (s : State) (j n : ℕ) → none ≡ putRefusal s j n → Allowed s j n
 put-allowed s j n e = subst (PutOk s j n) (sym e) (put-ok s j n)
 
-pub put-does : (t u : List ℕ) (j m n a : ℕ) → Known t → none ≡ putRefusal (meant t) j n → Turns t u (accept (meant t) j (record { mark = m; len = n })) → a ≡ ahead (meant t) j → Does (put j m n) t (Accepted a) u
+-- the clock taken back changes no lane's room, so that the put stays allowed ..
+pub back-allowed : (t b : List ℕ) (j n : ℕ) → TakesBack t b → Allowed (meant t) j n → Allowed (meant b) j n
+back-allowed t b j n k a = subst (λ (s : State). Allowed s j n) (sym (k .state)) (shifted-allowed (meant t) j n a)
+
+-- .. and answers the same
+back-ahead : (t b : List ℕ) (j : ℕ) → TakesBack t b → ahead (meant b) j ≡ ahead (meant t) j
+back-ahead t b j k =
+    ap (λ (s : State). ahead s j) (k .state) ∙ ap (λ (w : Waiting). length (queueOf w 0)) (shifted-waiting (meant t) j)
+
+-- t before the put, b with the clock taken back, u after it
+pub put-does : (t b u : List ℕ) (j m n a : ℕ) → Known t → none ≡ putRefusal (meant t) j n → TakesBack t b → Turns b u (accept (meant b) j (record { mark = m; len = n })) → a ≡ ahead (meant b) j → Does (put j m n) t (Accepted a) u
 unfolding putOf
-put-does t u j m n a known e l h =
+put-does t b u j m n a known e k l h =
     let o = put-accepted (meant t) j m n e in
+    let turns : Turns b u (accept (shifted (meant t)) j (record { mark = m; len = n })) = subst (λ (s : State). Turns b u (accept s j (record { mark = m; len = n }))) (k .state) l in
     record {
-      says = ap accepted h ∙ sym (ap (λ (x : Outcome). x .reply) o);
-      encodes = step-encodes (meant t) (put j m n) u (known .good) (subst (Holds u) (sym (ap (λ (x : Outcome). x .state) o)) (l .holds));
+      says = ap accepted (h ∙ back-ahead t b j k) ∙ sym (ap (λ (x : Outcome). x .reply) o);
+      encodes = step-encodes (meant t) (put j m n) u (known .good) (subst (Holds u) (sym (ap (λ (x : Outcome). x .state) o)) (turns .holds));
       unchanged = tt;
-      rest = l .rest;
+      rest = l .rest ∙ k .rest;
     }
 
 -- ---- take and look

@@ -8,7 +8,7 @@ use lib.Dec.{ltb}
 use borrow.Author.Tests.{lt-ltb, le-ltb, le-leb, lt-leb}
 use Rattle.waiting.specs.Waiting.{full, held}
 use Rattle.waiting.proofs.Laws.{full-plain}
-use Rattle.rules.specs.State.{clockSpent, State, Lane, laneDepth, laneAt}
+use Rattle.rules.specs.State.{State, Lane, laneDepth, laneAt}
 use Rattle.rules.specs.Calls.{putRefusal}
 
 module _ (s : State) (j n : ℕ) where
@@ -33,10 +33,6 @@ module _ (s : State) (j n : ℕ) where
       unfolding putRefusal
       lane-full h = simp (le-ltb (l .given .weight) 1 w, le-ltb n 1 some-bytes, le-ltb (l .given .longest) n fits, full-plain, le-leb laneDepth (held (l .waiting)) h)
 
-      pub clock-spent : held (l .waiting) < laneDepth → clockSpent ≤ s .clock → some 14 ≡ putRefusal s j n
+      pub allowed : held (l .waiting) < laneDepth → none ≡ putRefusal s j n
       unfolding putRefusal
-      clock-spent h v = simp (le-ltb (l .given .weight) 1 w, le-ltb n 1 some-bytes, le-ltb (l .given .longest) n fits, full-plain, lt-leb laneDepth (held (l .waiting)) h, le-leb (clockSpent) (s .clock) v)
-
-      pub allowed : held (l .waiting) < laneDepth → s .clock < clockSpent → none ≡ putRefusal s j n
-      unfolding putRefusal
-      allowed h v = simp (le-ltb (l .given .weight) 1 w, le-ltb n 1 some-bytes, le-ltb (l .given .longest) n fits, full-plain, lt-leb laneDepth (held (l .waiting)) h, lt-leb (clockSpent) (s .clock) v)
+      allowed h = simp (le-ltb (l .given .weight) 1 w, le-ltb n 1 some-bytes, le-ltb (l .given .longest) n fits, full-plain, lt-leb laneDepth (held (l .waiting)) h)

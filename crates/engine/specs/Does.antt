@@ -47,7 +47,7 @@ abbrev pub verdictIs : Verdict → Option ℕ
 verdictIs Allowed = none
 verdictIs (Refused x) = some (number x)
 
--- 11 to 14 have no place
+-- 11 to 13 have no place
 abbrev pub Placeless : Verdict → Type 0
 Placeless Allowed = Unit {0}
 Placeless (Refused x) = placeOf x ≡ none

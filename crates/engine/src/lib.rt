@@ -2,7 +2,7 @@
 //
 // Each does what the rules do (specs/Does.antt) with the state that the table means. They rest on `Known`: what the good-table test shows, and what every
 // call from a fresh table keeps. The public calls, which test the table each time, are in `scheduler`. None of put, take and look goes through the lanes:
-// what they cost does not grow with their number.
+// what they cost does not grow with their number, but for a put that takes the clock back.
 //
 // Units: lengths are `Bytes`, times are `Clock`; only `lane_charge` and `line_charge` of `units` turn the first into the second.
 ghost use mathlib.Core.Path.{_≡_};
@@ -22,6 +22,7 @@ ghost use Rattle.lane_moves.specs.Moves.{never};
 ghost use Rattle.choice.specs.Known.{Known, Standing};
 ghost use Rattle.engine.specs.Turns.{Turns, Reaching, Settled};
 ghost use Rattle.engine.specs.Does.{Says, Does, verdictIs, Placeless, Idle, Serves};
+use back::take_back;
 use choice::Choice;
 use choice::Place;
 use choice::chosen;
@@ -51,7 +52,6 @@ use units::Clock;
 use units::lane_charge;
 use units::later;
 use units::line_charge;
-use units::not_after;
 use units::plus;
 use units::rounded_start;
 use words::word;
@@ -62,10 +62,7 @@ pub enum Verdict {
     Refused(Refusal),
 }
 
-// V at which puts are refused: 2^62.
-const SPENT: u64 = 4611686018427387904;
-
-// "Calls: in rising number": 11, 12, 13, 14.
+// "Calls: in rising number": 11, 12, 13.
 fn put_verdict(t: &[u8], lane: u8, length: Bytes) -> Verdict
     requires { ⌜ Known (now t) ⌝ }
     ensures { λ r. ⌜ (verdictIs r ≡ putRefusal (meant (now (t .entry))) lane (length .0)) × Placeless r ⌝ }
@@ -86,10 +83,6 @@ fn put_verdict(t: &[u8], lane: u8, length: Bytes) -> Verdict
     }
     if DEPTH <= l.count {
         return Verdict::Refused(Refusal::LaneFull);
-    }
-    let v = clock(t);
-    if not_after(Clock(SPENT), v) {
-        return Verdict::Refused(Refusal::ClockSpent);
     }
     Verdict::Allowed
 }
@@ -125,7 +118,7 @@ fn put_record(t: &mut [u8], k: usize, e: Entry) -> u64
     l.count
 }
 
-// Put: appends the record, or refuses.
+// Put: takes the clock back where it is far on, and appends the record; or refuses.
 pub fn put(t: &mut [u8], lane: u8, mark: u32, length: Bytes) -> Answer
     requires { ⌜ Known (now t) ⌝ }
     ensures { λ r. ⌜ Does (Calls.put lane mark (length .0)) (now (t .entry)) r (now (t .exit)) ⌝ }
@@ -134,6 +127,7 @@ pub fn put(t: &mut [u8], lane: u8, mark: u32, length: Bytes) -> Answer
     match verdict {
         Verdict::Refused(x) => Answer::Refused(x),
         Verdict::Allowed => {
+            take_back(t);
             let n = put_record(t, lane as usize, Entry { mark, length });
             Answer::Accepted(n)
         }

@@ -10,3 +10,4 @@ pub mod KeepsTake
 pub mod AlikeFiled
 pub mod Others
 pub mod Back
+pub mod TakenBack

@@ -18,10 +18,10 @@ use Rattle.rules.proofs.Lists.{sum-set, le-sum, sum-zero}
 use Rattle.rules.proofs.Moves.{idle-first, busy-first}
 use Rattle.rules.proofs.Keep.{AllSound, PickIs, pick-is}
 use Rattle.rules.proofs.Queues.{held-inside, served-waiting}
-use Rattle.rules.proofs.Range.{heldIn}
+use Rattle.rules.proofs.RangeTake.{heldIn}
 use Rattle.rules.proofs.Live.{Live, nothing-held, some-holds}
 use Rattle.rules.proofs.SameSetup.{setup-kept}
-use Rattle.rules.proofs.AlwaysGood.{Reached, step-reached}
+use Rattle.rules.proofs.AlwaysGood.{Reached, step-reached, reached-good, reached-live}
 
 abbrev pub heldBy : State → ℕ
 heldBy s = sum heldIn (s .lanes)
@@ -58,8 +58,8 @@ take-one s n w live e = go (picked s) (pick-is s)
 -- as many takes as records are held leave none
 pub drained : (s : State) (n : ℕ) → Reached s → heldBy s ≡ n → anyHolds (after s (replicate n take) .lanes) ≡ false
 unfolding after
-drained s zero r e = not-passed (anyHolds (s .lanes)) (λ h. let i = some-holds (s .lanes) h in omega (arith, held-some s (λ k. r .kept .ok k .waiting) (i .0) (i .1)))
-drained s (suc n) r e = drained ((step s take) .state) n (step-reached s take r) (take-one s n (λ k. r .kept .ok k .waiting) (r .live) e .4)
+drained s zero r e = not-passed (anyHolds (s .lanes)) (λ h. let i = some-holds (s .lanes) h in omega (arith, held-some s (reached-good s r .waiting) (i .0) (i .1)))
+drained s (suc n) r e = drained ((step s take) .state) n (step-reached s take r) (take-one s n (reached-good s r .waiting) (reached-live s r) e .4)
 
 -- and then restart gives the fresh table of the same setup
 pub restarts : (s : State) → Reached s

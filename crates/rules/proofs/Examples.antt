@@ -8,7 +8,7 @@ use lib.ListN.{replicate}
 use Rattle.rules.specs.State.{Setting, noSetting, settingAt, rate, slot}
 use Rattle.rules.specs.Setup.{InNumbers, framingOf, Setup}
 use Rattle.rules.specs.Fair.{bytesSentOf, Fair, Demand3, Compared, TwoLanes}
-use Rattle.rules.specs.Examples.{twoLanes, Session, Waits, SideBySide, acceptedTo, Depth}
+use Rattle.rules.specs.Examples.{twoLanes, Session, Waits, SideBySide, TakenBack}
 use Rattle.rules.proofs.Computes.{rules}
 use Rattle.rules.proofs.Fair.{demand3}
 use Rattle.rules.proofs.Fair as proved
@@ -16,10 +16,6 @@ use Rattle.rules.proofs.Fair as proved
 pub session : Session
 unfolding Session rules
 session = refl
-
-pub depth : Depth
-unfolding Depth acceptedTo rules
-depth = refl
 
 none-given : (n k : ℕ) → settingAt (replicate n noSetting) k ≡ noSetting
 none-given zero k = refl
@@ -81,3 +77,7 @@ side-by-side calls past stretch rest e h₀ h₁ =
     let c₀ = ap (λ (n : ℕ). n * x) rate-0 in
     let c₁ = ap (λ (n : ℕ). n * y) rate-1 in
     (omega (arith, a, c₀, c₁, slot-0, slot-1, its-framing), omega (arith, b, c₀, c₁, slot-0, slot-1, its-framing))
+
+pub taken-back : TakenBack
+unfolding TakenBack rules
+taken-back = (refl, refl)

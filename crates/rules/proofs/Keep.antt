@@ -1,4 +1,4 @@
--- Every call of the model keeps the invariant.
+-- Every call of the endless rules keeps the invariant.
 -- Assumes nothing.
 use Prim.Native.Nat.{ℕ, _+_, _*_, _^_, _≤_, _<_}
 use native.Mathlib.Omega.{arith}
@@ -13,10 +13,10 @@ use borrow.Author.Tests.{le-leb, leb-true, leb-false, ltb-true, ltb-false, not-t
 use Rattle.units.specs.Plain.{sum}
 use Rattle.waiting.specs.Waiting.{full}
 use Rattle.waiting.proofs.Laws.{known-zero}
-use Rattle.rules.specs.State.{clockSpent, Setting, noSetting, setupOf, Lane, Rec, State, charge, startR, finishR, firstOf, holds, some?, eligible, noLane, laneAt, anyHolds}
+use Rattle.rules.specs.State.{Setting, noSetting, setupOf, Lane, Rec, State, charge, startR, finishR, firstOf, holds, some?, eligible, noLane, laneAt, anyHolds}
 use Rattle.rules.specs.Choice.{Candidate, choose, chooseFrom, leastOf}
-use Rattle.rules.specs.Calls.{Pick, Call, Outcome, put, take, look, sets, lag, restart, served, woken, settled, settledAt, serve, pickFirst, pickOf, takeOf, lookOf, picked, doTake, putRefusal, accept, putOf, doPut, doLook, doLag, doSets, doRestart, fresh, step}
-use Rattle.rules.specs.Runs.{after}
+use Rattle.rules.specs.Calls.{Pick, Call, Outcome, put, take, look, sets, lag, restart, served, woken, settled, settledAt, serve, pickFirst, pickOf, takeOf, lookOf, picked, doTake, putRefusal, accept, doLook, doLag, doSets, doRestart, fresh}
+use Rattle.rules.specs.Endless.{endlessPutOf, endlessPut, endless, afterBy, endlessAfter}
 use Rattle.rules.proofs.Bools.{if-ind, and-parts, or-parts}
 use Rattle.rules.proofs.Lists.{set-all, getD-map}
 use Rattle.rules.proofs.Claim.{Inv, weightOf}
@@ -104,13 +104,12 @@ take-kept M s (some p) inv h = served-kept M s p inv h
 
 -- ---- put
 
--- what an accepted put has: a lane of the setup with room, a length that fits, and a clock that is not spent
+-- what an accepted put has: a lane of the setup with room, and a length that fits
 pub record Allowed (s : State) (j n : ℕ) : Type 0 where
   pub has : 0 < weightOf (laneAt s j)
   pub some-bytes : 0 < n
   pub fits : n ≤ (laneAt s j) .given .longest
   pub room : full ((laneAt s j) .waiting) 0 ≡ false
-  pub early : s .clock < clockSpent
 
 pub allowed-enters : (s : State) (j : ℕ) (r : Rec) → Allowed s j (r .len) → MayEnter (laneAt s j) r
 allowed-enters s j r a = record { train = known-zero ((laneAt s j) .waiting); some-bytes = a .some-bytes; fits = a .fits; room = a .room }
@@ -125,14 +124,12 @@ put-ok s j n =
     if-ind (PutOk s j n) (ltb (weightOf (laneAt s j)) 1) _ _ (λ e. tt) λ e₁.
     if-ind (PutOk s j n) (ltb n 1 || ltb ((laneAt s j) .given .longest) n) _ _ (λ e. tt) λ e₂.
     if-ind (PutOk s j n) (full ((laneAt s j) .waiting) 0) _ _ (λ e. tt) λ e₃.
-    if-ind (PutOk s j n) (leb clockSpent (s .clock)) _ _ (λ e. tt) λ e₄.
     let b = or-parts (ltb n 1) (ltb ((laneAt s j) .given .longest) n) e₂ in
     record {
       has = ltb-false (weightOf (laneAt s j)) 1 e₁;
       some-bytes = ltb-false n 1 (b .0);
       fits = ltb-false ((laneAt s j) .given .longest) n (b .1);
       room = e₃;
-      early = leb-false clockSpent (s .clock) e₄;
     }
 
 accept-kept : (M : ℕ) (s : State) (j : ℕ) (r : Rec) → Kept M s → Allowed s j (r .len) → Kept M (accept s j r)
@@ -152,8 +149,8 @@ accept-kept M s j r inv a =
     (λ k h. absurd (false≢true (sym (none-holds (s .lanes) (not-true (anyHolds (s .lanes)) (p .0)) k) ∙ h)))))
     (λ b. w))
 
-put-kept : (M : ℕ) (s : State) (j : ℕ) (r : Rec) (o : Option ℕ) → Kept M s → PutOk s j (r .len) o → Kept M ((putOf s j r o) .state)
-unfolding putOf
+put-kept : (M : ℕ) (s : State) (j : ℕ) (r : Rec) (o : Option ℕ) → Kept M s → PutOk s j (r .len) o → Kept M ((endlessPutOf s j r o) .state)
+unfolding endlessPutOf
 put-kept M s j r none inv a = accept-kept M s j r inv a
 put-kept M s j r (some c) inv a = inv
 
@@ -185,8 +182,8 @@ restart-kept M s inv =
 
 -- ---- every call, and every list of calls
 
-pub step-kept : (M : ℕ) (s : State) (c : Call) → Kept M s → Kept M ((step s c) .state)
-unfolding step doPut doTake doLook doSets
+pub step-kept : (M : ℕ) (s : State) (c : Call) → Kept M s → Kept M ((endless s c) .state)
+unfolding endless endlessPut doTake doLook doSets
 step-kept M s (put j m n) inv = put-kept M s j (record { mark = m; len = n }) (putRefusal s j n) inv (put-ok s j n)
 step-kept M s take inv = take-kept M s (picked s) inv (pick-is s)
 step-kept M s look inv = subst (Kept M) (sym (look-same s (picked s))) inv
@@ -194,7 +191,7 @@ step-kept M s sets inv = inv
 step-kept M s (lag j) inv = subst (Kept M) (sym (lag-same s j)) inv
 step-kept M s restart inv = restart-kept M s inv
 
-pub kept : (M : ℕ) (s : State) (cs : List Call) → Kept M s → Kept M (after s cs)
-unfolding after
+pub kept : (M : ℕ) (s : State) (cs : List Call) → Kept M s → Kept M (endlessAfter s cs)
+unfolding afterBy
 kept M s [] inv = inv
-kept M s (c ∷ cs) inv = kept M ((step s c) .state) cs (step-kept M s c inv)
+kept M s (c ∷ cs) inv = kept M ((endless s c) .state) cs (step-kept M s c inv)

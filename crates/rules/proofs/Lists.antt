@@ -58,6 +58,16 @@ module _ {A : Type 0} where
   set-cases P (x ∷ xs) (suc j) zero y d h p q = q (λ e. omega arith)
   set-cases P (x ∷ xs) (suc j) (suc k) y d h p q = set-cases P xs j k y d (le-of-suc-le-suc h) (λ e. p (ap suc e)) (λ n. q (λ e. n (suc-inj e)))
 
+  -- one element of each of two lists of one length replaced
+  pub set-two : (P : A → A → Type 0) (xs ys : List A) (j : ℕ) (x y d : A) → length ys ≡ length xs → P x y → ((k : ℕ) → P (getD xs k d) (getD ys k d)) → (k : ℕ) → P (getD (set xs j x) k d) (getD (set ys j y) k d)
+  set-two P [] [] j x y d z p h k = h k
+  set-two P [] (b ∷ ys) j x y d z p h k = absurd (omega arith)
+  set-two P (a ∷ xs) [] j x y d z p h k = absurd (omega arith)
+  set-two P (a ∷ xs) (b ∷ ys) zero x y d z p h zero = p
+  set-two P (a ∷ xs) (b ∷ ys) zero x y d z p h (suc k) = h (suc k)
+  set-two P (a ∷ xs) (b ∷ ys) (suc j) x y d z p h zero = h 0
+  set-two P (a ∷ xs) (b ∷ ys) (suc j) x y d z p h (suc k) = set-two P xs ys j x y d (omega arith) p (λ i. h (suc i)) k
+
   pub getD-map : {B : Type 0} (f : A → B) (xs : List A) (k : ℕ) (d : A) (d′ : B) → f d ≡ d′ → getD (map f xs) k d′ ≡ f (getD xs k d)
   getD-map f [] k d d′ e = sym e
   getD-map f (x ∷ xs) zero d d′ e = refl

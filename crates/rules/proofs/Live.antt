@@ -13,7 +13,8 @@ use borrow.Author.Tests.{ltb-false}
 use Rattle.units.specs.Plain.{if_then_else_}
 use Rattle.rules.specs.State.{Setting, setupOf, Lane, Rec, State, charge, startR, holds, noLane, laneAt, eligible, anyHolds}
 use Rattle.rules.specs.Choice.{leastOf}
-use Rattle.rules.specs.Calls.{Pick, Call, Outcome, put, take, look, sets, lag, restart, served, woken, appended, settled, settledAt, serve, takeOf, picked, doTake, putRefusal, accept, putOf, doPut, doLook, doSets, doRestart, idle, fresh, step}
+use Rattle.rules.specs.Calls.{Pick, Call, Outcome, put, take, look, sets, lag, restart, served, woken, appended, settled, settledAt, serve, takeOf, picked, doTake, putRefusal, accept, doLook, doSets, doRestart, idle, fresh}
+use Rattle.rules.specs.Endless.{endlessPutOf, endlessPut, endless}
 use Rattle.rules.proofs.Bools.{if-ind, or-right}
 use Rattle.rules.proofs.Lists.{set-cases}
 use Rattle.rules.proofs.Claim.{in-range}
@@ -103,8 +104,8 @@ module _ (s : State) (j : ℕ) (r : Rec) (w : AllSound s) (a : Allowed s j (r .l
   accept-live =
       if-ind Live (holds (laneAt s j)) _ _ append-live (λ e. wake-live (anyHolds (s .lanes)) refl e)
 
-put-live : (s : State) (j : ℕ) (r : Rec) (o : Option ℕ) → AllSound s → PutOk s j (r .len) o → Live s → Live ((putOf s j r o) .state)
-unfolding putOf Live
+put-live : (s : State) (j : ℕ) (r : Rec) (o : Option ℕ) → AllSound s → PutOk s j (r .len) o → Live s → Live ((endlessPutOf s j r o) .state)
+unfolding endlessPutOf Live
 put-live s j r none w a live = accept-live s j r w a live
 put-live s j r (some c) w a live = live
 
@@ -116,8 +117,8 @@ restart-live : (s : State) → Live s → Live ((doRestart s) .state)
 unfolding doRestart
 restart-live s live = if-ind (λ (o : Outcome). Live (o .state)) (anyHolds (s .lanes)) _ _ (λ e. live) (λ e. fresh-live (setupOf s))
 
-pub step-live : (s : State) (c : Call) → AllSound s → Live s → Live ((step s c) .state)
-unfolding step doPut doTake doLook doSets
+pub step-live : (s : State) (c : Call) → AllSound s → Live s → Live ((endless s c) .state)
+unfolding endless endlessPut doTake doLook doSets
 step-live s (put j m n) w live = put-live s j (record { mark = m; len = n }) (putRefusal s j n) w (put-ok s j n) live
 step-live s take w live = take-live s (picked s) live
 step-live s look w live = subst Live (sym (look-same s (picked s))) live

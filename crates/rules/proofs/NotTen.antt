@@ -1,12 +1,12 @@
 -- The rules never answer 10: they know no bytes. Assumes nothing.
-use Prim.Native.Nat.{ℕ, _^_}
+use Prim.Native.Nat.{ℕ}
 use native.Mathlib.Omega.{arith}
 use mathlib.Core.Path.{_≡_}
 use mathlib.Core.Bool.{_||_}
 use mathlib.Core.Option.{Option, none, some}
 use lib.Dec.{leb, ltb}
 use Rattle.waiting.specs.Waiting.{full}
-use Rattle.rules.specs.State.{clockSpent, Rec, State, laneAt, anyHolds}
+use Rattle.rules.specs.State.{Rec, State, laneAt, anyHolds}
 use Rattle.rules.specs.Calls.{Call, put, take, look, sets, lag, restart, Reply, accepted, taken, seen, words, lagged, restarted, refused, Outcome, putRefusal, putOf, doPut, Pick, picked, takeOf, doTake, lookOf, doLook, doSets, doLag, doRestart, step}
 pub use Rattle.rules.specs.Refusals.{NotTen}
 use Rattle.rules.specs.Refusals.{RulesNotTen}
@@ -21,8 +21,7 @@ unfolding putRefusal OtherThanTen
 put-other s j n =
     if-ind OtherThanTen (ltb (laneAt s j .given .weight) 1) _ _ (λ e q. omega arith) λ e.
     if-ind OtherThanTen (ltb n 1 || ltb (laneAt s j .given .longest) n) _ _ (λ e q. omega arith) λ e.
-    if-ind OtherThanTen (full (laneAt s j .waiting) 0) _ _ (λ e q. omega arith) λ e.
-    if-ind OtherThanTen (leb clockSpent (s .clock)) _ _ (λ e q. omega arith) λ e. tt
+    if-ind OtherThanTen (full (laneAt s j .waiting) 0) _ _ (λ e q. omega arith) λ e. tt
 
 put-not-ten : (s : State) (j : ℕ) (r : Rec) (o : Option ℕ) → OtherThanTen o → NotTen ((putOf s j r o) .reply)
 unfolding putOf OtherThanTen

@@ -11,10 +11,10 @@ use lib.Dec.{ltb, eqb}
 use lib.ListN.{length, getD, set}
 use borrow.Author.Tests.{eq-eqb, ne-eqb}
 use Rattle.units.specs.Plain.{if_then_else_}
-use Rattle.waiting.specs.Waiting.{queueOf}
+use Rattle.waiting.specs.Waiting.{Waiting, queueOf}
 use Rattle.waiting.proofs.Laws.{queue-enter, queue-hand, queue-none, queue-nothing, turn-plain}
 use Rattle.rules.specs.State.{Rec, noSetting, Lane, noLane, State, some?, firstOf, holds, laneAt, setupOf, anyHolds}
-use Rattle.rules.specs.Calls.{Call, put, take, look, sets, lag, restart, Reply, accepted, seen, refused, lagged, Outcome, no, putRefusal, ahead, entered, appended, woken, accept, putOf, doPut, behind, served, serve, Pick, picked, takeOf, doTake, lookOf, doLook, doSets, lagOf, doLag, idle, fresh, doRestart, step}
+use Rattle.rules.specs.Calls.{Call, put, take, look, sets, lag, restart, Reply, accepted, seen, refused, lagged, Outcome, no, putRefusal, ahead, entered, appended, woken, accept, putOf, doPut, behind, served, serve, Pick, picked, takeOf, doTake, lookOf, doLook, doSets, lagOf, doLag, idle, fresh, doRestart, step, shifted}
 use Rattle.rules.specs.Runs.{sentIn, offeredIn, isAccepted, acceptedIn, ofLane}
 use Rattle.rules.proofs.Bools.{if-ind}
 use Rattle.rules.proofs.Lists.{set-cases, getD-map}
@@ -24,6 +24,7 @@ use Rattle.rules.proofs.Moves.{idle-first}
 use Rattle.rules.proofs.Lowest.{none-holds}
 use Rattle.rules.proofs.Bounds.{idle-at}
 use Rattle.rules.proofs.Keep.{AllSound, PickIs, pick-is, Allowed, allowed-enters, PutOk, put-ok}
+use Rattle.rules.proofs.Shift.{shifted-given, shifted-waiting, shifted-sound, shifted-allowed}
 
 -- a lane that holds a record is in the list
 pub held-inside : (ls : List Lane) (j : ℕ) (r : Rec) → firstOf (getD ls j noLane) ≡ some r → j < length ls
@@ -74,10 +75,10 @@ take-passed k s (some p) h =
 
 -- ---- put
 
-module _ (k : ℕ) (s : State) (j : ℕ) (r : Rec) (a : Allowed s j (r .len)) where
+module _ (k : ℕ) (s : State) (j : ℕ) (r : Rec) (before : ℕ) (a : Allowed s j (r .len)) where
   -- any new lane j with the old setting, and r behind the old queue
   added : (l : Lane) (v : ℕ) (order : List ℕ) → l .given ≡ (laneAt s j) .given → (AllSound s → queueOf (l .waiting) 0 ≡ queueAt s j ++ (r ∷ []))
-      → Passed k s (put j (r .mark) (r .len)) (record { reply = accepted (ahead s j); state = record { clock = v; lanes = set (s .lanes) j l; order = order } })
+      → Passed k s (put j (r .mark) (r .len)) (record { reply = accepted before; state = record { clock = v; lanes = set (s .lanes) j l; order = order } })
   unfolding isAccepted sentIn offeredIn ofLane
   added l v order g q = record {
     given = set-cases (λ (m : Lane). m .given ≡ (laneAt s k) .given) (s .lanes) j k l noLane (in-range (s .lanes) j (a .has)) (λ e. rw (← e) g) (λ n. refl);
@@ -89,16 +90,21 @@ module _ (k : ℕ) (s : State) (j : ℕ) (r : Rec) (a : Allowed s j (r .len)) wh
   entered-queue : AllSound s → queueOf (entered (laneAt s j) r) 0 ≡ queueAt s j ++ (r ∷ [])
   entered-queue w = sym (queue-enter ((laneAt s j) .given .longest) ((laneAt s j) .waiting) 0 r (w j) (allowed-enters s j r a) 0)
 
-  accept-passed : Passed k s (put j (r .mark) (r .len)) (record { reply = accepted (ahead s j); state = accept s j r })
+  accept-passed : Passed k s (put j (r .mark) (r .len)) (record { reply = accepted before; state = accept s j r })
   unfolding accept appended woken
   accept-passed =
-      if-ind (λ (x : State). Passed k s (put j (r .mark) (r .len)) (record { reply = accepted (ahead s j); state = x })) (holds (laneAt s j)) _ _
+      if-ind (λ (x : State). Passed k s (put j (r .mark) (r .len)) (record { reply = accepted before; state = x })) (holds (laneAt s j)) _ _
       (λ e. added (appended (laneAt s j) r) _ _ refl entered-queue)
       (λ e. added (woken (s .clock) (laneAt s j) r) _ _ refl entered-queue)
 
 put-passed : (k : ℕ) (s : State) (j : ℕ) (r : Rec) (o : Option ℕ) → PutOk s j (r .len) o → Passed k s (put j (r .mark) (r .len)) (putOf s j r o)
 unfolding putOf
-put-passed k s j r none a = accept-passed k s j r a
+put-passed k s j r none a =
+    let p = accept-passed k (shifted s) j r (ahead s j) (shifted-allowed s j (r .len) a) in
+    record {
+      given = p .given ∙ shifted-given s k;
+      fifo = λ w. ap (λ (x : Waiting). queueOf x 0 ++ ofLane k (acceptedIn (record { call = put j (r .mark) (r .len); reply = accepted (ahead s j) }))) (sym (shifted-waiting s k)) ∙ p .fifo (shifted-sound s w);
+    }
 put-passed k s j r (some n) a = refused-passed k n s (put j (r .mark) (r .len))
 
 -- ---- the other calls

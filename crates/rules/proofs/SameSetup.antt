@@ -6,16 +6,19 @@ use mathlib.Core.List.{List, [], _∷_}
 use lib.ListN.{length, length-map, length-set}
 use lib.Seq.{ext-getD}
 use Rattle.rules.specs.State.{Rec, Setting, noSetting, Lane, noLane, State, settingAt, holds, laneAt, setupOf, anyHolds}
-use Rattle.rules.specs.Calls.{Call, put, take, look, sets, lag, restart, Outcome, putRefusal, accept, putOf, doPut, serve, Pick, picked, takeOf, doTake, doLook, doSets, idle, fresh, doRestart, step}
+use Rattle.rules.specs.Calls.{Call, put, take, look, sets, lag, restart, Outcome, putRefusal, shifted, accept, putOf, doPut, serve, Pick, picked, takeOf, doTake, doLook, doSets, idle, fresh, doRestart, step}
 use Rattle.rules.specs.Runs.{after}
 use Rattle.rules.proofs.Bools.{if-ind}
 use Rattle.rules.proofs.Lists.{getD-map}
 use Rattle.rules.proofs.Keep.{look-same, lag-same}
+use Rattle.rules.proofs.Shift.{shifted-size}
 use Rattle.rules.proofs.Queues.{step-passed}
 
 put-size : (s : State) (j : ℕ) (r : Rec) (o : Option ℕ) → length ((putOf s j r o) .state .lanes) ≡ length (s .lanes)
 unfolding putOf accept
-put-size s j r none = if-ind (λ (x : State). length (x .lanes) ≡ length (s .lanes)) (holds (laneAt s j)) _ _ (λ e. length-set (s .lanes) j _) (λ e. length-set (s .lanes) j _)
+put-size s j r none =
+    let u = shifted s in
+    if-ind (λ (x : State). length (x .lanes) ≡ length (s .lanes)) (holds (laneAt u j)) _ _ (λ e. length-set (u .lanes) j _ ∙ shifted-size s) (λ e. length-set (u .lanes) j _ ∙ shifted-size s)
 put-size s j r (some n) = refl
 
 take-size : (s : State) (o : Option Pick) → length ((takeOf s o) .state .lanes) ≡ length (s .lanes)

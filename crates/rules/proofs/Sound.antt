@@ -8,13 +8,14 @@ use lib.Dec.{ltb}
 use lib.ListN.{set}
 use Rattle.waiting.proofs.Laws.{good-nothing, good-enter, good-hand}
 use Rattle.rules.specs.State.{Rec, Setting, setupOf, Lane, noLane, State, startR, holds, laneAt, anyHolds}
-use Rattle.rules.specs.Calls.{Pick, Call, Outcome, put, take, look, sets, lag, restart, putRefusal, appended, woken, accept, putOf, doPut, served, serve, picked, takeOf, doTake, doLook, doSets, idle, fresh, doRestart, step}
+use Rattle.rules.specs.Calls.{Pick, Call, Outcome, put, take, look, sets, lag, restart, putRefusal, shifted, appended, woken, accept, putOf, doPut, served, serve, picked, takeOf, doTake, doLook, doSets, idle, fresh, doRestart, step}
 use Rattle.rules.specs.Runs.{after}
 use Rattle.rules.proofs.Bools.{if-ind}
 use Rattle.rules.proofs.Lists.{set-all}
 use Rattle.rules.proofs.Serve.{served-ind}
 use Rattle.rules.proofs.Moves.{Sound}
 use Rattle.rules.proofs.Bounds.{idle-at}
+use Rattle.rules.proofs.Shift.{shifted-sound, shifted-allowed}
 use Rattle.rules.proofs.Keep.{AllSound, Allowed, allowed-enters, PutOk, put-ok, look-same, lag-same}
 
 take-sound : (s : State) (o : Option Pick) → AllSound s → AllSound ((takeOf s o) .state)
@@ -34,7 +35,7 @@ accept-sound s j r a w =
 
 put-sound : (s : State) (j : ℕ) (r : Rec) (o : Option ℕ) → PutOk s j (r .len) o → AllSound s → AllSound ((putOf s j r o) .state)
 unfolding putOf
-put-sound s j r none a w = accept-sound s j r a w
+put-sound s j r none a w = accept-sound (shifted s) j r (shifted-allowed s j (r .len) a) (shifted-sound s w)
 put-sound s j r (some n) a w = w
 
 pub fresh-sound : (gs : List Setting) → AllSound (fresh gs)

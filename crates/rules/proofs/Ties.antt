@@ -2,15 +2,16 @@
 -- Assumes nothing.
 use Prim.Native.Nat.{ℕ, _+_}
 use native.Mathlib.Omega.{arith}
-use mathlib.Core.Path.{_≡_, refl, sym, subst, _∙_}
+use mathlib.Core.Path.{_≡_, refl, sym, ap, subst, _∙_}
 use mathlib.Core.Bool.{Bool, true, false, false≢true}
 use mathlib.Core.Option.{Option, none, some}
 use mathlib.Core.List.{List, [], _∷_, _++_}
 use lib.Dec.{eqb}
 use borrow.Author.Tests.{eqb-true, eq-eqb, ne-eqb}
 use Rattle.units.specs.Plain.{if_then_else_, times, without}
+use Rattle.waiting.specs.Waiting.{Waiting, first}
 use Rattle.rules.specs.State.{Setting, setupOf, Lane, Rec, State, holds, some?, noLane, laneAt, anyHolds}
-use Rattle.rules.specs.Calls.{Pick, Call, Outcome, put, take, look, sets, lag, restart, served, woken, appended, serve, takeOf, picked, doTake, putRefusal, accept, putOf, doPut, doLook, doSets, doRestart, idle, fresh, step}
+use Rattle.rules.specs.Calls.{Pick, Call, Outcome, put, take, look, sets, lag, restart, served, woken, appended, serve, takeOf, picked, doTake, putRefusal, shifted, accept, putOf, doPut, doLook, doSets, doRestart, idle, fresh, step}
 use Rattle.rules.proofs.Bools.{if-ind}
 use Rattle.rules.proofs.Lists.{set-cases}
 use Rattle.rules.proofs.Claim.{in-range}
@@ -18,6 +19,7 @@ use Rattle.rules.proofs.Moves.{appended-holds, woken-holds}
 use Rattle.rules.proofs.Bounds.{idle-at}
 use Rattle.rules.proofs.Keep.{PickIs, pick-is, AllSound, Allowed, allowed-enters, PutOk, put-ok, look-same, lag-same}
 use Rattle.rules.proofs.Queues.{held-inside}
+use Rattle.rules.proofs.Shift.{shifted-waiting, shifted-sound, shifted-order, shifted-allowed}
 
 unfoldable pub Tied : State → Type 0
 Tied s = (k : ℕ) → times k (s .order) ≡ (if holds (laneAt s k) then 1 else 0)
@@ -84,9 +86,13 @@ accept-tied s j r w a t =
     (λ e. let u : times j (s .order) ≡ 0 = t j ∙ simp b in rw (← e) (simp (times-append, eq-eqb j j refl, woken-holds (s .clock) (laneAt s j) r (w j) (allowed-enters s j r a) b) (omega arith)))
     (λ e. simp (times-append, ne-eqb j k e) (omega (arith, t k))))
 
+shifted-tied : (s : State) → Tied s → Tied (shifted s)
+unfolding Tied
+shifted-tied s t k = ap (times k) (shifted-order s) ∙ t k ∙ ap (λ (w : Waiting). if some? (first w) then 1 else 0) (sym (shifted-waiting s k))
+
 put-tied : (s : State) (j : ℕ) (r : Rec) (o : Option ℕ) → AllSound s → PutOk s j (r .len) o → Tied s → Tied ((putOf s j r o) .state)
 unfolding putOf
-put-tied s j r none w a t = accept-tied s j r w a t
+put-tied s j r none w a t = accept-tied (shifted s) j r (shifted-sound s w) (shifted-allowed s j (r .len) a) (shifted-tied s t)
 put-tied s j r (some c) w a t = t
 
 pub fresh-tied : (gs : List Setting) → Tied (fresh gs)

@@ -1,4 +1,4 @@
--- What one call does to the clock and to one lane's start: the numbers that demand 3 counts. Assumes nothing.
+-- What one call of the endless rules does to the clock and to one lane's start: the numbers that demand 3 counts. Assumes nothing.
 use Prim.Native.Nat.{ℕ, _+_, _*_, _≤_}
 use native.Mathlib.Omega.{arith}
 use native.Mathlib.Nat.{le-refl}
@@ -12,7 +12,8 @@ use borrow.Author.Tests.{ltb-true, eq-eqb, ne-eqb}
 use Rattle.units.specs.Plain.{if_then_else_}
 use Rattle.rules.specs.State.{Rec, Lane, noLane, State, charge, rate, startR, some?, holds, laneAt, setupOf, anyHolds}
 use Rattle.rules.specs.Choice.{leastOf}
-use Rattle.rules.specs.Calls.{Call, put, take, look, sets, lag, restart, Reply, accepted, seen, lagged, refused, Outcome, no, putRefusal, ahead, appended, woken, accept, putOf, doPut, served, settledAt, settled, serve, Pick, picked, takeOf, doTake, lookOf, doLook, doSets, lagOf, doLag, doRestart, step}
+use Rattle.rules.specs.Calls.{Call, put, take, look, sets, lag, restart, Reply, accepted, seen, lagged, refused, Outcome, no, putRefusal, ahead, appended, woken, accept, served, settledAt, settled, serve, Pick, picked, takeOf, doTake, lookOf, doLook, doSets, lagOf, doLag, doRestart}
+use Rattle.rules.specs.Endless.{endlessPutOf, endlessPut, endless}
 use Rattle.rules.specs.Runs.{sentIn}
 use Rattle.rules.specs.Fair.{charged, chargedTo}
 use Rattle.rules.proofs.Bools.{if-ind, and-parts}
@@ -42,7 +43,7 @@ refused-moved k n s = unmoved k s (refused n none) refl
 
 -- ---- take
 
-settled-ge : (v : ℕ) (o : Option ℕ) → v ≤ settledAt v o
+pub settled-ge : (v : ℕ) (o : Option ℕ) → v ≤ settledAt v o
 unfolding settledAt
 settled-ge v none = le-refl v
 settled-ge v (some r) = if-ind (λ (u : ℕ). v ≤ u) (ltb v r) r v (λ e. omega (arith, ltb-true v r e)) (λ e. le-refl v)
@@ -95,8 +96,8 @@ module _ (k : ℕ) (s : State) (j : ℕ) (r : Rec) (a : Allowed s j (r .len)) wh
       (λ e. replaced (appended (laneAt s j) r) _ _ (le-refl (s .clock)) (λ t. refl))
       (λ e. replaced (woken (s .clock) (laneAt s j) r) _ _ (jump-up (not (anyHolds (s .lanes))) (startR (woken (s .clock) (laneAt s j) r))) (λ t. absurd (false≢true (sym e ∙ t))))
 
-put-moved : (k : ℕ) (s : State) (j : ℕ) (r : Rec) (o : Option ℕ) → PutOk s j (r .len) o → Moved k s (putOf s j r o)
-unfolding putOf
+put-moved : (k : ℕ) (s : State) (j : ℕ) (r : Rec) (o : Option ℕ) → PutOk s j (r .len) o → Moved k s (endlessPutOf s j r o)
+unfolding endlessPutOf
 put-moved k s j r none a = accept-moved k s j r a
 put-moved k s j r (some n) a = refused-moved k n s
 
@@ -121,8 +122,8 @@ restart-moved k s =
 
 -- ---- every call
 
-pub step-moved : (M k : ℕ) (s : State) (c : Call) → Kept M s → Moved k s (step s c)
-unfolding step doPut doTake doLook doSets sentIn
+pub step-moved : (M k : ℕ) (s : State) (c : Call) → Kept M s → Moved k s (endless s c)
+unfolding endless endlessPut doTake doLook doSets sentIn
 step-moved M k s (put j m n) inv = put-moved k s j (record { mark = m; len = n }) (putRefusal s j n) (put-ok s j n)
 step-moved M k s take inv = take-moved M k s (picked s) inv (pick-is s)
 step-moved M k s look inv = look-moved k s (picked s)

@@ -6,17 +6,17 @@
 --   step                   any call
 --
 -- A refused call leaves the state as it is. Assumes nothing.
-use Prim.Native.Nat.{ℕ, _+_, _*_, _^_, max}
+use Prim.Native.Nat.{ℕ, _+_, _-_, _*_, _^_, max}
 use mathlib.Core.Bool.{not, _&&_, _||_}
 use mathlib.Core.List.{List, [], _∷_, _++_, map}
 use mathlib.Core.Option.{Option, none, some}
 use lib.Dec.{leb, ltb}
 use lib.IntN.{ℤ, subℕ}
 use lib.ListN.{length, set}
-use Rattle.units.specs.Numbers.{lineRate}
+use Rattle.units.specs.Numbers.{lineRate, roundDown}
 use Rattle.units.specs.Plain.{if_then_else_, without}
 use Rattle.waiting.specs.Waiting.{Waiting, nothing, first, enter, handOut, queueOf, full}
-use Rattle.rules.specs.State.{clockSpent, Rec, Setting, Lane, State, charge, rate, startR, firstOf, holds, laneAt, setupOf, anyHolds}
+use Rattle.rules.specs.State.{clockFar, clockStep, clockKept, Rec, Setting, Lane, State, charge, rate, startR, firstOf, holds, laneAt, setupOf, anyHolds}
 use Rattle.rules.specs.Choice.{Candidate, choose, leastOf}
 use Rattle.rules.specs.Sets.{ready, ineligibleReady, eligibleBlocked, ineligibleBlocked, setWord}
 
@@ -45,22 +45,32 @@ no n s = record { reply = refused n none; state = s }
 
 -- ---- put
 
--- By the lane alone, of its setting and what waits in it: 11 lane not in the setup, 12 length 0 or over the lane's longest, 13 lane full. What follows where
--- it is none of these.
-abbrev pub laneRefusal : Setting → Waiting → ℕ → Option ℕ → Option ℕ
-laneRefusal g w n next =
+-- By the lane alone, of its setting and what waits in it, in rising number: 11 lane not in the setup, 12 length 0 or over the lane's longest, 13 lane full.
+abbrev pub laneRefusal : Setting → Waiting → ℕ → Option ℕ
+laneRefusal g w n =
     if ltb (g .weight) 1 then some 11
     else if ltb n 1 || ltb (g .longest) n then some 12
     else if full w 0 then some 13
-    else next
+    else none
 
--- By the clock: 14 once it is spent.
-abbrev pub clockRefusal : ℕ → Option ℕ
-clockRefusal v = if leb clockSpent v then some 14 else none
-
--- "Calls: in rising number"
 unfoldable pub putRefusal : State → ℕ → ℕ → Option ℕ
-putRefusal s j n = laneRefusal (laneAt s j .given) (laneAt s j .waiting) n (clockRefusal (s .clock))
+putRefusal s j n = laneRefusal (laneAt s j .given) (laneAt s j .waiting) n
+
+-- A put that is not refused and finds the clock far on takes it back first (document 02, h): K less in V and in each S and F. A difference of whole numbers
+-- is 0 where it would be below 0, which is what the rule asks for an idle lane's F; no other number of a good state is below K (specs/TakeBack.antt).
+
+-- K: the largest multiple of 2^31 that is not above V - 2^33
+unfoldable pub takenOff : ℕ → ℕ
+takenOff v = roundDown clockStep (v - clockKept)
+
+unfoldable pub lowered : ℕ → Lane → Lane
+lowered d l = record { given = l .given; start = l .start - d; finish = l .finish - d; waiting = l .waiting }
+
+unfoldable pub lowerAll : ℕ → State → State
+lowerAll d s = record { clock = s .clock - d; lanes = map (lowered d) (s .lanes); order = s .order }
+
+unfoldable pub shifted : State → State
+shifted s = if leb clockFar (s .clock) then lowerAll (takenOff (s .clock)) s else s
 
 -- "Put appends the record." Until lanes are shared every record is of train 0.
 abbrev pub entered : Lane → Rec → Waiting
@@ -94,7 +104,7 @@ ahead s j = length (queueOf (laneAt s j .waiting) 0)
 
 unfoldable pub putOf : State → ℕ → Rec → Option ℕ → Outcome
 putOf s j r (some n) = no n s
-putOf s j r none = record { reply = accepted (ahead s j); state = accept s j r }
+putOf s j r none = record { reply = accepted (ahead s j); state = accept (shifted s) j r }
 
 unfoldable pub doPut : State → ℕ → Rec → Outcome
 doPut s j r = putOf s j r (putRefusal s j (r .len))

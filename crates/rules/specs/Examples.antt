@@ -4,16 +4,17 @@
 --   Session    its eight requests and the rules' replies to them
 --   Waits      in any list of calls, while lane 0 holds a record and none of its bytes is sent, fewer than 17,884 bytes are
 --   SideBySide in any list of calls, while both lanes hold records: lane 0's bytes and twice lane 1's differ by less than 26,076
---   Depth      M7 as request g has it: 64 puts to one lane, the 65th, a take, a put
+--   TakenBack  a put that takes the clock back, with its numbers
 --
 -- Assumes nothing.
-use Prim.Native.Nat.{ℕ, zero, suc, _+_, _*_, _<_}
+use Prim.Native.Nat.{ℕ, _+_, _*_, _<_}
 use mathlib.Core.Path.{_≡_}
 use mathlib.Core.List.{List, [], _∷_, _++_, map}
 use mathlib.Core.Option.{none}
 use lib.ListN.{replicate}
-use Rattle.rules.specs.State.{Setting, noSetting}
-use Rattle.rules.specs.Calls.{Call, put, take, sets, Reply, accepted, taken, words, refused, fresh}
+use Rattle.waiting.specs.Waiting.{plain}
+use Rattle.rules.specs.State.{Setting, noSetting, settingAt, noLane, State, laneAt}
+use Rattle.rules.specs.Calls.{Call, put, take, sets, Reply, accepted, taken, words, refused, fresh, step}
 use Rattle.rules.specs.Runs.{Event, trace}
 use Rattle.rules.specs.Fair.{bytesSent, bytesSentOf, Holding}
 
@@ -46,12 +47,22 @@ SideBySide = (calls : List Call) (past stretch rest : List Event)
     → (bytesSentOf twoLanes 0 stretch < 2 * bytesSentOf twoLanes 1 stretch + 26076)
     × (2 * bytesSentOf twoLanes 1 stretch < bytesSentOf twoLanes 0 stretch + 26076)
 
--- n accepted puts to one lane, one after another: each finds those before it
-unfoldable pub acceptedTo : ℕ → List Reply
-acceptedTo zero = []
-acceptedTo (suc n) = acceptedTo n ++ (accepted n ∷ [])
+-- ---- a put that takes the clock back
 
-unfoldable pub Depth : Type 0
-Depth =
-    replies (trace (fresh twoLanes) (replicate 65 (put 0 7 1000) ++ (take ∷ put 0 8 1000 ∷ [])))
-    ≡ acceptedTo 64 ++ (refused 13 none ∷ taken 0 7 1000 ∷ accepted 63 ∷ [])
+-- V is 2^61 + 12,345, so K is 2^61 - 2^33; lane 0 waits since V - 1,000, and lane 1 is idle with an F below K
+abbrev pub late : State
+late = record {
+  clock = 2305843009213706297;
+  lanes = record { given = settingAt twoLanes 0; start = 2305843009213705297; finish = 2305843009215753297; waiting = plain (record { mark = 1; len = 1000 } ∷ []) }
+      ∷ record { given = settingAt twoLanes 1; start = 0; finish = 2305843000000000000; waiting = plain [] }
+      ∷ replicate 62 noLane;
+  order = 0 ∷ [];
+}
+
+-- after it V is 2^33 + 12,345, lane 0 waits since 1,000 before that, and lane 1 begins at V
+unfoldable pub TakenBack : Type 0
+TakenBack =
+    ((step late (put 1 2 1000)) .state .clock ≡ 8589946937)
+    × (laneAt ((step late (put 1 2 1000)) .state) 0 ∷ laneAt ((step late (put 1 2 1000)) .state) 1 ∷ []
+    ≡ record { given = settingAt twoLanes 0; start = 8589945937; finish = 8591993937; waiting = plain (record { mark = 1; len = 1000 } ∷ []) }
+    ∷ record { given = settingAt twoLanes 1; start = 8589946937; finish = 8594042937; waiting = plain (record { mark = 2; len = 1000 } ∷ []) } ∷ [])

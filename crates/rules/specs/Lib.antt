@@ -3,10 +3,12 @@ pub mod Choice
 pub mod Sets
 pub mod Calls
 pub mod Runs
+pub mod Endless
 pub mod Setup
 pub mod Fair
 pub mod Good
 pub mod Older
+pub mod TakeBack
 pub mod Reads
 pub mod Chosen
 pub mod Lowest

@@ -7,7 +7,7 @@
 --   charge       what a record of a length costs: its length and h
 --   rate         c, the clock units for each byte of a lane
 --   group, slot  the group index i, and s = 2 ^ i
---   clockSpent   where the clock is spent: no put is accepted from there on; clockEdge: where no good table's clock comes
+--   clockFar     where a put takes the clock back first, by a multiple of clockStep that leaves clockKept or more; clockEdge: where no good table's clock comes
 --   startR       R, the rounded start; finishR: R + 2s, the rounded finish
 --   holds        the lane holds a record; eligible: and its R is at most V
 --
@@ -82,8 +82,16 @@ eligible v l = holds l && leb (startR l) v
 
 -- ---- the ends of the clock
 
-abbrev pub clockSpent : ℕ
-clockSpent = 2 ^ 62
+abbrev pub clockFar : ℕ
+clockFar = 2 ^ 61
+
+-- the greatest slot, so that no rounding sees it taken off
+abbrev pub clockStep : ℕ
+clockStep = 2 ^ 31
+
+-- more than any lane that holds a record is behind the clock
+abbrev pub clockKept : ℕ
+clockKept = 2 ^ 33
 
 abbrev pub clockEdge : ℕ
 clockEdge = 2 ^ 62 + 2 ^ 44

@@ -44,8 +44,6 @@ pub enum Refusal {
     BadLength,
     // 13: lane holds 64.
     LaneFull,
-    // 14: V is 2^62 or more on put.
-    ClockSpent,
     // 15: restart while a record is held.
     StillHolds,
     // 16: take or look with nothing held.

@@ -20,7 +20,7 @@ use Rattle.rules.proofs.Fair.{holds-of, demand3}
 use Rattle.rules.proofs.Order.{in-order}
 use Rattle.rules.proofs.SameSetup.{setup-kept, fresh-setup}
 use Rattle.rules.proofs.NotTen.{NotTen, step-not-ten}
-use Rattle.rules.proofs.AlwaysGood.{fresh-reached, reached}
+use Rattle.rules.proofs.AlwaysGood.{fresh-reached, reached, reached-live}
 use Rattle.table.specs.Encodes.{Encodes}
 use Rattle.scheduler.specs.Chain.{callsOf, Led}
 use Rattle.scheduler.specs.Drained.{HandsOut}
@@ -30,6 +30,7 @@ use Rattle.scheduler.proofs.Begins.{by-make, by-restart}
 use Rattle.scheduler.proofs.Ahead.{ahead-told}
 use Rattle.scheduler.proofs.Compared.{compared-calls, compared-tight-calls, fair-tight-calls}
 use Rattle.scheduler.proofs.Drained.{drained-table}
+use Rattle.scheduler.proofs.Endless.{endless-calls, clock-early}
 
 -- no event of a list of the rules' calls is refused by 10
 trace-not-ten : (s : State) (cs : List Call) (past rest : List Event) (e : Event) → trace s cs ≡ past ++ e ∷ rest → NotTen (e .reply)
@@ -136,7 +137,7 @@ module _ (gs : List Setting) (es : List Event) (u : List ℕ) (l : Led gs es u) 
   drains past rest e q c =
       let two = split (fresh gs) (callsOf es) past (e ∷ rest) (l .answers ∙ q) in
       let s = after (fresh gs) (two .calls) in
-      drain-first s (reached (fresh gs) (two .calls) (fresh-reached gs (l .setup)) .live) (two .more) rest e (two .rest-is) c
+      drain-first s (reached-live s (reached (fresh gs) (two .calls) (fresh-reached gs (l .setup)))) (two .more) rest e (two .rest-is) c
 
   pub demands : Demands gs es u
   demands = record {
@@ -145,6 +146,8 @@ module _ (gs : List Setting) (es : List Event) (u : List ℕ) (l : Led gs es u) 
     fair-tight = fair-tight-calls gs es u l;
     compared = compared-calls gs es u l;
     compared-tight = compared-tight-calls gs es u l;
+    endless = endless-calls gs es u l;
+    clock-early = clock-early gs es u l;
     never-ten = never-ten;
     order = order-kept;
     setup-kept = setup-kept-calls;

@@ -14,7 +14,7 @@ use Rattle.rules.specs.Runs.{Event, after, trace}
 use Rattle.rules.proofs.Keep.{PickIs, pick-is}
 use Rattle.rules.proofs.Live.{holds-some}
 use Rattle.rules.proofs.Drain.{heldBy, take-one, drained}
-use Rattle.rules.proofs.AlwaysGood.{Reached, step-reached, reached}
+use Rattle.rules.proofs.AlwaysGood.{Reached, step-reached, reached, reached-good, reached-live}
 use Rattle.table.specs.Encodes.{Encodes}
 use Rattle.scheduler.specs.Chain.{callsOf, Led}
 use Rattle.scheduler.specs.Drained.{HandsOut, heldIn, Drained}
@@ -26,11 +26,11 @@ unfolding trace
 takes-hand-out zero s r h [] rest e q = let z : _≡_ {A = ℕ} 0 1 = cc in absurd (omega arith)
 takes-hand-out zero s r h (x ∷ past) rest e q = let z : _≡_ {A = ℕ} 0 1 = cc in absurd (omega arith)
 takes-hand-out (suc n) s r h [] rest e q =
-    let one = take-one s n (λ k. r .kept .ok k .waiting) (r .live) h in
+    let one = take-one s n (reached-good s r .waiting) (reached-live s r) h in
     let same : record { call = take; reply = (step s take) .reply } ≡ e = cc in
     record { lane = one .0; mark = one .1; len = one .2; is = sym (ap (λ (y : Event). y .reply) same) ∙ one .3 }
 takes-hand-out (suc n) s r h (x ∷ past) rest e q =
-    takes-hand-out n ((step s take) .state) (step-reached s take r) (take-one s n (λ k. r .kept .ok k .waiting) (r .live) h .4) past rest e (cc)
+    takes-hand-out n ((step s take) .state) (step-reached s take r) (take-one s n (reached-good s r .waiting) (reached-live s r) h .4) past rest e (cc)
 
 -- with nothing held a take gives 16 and leaves the state as it is; a restart is accepted
 take-none : (s : State) → anyHolds (s .lanes) ≡ false → ((step s take) .reply ≡ refused 16 none) × ((step s take) .state ≡ s)

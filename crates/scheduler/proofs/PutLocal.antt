@@ -21,4 +21,4 @@ put-local-calls t t′ u u′ a a′ j m m′ n r g g′ given waiting p p′ h 
     let s = meant t in
     let s′ = meant t′ in
     let is = refused-by s j r (record { mark = m; len = n }) (putRefusal s j n) (sym (p .reply g s (good-encodes t g)) ∙ e) in
-    p′ .reply g′ s′ (good-encodes t′ g′) ∙ ap (λ (o : Option ℕ). (putOf s′ j (record { mark = m′; len = n }) o) .reply) (put-local s s′ j n r given waiting h is)
+    p′ .reply g′ s′ (good-encodes t′ g′) ∙ ap (λ (o : Option ℕ). (putOf s′ j (record { mark = m′; len = n }) o) .reply) (sym (put-local s s′ j n given waiting) ∙ is)

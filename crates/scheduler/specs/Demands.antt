@@ -6,7 +6,7 @@
 --   OrderKept      "Each accepted record is handed out once, in its lane's order, or is still held."
 --   SetupKept      the table's setup is the one in force
 --   RestartHeld    "A restart in such a stretch is always refused, by 15."
---   Drains         "Take is never refused for 14, so a spent unit can be drained and restarted."; Drained: how many takes that needs
+--   Drains         a unit can always be drained and restarted; Drained: how many takes that needs
 --   Demands        all of them, and demand 2
 --   EveryList      the claim: a list of public calls on a table that a list led to
 --   AfterMake      .. that `make` left; AfterRestart: that an accepted restart left
@@ -35,6 +35,7 @@ use Rattle.scheduler.specs.Chain.{Chain, Begins, Led, inForce}
 use Rattle.scheduler.specs.Ahead.{AheadTold}
 use Rattle.scheduler.specs.Compared.{ComparedCalls, ComparedTight, FairTight}
 use Rattle.scheduler.specs.Drained.{HandsOut, Drained}
+use Rattle.scheduler.specs.Endless.{EndlessCalls, ClockEarly}
 pub use Rattle.scheduler.specs.Chain.{callsOf}
 
 -- ---- of a list es from the fresh table of the setup gs, which led to the bytes u
@@ -77,6 +78,8 @@ pub record Demands (gs : List Setting) (es : List Event) (u : List ℕ) : Type 0
   pub fair-tight : FairTight gs es
   pub compared : ComparedCalls gs es
   pub compared-tight : ComparedTight gs es
+  pub endless : EndlessCalls gs es u
+  pub clock-early : ClockEarly u
   pub never-ten : NeverTen es u
   pub order : OrderKept es u
   pub setup-kept : SetupKept gs es u

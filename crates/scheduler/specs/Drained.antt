@@ -1,4 +1,4 @@
--- A unit can be drained and restarted, whatever its clock is: of the public calls' own answers, on a table that a list of calls led to.
+-- A unit can be drained and restarted: of the public calls' own answers, on a table that a list of calls led to.
 --
 --   HandsOut   a reply hands a record out
 --   heldIn     how many records a table holds

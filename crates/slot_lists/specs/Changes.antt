@@ -4,15 +4,16 @@
 --   Apart     the words below this part, what was taken off the clock, and the bytes past the rings stay
 --   Stored    a group's words were stored
 --   Emptied   all groups were cleared
+--   Lowered   the clock was taken back
 --   Nearest   the first set bit of a word of 32 lists from one of them on, in circular order
 --   WithBit   a word with one bit set, or not
 --
 -- Assumes nothing.
 use mathlib.Core.Path.{_≡_}
 use mathlib.Core.Bool.{Bool}
-use Prim.Native.Nat.{ℕ, _+_, _%_, _^_, _≤_, _<_}
+use Prim.Native.Nat.{ℕ, _+_, _-_, _%_, _^_, _≤_, _<_}
 use mathlib.Core.List.{List}
-use mathlib.Core.Option.{none, some}
+use mathlib.Core.Option.{Option, none, some}
 use lib.Dec.{eqb}
 use lib.ListN.{getD, drop}
 use Rattle.units.specs.Plain.{if_then_else_}
@@ -49,6 +50,20 @@ pub record Stored (before after : List ℕ) (g m r : ℕ) : Type 0 where
 pub record Emptied (before after : List ℕ) : Type 0 where
   pub empty : Empty after
   pub below : (j : ℕ) → j < listsFrom → wordAt after j ≡ wordAt before j
+  pub rest : drop ringsEnd after ≡ drop ringsEnd before
+
+abbrev pub earlierBy : ℕ → Option ℕ → Option ℕ
+earlierBy d none = none
+earlierBy d (some r) = some (r - d)
+
+-- d was taken off the clock: the groups' starts are so much earlier, what was taken off is remembered, and no list moves
+pub record Lowered (before after : List ℕ) (d : ℕ) : Type 0 where
+  pub below : (j : ℕ) → j < listsFrom → wordAt after j ≡ wordAt before j
+  pub groups : groupsAt after ≡ groupsAt before
+  pub back : backAt after ≡ (backAt before + d) % 2 ^ 36
+  pub maps : (g : ℕ) → 16 ≤ g → g ≤ 31 → mapOf after g ≡ mapOf before g
+  pub starts : (g : ℕ) → 16 ≤ g → g ≤ 31 → startAt after g ≡ earlierBy d (startAt before g)
+  pub rings : (i : ℕ) → i < 512 → ringAt after i ≡ ringAt before i
   pub rest : drop ringsEnd after ≡ drop ringsEnd before
 
 pub record WithBit (x k : ℕ) (on : Bool) (r : ℕ) : Type 0 where

@@ -8,19 +8,20 @@
 // words are stored. These are inner functions: a `requires` says what the crates above keep.
 ghost use mathlib.Core.Path.{_≡_};
 ghost use mathlib.Core.List.{[], _∷_, _++_};
-ghost use Prim.Native.Nat.{_+_, _/_, _%_, _^_, _<_, _≤_};
+ghost use Prim.Native.Nat.{_+_, _-_, _/_, _%_, _^_, _<_, _≤_};
 ghost use lib.ListN.{length, getD, drop};
 ghost use Rattle.words.specs.Bits.{bit};
 ghost use Rattle.rings.specs.Rings.{Long};
 ghost use Rattle.words.specs.Words.{wordAt};
-ghost use Rattle.slot_lists.specs.Lists.{startWord, ringNumber, groupsAt, mapOf, listIn, Fills};
-ghost use Rattle.slot_lists.specs.Changes.{Moved, Stored, Emptied, Nearest};
+ghost use Rattle.slot_lists.specs.Lists.{startWord, ringNumber, groupsAt, backAt, mapOf, listIn, Fills};
+ghost use Rattle.slot_lists.specs.Changes.{Moved, Stored, Emptied, Lowered, Nearest};
 use parts::LISTS;
 use rings::begin;
 use rings::entry;
 use rings::pop;
 use rings::push;
 use words::set_word;
+use words::word;
 
 // The words of the groups that have lanes and of what was taken off the clock; those of the groups' starts and of their lists, less the group index.
 pub const GROUPS: usize = LISTS;
@@ -35,6 +36,12 @@ pub const MAPS: usize = LISTS + 16;
 const IN_GROUP: u64 = 32;
 
 const LOWEST: usize = 16;
+
+// One past the highest group.
+const GROUPS_END: usize = 32;
+
+// 2^36: 32 slots of the highest group, after which the lists come round again.
+const ROUND: u64 = 68719476736;
 
 // 2^32: a word of 32 lists is written twice into one of 64 bits.
 const TWICE: u64 = 4294967296;
@@ -138,4 +145,27 @@ pub fn empty(t: &mut [u8])
 {
     set_word(t, GROUPS, 0);
     set_word(t, BACK, 0);
+}
+
+// A time, `d` clock units earlier; 0 where it is below that.
+pub fn earlier_by(time: u64, d: u64) -> u64
+    ensures { λ r. ⌜ r ≡ time - d ⌝ }
+{
+    if time < d { 0 } else { time - d }
+}
+
+// `d` is taken off the clock: each group's start is so much earlier. The lists are numbered by the endless clock, so none of them moves. The start of a group
+// that has no lanes means nothing, and goes along.
+pub fn lower(t: &mut [u8], d: u64)
+    requires { ⌜ Long (now t) × (backAt (now t) < 2 ^ 36) × (d < 2 ^ 63) ⌝ }
+    ensures { λ _. ⌜ Lowered (now (t .entry)) (now (t .exit)) d ⌝ }
+{
+    let mut g = LOWEST;
+    while g < GROUPS_END {
+        let start = word(t, STARTS + g);
+        set_word(t, STARTS + g, earlier_by(start, d));
+        g += 1;
+    }
+    let back = word(t, BACK);
+    set_word(t, BACK, (back + d) % ROUND);
 }

@@ -9,7 +9,7 @@
 // `not_after`, `before` and `same_time`, so that the crates above compare a time with a time.
 //
 // These are inner functions: a `requires` says what the crates above keep. Ranges (document 01): weight 1 to 1,024, so c is 1,024 to 1,048,576;
-// group index 16 to 31; the clock below 2^62 + 2^42.
+// group index 16 to 31; the clock below 2^62 + 2^44.
 ghost use mathlib.Core.Path.{_≡_};
 ghost use Prim.Native.Nat.{_+_, _*_, _^_, _<_, _≤_, max, min};
 ghost use lib.Dec.{eqb, leb, ltb};

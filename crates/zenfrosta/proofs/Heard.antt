@@ -4,14 +4,14 @@ use native.Mathlib.Omega.{arith}
 use mathlib.Core.Path.{_≡_, refl, ap}
 use mathlib.Core.Bool.{Bool, true, false, _||_}
 use mathlib.Core.Option.{Option, none, some}
-use lib.Dec.{ltb, leb}
+use lib.Dec.{ltb}
 use lib.IntN.{ℤ, pos, negsuc}
 use mir.Syntax.{w64}
 use mir.Val.{SFits}
 use mir.ValLaws.{toZ-ofZ}
 use Rattle.units.specs.Plain.{if_then_else_}
 use Rattle.waiting.specs.Waiting.{full}
-use Rattle.rules.specs.State.{Rec, State, clockSpent, laneAt, setupOf, anyHolds}
+use Rattle.rules.specs.State.{Rec, State, laneAt, setupOf, anyHolds}
 use Rattle.rules.specs.Setup.{margin}
 use Rattle.rules.specs.Good.{Good}
 use Rattle.rules.specs.Calls.{Call, put, take, look, sets, lag, restart, Reply, lagged, restarted, no, Pick, picked, putRefusal, putOf, doPut, takeOf, doTake, lookOf, doLook, doSets, lagOf, doLag, doRestart, fresh, step}
@@ -33,18 +33,16 @@ module _ (s : State) where
   heard-put : (j m n : ℕ) → Heard (put j m n) ((step s (put j m n)) .reply)
   unfolding step doPut putRefusal putOf heard
   heard-put j m n =
-      go (ltb (laneAt s j .given .weight) 1) (ltb n 1 || ltb (laneAt s j .given .longest) n) (full (laneAt s j .waiting) 0) (leb clockSpent (s .clock))
+      go (ltb (laneAt s j .given .weight) 1) (ltb n 1 || ltb (laneAt s j .given .longest) n) (full (laneAt s j .waiting) 0)
     where
       r : Rec
       r = record { mark = m; len = n }
 
-      go : (a b c d : Bool)
-          → Heard (put j m n) ((putOf s j r (if a then some 11 else (if b then some 12 else (if c then some 13 else (if d then some 14 else none))))) .reply)
-      go true b c d = refl
-      go false true c d = refl
-      go false false true d = refl
-      go false false false true = refl
-      go false false false false = refl
+      go : (a b c : Bool) → Heard (put j m n) ((putOf s j r (if a then some 11 else (if b then some 12 else (if c then some 13 else none)))) .reply)
+      go true b c = refl
+      go false true c = refl
+      go false false true = refl
+      go false false false = refl
 
   heard-take : Heard take ((step s take) .reply)
   unfolding step doTake takeOf heard

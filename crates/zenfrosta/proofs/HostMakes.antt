@@ -8,7 +8,7 @@ use lib.ListN.{length}
 use Rattle.words.proofs.Runs.{le-or-lt}
 use Rattle.rules.specs.Reads.{number}
 use Rattle.rules.specs.declared.Refusal.{Refusal}
-use Rattle.rules.specs.declared.Refusal.the-variants.{Cut, UnknownTag, WrongLength, OutOfOrder, WeightsOver, TableShort, NotGood, NoLane, BadLength, LaneFull, ClockSpent, StillHolds, NothingHeld, RunBounds, InputLong, FormatOutside, LaneOutside, WeightOutside, LongestOutside, FramingOutside, WrongByte, SheetCut, NoSheet}
+use Rattle.rules.specs.declared.Refusal.the-variants.{Cut, UnknownTag, WrongLength, OutOfOrder, WeightsOver, TableShort, NotGood, NoLane, BadLength, LaneFull, StillHolds, NothingHeld, RunBounds, InputLong, FormatOutside, LaneOutside, WeightOutside, LongestOutside, FramingOutside, WrongByte, SheetCut, NoSheet}
 use Rattle.plan.specs.Read as plan
 use Rattle.plan.specs.Read.{readSetup}
 use Rattle.table.specs.Layout.{SIZE}
@@ -33,7 +33,6 @@ number-not-0 NotGood e = omega arith
 number-not-0 NoLane e = omega arith
 number-not-0 BadLength e = omega arith
 number-not-0 LaneFull e = omega arith
-number-not-0 ClockSpent e = omega arith
 number-not-0 StillHolds e = omega arith
 number-not-0 NothingHeld e = omega arith
 number-not-0 RunBounds e = omega arith

@@ -50,7 +50,6 @@ impl Refusal {
             11 => "the lane is not in the setup",
             12 => "a record's length is 0 or over the lane's longest",
             13 => "the lane is full",
-            14 => "the clock is spent",
             15 => "records are held",
             16 => "no record is held",
             17 => "a run's limit is over 1,000, or its answer area is too short",

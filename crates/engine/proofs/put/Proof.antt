@@ -3,12 +3,13 @@ use mathlib.Core.Path.{sym, ap, subst, _∙_}
 use Rattle.rules.specs.Calls.{put}
 use Rattle.table.specs.Means.{meant}
 use Rattle.engine.specs.Does.{verdictIs, Placeless}
-use Rattle.engine.proofs.Replies.{put-allowed, put-refused, put-does, refusal-does}
+use Rattle.engine.proofs.Replies.{put-allowed, back-allowed, put-refused, put-does, refusal-does}
 use borrow.Author.Needs.{needs}
 use Rattle.engine.proofs.put.Statement.{statement}
 use Rattle.engine.proofs.put.Tie as tie
 use Rattle.engine.proofs.put.Reads as reads
 use Rattle.engine.proofs.put.Lts as lts
+use Rattle.back.proofs.take_back.Reads as take-back-reads
 use Rattle.engine.proofs.put_record.Reads as put-record-reads
 use Rattle.engine.proofs.put_verdict.Reads as put-verdict-reads
 
@@ -21,10 +22,15 @@ enum-known-verdict c = search needs
 enum-told : tie.Need-enum-told
 enum-told c = search needs
 
+take-back-requires : tie.Need-take-back-requires
+take-back-requires c κs = search needs
+
 put-record-requires : tie.Need-put-record-requires
 put-record-requires c κs =
-    let s = c .before .before .before .before .before .before in
-    (s .pre, put-allowed (meant (s .args .t .now)) (s .args .lane) (s .args .length .0) (sym (ap verdictIs (c .before .enum-told .given .1)) ∙ c .before .before .before .put-verdict .ensures .0))
+    let s = c .before .before .before .before .before .before .before .before .before .before in
+    let b = c .before .before .before .take-back in
+    let ok = put-allowed (meant (s .args .t .now)) (s .args .lane) (s .args .length .0) (sym (ap verdictIs (c .before .before .before .before .before .enum-told .given .1)) ∙ c .before .before .before .before .before .before .before .put-verdict .ensures .0) in
+    (b .ensures .known, back-allowed (s .args .t .now) _ (s .args .lane) (s .args .length .0) (b .ensures) ok)
 
 same-length : tie.Need-same-length
 same-length c = search needs
@@ -41,8 +47,11 @@ same-length-2 c = search needs
 
 returns-2 : tie.Need-returns-2
 returns-2 c =
-    let s = c .before .before .before .before .before .before .before .before .before in
-    put-does (s .args .t .now) _ (s .args .lane) (s .args .mark) (s .args .length .0) _ (s .pre) (sym (ap verdictIs (c .before .before .before .before .enum-told .given .1)) ∙ c .before .before .before .before .before .before .put-verdict .ensures .0) (c .before .before .put-record .ensures .0) (c .before .before .put-record .ensures .1)
+    let s = c .before .before .before .before .before .before .before .before .before .before .before .before .before in
+    let b = c .before .before .before .before .before .before .take-back in
+    let r = c .before .before .put-record .ensures in
+    let none = sym (ap verdictIs (c .before .before .before .before .before .before .before .before .enum-told .given .1)) ∙ c .before .before .before .before .before .before .before .before .before .before .put-verdict .ensures .0 in
+    put-does (s .args .t .now) _ _ (s .args .lane) (s .args .mark) (s .args .length .0) _ (s .pre) none (b .ensures) (r .0) (r .1)
 
 pub put-spec : {M : Type 1} → statement M
 put-spec =
@@ -51,6 +60,7 @@ put-spec =
     put-verdict-requires
     enum-known-verdict
     enum-told
+    take-back-requires
     put-record-requires
     same-length
     returns

@@ -3,20 +3,17 @@ use mathlib.Core.Path.{refl, sym, ap, _∙_}
 use native.Mathlib.Nat.{pos-of-ne-zero}
 use native.Mathlib.Omega.{arith}
 use borrow.Author.Tests.{not-true}
-use Rattle.units.proofs.Compare.{is-not-after, is-after}
-use Rattle.rules.specs.State.{clockSpent, Lane, laneAt}
+use Rattle.rules.specs.State.{Lane, laneAt}
 use Rattle.table.specs.Means.{meant}
 use Rattle.engine.proofs.RowIs.{RowIs, row-weighs, read-row, absent-lane, far-lane}
-use Rattle.engine.proofs.Verdicts.{no-lane, empty-record, too-long, lane-full, clock-spent, allowed}
+use Rattle.engine.proofs.Verdicts.{no-lane, empty-record, too-long, lane-full, allowed}
 use borrow.Author.Needs.{needs}
 use Rattle.engine.proofs.put_verdict.Statement.{statement}
 use Rattle.engine.proofs.put_verdict.Tie as tie
 use Rattle.engine.proofs.put_verdict.Reads as reads
 use Rattle.engine.proofs.put_verdict.Lts as lts
-use Rattle.table.proofs.clock.Reads as clock-reads
 use Rattle.table.proofs.present.Reads as present-reads
 use Rattle.table.proofs.row.Reads as row-reads
-use Rattle.units.proofs.not_after.Reads as not-after-reads
 
 returns : tie.Need-returns
 returns c =
@@ -56,21 +53,10 @@ returns-5 c =
     let a = c .before .before .before .before .before .before .before in
     (lane-full _ _ _ (row-weighs _ _ (row-known a)) (pos-of-ne-zero (c .before .before .before .before .before .if3 .left)) (rw (row-known a .given) (c .before .before .if4 .left)) (omega (arith, row-known a .held, c .if5 .taken)), refl)
 
-clock-requires : tie.Need-clock-requires
-clock-requires c κs = search needs
-
-not-after-requires : tie.Need-not-after-requires
-not-after-requires c κs = search needs
-
 returns-6 : tie.Need-returns-6
 returns-6 c =
-    let a = c .before .before .before .before .before .before .before .before .before .before in
-    (clock-spent _ _ _ (row-weighs _ _ (row-known a)) (pos-of-ne-zero (c .before .before .before .before .before .before .before .before .if3 .left)) (rw (row-known a .given) (c .before .before .before .before .before .if4 .left)) (omega (arith, row-known a .held, c .before .before .before .if5 .left)) (omega (arith, c .before .before .clock .ensures, is-not-after clockSpent (c .before .before .clock .result .0) (c .before .not-after .ensures) (c .if6 .taken))), refl)
-
-returns-7 : tie.Need-returns-7
-returns-7 c =
-    let a = c .before .before .before .before .before .before .before .before .before .before in
-    (allowed _ _ _ (row-weighs _ _ (row-known a)) (pos-of-ne-zero (c .before .before .before .before .before .before .before .before .if3 .left)) (rw (row-known a .given) (c .before .before .before .before .before .if4 .left)) (omega (arith, row-known a .held, c .before .before .before .if5 .left)) (omega (arith, c .before .before .clock .ensures, is-after clockSpent (c .before .before .clock .result .0) (c .before .not-after .ensures) (c .if6 .left))), tt)
+    let a = c .before .before .before .before .before .before .before in
+    (allowed _ _ _ (row-weighs _ _ (row-known a)) (pos-of-ne-zero (c .before .before .before .before .before .if3 .left)) (rw (row-known a .given) (c .before .before .if4 .left)) (omega (arith, row-known a .held, c .if5 .left)), tt)
 
 pub put-verdict-spec : {M : Type 1} → statement M
 put-verdict-spec =
@@ -83,7 +69,4 @@ put-verdict-spec =
     returns-3
     returns-4
     returns-5
-    clock-requires
-    not-after-requires
-    returns-6
-    returns-7)
+    returns-6)

@@ -72,9 +72,6 @@ enum-told-21 c = search needs
 enum-told-22 : tie.Need-enum-told-22
 enum-told-22 c = search needs
 
-enum-told-23 : tie.Need-enum-told-23
-enum-told-23 c = search needs
-
 returns : tie.Need-returns
 returns c = (sym (ap number (c .enum-told .given .1)), omega arith)
 
@@ -141,9 +138,6 @@ returns-21 c = (sym (ap number (c .enum-told21 .given .1)), omega arith)
 returns-22 : tie.Need-returns-22
 returns-22 c = (sym (ap number (c .enum-told22 .given .1)), omega arith)
 
-returns-23 : tie.Need-returns-23
-returns-23 c = (sym (ap number (c .enum-told23 .given .1)), omega arith)
-
 pub number-spec : {M : Type 1} → statement M
 number-spec =
     tie.close
@@ -170,7 +164,6 @@ number-spec =
     enum-told-20
     enum-told-21
     enum-told-22
-    enum-told-23
     returns
     returns-2
     returns-3
@@ -192,5 +185,4 @@ number-spec =
     returns-19
     returns-20
     returns-21
-    returns-22
-    returns-23)
+    returns-22)

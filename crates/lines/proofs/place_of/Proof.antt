@@ -47,9 +47,6 @@ enum-told-8 c = search needs
 enum-told-9 : tie.Need-enum-told-9
 enum-told-9 c = search needs
 
-enum-told-10 : tie.Need-enum-told-10
-enum-told-10 c = search needs
-
 enum-known-x-6 : tie.Need-enum-known-x-6
 enum-known-x-6 c = search needs
 
@@ -71,8 +68,8 @@ enum-known-x-11 c = search needs
 enum-known-x-12 : tie.Need-enum-known-x-12
 enum-known-x-12 c = search needs
 
-enum-told-11 : tie.Need-enum-told-11
-enum-told-11 c = search needs
+enum-told-10 : tie.Need-enum-told-10
+enum-told-10 c = search needs
 
 returns : tie.Need-returns
 returns c = sym (ap placeOf (c .before .x .given .1))
@@ -117,31 +114,28 @@ returns-14 : tie.Need-returns-14
 returns-14 c = sym (ap placeOf (c .enum-told9 .given .1))
 
 returns-15 : tie.Need-returns-15
-returns-15 c = sym (ap placeOf (c .enum-told10 .given .1))
+returns-15 c = sym (ap placeOf (c .before .x6 .given .1))
 
 returns-16 : tie.Need-returns-16
-returns-16 c = sym (ap placeOf (c .before .x6 .given .1))
+returns-16 c = sym (ap placeOf (c .before .x7 .given .1))
 
 returns-17 : tie.Need-returns-17
-returns-17 c = sym (ap placeOf (c .before .x7 .given .1))
+returns-17 c = sym (ap placeOf (c .before .x8 .given .1))
 
 returns-18 : tie.Need-returns-18
-returns-18 c = sym (ap placeOf (c .before .x8 .given .1))
+returns-18 c = sym (ap placeOf (c .before .x9 .given .1))
 
 returns-19 : tie.Need-returns-19
-returns-19 c = sym (ap placeOf (c .before .x9 .given .1))
+returns-19 c = sym (ap placeOf (c .before .x10 .given .1))
 
 returns-20 : tie.Need-returns-20
-returns-20 c = sym (ap placeOf (c .before .x10 .given .1))
+returns-20 c = sym (ap placeOf (c .before .x11 .given .1))
 
 returns-21 : tie.Need-returns-21
-returns-21 c = sym (ap placeOf (c .before .x11 .given .1))
+returns-21 c = sym (ap placeOf (c .before .x12 .given .1))
 
 returns-22 : tie.Need-returns-22
-returns-22 c = sym (ap placeOf (c .before .x12 .given .1))
-
-returns-23 : tie.Need-returns-23
-returns-23 c = sym (ap placeOf (c .enum-told11 .given .1))
+returns-22 c = sym (ap placeOf (c .enum-told10 .given .1))
 
 pub place-of-spec : {M : Type 1} → statement M
 place-of-spec =
@@ -161,7 +155,6 @@ place-of-spec =
     enum-told-7
     enum-told-8
     enum-told-9
-    enum-told-10
     enum-known-x-6
     enum-known-x-7
     enum-known-x-8
@@ -169,7 +162,7 @@ place-of-spec =
     enum-known-x-10
     enum-known-x-11
     enum-known-x-12
-    enum-told-11
+    enum-told-10
     returns
     returns-2
     returns-3
@@ -191,5 +184,4 @@ place-of-spec =
     returns-19
     returns-20
     returns-21
-    returns-22
-    returns-23)
+    returns-22)

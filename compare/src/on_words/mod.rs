@@ -1,87 +1,19 @@
 //! A unit to try the comparison of tables on: the plain rules over the words of docs/TABLE.md, read and written by [`layout`] alone, that can be told
 //! to make one [`Lapse`].
 
+mod lapses;
+
+pub use lapses::{lapses, Lapse};
+
 use crate::calls::Taken;
 use crate::fields::Fault;
-use crate::layout::{self, Clause, CLAUSES, NOW, TABLE_SIZE};
-use crate::numbers::{margin, refusal, CLOCK_END, DEPTH, OLD_CLOCK_END};
-use crate::rules::{Lane, State};
+use crate::layout::{self, Clause, NOW, TABLE_SIZE};
+use crate::numbers::*;
+use crate::rules::{taken_off, Lane, State};
 use crate::session::{self, Run};
 use crate::setup;
 use crate::slots;
 use crate::unit::Unit;
-
-#[derive(Clone, Copy, Debug, PartialEq, Eq)]
-pub enum Lapse {
-    None,
-    /// A clause of "A good table" is not tested: a table that breaks it alone does not give 10.
-    Untested(Clause),
-    /// A table that gives 10 is written.
-    RefusalWrites,
-    /// V must be below 2^62 + 2^44 - 1.
-    ClockStrict,
-    /// V must be below 2^62 + 2^42, as with room for 16.
-    ClockOld,
-    /// S must be below V + 2s - 1.
-    StartStrict,
-    /// R must be above V - 2s - 1,024 (1,500 + h) + 1.
-    BehindStrict,
-    /// R must be above V - 2s - 1,536,000, whatever h is.
-    BehindBare,
-    /// h must be below 64.
-    FramingStrict,
-    /// F of an idle lane must be below V + 2s - 1.
-    FinishStrict,
-    /// An eligible lane must have R below V.
-    EligibleStrict,
-    /// Sixty-four records are too many.
-    RecordsStrict,
-    /// A word that means nothing must be 0.
-    FreeWordRead,
-    /// So must the bytes that are kept behind the marks.
-    KeptRead,
-    /// The places of an idle lane must hold lengths within its numbers too.
-    IdlePlacesRead,
-    /// A put to an idle lane leaves the lengths of the other places as they are.
-    PlacesLeft,
-    /// A put forgets the tie order: the lanes of a list stand by their number.
-    OrderLost,
-    /// A group's start may be off by a multiple of 32 slots, which is the same list.
-    StartModulo,
-    /// Of the lanes in the lists only the sum of their bits is tested, wherever they stand: a lane twice may count as its neighbour.
-    ListsAdded,
-    /// A record is written one place too far in its ring.
-    RingTurned,
-    /// A take leaves the clock where it was, if it is the last one.
-    ClockKept,
-}
-
-/// Every lapse.
-pub fn lapses() -> Vec<Lapse> {
-    use Lapse::*;
-    let others = [
-        RefusalWrites,
-        ClockStrict,
-        ClockOld,
-        StartStrict,
-        BehindStrict,
-        BehindBare,
-        FramingStrict,
-        FinishStrict,
-        EligibleStrict,
-        RecordsStrict,
-        FreeWordRead,
-        KeptRead,
-        IdlePlacesRead,
-        PlacesLeft,
-        OrderLost,
-        StartModulo,
-        ListsAdded,
-        RingTurned,
-        ClockKept,
-    ];
-    CLAUSES.iter().map(|clause| Untested(*clause)).chain(others).collect()
-}
 
 pub struct OnWords {
     pub lapse: Lapse,
@@ -173,6 +105,38 @@ impl OnWords {
         free
     }
 
+    /// What a put does before it appends a record.
+    fn take_back(&self, state: &mut State, lane: u8) -> Result<(), u8> {
+        let clock = state.clock;
+        if self.lapse == Lapse::SpentAsBefore && clock >= OLD_CLOCK_EDGE {
+            return Err(14);
+        }
+        let down = |kept: i128, step: i128| (clock - kept) - (clock - kept) % step;
+        let off = match self.lapse {
+            _ if clock < CLOCK_FAR => 0,
+            Lapse::BackStrict if clock == CLOCK_FAR => 0,
+            Lapse::BackLate if clock < OLD_CLOCK_EDGE => 0,
+            Lapse::BackByIdleAlone if state.lane(lane).is_some_and(Lane::holds) => 0,
+            Lapse::BackByHalfUnits => down(CLOCK_KEPT, CLOCK_STEP / 2),
+            Lapse::BackTooFar => down(CLOCK_KEPT / 2, CLOCK_STEP),
+            Lapse::BackRoundedUp => down(CLOCK_KEPT - CLOCK_STEP + 1, CLOCK_STEP),
+            _ => down(CLOCK_KEPT, CLOCK_STEP),
+        };
+        let before = state.lanes.clone();
+        state.lower(off);
+        for (at, (lane, was)) in state.lanes.iter_mut().zip(before).enumerate() {
+            match self.lapse {
+                Lapse::BackOfClockAlone => *lane = was,
+                Lapse::BackLeavesFirstLane if at == 0 => *lane = was,
+                Lapse::BackKeepsLowFinish if !lane.holds() && was.finish < off => lane.finish = was.finish,
+                Lapse::BackForgetsFinish if !lane.holds() && off > 0 => lane.finish = 0,
+                Lapse::BackTooFar => lane.start = lane.start.max(0),
+                _ => {}
+            }
+        }
+        Ok(())
+    }
+
     fn change<T>(&self, table: &mut [u8], call: impl Fn(&mut State) -> Result<T, u8>) -> Result<T, u8> {
         let mut state = self.read(table).map_err(|number| {
             if self.lapse == Lapse::RefusalWrites && !table.is_empty() {
@@ -180,7 +144,7 @@ impl OnWords {
             }
             number
         })?;
-        let before = state.clock;
+        let (before, back) = (state.clock, state.back);
         let answer = call(&mut state)?;
         if self.lapse == Lapse::ClockKept && state.holding().next().is_none() && state.clock > 0 {
             state.clock = before;
@@ -192,6 +156,17 @@ impl OnWords {
         layout::write(&state, table);
         for (at, length) in free {
             table[at..at + 2].copy_from_slice(&length);
+        }
+        let off = state.back - back;
+        match self.lapse {
+            Lapse::BackForgotten if off > 0 => layout::set_word(table, slots::BACK, back as u64),
+            Lapse::BackGrows if off > 0 => layout::set_word(table, slots::BACK, state.back as u64),
+            Lapse::BackLeavesStarts if off > 0 => {
+                for at in slots::groups(table).into_iter().map(slots::start) {
+                    layout::set_word(table, at, layout::word(table, at) + off as u64);
+                }
+            }
+            _ => {}
         }
         if self.lapse == Lapse::RingTurned {
             if let Some(lane) = state.holding().next() {
@@ -222,11 +197,28 @@ impl Unit for OnWords {
     }
 
     fn put(&mut self, table: &mut [u8], lane: u8, mark: u32, length: u64) -> Result<u64, u8> {
-        self.change(table, |state| state.put(lane, mark, length))
+        let answer = self.change(table, |state| {
+            state.accepts(lane, length)?;
+            self.take_back(state, lane)?;
+            state.put_endless(lane, mark, length)
+        });
+        if self.lapse == Lapse::BackByRefused && answer.is_err() && answer != Err(refusal::NOT_GOOD) {
+            self.change(table, |state| {
+                state.lower(taken_off(state.clock));
+                Ok(())
+            })?;
+        }
+        answer
     }
 
     fn take(&mut self, table: &mut [u8]) -> Result<Taken, u8> {
-        self.change(table, State::take)
+        self.change(table, |state| {
+            let taken = state.take()?;
+            if self.lapse == Lapse::BackByTake {
+                state.lower(taken_off(state.clock));
+            }
+            Ok(taken)
+        })
     }
 
     fn look(&mut self, table: &mut [u8]) -> Result<Taken, u8> {

@@ -1,0 +1,46 @@
+//! A clock that is taken back (document 02, h), and one that never is.
+
+use super::State;
+use crate::calls::{Answer, Call};
+use crate::numbers::*;
+
+/// K, "the largest multiple of 2^31 not above V - 2^33", where V is 2^61 or more; else nothing.
+pub fn taken_off(clock: i128) -> i128 {
+    if clock < CLOCK_FAR {
+        return 0;
+    }
+    let most = clock - CLOCK_KEPT;
+    most - most % CLOCK_STEP
+}
+
+impl State {
+    /// Takes so much off V and every S and F; "an idle lane's F below K becomes 0".
+    pub fn lower(&mut self, off: i128) {
+        self.clock -= off;
+        self.back += off;
+        for lane in &mut self.lanes {
+            lane.finish -= off;
+            if lane.holds() {
+                lane.start -= off;
+                lane.rounded_start = lane.start - lane.start % lane.slot();
+            } else {
+                lane.finish = lane.finish.max(0);
+            }
+        }
+    }
+
+    /// The contents that the same calls would have made, had so much less been taken off the clock.
+    pub fn lift(&mut self, up: i128) {
+        self.lower(-up);
+    }
+
+    /// The answer of an endless clock.
+    pub fn answer_endless(&mut self, call: Call) -> Answer {
+        match call {
+            Call::Put { lane, mark, length } => {
+                self.put_endless(lane, mark, length).map_or_else(Answer::No, Answer::Put)
+            }
+            _ => self.answer(call),
+        }
+    }
+}
