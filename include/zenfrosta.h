@@ -11,7 +11,7 @@
  * A byte area is a pointer and its length in bytes. Any bytes are allowed in it, at any address. What the host must see to: a pointer may be
  * read (and written, where it is not const) over its whole length and is not null, also where the length is 0; areas of one call do not overlap;
  * no other thread uses them during the call; a length is at most PTRDIFF_MAX. The library keeps no pointer, has no state of its own, takes no
- * memory from a heap, and calls nothing but the C library's memcpy and memset. On x86-64 a call uses less than 12 KiB of stack.
+ * memory from a heap, and calls nothing but the C library's memcpy and memset. On x86-64 a call uses less than 12 KiB of stack (hosts/stack.c measures it).
  */
 #ifndef ZENFROSTA_H
 #define ZENFROSTA_H
@@ -29,8 +29,8 @@ extern "C" {
 /* The least length of an answer buffer. */
 #define ZF_OUT_SIZE 32
 
-/* The bytes of an answer area for a run with a limit: 64 for each line. */
-#define ZF_ANSWER_AREA(limit) (64 * ((size_t)(limit) + 2))
+/* The bytes of an answer area for a run with a limit: 64 for each line. A limit over 1,000 is refused with any area, so it needs no more. */
+#define ZF_ANSWER_AREA(limit) ((uint64_t)(limit) > 1000 ? (size_t)64128 : 64 * ((size_t)(limit) + 2))
 
 /* The greatest limit of a run. */
 #define ZF_MOST_REQUESTS 1000
@@ -257,6 +257,83 @@ uint64_t zf_board_clear(uint8_t *board, size_t board_length, uint32_t train, uin
 
 /* What stands on a line. out: kind, train, cell and sequence; a free line, and any number over 63, is all 0. Refusals: 29. */
 uint64_t zf_board_line(const uint8_t *board, size_t board_length, uint8_t line, uint8_t *out, size_t out_length);
+
+/* ---- The version
+ *
+ * A number that grows with the version: major times 65,536, minor times 256 and patch together. A host may compare the header's with the library's
+ * before it does anything else. CHANGELOG.md says what each version brought.
+ */
+#define ZF_VERSION_MAJOR 0
+#define ZF_VERSION_MINOR 2
+#define ZF_VERSION_PATCH 0
+#define ZF_VERSION ((uint64_t)ZF_VERSION_MAJOR * 65536 + ZF_VERSION_MINOR * 256 + ZF_VERSION_PATCH)
+
+/* The version of the library: ZF_VERSION, where the header is the library's own. */
+uint64_t zf_version(void);
+
+/* ---- What the words of an answer say, and refusals in words */
+
+/* A word of the answer buffer, 0 to 3. */
+static inline uint64_t zf_word(const uint8_t *out, size_t index) {
+  uint64_t value = 0;
+  for (size_t i = 8; i > 0; i--) value = value << 8 | out[8 * index + i - 1];
+  return value;
+}
+
+/* The words by their meaning. After zf_put: how many of the lane are ahead. After zf_take and zf_look: the record. */
+static inline uint64_t zf_out_ahead(const uint8_t *out) { return zf_word(out, 0); }
+static inline uint8_t zf_out_lane(const uint8_t *out) { return (uint8_t)(zf_word(out, 0) & 0xFF); }
+static inline uint32_t zf_out_mark(const uint8_t *out) { return (uint32_t)(zf_word(out, 1) & 0xFFFFFFFF); }
+static inline uint64_t zf_out_length(const uint8_t *out) { return zf_word(out, 2); }
+
+/* After zf_lag. The words are those of two's complement; no conversion that C leaves open is made. */
+static inline int64_t zf_out_lag(const uint8_t *out) {
+  const uint64_t word = zf_word(out, 0);
+  return word > INT64_MAX ? -(int64_t)(UINT64_MAX - word) - 1 : (int64_t)word;
+}
+
+/* After a refusal of any call but zf_run: whether it has a place, and the place. */
+static inline int zf_out_has_place(const uint8_t *out) { return zf_word(out, 1) == 1; }
+static inline uint64_t zf_out_place(const uint8_t *out) { return zf_word(out, 0); }
+
+/* What a result means, in words; docs/REFUSALS.md and 'zenfrosta explain' say what to mend. */
+static inline const char *zf_text(uint64_t number) {
+  switch (number) {
+  case ZF_DONE: return "done";
+  case ZF_CUT: return "the bytes end inside a field, or before the end field";
+  case ZF_UNKNOWN_TAG: return "a tag that is not known in this part";
+  case ZF_WRONG_LENGTH: return "a length that is wrong for the tag";
+  case ZF_OUT_OF_ORDER: return "a field out of its order, or a byte after the end";
+  case ZF_WEIGHTS_OVER: return "the weights sum to more than 1,024";
+  case ZF_TABLE_SHORT: return "the table is too short";
+  case ZF_NOT_GOOD: return "the table is not good";
+  case ZF_NO_LANE: return "the lane is not in the setup";
+  case ZF_BAD_LENGTH: return "a record's length is 0 or over the lane's longest";
+  case ZF_LANE_FULL: return "the lane is full";
+  case ZF_STILL_HOLDS: return "records are held";
+  case ZF_NOTHING_HELD: return "no record is held";
+  case ZF_RUN_BOUNDS: return "a run's limit is over 1,000, or its answer area is too short";
+  case 18: return "the input is over 32,768 bytes";
+  case ZF_NOT_A_BOARD: return "the bytes are no board that these calls make";
+  case ZF_KIND_UNKNOWN: return "the kind is neither 1 (joined) nor 2 (left)";
+  case ZF_NO_FREE_LINE: return "a new train, and all 64 lines are used";
+  case ZF_OUT_OF_TURN: return "the sequence is not the train's last one plus 1";
+  case ZF_DOES_NOT_FOLLOW: return "the cell or the kind does not follow the train's last record";
+  case ZF_NOT_CLEARED: return "the train is not on the board, or it has not left its cell";
+  case ZF_BAD_FORMAT: return "the format is neither 1 nor 2";
+  case ZF_BAD_LANE: return "a lane number is over 63";
+  case ZF_BAD_WEIGHT: return "a weight is not 1 to 1,024";
+  case ZF_BAD_LONGEST: return "a longest is not 64 to 1,500";
+  case ZF_BAD_FRAMING: return "a framing number is over 64";
+  case ZF_PLAN_OUTSIDE: return "the plan is outside the numbers";
+  case ZF_SETUP_SHORT: return "the buffer is shorter than what is to be written";
+  case ZF_SHEET_BYTE: return "a byte that cannot stand there in a sheet";
+  case ZF_SHEET_CUT: return "the sheet is empty, or ends in a line";
+  case ZF_NO_SHEET: return "the plan has framing bytes, which a sheet cannot say";
+  case ZF_BUFFER_SHORT: return "the answer buffer is too short";
+  default: return "no number of the list";
+  }
+}
 
 #ifdef __cplusplus
 }

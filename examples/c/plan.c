@@ -10,13 +10,6 @@ static uint8_t out[ZF_OUT_SIZE];
 /* Lane 0 of weight 512, its longest left out; lane 1 of weight 256 and 1,500 bytes. */
 static const uint8_t depot[] = {0x01, 0, 2, 0, 1, 0x10, 0, 3, 0, 2, 0, 0x10, 0, 5, 1, 1, 0, 0x05, 0xDC, 0x7F, 0, 0};
 
-/* A word of the answer buffer. */
-static uint64_t word(int index) {
-  uint64_t value = 0;
-  for (int i = 7; i >= 0; i--) value = value << 8 | out[8 * index + i];
-  return value;
-}
-
 static void show(void) {
   printf("format %d, framing %" PRIu64 "\n", zf_plan_format(plan), zf_plan_framing(plan));
   for (uint8_t lane = 0; lane < 64; lane++) {
@@ -32,7 +25,7 @@ static void write_setup(void) {
     printf("refused with %" PRIu64 "\n", result);
     return;
   }
-  uint64_t size = word(0);
+  uint64_t size = zf_word(out, 0);
   printf("%" PRIu64 " bytes:", size);
   for (uint64_t i = 0; i < size; i++) printf(" %02X", setup[i]);
   printf("\n");
@@ -40,7 +33,7 @@ static void write_setup(void) {
 
 int main(void) {
   if (zf_setup_read(depot, sizeof depot, plan, sizeof plan, out, sizeof out) != ZF_DONE) return 1;
-  printf("%" PRIu64 " lanes\n", word(0));
+  printf("%" PRIu64 " lanes\n", zf_word(out, 0));
   show();
   zf_plan_set_lane(plan, 1, 128, 576);
   zf_plan_set_lane(plan, 5, 64, 64);

@@ -8,17 +8,10 @@
 static uint8_t table[ZF_TABLE_SIZE];
 static uint8_t out[ZF_OUT_SIZE];
 
-/* A word of the answer buffer. */
-static uint64_t word(int index) {
-  uint64_t value = 0;
-  for (int i = 7; i >= 0; i--) value = value << 8 | out[8 * index + i];
-  return value;
-}
-
 static int put(uint8_t lane, uint32_t mark, uint64_t length) {
   uint64_t result = zf_put(table, sizeof table, lane, mark, length, out, sizeof out);
-  if (result != ZF_DONE) printf("put refused with %" PRIu64 "\n", result);
-  else printf("lane %u: %" PRIu64 " before yours\n", (unsigned)lane, word(0));
+  if (result != ZF_DONE) printf("put refused with %" PRIu64 ": %s\n", result, zf_text(result));
+  else printf("lane %u: %" PRIu64 " before yours\n", (unsigned)lane, zf_out_ahead(out));
   return result == ZF_DONE;
 }
 
@@ -31,15 +24,15 @@ int main(void) {
   };
   uint64_t result = zf_make(setup, sizeof setup, table, sizeof table, out, sizeof out);
   if (result != ZF_DONE) {
-    printf("setup refused with %" PRIu64, result);
-    if (word(1)) printf(" at byte %" PRIu64, word(0));
+    printf("setup refused with %" PRIu64 ": %s", result, zf_text(result));
+    if (zf_out_has_place(out)) printf(", at byte %" PRIu64, zf_out_place(out));
     printf("\n");
     return 1;
   }
-  printf("lanes %" PRIu64 "\n", word(0));
+  printf("lanes %" PRIu64 "\n", zf_word(out, 0));
   if (!put(0, 1, 1000) || !put(1, 2, 1000) || !put(0, 3, 500)) return 1;
   while ((result = zf_take(table, sizeof table, out, sizeof out)) == ZF_DONE) {
-    printf("lane %" PRIu64 ": record %" PRIu64 ", %" PRIu64 " bytes\n", word(0), word(1), word(2));
+    printf("lane %u: record %" PRIu32 ", %" PRIu64 " bytes\n", (unsigned)zf_out_lane(out), zf_out_mark(out), zf_out_length(out));
   }
   return result == ZF_NOTHING_HELD ? 0 : 1;
 }

@@ -8,19 +8,12 @@
 static uint8_t plan[ZF_PLAN_SIZE];
 static uint8_t out[ZF_OUT_SIZE];
 
-/* A word of the answer buffer. */
-static uint64_t word(int index) {
-  uint64_t value = 0;
-  for (int i = 7; i >= 0; i--) value = value << 8 | out[8 * index + i];
-  return value;
-}
-
 static int read_sheet(const char *sheet) {
   uint64_t result = zf_sheet_read((const uint8_t *)sheet, strlen(sheet), plan, sizeof plan, out, sizeof out);
   if (result == ZF_DONE) {
-    printf("%" PRIu64 " lanes\n", word(0));
+    printf("%" PRIu64 " lanes\n", zf_word(out, 0));
   } else {
-    printf("refused with %" PRIu64 " at byte %" PRIu64 "\n", result, word(0));
+    printf("refused with %" PRIu64 " at byte %" PRIu64 "\n", result, zf_word(out, 0));
   }
   return result == ZF_DONE;
 }
@@ -32,7 +25,7 @@ static void write_sheet(void) {
     printf("refused with %" PRIu64 "\n", result);
     return;
   }
-  printf("%.*s", (int)word(0), (const char *)sheet);
+  printf("%.*s", (int)zf_word(out, 0), (const char *)sheet);
 }
 
 int main(void) {
@@ -41,7 +34,7 @@ int main(void) {
   write_sheet();
   uint8_t setup[ZF_SETUP_MOST];
   if (zf_setup_write(plan, sizeof plan, setup, sizeof setup, out, sizeof out) != ZF_DONE) return 1;
-  printf("%" PRIu64 " bytes of setup\n", word(0));
+  printf("%" PRIu64 " bytes of setup\n", zf_word(out, 0));
   zf_plan_set_framing(plan, 12); /* a sheet cannot say it */
   write_sheet();
   read_sheet("0 512 1500\n1 0256 576\n"); /* a digit behind a leading 0 */

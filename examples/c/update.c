@@ -8,13 +8,6 @@ static uint8_t kept[ZF_OLD_TABLE_SIZE];
 static uint8_t table[ZF_TABLE_SIZE];
 static uint8_t out[ZF_OUT_SIZE];
 
-/* A word of the answer buffer. */
-static uint64_t word(int index) {
-  uint64_t value = 0;
-  for (int i = 7; i >= 0; i--) value = value << 8 | out[8 * index + i];
-  return value;
-}
-
 /* What a host reads from where it keeps its table. Here it is that of session.c after its three puts, as it was before the update: its bytes that
  * are not 0. */
 static void read_kept(void) {
@@ -45,9 +38,9 @@ int main(void) {
   }
   printf("taken over\n");
   if (zf_put(table, sizeof table, 0, 4, 200, out, sizeof out) != ZF_DONE) return 1;
-  printf("lane 0: %" PRIu64 " before yours\n", word(0));
+  printf("lane 0: %" PRIu64 " before yours\n", zf_out_ahead(out));
   while ((result = zf_take(table, sizeof table, out, sizeof out)) == ZF_DONE) {
-    printf("lane %" PRIu64 ": record %" PRIu64 ", %" PRIu64 " bytes\n", word(0), word(1), word(2));
+    printf("lane %u: record %" PRIu32 ", %" PRIu64 " bytes\n", (unsigned)zf_out_lane(out), zf_out_mark(out), zf_out_length(out));
   }
   return result == ZF_NOTHING_HELD ? 0 : 1;
 }

@@ -4,3 +4,4 @@ pub mod Heard
 pub mod Board
 pub mod Plans
 pub mod Old
+pub mod Version

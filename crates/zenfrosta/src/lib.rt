@@ -22,6 +22,7 @@ pub mod board;
 pub mod old;
 pub mod plans;
 pub mod sheets;
+pub mod version;
 
 use lines::Place;
 use rules::Answer;

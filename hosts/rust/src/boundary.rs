@@ -4,6 +4,7 @@
 
 pub mod board;
 pub mod plans;
+pub mod version;
 
 /// The answer buffer: four 64-bit words, low byte first.
 const OUT: usize = 32;

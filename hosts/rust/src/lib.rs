@@ -9,9 +9,13 @@
 mod board;
 mod boundary;
 mod plan;
+pub mod refusals;
+mod version;
 
 pub use board::{board_size, Board, BoardRefusal, Handover, Kind, BOARD_SIZE, LINES};
 pub use plan::{plan_size, Plan, PlanLane, PLAN_SIZE, SETUP_MOST, SHEET_MOST};
+pub use refusals::RefusalKind;
+pub use version::{version, Version, VERSION};
 
 /// The fixed size of a table in bytes; bytes past it are never touched.
 pub const TABLE_SIZE: usize = 65_536;
@@ -22,9 +26,10 @@ pub const OLD_TABLE_SIZE: usize = 45_056;
 /// The greatest limit of a run.
 pub const MOST_REQUESTS: u64 = 1_000;
 
-/// The bytes that the answer area of a run needs: 64 for each line.
+/// The bytes that the answer area of a run needs: 64 for each line. A limit over [`MOST_REQUESTS`] is refused with any area, so it needs no more.
 pub const fn answer_area(limit: u64) -> usize {
-    64 * (limit as usize + 2)
+    let lines = if limit > MOST_REQUESTS { MOST_REQUESTS } else { limit };
+    64 * (lines as usize + 2)
 }
 
 /// Why something is refused: document 01's number, and the place of the fault where the list has one.
@@ -37,35 +42,16 @@ pub struct Refusal {
 }
 
 impl Refusal {
+    /// The number's case; none for a number that no call gives.
+    pub const fn kind(&self) -> Option<RefusalKind> {
+        RefusalKind::of(self.number)
+    }
+
     /// What the number says, in words; `docs/REFUSALS.md` says what to mend.
     pub const fn words(&self) -> &'static str {
-        match self.number {
-            1 => "the bytes end inside a field, or before the end field",
-            2 => "a tag that is not known in this part",
-            3 => "a length that is wrong for the tag",
-            4 => "a field out of its order, or a byte after the end",
-            6 => "the weights sum to more than 1,024",
-            7 => "the table is too short",
-            10 => "the table is not good",
-            11 => "the lane is not in the setup",
-            12 => "a record's length is 0 or over the lane's longest",
-            13 => "the lane is full",
-            15 => "records are held",
-            16 => "no record is held",
-            17 => "a run's limit is over 1,000, or its answer area is too short",
-            18 => "the input is over 32,768 bytes",
-            50 => "the format is neither 1 nor 2",
-            51 => "a lane number is over 63",
-            52 => "a weight is not 1 to 1,024",
-            53 => "a longest is not 64 to 1,500",
-            54 => "a framing number is over 64",
-            55 => "the plan is outside the numbers",
-            56 => "the buffer is shorter than what is to be written",
-            80 => "a byte that cannot stand there in a sheet",
-            81 => "the sheet is empty, or ends in a line",
-            82 => "the plan has framing bytes, which a sheet cannot say",
-            255 => "the answer buffer is too short",
-            _ => "no number of the list",
+        match self.kind() {
+            Some(kind) => kind.words(),
+            None => "no number of the list",
         }
     }
 }

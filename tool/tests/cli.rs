@@ -1,0 +1,376 @@
+//! The tool as people run it: what it prints, where it says a fault is, and its exit status.
+
+use std::io::Write;
+use std::path::{Path, PathBuf};
+use std::process::{Command, Stdio};
+
+/// What a run printed, what it said on standard error, and its exit status.
+struct Done {
+    out: Vec<u8>,
+    said: String,
+    status: i32,
+}
+
+impl Done {
+    fn text(&self) -> &str {
+        std::str::from_utf8(&self.out).expect("a text")
+    }
+}
+
+fn tool(words: &[&str], input: &[u8]) -> Done {
+    let mut child = Command::new(env!("CARGO_BIN_EXE_zenfrosta"))
+        .args(words)
+        .current_dir(root())
+        .stdin(Stdio::piped())
+        .stdout(Stdio::piped())
+        .stderr(Stdio::piped())
+        .spawn()
+        .expect("the tool starts");
+    // A tool that reads nothing may be gone by now.
+    let _ = child.stdin.take().expect("a pipe").write_all(input);
+    let done = child.wait_with_output().expect("the tool ends");
+    Done {
+        out: done.stdout,
+        said: String::from_utf8(done.stderr).expect("a text"),
+        status: done.status.code().expect("an exit status"),
+    }
+}
+
+/// A run that must go well and say nothing else.
+fn fine(words: &[&str], input: &[u8]) -> Done {
+    let done = tool(words, input);
+    assert_eq!((done.status, done.said.as_str()), (0, ""), "{words:?}");
+    done
+}
+
+fn refused(words: &[&str], input: &str, status: i32, says: &str) {
+    let done = tool(words, input.as_bytes());
+    assert_eq!(done.said.lines().next().unwrap_or_default(), says, "{words:?}");
+    assert_eq!(done.status, status, "{words:?}");
+}
+
+fn root() -> PathBuf {
+    Path::new(env!("CARGO_MANIFEST_DIR")).join("..")
+}
+
+/// A file for a test of its own name.
+fn file(name: &str, bytes: &[u8]) -> String {
+    let path = Path::new(env!("CARGO_TARGET_TMPDIR")).join(name);
+    std::fs::write(&path, bytes).expect("a file");
+    path.to_str().expect("a name in UTF-8").to_string()
+}
+
+/// What the file of tests/expected has.
+fn expected(name: &str) -> String {
+    let path = root().join("tool/tests/expected").join(name);
+    std::fs::read_to_string(&path).unwrap_or_else(|error| panic!("{}: {error}", path.display()))
+}
+
+#[test]
+fn what_it_prints() {
+    for (name, words) in [
+        ("run", &["run", "examples/session.txt"][..]),
+        ("run-framed", &["run", "examples/framed.txt"]),
+        ("run-plain", &["run", "--plain", "examples/session.txt"]),
+        ("plan", &["plan", "examples/sheet.txt", "--rate", "9600"]),
+        ("plan-framed", &["plan", "examples/framed.txt", "--ahead=3"]),
+        ("hex", &["session", "--hex", "examples/session.txt"]),
+        ("board", &["board", "examples/journal.txt"]),
+        ("explain", &["explain", "52"]),
+    ] {
+        assert_eq!(fine(words, b"").text(), expected(name), "{name}");
+    }
+}
+
+#[test]
+fn help_and_version() {
+    let help = fine(&["--help"], b"").text().to_string();
+    for command in ["plan", "setup", "sheet", "session", "run", "picture", "table", "board", "explain"] {
+        assert!(help.contains(&format!("\n  {command} ")), "{command}");
+        let own = fine(&[command, "--help"], b"").text().to_string();
+        assert!(own.starts_with(&format!("zenfrosta {command} ")), "{command}");
+        assert!(own.lines().chain(help.lines()).all(|line| line.len() <= 120), "{command}");
+        assert_eq!(fine(&["help", command], b"").text(), own);
+        let man = std::fs::read_to_string(root().join("tool/man/zenfrosta.1")).expect("the man page");
+        assert!(man.contains(&format!("\n.SS {command}\n")), "{command} is not in the man page");
+        // Every option of a command's help is in the man page.
+        for option in own.split_whitespace().filter(|word| word.starts_with("--")) {
+            let option = option.trim_matches(|letter: char| !letter.is_ascii_alphabetic());
+            assert!(man.contains(&format!("\\-\\-{option}")), "{command} --{option} is not in the man page");
+        }
+    }
+    let version = std::fs::read_to_string(root().join("VERSION")).expect("the version");
+    assert_eq!(fine(&["--version"], b"").text(), format!("zenfrosta {0} (library {0})\n", version.trim()));
+}
+
+#[test]
+fn sessions_to_bytes_and_back() {
+    for name in ["examples/session.txt", "examples/framed.txt"] {
+        let bytes = fine(&["session", name], b"").out;
+        let text = fine(&["session"], &bytes).out;
+        assert_eq!(fine(&["session", "-"], &text).out, bytes);
+        assert_eq!(fine(&["run", "-"], &bytes).out, fine(&["run", name], b"").out);
+    }
+    // No bytes of a session: told as such where it is said.
+    assert_eq!(fine(&["session", "--bytes"], b"\x20\xFF").text(), "bytes 20 FF\ncut\n");
+}
+
+#[test]
+fn plans_setups_and_sheets() {
+    let sheet = std::fs::read(root().join("examples/sheet.txt")).expect("a sheet");
+    let setup = fine(&["setup", "examples/sheet.txt"], b"").out;
+    assert_eq!(fine(&["sheet"], &setup).out, sheet);
+    assert_eq!(fine(&["setup"], &setup).out, setup);
+    assert_eq!(fine(&["plan"], &setup).out, fine(&["plan"], &sheet).out);
+    let edits = ["sheet", "--new", "--lane", "5:64:576", "--lane=0:512:1500", "--lane", "5:65:576"];
+    assert_eq!(fine(&edits, b"").text(), "0 512 1500\n5 65 576\n");
+    assert_eq!(
+        fine(&["sheet", "examples/sheet.txt", "--remove", "0", "--remove=63"], b"").text(),
+        "1 256 576\n7 16 64\n"
+    );
+    let framed = fine(&["setup", "examples/sheet.txt", "--framing", "20", "--format", "1", "--hex"], b"");
+    assert!(framed
+        .text()
+        .starts_with("01 0002 0001            # format 1\n11 0001 14              # framing 20\n"));
+    let own = "the plan: refused with 82: the plan has framing bytes, which a sheet cannot say (take the \
+        framing bytes out, or keep the plan as a setup); --framing 0 takes them out";
+    refused(&["sheet", "examples/framed.txt"], "", 1, own);
+    refused(&["setup", "--new"], "", 1, "the plan: refused with 55: there is no lane");
+    refused(
+        &["setup", "examples/sheet.txt", "--lane", "9:1:64"],
+        "",
+        1,
+        "the plan: refused with 55: lane 63: with its weight 240 the weights sum to 1025, and 1,024 is the most",
+    );
+}
+
+#[test]
+fn faults_with_line_and_column() {
+    let weight = "refused with 52: a weight is not 1 to 1,024 (give the lane a weight from 1 to 1,024)";
+    refused(&["plan"], "0 512 1500\n1 0 64\n", 1, &format!("standard input:2:3: {weight}"));
+    refused(&["plan"], "format 1\nlane 0 0 64\n", 1, &format!("standard input:2:8: {weight}"));
+    refused(&["run"], "format 1\n  lane 0 2000 64\n", 1, &format!("standard input:2:10: {weight}"));
+    refused(&["picture"], "format 1\n  lane 0 2000 64\n", 1, &format!("standard input:2:10: {weight}"));
+    refused(
+        &["plan"],
+        "\x01\0\x02\0\x01\x10\0\x03\0\0\0\x7F\0\0",
+        1,
+        &format!("standard input: byte 9: {weight}"),
+    );
+    refused(
+        &["run"],
+        "lane 0 5\nput 0 1\n",
+        1,
+        "standard input:2:8: a number is missing: 'put LANE MARK LENGTH'",
+    );
+    refused(
+        &["plan"],
+        "0 512 1500",
+        1,
+        "standard input:1:11: refused with 81: the sheet is empty, or ends in a line (add the last line feed, or send the sheet again, whole)",
+    );
+    refused(&["plan"], "", 1, "standard input: it is empty: no sheet, no setup and no session");
+    refused(
+        &["run"],
+        "lane 0 5\nbytes 99 0000\n",
+        1,
+        "standard input:2:7: refused with 2: a tag that is not \
+        known in this part (take the field out, or move it to the part that it belongs to)",
+    );
+}
+
+#[test]
+fn faults_of_the_command_line() {
+    refused(&[], "", 2, "zenfrosta: which command? 'zenfrosta --help' lists them");
+    refused(&["plans"], "", 2, "zenfrosta: there is no command 'plans'; 'zenfrosta --help' lists them");
+    let how = |command: &str| format!("('zenfrosta {command} --help' says how)");
+    refused(&["plan", "--rat"], "", 2, &format!("zenfrosta: plan: there is no option --rat {}", how("plan")));
+    refused(
+        &["plan", "--rate"],
+        "",
+        2,
+        &format!("zenfrosta: plan: the option --rate needs a value {}", how("plan")),
+    );
+    refused(
+        &["run", "a", "b"],
+        "",
+        2,
+        &format!("zenfrosta: run: one file only, and 'b' is a second {}", how("run")),
+    );
+    refused(
+        &["run", "--limit", "1001"],
+        "",
+        2,
+        &format!("zenfrosta: run: --limit is '1001', and not a number from 0 to 1000 {}", how("run")),
+    );
+    refused(
+        &["board", "--serve", "--address", "0.0.0.0:80"],
+        "",
+        2,
+        &format!("zenfrosta: board: 0.0.0.0 is no local address; 127.0.0.1 and ::1 are {}", how("board")),
+    );
+    refused(
+        &["run", "no/such/file"],
+        "",
+        3,
+        "zenfrosta: no/such/file: No such file or directory (os error 2)",
+    );
+    refused(
+        &["explain", "5"],
+        "",
+        1,
+        "zenfrosta: no call gives '5' back; 'zenfrosta explain --all' lists every number",
+    );
+    assert_eq!(fine(&["explain", "zf_bad_weight"], b"").out, fine(&["explain", "52"], b"").out);
+}
+
+/// A session with so many lanes that is long enough to be drawn whole.
+fn busy(lanes: usize, requests: usize) -> String {
+    let mut text = "format 2\nframing 12\n".to_string();
+    for lane in 0..lanes {
+        text += &format!("lane {lane} {} {}\n", 1 + lane % 16, [64, 576, 1500][lane % 3]);
+    }
+    for i in 0..requests {
+        text += &if i * 7 % 5 < 3 {
+            format!("put {} {i} {}\n", i * 31 % lanes, 1 + i * 17 % 64)
+        } else {
+            "take\n".to_string()
+        };
+    }
+    text
+}
+
+/// The elements of an SVG with their ends matched; how many there are.
+fn elements(svg: &str) -> usize {
+    let mut open = Vec::new();
+    let mut count = 0;
+    for part in svg.split('<').skip(1) {
+        let tag = part.split('>').next().expect("a tag's end");
+        if let Some(name) = tag.strip_prefix('/') {
+            assert_eq!(open.pop(), Some(name.to_string()));
+        } else {
+            count += 1;
+            if !tag.ends_with('/') {
+                open.push(tag.split(' ').next().expect("a name").to_string());
+            }
+        }
+    }
+    assert!(open.is_empty());
+    count
+}
+
+#[test]
+fn pictures() {
+    let words = ["picture", "examples/session.txt", "--title", "A first session"];
+    let svg = fine(&words, b"").text().to_string();
+    let kept = std::fs::read_to_string(root().join("docs/session.svg")).expect("the README's picture");
+    assert_eq!(svg, kept, "docs/session.svg is not what 'zenfrosta {}' draws", words.join(" "));
+    assert!(elements(&svg) > 40);
+    for lanes in [1, 3, 12, 64] {
+        let svg = fine(&["picture"], busy(lanes, 1_400).as_bytes()).text().to_string();
+        elements(&svg);
+        for lane in 0..lanes {
+            assert!(svg.contains(&format!(">lane {lane}</text>")), "lane {lane} of {lanes}");
+        }
+        assert!(!svg.contains("NaN") && !svg.contains("inf"));
+    }
+    // Nothing is sent, nothing is put, and a title that is no XML.
+    for text in
+        ["lane 0 5\nput 0 1 9", "lane 0 5", "lane 0 1 64\nput 0 1 64\ntake\nrestart\nput 0 1 64\nput 0 1 65"]
+    {
+        elements(fine(&["picture", "--title", "<&>\"\x01"], text.as_bytes()).text());
+    }
+    // Drawn up to the field that is refused.
+    let cut = tool(&["picture"], b"lane 0 5\nput 0 1 9\ntake\ncut");
+    assert_eq!((cut.status, cut.said.contains("refused with 1")), (1, true));
+    elements(cut.text());
+}
+
+#[test]
+fn tables() {
+    let path = file("kept.table", b"");
+    let text =
+        "format 1\nframing 7\nlane 0 512 1500\nlane 40 3 77\nput 0 1 1000\nput 40 2 77\nput 0 3 500\ntake";
+    fine(&["run", "--table", &path, "-"], text.as_bytes());
+    assert_eq!(fine(&["table", &path, "--order"], b"").text(), expected("table"));
+    let mut table = std::fs::read(&path).expect("the table");
+    table[8] ^= 4;
+    let done = tool(&["table"], &table);
+    assert_eq!(done.said.split(" (").next(), Some("standard input: refused with 10: the table is not good"));
+    assert_eq!(done.status, 1);
+    let short = tool(&["table"], &table[..zenfrosta::OLD_TABLE_SIZE - 1]);
+    assert!(short.said.contains("too short"), "{}", short.said);
+    // One lane of weight 1,024: nothing tells its framing bytes, and they change nothing.
+    fine(&["run", "--table", &path, "-"], b"framing 9\nlane 3 1024 64\nput 3 1 64");
+    assert!(fine(&["table", &path], b"")
+        .text()
+        .contains("\n   3   1,024       64  1,024     17    0     1     64  1/64\n"));
+}
+
+#[test]
+fn boards() {
+    let done = tool(
+        &["board"],
+        b"join 1 2 3\n\nleave 1 9 4 # wrong cell\nclear 1\nenter 5\njoin 1 70000 4\nleave 1 2 4",
+    );
+    assert_eq!(done.status, 1);
+    let said: Vec<&str> = done.said.lines().map(|line| line.split(" (").next().unwrap_or_default()).collect();
+    assert_eq!(
+        said,
+        [
+            "standard input:3:1: train 1: refused with 33: the cell or the kind does not follow the train's last record",
+            "standard input:4:1: clear of train 1: refused with 34: the train is not on the board, or it has not left its cell",
+            "standard input:5:1: no line of a journal: 'join TRAIN CELL SEQUENCE', 'leave TRAIN CELL SEQUENCE' or 'clear TRAIN'",
+            "standard input:6:8: the cell is '70000', and not a number from 0 to 65535",
+        ]
+    );
+    assert!(done.text().ends_with("   0      1  left     2       4\n63 lines free, 2 entered, 4 refused\n"));
+    // The same as fields, with one of another tag between, and one that is cut.
+    let field = |kind: u8, sequence: u8| [0x30, 0, 11, 0, 0, 0, 1, 0, 2, kind, 0, 0, 0, sequence];
+    let journal = [&field(1, 3)[..], b"\x31\0\x01\0", &field(2, 4), &field(1, 5)[..9]].concat();
+    let done = tool(&["board"], &journal);
+    assert!(done.text().contains("   0      1  left     2       4\n"));
+    assert!(done.said.contains("standard input: byte 14: refused with 2"), "{}", done.said);
+    assert!(done.said.contains("standard input: byte 32: refused with 1"), "{}", done.said);
+}
+
+/// A table of 16 places in a lane, as docs/TABLE.md had it before: lanes 0 and 1 of weight 512 and longest 1,500, idle.
+fn old_table() -> Vec<u8> {
+    let mut table = vec![0; zenfrosta::OLD_TABLE_SIZE];
+    for (word, value) in [(1, 3), (80, 0x0008_0016_0200_05DC_u64), (84, 0x0008_0016_0200_05DC)] {
+        table[8 * word..8 * word + 8].copy_from_slice(&value.to_le_bytes());
+    }
+    table
+}
+
+#[test]
+fn tables_from_before() {
+    let path = file("converted.table", b"");
+    let shown = fine(&["table", "--converted", &path], &old_table());
+    let (first, rest) = shown.text().split_once('\n').expect("lines");
+    assert_eq!(first, "converted from a table of 45,056 bytes with 16 places in a lane");
+    assert_eq!(fine(&["table", &path], b"").text(), rest);
+    let mut wrong = old_table();
+    wrong[8] = 7;
+    let done = tool(&["table"], &wrong);
+    assert_eq!(
+        (done.status, done.said.contains("45,056 bytes, as of a table of 16 places: refused with 10")),
+        (1, true),
+        "{}",
+        done.said
+    );
+    let today = std::fs::read(&path).expect("the table");
+    assert_eq!(tool(&["table", "--converted", &path], &today).status, 1);
+}
+
+/// The list of numbers is that of docs/REFUSALS.md and docs/DESK.md, SHEETS.md.
+#[test]
+fn every_number_is_in_the_docs() {
+    let docs: String = ["REFUSALS.md", "DESK.md", "SHEETS.md"]
+        .iter()
+        .map(|name| std::fs::read_to_string(root().join("docs").join(name)).expect("a page"))
+        .collect();
+    for kind in zenfrosta::RefusalKind::ALL {
+        assert!(docs.contains(&format!("\n| {} | ", kind.number())), "{} has no row", kind.number());
+    }
+}
