@@ -3,7 +3,7 @@
 //!
 //! The implementation: [`numbers`], [`calls`], [`rules`], [`fields`], [`setup`], [`session`]; [`layout`] and [`slots`] read docs/TABLE.md's tables.
 //! [`journal`] is a second journal of the desk, [`plans`] a second writer of setups, [`sheets`] a second reader and writer of text
-//! sheets and [`convert`] a second converter of old tables, each with its own comparison.
+//! sheets and [`convert`] a second converter of old tables, each with its own comparison; [`pages`] is a second reader of settings pages.
 //! The machinery: [`rng`], [`gen`], [`laws`], [`unit`], [`stand_in`], [`on_words`], [`driver`], [`pipes`]; [`loads`] and, with the feature `inner`,
 //! `inner` are the benchmark's.
 //!
@@ -27,6 +27,7 @@ pub mod linked;
 pub mod loads;
 pub mod numbers;
 pub mod on_words;
+pub mod pages;
 pub mod pipes;
 pub mod plans;
 pub mod rng;

@@ -1,0 +1,26 @@
+-- The pages of specs/Examples.antt, computed. Assumes nothing.
+use mathlib.Core.Path.{refl}
+use Rattle.fields.specs.Bytes.{big}
+use Rattle.plan.specs.Fields as inner
+use Rattle.plan.specs.Judge.{laneOutside, judgedAt}
+use Rattle.plan.specs.Read.{walk, readPlan, readSetup}
+use Rattle.page.specs.Fields.{fieldOf, itemAt}
+use Rattle.page.specs.Read.{skipping, pastSkipped, endAt, valueAt, settingsAt, readPage}
+use Rattle.page.specs.Examples.{Shown}
+
+pub examples : Shown
+unfolding big inner.fieldOf inner.itemAt laneOutside judgedAt walk readPlan readSetup fieldOf itemAt skipping pastSkipped endAt valueAt settingsAt readPage
+examples = record {
+  plain = refl;
+  with-skipped = refl;
+  weight-right = refl;
+  weight-over = refl;
+  weight-moved = refl;
+  value-short = refl;
+  value-long = refl;
+  skipped-first = refl;
+  skipped-last = refl;
+  twice = refl;
+  missing = refl;
+  stops = refl;
+}

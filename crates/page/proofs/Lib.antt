@@ -1,0 +1,14 @@
+pub mod Tags
+pub mod Items
+pub mod Stands
+pub mod Skips
+pub mod Refusals
+pub mod Answers
+pub mod Bytes
+pub mod Forth
+pub mod Parts
+pub mod Back
+pub mod Formed
+pub mod Places
+pub mod Promises
+pub mod Examples

@@ -1,0 +1,56 @@
+-- How the walk over skipped fields stands at a place: the invariant of `past_skipped`'s loop, and what each field does to it.
+--
+--   Standing     the walk from here comes where the whole walk comes
+--   stand-first  before the first field; stand-stop: where it stops; stand-next: behind a skipped field
+--
+-- Assumes nothing.
+use Prim.Native.Nat.{ℕ, zero, suc, _-_, _≤_, _<_}
+use mathlib.Core.Path.{_≡_, refl, sym, ap, _∙_}
+use mathlib.Core.List.{List}
+use native.Mathlib.Omega.{arith}
+use lib.ListN.{length}
+use Rattle.page.specs.Fields.{Item, whole, itemAt}
+use Rattle.page.specs.Read.{onward, skipping, pastSkipped}
+use Rattle.page.specs.declared.parse.PageField.the-variants.{Skipped}
+use Rattle.page.proofs.Stands.{stands}
+
+pub record Standing (s : List ℕ) (at p : ℕ) : Type 0 where
+  pub turns : ℕ
+  pub enough : length s - p ≤ turns
+  pub same : skipping turns s p ≡ pastSkipped s at
+
+-- a field at which the walk stops, whatever the rest would do
+abbrev pub Stops : ℕ → Item → Type 0
+Stops p i = (go : ℕ → ℕ) → onward p i go ≡ p
+
+pub stopped : (turns : ℕ) (s : List ℕ) (p : ℕ) (i : Item) → itemAt s p ≡ i → Stops p i → skipping turns s p ≡ p
+unfolding skipping
+stopped zero s p i e stop = refl
+stopped (suc turns) s p i e stop = ap (λ (j : Item). onward p j (skipping turns s)) e ∙ stop (skipping turns s)
+
+-- one turn over a skipped field
+pub turn : (turns : ℕ) (s : List ℕ) (p m : ℕ) → 0 < turns → itemAt s p ≡ whole Skipped m → skipping turns s p ≡ skipping (turns - 1) s m
+unfolding skipping
+turn zero s p m h e = absurd (omega (arith, h))
+turn (suc turns) s p m h e =
+    let less : suc turns - 1 ≡ turns = omega arith in
+    rw less (ap (λ (j : Item). onward p j (skipping turns s)) e)
+
+pub stand-first : (s : List ℕ) (at : ℕ) → Standing s at at
+unfolding pastSkipped
+stand-first s at = record { turns = length s - at; enough = omega arith; same = refl }
+
+module _ (s : List ℕ) (at p : ℕ) (st : Standing s at p) where
+  pub stand-stop : (i : Item) → itemAt s p ≡ i → Stops p i → p ≡ pastSkipped s at
+  stand-stop i e stop = sym (stopped (st .turns) s p i e stop) ∙ st .same
+
+  module _ (m : ℕ) (e : itemAt s p ≡ whole Skipped m) where
+    pub moves : (p < m) × (m ≤ length s)
+    moves = let k = stands s p Skipped m e in omega (arith, k .after, k .fits)
+
+    pub stand-next : Standing s at m
+    stand-next = record {
+      turns = st .turns - 1;
+      enough = omega (arith, st .enough, moves .0, moves .1);
+      same = sym (turn (st .turns) s p m (omega (arith, st .enough, moves .0, moves .1)) e) ∙ st .same;
+    }
