@@ -1,0 +1,4 @@
+pub mod Walk
+pub mod Fine
+pub mod Lane
+pub mod Testing

@@ -1,0 +1,135 @@
+-- How many records wait, and that none does where no record is chosen. Assumes nothing.
+use Prim.Native.Nat.{ℕ, zero, suc, _+_, _-_, _*_, _≤_, _<_}
+use native.Mathlib.Nat.{not-suc-le-zero, le-of-suc-le-suc}
+use native.Mathlib.Omega.{arith}
+use mathlib.Core.Path.{_≡_, refl, sym, ap, subst, _∙_}
+use mathlib.Core.Bool.{Bool, true, false, false≢true}
+use mathlib.Core.Option.{Option, none, some}
+use mathlib.Core.List.{List, [], _∷_, _++_}
+use lib.Dec.{leb}
+use lib.ListN.{length, getD, set, replicate, length-append}
+use lib.Seq.{getD-set-same}
+use Rattle.units.specs.Plain.{if_then_else_, sum, times}
+use Rattle.rounds.specs.Round.{Rec, Train, Shared, trainCount, trainDepth, noTrain, some?, trainAt, holds, empty, heldIn, held, Moving, firstOf, firstIn, first, raised, begin, added, join, put, handOf, handIn, handOut}
+use Rattle.rounds.specs.Good.{GoodTrain, Good}
+use Rattle.rounds.proofs.Lists.{if-ind}
+use Rattle.rounds.proofs.KeepHand.{held-inside, turn-holds}
+use Rattle.rounds.proofs.Order.{begin-queue}
+
+-- ---- sums over the trains
+
+sum-set : (f : Train → ℕ) (xs : List Train) (j : ℕ) (y : Train) → j < length xs → sum f (set xs j y) + f (getD xs j noTrain) ≡ sum f xs + f y
+sum-set f [] j y h = absurd (not-suc-le-zero h)
+sum-set f (x ∷ xs) zero y h = omega arith
+sum-set f (x ∷ xs) (suc j) y h = omega (arith, sum-set f xs j y (le-of-suc-le-suc h))
+
+sum-same : (f : Train → ℕ) (xs : List Train) (j : ℕ) (y : Train) → f y ≡ f (getD xs j noTrain) → sum f (set xs j y) ≡ sum f xs
+sum-same f [] j y e = refl
+sum-same f (x ∷ xs) zero y e = omega arith
+sum-same f (x ∷ xs) (suc j) y e = omega (arith, sum-same f xs j y e)
+
+sum-bound : (f : Train → ℕ) (n : ℕ) (xs : List Train) → ((k : ℕ) → f (getD xs k noTrain) ≤ n) → sum f xs ≤ length xs * n
+sum-bound f n [] h = omega arith
+sum-bound f n (x ∷ xs) h = omega (arith, h 0, sum-bound f n xs (λ k. h (suc k)))
+
+sum-zero : (f : Train → ℕ) (xs : List Train) → ((k : ℕ) → f (getD xs k noTrain) ≡ 0) → sum f xs ≡ 0
+sum-zero f [] h = refl
+sum-zero f (x ∷ xs) h = omega (arith, h 0, sum-zero f xs (λ k. h (suc k)))
+
+-- ---- the laws
+
+pub held-most : (L : ℕ) (s : Shared) → Good L s → held s ≤ trainCount * trainDepth
+held-most L s g = omega (arith, sum-bound heldIn trainDepth (s .trains) (λ k. g .each k .room), g .size)
+
+begin-held : (L : ℕ) (ts : List Train) (ks : List ℕ) → held (begin L ts ks) ≡ sum heldIn ts
+unfolding begin raised
+begin-held L ts [] = refl
+begin-held L ts (k ∷ ks) = sum-same heldIn ts k (raised L (getD ts k noTrain)) refl
+
+pub put-held : (L : ℕ) (s : Shared) (k : ℕ) (r : Rec) → k < length (s .trains) → held (put L s k r) ≡ suc (held s)
+unfolding put join added
+put-held L s k r inside =
+    if-ind (λ (u : Shared). held u ≡ suc (held s)) (holds s k) _ _ (λ e. more) (λ e. go (s .round))
+  where
+    ts′ : List Train
+    ts′ = set (s .trains) k (added (trainAt s k) r)
+
+    more : sum heldIn ts′ ≡ suc (held s)
+    more = omega (arith, sum-set heldIn (s .trains) k (added (trainAt s k) r) inside, length-append (trainAt s k .queue) (r ∷ []))
+
+    go : (ks : List ℕ) → held (join L ts′ ks k) ≡ suc (held s)
+    go [] = begin-held L ts′ (k ∷ []) ∙ more
+    go (i ∷ is) = more
+
+hand-of-held : (L : ℕ) (ts : List Train) (k : ℕ) (ks : List ℕ) (d : ℕ) (q : List Rec) → getD ts k noTrain .queue ≡ q → k < length ts → some? q ≡ true
+    → sum heldIn ts ≡ suc (held (handOf L ts k ks d q))
+unfolding handOf
+hand-of-held L ts k ks d [] e inside h = absurd (false≢true h)
+hand-of-held L ts k ks d (r ∷ []) e inside h = omega (arith, begin-held L (set ts k noTrain) ks, sum-set heldIn ts k noTrain inside, ap length e)
+hand-of-held L ts k ks d (r ∷ r′ ∷ rs) e inside h =
+    if-ind (λ (u : Shared). sum heldIn ts ≡ suc (held u)) (leb (r′ .len) (d - r .len)) _ _
+    (λ c. omega (arith, sum-set heldIn ts k left inside, ap length e))
+    (λ c. omega (arith, begin-held L (set ts k left) (ks ++ (k ∷ [])), sum-set heldIn ts k left inside, ap length e))
+  where
+    left : Train
+    left = record { deficit = d - r .len; queue = r′ ∷ rs }
+
+pub hand-held : (L : ℕ) (s : Shared) (x : Moving) → Good L s → first s ≡ some x → held s ≡ suc (held (handOut L s))
+unfolding handOut handIn first firstIn
+hand-held L s x g e = go (s .trains) (s .round) g e
+  where
+    go : (ts : List Train) (ks : List ℕ) → Good L (record { trains = ts; round = ks }) → firstIn ts ks ≡ some x → sum heldIn ts ≡ suc (held (handIn L ts ks))
+    go ts [] g e = let z : _≡_ {A = ℕ} 0 1 = cc in absurd (omega arith)
+    go ts (k ∷ ks) g e = hand-of-held L ts k ks (getD ts k noTrain .deficit) (getD ts k noTrain .queue) refl (held-inside ts k (turn-holds L ts k ks g)) (turn-holds L ts k ks g)
+
+-- no record is chosen: the round is empty, and so is every train
+pub none-round : (L : ℕ) (s : Shared) → Good L s → first s ≡ none → s .round ≡ []
+unfolding first firstIn firstOf
+none-round L s g e = go (s .trains) (s .round) g e
+  where
+    clash : (k : ℕ) (q : List Rec) → some? q ≡ true → firstOf k q ≡ none → ⊥
+    clash k [] h e = false≢true h
+    clash k (r ∷ rs) h e = let z : _≡_ {A = ℕ} 0 1 = cc in omega arith
+
+    go : (ts : List Train) (ks : List ℕ) → Good L (record { trains = ts; round = ks }) → firstIn ts ks ≡ none → ks ≡ []
+    go ts [] g e = refl
+    go ts (k ∷ ks) g e = absurd (clash k (getD ts k noTrain .queue) (turn-holds L ts k ks g) e)
+
+pub none-queue : (L : ℕ) (s : Shared) → Good L s → first s ≡ none → (k : ℕ) → trainAt s k .queue ≡ []
+none-queue L s g e k = go (trainAt s k .queue) (g .each k .named-once ∙ refl)
+  where
+    go : (q : List Rec) → times k (s .round) ≡ (if some? q then 1 else 0) → q ≡ []
+    go [] h = refl
+    go (r ∷ rs) h = absurd (omega (arith, ap (times k) (none-round L s g e)))
+
+pub none-held : (L : ℕ) (s : Shared) → Good L s → first s ≡ none → held s ≡ 0
+none-held L s g e = sum-zero heldIn (s .trains) (λ k. ap length (none-queue L s g e k))
+
+-- the first record of all is chosen at once
+pub first-put : (L : ℕ) (s : Shared) (k : ℕ) (r : Rec) → Good L s → k < length (s .trains) → first s ≡ none → first (put L s k r) ≡ some (record { train = k; item = r })
+unfolding put join begin added first firstIn firstOf
+first-put L s k r g inside e =
+    ap first put-is ∙ ap (firstOf k) (begin-queue L ts′ (k ∷ []) k ∙ ap (λ (t : Train). t .queue) (getD-set-same (s .trains) k (added (trainAt s k) r) noTrain inside) ∙ ap (λ (q : List Rec). q ++ (r ∷ [])) (none-queue L s g e k))
+  where
+    ts′ : List Train
+    ts′ = set (s .trains) k (added (trainAt s k) r)
+
+    put-is : put L s k r ≡ begin L ts′ (k ∷ [])
+    put-is =
+        ap (λ (b : Bool). if b then record { trains = ts′; round = s .round } else join L ts′ (s .round) k) (ap some? (none-queue L s g e k))
+        ∙ ap (λ (ks : List ℕ). join L ts′ ks k) (none-round L s g e)
+
+-- ---- a lane in which nothing waits
+
+pub empty-train : (k : ℕ) → trainAt empty k ≡ noTrain
+unfolding empty
+empty-train k = getD-replicate k trainCount
+  where
+    getD-replicate : (k n : ℕ) → getD (replicate n noTrain) k noTrain ≡ noTrain
+    getD-replicate k zero = refl
+    getD-replicate zero (suc n) = refl
+    getD-replicate (suc k) (suc n) = getD-replicate k n
+
+pub empty-good : (L : ℕ) → Good L empty
+unfolding empty
+empty-good L = record { size = refl; each = λ k. subst (GoodTrain L false 0) (sym (empty-train k)) (record { room = omega arith; lengths = tt; deficit = refl; named-once = refl }) }

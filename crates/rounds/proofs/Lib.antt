@@ -1,0 +1,9 @@
+pub mod Lists
+pub mod KeepHand
+pub mod Keep
+pub mod Order
+pub mod Figure
+pub mod Under
+pub mod Others
+pub mod Test
+pub mod Held

@@ -1,0 +1,163 @@
+-- What a good shared lane gives of its numbers: all that the two functions ask. Assumes nothing.
+use Prim.Native.Nat.{ℕ, zero, suc, _+_, _-_, _*_, _/_, _%_, _^_, _≤_, _<_}
+use native.Mathlib.Omega.{arith}
+use mathlib.Core.Path.{_≡_, refl, sym, ap, subst, _∙_}
+use mathlib.Core.Bool.{Bool, true, false, false≢true}
+use mathlib.Core.List.{List, [], _∷_, _++_}
+use mathlib.Core.Option.{Option, none, some}
+use lib.Dec.{eqb}
+use lib.ListN.{length, getD}
+use borrow.Author.Tests.{eq-eqb, ne-eqb}
+use Rattle.units.specs.Plain.{if_then_else_, times}
+use Rattle.rounds.specs.Round.{Rec, Train, Shared, Moving, noTrain, some?, trainAt, inTurn, firstOf, firstIn, first}
+use Rattle.rounds.specs.Good.{Lengths, Deficit, GoodTrain, Good}
+use Rattle.rounds.proofs.Lists.{same-or}
+use Rattle.rounds.proofs.KeepHand.{named-holds, held-inside, turn-holds}
+use Rattle.turns.specs.Turns.{headOf, countOf, deficitOf, placeOf, ringOf, trainOf, trainsOf, sharedOf, fours, namedOf, orderOf, roundOf, turnOf, Ordered, Known, Light}
+use Rattle.turns.proofs.Round.{length-fours, round-cons}
+use Rattle.turns.proofs.Train.{length-ring, ring-none, ring-cons, train-is}
+
+-- ---- a round of distinct trains has at most 8, and one less for each that it does not name
+
+countBelow : (ℕ → ℕ) → ℕ → ℕ
+countBelow f zero = 0
+countBelow f (suc n) = f n + countBelow f n
+
+count-add : (f g h : ℕ → ℕ) (n : ℕ) → ((k : ℕ) → f k ≡ g k + h k) → countBelow f n ≡ countBelow g n + countBelow h n
+unfolding countBelow
+count-add f g h zero e = omega arith
+count-add f g h (suc n) e = omega (arith, e n, count-add f g h n e)
+
+count-none : (j n : ℕ) → n ≤ j → countBelow (λ (k : ℕ). if eqb j k then 1 else 0) n ≡ 0
+unfolding countBelow
+count-none j zero h = refl
+count-none j (suc n) h = simp (ne-eqb j n (λ e. omega arith)) (omega (arith, count-none j n (omega arith)))
+
+count-one : (j n : ℕ) → j < n → countBelow (λ (k : ℕ). if eqb j k then 1 else 0) n ≡ 1
+unfolding countBelow
+count-one j zero h = absurd (omega arith)
+count-one j (suc n) h =
+    same-or j n
+    (λ e. simp (eq-eqb j n e) (omega (arith, count-none j n (omega arith))))
+    (λ e. simp (ne-eqb j n e) (omega (arith, count-one j n (omega arith))))
+
+length-times : (n : ℕ) (js : List ℕ) → ((j : ℕ) → 0 < times j js → j < n) → countBelow (λ (k : ℕ). times k js) n ≡ length js
+unfolding countBelow
+length-times n [] h = zeros n
+  where
+    zeros : (n : ℕ) → countBelow (λ (k : ℕ). times k []) n ≡ 0
+    zeros zero = refl
+    zeros (suc n) = omega (arith, zeros n)
+length-times n (j ∷ js) h =
+    omega (
+      arith,
+      count-add (λ (k : ℕ). times k (j ∷ js)) (λ (k : ℕ). if eqb j k then 1 else 0) (λ (k : ℕ). times k js) n (λ k. refl),
+      count-one j n (h j (simp (eq-eqb j j refl) (omega arith))),
+      length-times n js (λ i p. h i (omega arith)),
+    )
+
+count-most : (f : ℕ → ℕ) (n : ℕ) → ((k : ℕ) → f k ≤ 1) → countBelow f n ≤ n
+unfolding countBelow
+count-most f zero h = omega arith
+count-most f (suc n) h = omega (arith, h n, count-most f n h)
+
+count-less : (f : ℕ → ℕ) (n i : ℕ) → ((k : ℕ) → f k ≤ 1) → i < n → f i ≡ 0 → countBelow f n < n
+unfolding countBelow
+count-less f zero i h p z = absurd (omega arith)
+count-less f (suc n) i h p z =
+    same-or i n
+    (λ e. omega (arith, count-most f n h, ap f e))
+    (λ e. omega (arith, h n, count-less f n i h (omega arith) z))
+
+-- ---- by the rule for a good lane
+
+module _ (L r : ℕ) (at : ℕ → Rec) (ts : ℕ → ℕ) (good : Good L (sharedOf at ts r)) where
+  pub good-each : (k : ℕ) → k < 8 → GoodTrain L (inTurn k (roundOf r)) (times k (roundOf r)) (trainOf at k (ts k))
+  unfolding sharedOf
+  good-each k h = subst (GoodTrain L (inTurn k (roundOf r)) (times k (roundOf r))) (train-is ts at k h) (good .each k)
+
+  pub good-once : (k : ℕ) → times k (roundOf r) ≤ 1
+  unfolding sharedOf
+  good-once k = go (some? (trainAt (sharedOf at ts r) k .queue)) (good .each k .named-once)
+    where
+      go : (b : Bool) → times k (roundOf r) ≡ (if b then 1 else 0) → times k (roundOf r) ≤ 1
+      go true e = omega arith
+      go false e = omega arith
+
+  pub good-known : Known r
+  unfolding sharedOf
+  good-known i p = omega (arith, held-inside (trainsOf at ts) i (named-holds (good .each i) p), good .size)
+
+  pub good-count : (k : ℕ) → k < 8 → countOf (ts k) ≤ 8
+  unfolding trainOf
+  good-count k h = omega (arith, good-each k h .room, length-ring at k (headOf (ts k)) (countOf (ts k)))
+
+  pub good-light : L ≤ 1500 → (k : ℕ) → k < 8 → Light (ts k)
+  unfolding trainOf
+  good-light short k h = (good-count k h, below (inTurn k (roundOf r)) (ringOf at k (headOf (ts k)) (countOf (ts k))) (good-each k h .deficit) (good-each k h .lengths))
+    where
+      below : (turn : Bool) (q : List Rec) → Deficit L turn (deficitOf (ts k)) q → Lengths L q → deficitOf (ts k) < 3000
+      below turn [] d l = omega (arith, d)
+      below true (x ∷ xs) d l = omega (arith, d .1)
+      below false (x ∷ xs) d l = omega (arith, d, l .1)
+
+  -- a train that starts finds room in the round
+  pub good-room : (k : ℕ) → k < 8 → countOf (ts k) ≡ 0 → namedOf r < 8
+  unfolding trainOf roundOf
+  good-room k h z =
+      let none-held : some? (ringOf at k (headOf (ts k)) (countOf (ts k))) ≡ false = ap some? (ap (ringOf at k (headOf (ts k))) z ∙ ring-none at k (headOf (ts k))) in
+      let none-named : times k (roundOf r) ≡ 0 = good-each k h .named-once ∙ ap (λ (b : Bool). if b then 1 else 0) none-held in
+      omega (
+        arith,
+        length-times 8 (roundOf r) good-known,
+        count-less (λ (i : ℕ). times i (roundOf r)) 8 k good-once h none-named,
+        length-fours (namedOf r) (orderOf r),
+      )
+
+  -- ---- the train in turn
+
+  module _ (o : Ordered r) (some-named : 0 < namedOf r) where
+    abbrev k : ℕ
+    k = turnOf r
+
+    abbrev h : ℕ
+    h = headOf (ts k)
+
+    abbrev ks : List ℕ
+    ks = fours (namedOf r - 1) (orderOf r / 16)
+
+    cons : roundOf r ≡ k ∷ ks
+    cons = round-cons r (namedOf r - 1) o (omega arith)
+
+    lane-is : sharedOf at ts r ≡ record { trains = trainsOf at ts; round = k ∷ ks }
+    unfolding sharedOf
+    lane-is = ap (λ (x : List ℕ). record { trains = trainsOf at ts; round = x }) cons
+
+    pub turn-known : k < 8
+    turn-known = good-known k (rw cons (simp (eq-eqb k k refl) (omega arith)))
+
+    in-turn : GoodTrain L true (times k (roundOf r)) (trainOf at k (ts k))
+    in-turn = subst (λ (b : Bool). GoodTrain L b (times k (roundOf r)) (trainOf at k (ts k))) (ap (inTurn k) cons ∙ eq-eqb k k refl) (good-each k turn-known)
+
+    holds-k : some? (trainOf at k (ts k) .queue) ≡ true
+    holds-k =
+        subst (λ (t : Train). some? (t .queue) ≡ true) (train-is ts at k turn-known) (turn-holds L (trainsOf at ts) k ks (subst (Good L) lane-is good))
+
+    pub turn-count : 0 < countOf (ts k)
+    unfolding trainOf
+    turn-count = go (countOf (ts k)) refl
+      where
+        go : (c : ℕ) → countOf (ts k) ≡ c → 0 < countOf (ts k)
+        go zero z = absurd (false≢true (ap some? (sym (ap (ringOf at k h) z ∙ ring-none at k h)) ∙ holds-k))
+        go (suc c) z = omega arith
+
+    queue-is : ringOf at k h (countOf (ts k)) ≡ at (placeOf k h) ∷ ringOf at k ((h + 1) % 8) (countOf (ts k) - 1)
+    queue-is = let c : countOf (ts k) ≡ suc (countOf (ts k) - 1) = omega (arith, turn-count) in ap (ringOf at k h) c ∙ ring-cons at k h (countOf (ts k) - 1)
+
+    pub turn-covers : at (placeOf k h) .len ≤ deficitOf (ts k)
+    unfolding trainOf
+    turn-covers = (subst (Deficit L true (deficitOf (ts k))) queue-is (in-turn .deficit)) .0
+
+    pub chosen-is : first (sharedOf at ts r) ≡ some (record { train = k; item = at (placeOf k h) })
+    unfolding first firstIn firstOf trainOf
+    chosen-is = ap first lane-is ∙ ap (λ (t : Train). firstOf k (t .queue)) (train-is ts at k turn-known) ∙ ap (firstOf k) queue-is

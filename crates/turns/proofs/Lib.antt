@@ -1,0 +1,5 @@
+pub mod Round
+pub mod Train
+pub mod Putting
+pub mod Handing
+pub mod Good

@@ -1,0 +1,109 @@
+-- A shared lane in numbers: one for each of its 8 trains, and one for the round.
+--
+--   headOf, countOf, deficitOf   the parts of a train's number: head + 8 count + 128 deficit
+--   placeOf k i                  which of the lane's 64 places is place i of train k, i counted on past the end of the train's 8
+--   fours n r                    the n lowest numbers of four bits
+--   namedOf, orderOf             the parts of the round's number: how many trains it names, from 2^32 on, and these, four bits each, the one in turn lowest
+--   roundOf, turnOf              the round, and the train in turn
+--   sharedOf at ts r             the shared lane: at has the records by place, ts the trains' numbers, r is the round's
+--   with                         the trains' numbers with one changed
+--   Ordered                      nothing stands behind the trains that the round names
+--   Known                        the round names trains only
+--   Light                        a train's number is that of a good lane
+--   Puts, HandsOut               what the two functions leave
+--
+-- L is the lane's longest record, in bytes. Assumes nothing.
+use Prim.Native.Nat.{ℕ, zero, suc, _+_, _*_, _/_, _%_, _^_, _≤_, _<_}
+use mathlib.Core.Path.{_≡_}
+use mathlib.Core.Bool.{Bool, true, false}
+use mathlib.Core.List.{List, [], _∷_}
+use lib.Dec.{eqb}
+use Rattle.units.specs.Plain.{if_then_else_, times}
+use Rattle.words.specs.Runs.{tab}
+use Rattle.rounds.specs.Round.{Rec, Train, Shared, trainCount, trainDepth, put, handOut}
+use Rattle.turns.specs.declared.Change.{Change}
+
+-- ---- a train
+
+abbrev pub headOf : ℕ → ℕ
+headOf t = t % 8
+
+abbrev pub countOf : ℕ → ℕ
+countOf t = t / 8 % 16
+
+abbrev pub deficitOf : ℕ → ℕ
+deficitOf t = t / 128
+
+abbrev pub placeOf : ℕ → ℕ → ℕ
+placeOf k i = trainDepth * k + i % trainDepth
+
+-- the n records of train k from place h on
+unfoldable pub ringOf : (ℕ → Rec) → ℕ → ℕ → ℕ → List Rec
+ringOf at k h n = tab n (λ i. at (placeOf k (h + i)))
+
+unfoldable pub trainOf : (ℕ → Rec) → ℕ → ℕ → Train
+trainOf at k t = record { deficit = deficitOf t; queue = ringOf at k (headOf t) (countOf t) }
+
+-- ---- the round
+
+unfoldable pub fours : ℕ → ℕ → List ℕ
+fours zero r = []
+fours (suc n) r = r % 16 ∷ fours n (r / 16)
+
+abbrev pub namedOf : ℕ → ℕ
+namedOf r = r / 2 ^ 32
+
+abbrev pub orderOf : ℕ → ℕ
+orderOf r = r % 2 ^ 32
+
+unfoldable pub roundOf : ℕ → List ℕ
+roundOf r = fours (namedOf r) (orderOf r)
+
+-- the train in turn
+abbrev pub turnOf : ℕ → ℕ
+turnOf r = orderOf r % 16
+
+pub record Ordered (r : ℕ) : Type 0 where
+  pub few : namedOf r ≤ trainCount
+  pub fits : orderOf r < 16 ^ namedOf r
+
+-- every number that the round names is one of a train
+abbrev pub Known : ℕ → Type 0
+Known r = (i : ℕ) → 0 < times i (roundOf r) → i < trainCount
+
+-- ---- the lane
+
+unfoldable pub trainsOf : (ℕ → Rec) → (ℕ → ℕ) → List Train
+trainsOf at ts = tab trainCount (λ k. trainOf at k (ts k))
+
+unfoldable pub sharedOf : (ℕ → Rec) → (ℕ → ℕ) → ℕ → Shared
+sharedOf at ts r = record { trains = trainsOf at ts; round = roundOf r }
+
+unfoldable pub with : (ℕ → ℕ) → ℕ → ℕ → ℕ → ℕ
+with ts k t i = if eqb i k then t else ts i
+
+-- ---- contracts
+
+-- no count is over 8, and no deficit is near the longest twice
+abbrev pub Light : ℕ → Type 0
+Light t = (countOf t ≤ trainDepth) × (deficitOf t < 3000)
+
+-- The records are those after the put: the new one stands in the place behind the train's last.
+pub record Puts (L t r k : ℕ) (c : Change) : Type 0 where
+  pub lane : (at : ℕ → Rec) (ts : ℕ → ℕ) → ts k ≡ t
+      → sharedOf at (with ts k (c .train)) (c .round) ≡ put L (sharedOf at ts r) k (at (placeOf k (headOf t + countOf t)))
+  pub ordered : Ordered (c .round)
+  pub small : c .train < 2 ^ 32
+
+-- where a turn begins, the deficit of the train then in turn grows by the longest
+unfoldable pub begun : ℕ → Bool → (ℕ → ℕ) → ℕ → ℕ → ℕ
+begun L b ts r = if b then with ts (turnOf r) (ts (turnOf r) + 128 * L) else ts
+
+-- of a lane whose first record is of this length, and the one behind it, where there is one, of the next length
+pub record HandsOut (t r length next : ℕ) (c : Change) : Type 0 where
+  pub lane : (L : ℕ) (at : ℕ → Rec) (ts : ℕ → ℕ) → ts (turnOf r) ≡ t
+      → at (placeOf (turnOf r) (headOf t)) .len ≡ length → at (placeOf (turnOf r) (headOf t + 1)) .len ≡ next
+      → sharedOf at (begun L (c .begins) (with ts (turnOf r) (c .train)) (c .round)) (c .round) ≡ handOut L (sharedOf at ts r)
+  pub ordered : Ordered (c .round)
+  pub small : c .train < 2 ^ 32
+  pub turn : c .begins ≡ true → turnOf (c .round) < trainCount
