@@ -32,6 +32,10 @@ static void put(void) { result = zf_put(table, sizeof table, 5, 1, 64, out, size
 static void look(void) { result = zf_look(table, sizeof table, out, sizeof out); }
 static void sets(void) { result = zf_sets(table, sizeof table, out, sizeof out); }
 static void lag(void) { result = zf_lag(table, sizeof table, 5, out, sizeof out); }
+static void show_clock(void) { result = zf_clock(table, sizeof table, out, sizeof out); }
+static void show_lane(void) { result = zf_lane(table, sizeof table, 5, out, sizeof out); }
+static void show_backlog(void) { result = zf_backlog(table, sizeof table, 5, out, sizeof out); }
+static void show_record(void) { result = zf_record(table, sizeof table, 5, 0, out, sizeof out); }
 static void take(void) { result = zf_take(table, sizeof table, out, sizeof out); }
 static void restart(void) { result = zf_restart(table, sizeof table, out, sizeof out); }
 static void run(void) { result = zf_run(session, session_length, 1000, table, sizeof table, answers, sizeof answers, out, sizeof out); }
@@ -73,10 +77,11 @@ int main(void) {
   static const struct {
     const char *name;
     void (*call)(void);
-  } calls[] = {{"zf_setup_write", setup_write}, {"zf_setup_read", setup_read}, {"zf_sheet_write", sheet_write}, {"zf_sheet_read", sheet_read},
-               {"zf_make", make},               {"zf_put", put},               {"zf_look", look},               {"zf_sets", sets},
-               {"zf_lag", lag},                 {"zf_take", take},             {"zf_restart", restart},         {"zf_run", run},
-               {"zf_board_begin", begin},       {"zf_board_record", join},     {"zf_board_record", leave},      {"zf_board_line", line},
+  } calls[] = {{"zf_setup_write", setup_write}, {"zf_setup_read", setup_read},   {"zf_sheet_write", sheet_write}, {"zf_sheet_read", sheet_read},
+               {"zf_make", make},               {"zf_put", put},                 {"zf_look", look},               {"zf_sets", sets},
+               {"zf_lag", lag},                 {"zf_clock", show_clock},        {"zf_lane", show_lane},          {"zf_backlog", show_backlog},
+               {"zf_record", show_record},      {"zf_take", take},               {"zf_restart", restart},         {"zf_run", run},
+               {"zf_board_begin", begin},       {"zf_board_record", join},       {"zf_board_record", leave},      {"zf_board_line", line},
                {"zf_board_clear", clear},       {"zf_convert", convert}};
   size_t most = 0;
   /* A table of 16 places (docs/TABLE.md): lanes 0 and 1 of weight 512 and longest 1,500, idle. */

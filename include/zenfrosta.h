@@ -85,6 +85,22 @@ uint64_t zf_sets(const uint8_t *table, size_t table_length, uint8_t *out, size_t
 /* How far the clock is ahead of a lane. out: the lag, a signed number in two's complement. */
 uint64_t zf_lag(const uint8_t *table, size_t table_length, uint8_t lane, uint8_t *out, size_t out_length);
 
+/* The four calls below show a table and change nothing. Like every call they test the whole table first: 10 if it is not good.
+ *
+ * The clock V. out: V. */
+uint64_t zf_clock(const uint8_t *table, size_t table_length, uint8_t *out, size_t out_length);
+
+/* What the setup in force gives a lane. out: weight, longest, the line's framing bytes h, and the group index; c is 1,048,576 / weight, rounded up.
+ * 11 if the lane is not in the setup, so the lanes 0 to 63 tell the whole setup. */
+uint64_t zf_lane(const uint8_t *table, size_t table_length, uint8_t lane, uint8_t *out, size_t out_length);
+
+/* How many records wait in a lane, and its time. out: the number, 0 to 64; then S where the number is not 0, and F where it is. 11 as above. */
+uint64_t zf_backlog(const uint8_t *table, size_t table_length, uint8_t lane, uint8_t *out, size_t out_length);
+
+/* The record of a lane that `before` others of this lane go out before; 0 is the first. out: lane, mark, length. 11 as above; 16 if no more than
+ * `before` records wait there. */
+uint64_t zf_record(const uint8_t *table, size_t table_length, uint8_t lane, uint64_t before, uint8_t *out, size_t out_length);
+
 /* Gives the fresh table of the same setup, once no record is held. */
 uint64_t zf_restart(uint8_t *table, size_t table_length, uint8_t *out, size_t out_length);
 

@@ -300,11 +300,19 @@ fn tables() {
     assert_eq!(done.status, 1);
     let short = tool(&["table"], &table[..zenfrosta::OLD_TABLE_SIZE - 1]);
     assert!(short.said.contains("too short"), "{}", short.said);
-    // One lane of weight 1,024: nothing tells its framing bytes, and they change nothing.
+    // One lane of weight 1,024, whose lag no framing bytes change: the table tells them.
     fine(&["run", "--table", &path, "-"], b"framing 9\nlane 3 1024 64\nput 3 1 64");
-    assert!(fine(&["table", &path], b"")
-        .text()
-        .contains("\n   3   1,024       64  1,024     17    0     1     64  1/64\n"));
+    let one = fine(&["table", &path], b"");
+    assert!(
+        one.text().starts_with("65,536 bytes: a good table of 1 lane, 9 framing bytes\n"),
+        "{}",
+        one.text()
+    );
+    assert!(
+        one.text().contains("\n   3   1,024       64  1,024     17    0     1     64  1/64\n"),
+        "{}",
+        one.text()
+    );
 }
 
 #[test]

@@ -4,4 +4,5 @@ pub mod Heard
 pub mod Board
 pub mod Plans
 pub mod Old
+pub mod Views
 pub mod Version

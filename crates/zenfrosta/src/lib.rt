@@ -23,6 +23,7 @@ pub mod old;
 pub mod plans;
 pub mod sheets;
 pub mod version;
+pub mod views;
 
 use lines::Place;
 use rules::Answer;

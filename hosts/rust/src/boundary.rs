@@ -34,6 +34,10 @@ extern "C" {
     fn zf_look(t: *const u8, t_len: usize, out: *mut u8, out_len: usize) -> u64;
     fn zf_sets(t: *const u8, t_len: usize, out: *mut u8, out_len: usize) -> u64;
     fn zf_lag(t: *const u8, t_len: usize, lane: u8, out: *mut u8, out_len: usize) -> u64;
+    fn zf_clock(t: *const u8, t_len: usize, out: *mut u8, out_len: usize) -> u64;
+    fn zf_lane(t: *const u8, t_len: usize, lane: u8, out: *mut u8, out_len: usize) -> u64;
+    fn zf_backlog(t: *const u8, t_len: usize, lane: u8, out: *mut u8, out_len: usize) -> u64;
+    fn zf_record(t: *const u8, t_len: usize, lane: u8, before: u64, out: *mut u8, out_len: usize) -> u64;
     fn zf_restart(t: *mut u8, t_len: usize, out: *mut u8, out_len: usize) -> u64;
     fn zf_run(
         s: *const u8,
@@ -95,6 +99,22 @@ pub fn sets(t: &[u8]) -> Told {
 
 pub fn lag(t: &[u8], lane: u8) -> Told {
     told(|out, n| unsafe { zf_lag(t.as_ptr(), t.len(), lane, out, n) })
+}
+
+pub fn clock(t: &[u8]) -> Told {
+    told(|out, n| unsafe { zf_clock(t.as_ptr(), t.len(), out, n) })
+}
+
+pub fn lane(t: &[u8], lane: u8) -> Told {
+    told(|out, n| unsafe { zf_lane(t.as_ptr(), t.len(), lane, out, n) })
+}
+
+pub fn backlog(t: &[u8], lane: u8) -> Told {
+    told(|out, n| unsafe { zf_backlog(t.as_ptr(), t.len(), lane, out, n) })
+}
+
+pub fn record(t: &[u8], lane: u8, before: u64) -> Told {
+    told(|out, n| unsafe { zf_record(t.as_ptr(), t.len(), lane, before, out, n) })
 }
 
 pub fn restart(t: &mut [u8]) -> Told {

@@ -91,6 +91,28 @@ pub struct Sets {
     pub ib: u64,
 }
 
+/// What the setup in force gives a lane.
+#[derive(Clone, Copy, Debug, PartialEq, Eq)]
+pub struct LaneSetting {
+    /// Its weight, 1 to 1,024.
+    pub weight: u64,
+    /// Its longest record in bytes, 64 to 1,500.
+    pub longest: u64,
+    /// The line's framing bytes for each record, 0 to 64; the same for every lane.
+    pub framing: u64,
+    /// Its group index, 16 to 31.
+    pub group: u64,
+}
+
+/// What waits in a lane.
+#[derive(Clone, Copy, Debug, PartialEq, Eq)]
+pub struct Backlog {
+    /// How many records, 0 to 64.
+    pub records: u64,
+    /// The lane's start S while it holds records, its finish F while it is idle.
+    pub time: u64,
+}
+
 /// Why a run stopped.
 #[derive(Clone, Copy, Debug, PartialEq, Eq)]
 pub enum Stop {
@@ -174,6 +196,31 @@ pub fn sets(table: &[u8]) -> Result<Sets, Refusal> {
 /// How far the clock is ahead of a lane.
 pub fn lag(table: &[u8], lane: u8) -> Result<i64, Refusal> {
     answer(boundary::lag(table, lane)).map(|words| words[0] as i64)
+}
+
+/// The clock V. This call and the three below show a table, and change nothing.
+pub fn clock(table: &[u8]) -> Result<u64, Refusal> {
+    answer(boundary::clock(table)).map(|words| words[0])
+}
+
+/// What the setup in force gives a lane; 11 if it is not in the setup.
+pub fn lane(table: &[u8], lane: u8) -> Result<LaneSetting, Refusal> {
+    answer(boundary::lane(table, lane)).map(|[weight, longest, framing, group]| LaneSetting {
+        weight,
+        longest,
+        framing,
+        group,
+    })
+}
+
+/// How many records wait in a lane, and its time.
+pub fn backlog(table: &[u8], lane: u8) -> Result<Backlog, Refusal> {
+    answer(boundary::backlog(table, lane)).map(|[records, time, ..]| Backlog { records, time })
+}
+
+/// The record of a lane that `before` others of the lane go out before; 16 if no more than that wait there.
+pub fn waiting(table: &[u8], lane: u8, before: u64) -> Result<Record, Refusal> {
+    record(boundary::record(table, lane, before))
 }
 
 /// Gives the fresh table of the same setup, once no record is held.

@@ -1,16 +1,13 @@
-//! `zenfrosta table`: a table that was kept, shown by what the calls answer on a copy of it.
-//!
-//! Nothing here reads the table's own layout. Its lanes are those whose lag is answered, what they hold is what takes hand out, a longest is the longest
-//! record that a put accepts, and c and the framing bytes follow from the lag that a lane has after one record.
+//! `zenfrosta table`: a table that was kept, shown by the library's own calls that show one. The order in which records go out is that of takes on a
+//! copy. Nothing here reads the table's own layout.
 
 use crate::args::Args;
 use crate::fault::Fault;
-use crate::figures::LINE_RATE;
 use crate::files::{self, Input};
 use crate::plans;
 use crate::text::{count, signed, table, thousands};
-use zenfrosta::refusals::{BAD_LENGTH, NOT_GOOD, NO_LANE};
-use zenfrosta::{Record, Refusal, OLD_TABLE_SIZE, TABLE_SIZE};
+use zenfrosta::refusals::{NOT_GOOD, NO_LANE};
+use zenfrosta::{LaneSetting, Record, Refusal, OLD_TABLE_SIZE, TABLE_SIZE};
 
 pub const HELP: &str = "\
 zenfrosta table [FILE] [--order] [--converted FILE] [-o FILE]
@@ -71,17 +68,15 @@ pub fn run(words: &[String]) -> Result<u8, Fault> {
 
 struct Lane {
     number: u8,
-    weight: u16,
-    longest: u64,
-    c: u64,
-    group: u32,
+    setting: LaneSetting,
     lag: i64,
+    /// First record first.
+    waiting: Vec<Record>,
 }
 
 struct Shown {
     size: usize,
-    /// Nothing where no answer depends on it.
-    framing: Option<u64>,
+    clock: u64,
     lanes: Vec<Lane>,
     /// The records in the order in which takes hand them out.
     order: Vec<Record>,
@@ -89,73 +84,39 @@ struct Shown {
 
 impl Shown {
     fn of(bytes: &[u8]) -> Result<Shown, Refusal> {
-        let mut order = Vec::new();
-        let mut empty = bytes.to_vec();
-        // 16 ends the takes; a table of other origin may be refused with 10 before.
-        loop {
-            match zenfrosta::take(&mut empty) {
-                Ok(record) => order.push(record),
-                Err(refusal) if refusal.number == NOT_GOOD => return Err(refusal),
-                Err(_) => break,
-            }
-        }
-        zenfrosta::restart(&mut empty)?;
+        let clock = zenfrosta::clock(bytes)?;
         let mut lanes = Vec::new();
-        let mut framing = None;
         for number in 0..64 {
-            match zenfrosta::lag(bytes, number) {
+            match zenfrosta::lane(bytes, number) {
                 Err(refusal) if refusal.number == NO_LANE => {}
                 Err(refusal) => return Err(refusal),
-                Ok(lag) => {
-                    let (lane, h) = Shown::lane(&empty, number, lag)?;
-                    framing = framing.or(h);
-                    lanes.push(lane);
-                }
+                Ok(setting) => lanes.push(Lane {
+                    number,
+                    setting,
+                    lag: zenfrosta::lag(bytes, number)?,
+                    waiting: (0..zenfrosta::backlog(bytes, number)?.records)
+                        .map(|before| zenfrosta::waiting(bytes, number, before))
+                        .collect::<Result<_, _>>()?,
+                }),
             }
         }
-        Ok(Shown { size: bytes.len(), framing, lanes, order })
-    }
-
-    /// A lane of a fresh table, and the framing bytes as its lags tell them.
-    fn lane(fresh: &[u8], number: u8, lag: i64) -> Result<(Lane, Option<u64>), Refusal> {
-        // The lag after one record of a length: (length + h) (1,024 - c).
-        let after = |length: u64| {
-            let mut table = fresh.to_vec();
-            zenfrosta::put(&mut table, number, 0, length)?;
-            zenfrosta::take(&mut table)?;
-            zenfrosta::lag(&table, number).map(i64::unsigned_abs)
-        };
-        let (one, two) = (after(1)?, after(2)?);
-        let c = LINE_RATE + (two - one);
-        let framing = (two > one).then(|| one / (two - one) - 1);
-        let weight = (1..=1_024).find(|weight| 1_048_576u64.div_ceil(u64::from(*weight)) == c).unwrap_or(0);
-        let mut table = fresh.to_vec();
-        zenfrosta::put(&mut table, number, 0, 1)?;
-        let group = zenfrosta::sets(&table)?.er.trailing_zeros();
-        let accepts = |length: u64| {
-            zenfrosta::put(&mut fresh.to_vec(), number, 0, length)
-                .map_or_else(|refusal| refusal.number != BAD_LENGTH, |_| true)
-        };
-        let (mut longest, mut over) = (64, 1_501);
-        while over - longest > 1 {
-            let middle = (longest + over) / 2;
-            *(if accepts(middle) { &mut longest } else { &mut over }) = middle;
-        }
-        Ok((Lane { number, weight, longest, c, group, lag }, framing))
+        // 16 ends the takes; a table of other origin may be refused with 10 before.
+        let mut copy = bytes.to_vec();
+        let order = std::iter::from_fn(|| zenfrosta::take(&mut copy).ok()).collect();
+        Ok(Shown { size: bytes.len(), clock, lanes, order })
     }
 
     fn text(&self, with_order: bool) -> String {
-        let framing = match self.framing {
-            Some(h) => format!(", {}", count(h, "framing byte")),
-            None => String::new(),
-        };
-        let bytes: u64 = self.order.iter().map(|record| record.length).sum();
+        let framing = self.lanes.first().map_or(0, |lane| lane.setting.framing);
+        let held: Vec<&Record> = self.lanes.iter().flat_map(|lane| &lane.waiting).collect();
         let mut text = format!(
-            "{}: a good table of {}{framing}\n{} held, {}\n",
+            "{}: a good table of {}, {}\n{} held, {}; the clock is at {}\n",
             count(self.size as u64, "byte"),
             count(self.lanes.len() as u64, "lane"),
-            count(self.order.len() as u64, "record"),
-            count(bytes, "byte")
+            count(framing, "framing byte"),
+            count(held.len() as u64, "record"),
+            count(held.iter().map(|record| record.length).sum(), "byte"),
+            thousands(self.clock)
         );
         if let Some(next) = self.order.first() {
             text += &format!(
@@ -170,7 +131,7 @@ impl Shown {
             .to_vec();
         let mut rows = vec![head];
         for lane in &self.lanes {
-            let held: Vec<&Record> = self.order.iter().filter(|record| record.lane == lane.number).collect();
+            let (setting, held) = (lane.setting, &lane.waiting);
             let mut waiting: Vec<String> =
                 held.iter().take(8).map(|record| format!("{}/{}", record.mark, record.length)).collect();
             if held.len() > 8 {
@@ -178,10 +139,10 @@ impl Shown {
             }
             rows.push(vec![
                 lane.number.to_string(),
-                thousands(u64::from(lane.weight)),
-                thousands(lane.longest),
-                thousands(lane.c),
-                lane.group.to_string(),
+                thousands(setting.weight),
+                thousands(setting.longest),
+                thousands(1_048_576u64.div_ceil(setting.weight)),
+                setting.group.to_string(),
                 signed(lane.lag),
                 held.len().to_string(),
                 thousands(held.iter().map(|record| record.length).sum()),

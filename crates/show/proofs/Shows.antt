@@ -1,0 +1,142 @@
+-- From what is read of a table to what it shows. Assumes nothing.
+use Prim.Native.Nat.{ℕ, _+_, _≤_, _<_}
+use native.Mathlib.Omega.{arith}
+use native.Mathlib.Nat.{pos-of-ne-zero}
+use mathlib.Core.Path.{_≡_, refl, sym, ap, subst, _∙_}
+use mathlib.Core.Bool.{Bool, true, false}
+use mathlib.Core.List.{List}
+use mathlib.Core.Option.{none}
+use lib.Dec.{ltb}
+use lib.ListN.{getD}
+use borrow.Author.Tests.{lt-ltb, le-ltb}
+use Rattle.units.specs.Plain.{if_then_else_}
+use Rattle.waiting.specs.Waiting.{Waiting, plain, held, queueOf, GoodWaiting}
+use Rattle.words.proofs.Runs.{getD-tab}
+use Rattle.rules.specs.State.{State, Lane, group, holds, laneAt, laneDepth, noLane}
+use Rattle.alike.specs.Alike.{Alike}
+use Rattle.table.specs.Layout.{cells, rowAt, placeOf, entryAt}
+use Rattle.table.specs.Means.{presentAt, recOf, ringOf, meant}
+use Rattle.table.specs.declared.LaneRow.{LaneRow}
+use Rattle.table.specs.declared.Entry.{Entry}
+use Rattle.table.proofs.Footprint.{lane-is}
+use Rattle.table.proofs.Rows.{waiting-row}
+use Rattle.good.specs.Table.{GoodTable}
+use Rattle.good.proofs.Encodes.{good-sound}
+use Rattle.engine.proofs.RowIs.{RowIs, row-is, row-weighs, count-holds, count-idle}
+use Rattle.rules.specs.declared.Refusal.the-variants as why
+use Rattle.show.specs.Views.{Ask, View, clock, lane, backlog, waits, clockIs, refused, backlogIs, settingIs, recordIs, noRec, timeOf, view}
+use Rattle.show.specs.Shows.{reads, Shows, FindIs}
+use Rattle.show.specs.declared.Shown.{Shown}
+use Rattle.show.specs.declared.Shown.the-variants.{Refused}
+use Rattle.show.specs.declared.Found.{Found}
+use Rattle.show.specs.declared.Found.the-variants.{NotGood, NoLane, Row}
+
+-- what a state shows is not of its tie order
+view-alike : (a : Ask) (s u : State) → Alike s u → view s a ≡ view u a
+unfolding view
+view-alike clock s u e = rw (e .clock)
+view-alike (lane k) s u e = rw (e .lanes)
+view-alike (backlog k) s u e = rw (e .lanes)
+view-alike (waits k i) s u e = rw (e .lanes)
+
+pub bad-shows : (a : Ask) (t : List ℕ) → (GoodTable t → ⊥) → Shows a t (Refused why.NotGood)
+bad-shows a t b = record { not-good = λ _. refl; shown = λ g. absurd (b g) }
+
+pub good-shows : (a : Ask) (t : List ℕ) (r : Shown) → GoodTable t → reads r ≡ view (meant t) a → Shows a t r
+good-shows a t r g e = record { not-good = λ b. absurd (b g); shown = λ _ s n. e ∙ view-alike a (meant t) s (n .alike) }
+
+pub shows-clock : (t : List ℕ) (v : ℕ) → v ≡ meant t .clock → clockIs v ≡ view (meant t) clock
+unfolding view
+shows-clock t v e = ap clockIs e
+
+-- ---- a lane that is not in the setup
+
+module _ (s : State) (k : ℕ) (e : laneAt s k ≡ noLane) where
+  none-lane : refused 11 none ≡ view s (lane k)
+  unfolding view
+  none-lane = rw e
+
+  none-backlog : refused 11 none ≡ view s (backlog k)
+  unfolding view
+  none-backlog = rw e
+
+  none-waits : (i : ℕ) → refused 11 none ≡ view s (waits k i)
+  unfolding view
+  none-waits i = rw e
+
+-- ---- a lane by its row
+
+module _ (t : List ℕ) (k : ℕ) (l : LaneRow) (f : FindIs t k (Row l)) where
+  abbrev lane-k : Lane
+  lane-k = laneAt (meant t) k
+
+  found : RowIs lane-k l
+  found = rw (f .3) (row-is t (good-sound t (f .0)) k (f .1) (f .2))
+
+  weighs : ltb (lane-k .given .weight) 1 ≡ false
+  weighs = le-ltb (lane-k .given .weight) 1 (row-weighs lane-k l found)
+
+  waiting-good : GoodWaiting (lane-k .given .longest) (lane-k .waiting)
+  waiting-good = f .0 .good .waiting k
+
+  pub few : l .count ≤ laneDepth
+  unfolding GoodWaiting held
+  few = go (lane-k .waiting) waiting-good (found .held)
+    where
+      go : (w : Waiting) → GoodWaiting (lane-k .given .longest) w → held w ≡ l .count → l .count ≤ laneDepth
+      go (plain q) g e = omega (arith, g .0, e)
+
+  pub shows-setting : settingIs (record { weight = l .weight; longest = l .longest .0; framing = l .framing .0 }) (l .group) ≡ view (meant t) (lane k)
+  unfolding view
+  shows-setting = rw (weighs, found .grouped, found .given)
+
+  time-is : (b : Bool) → holds lane-k ≡ b → l .time .0 ≡ (if b then lane-k .start else lane-k .finish)
+  time-is true e = sym (found .busy e)
+  time-is false e = sym (found .idle e)
+
+  pub shows-backlog : backlogIs (l .count) (l .time .0) ≡ view (meant t) (backlog k)
+  unfolding view
+  shows-backlog = rw (weighs, found .held, time-is (holds lane-k) refl)
+
+  pub shows-none : (i : ℕ) → l .count ≤ i → refused 16 none ≡ view (meant t) (waits k i)
+  unfolding view
+  shows-none i h = rw (weighs, found .held, le-ltb i (l .count) h)
+
+  waiting-is : lane-k .waiting ≡ plain (ringOf (cells t) k (rowAt (cells t) k .head) (rowAt (cells t) k .count))
+  waiting-is = ap (λ (x : Lane). x .waiting) (lane-is (cells t) _ k (f .1)) ∙ waiting-row (cells t) k (f .2)
+
+  queue-is : queueOf (lane-k .waiting) 0 ≡ ringOf (cells t) k (l .head) (l .count)
+  unfolding queueOf
+  queue-is = rw (waiting-is, f .3)
+
+  ring-at : (i : ℕ) → i < l .count → getD (ringOf (cells t) k (l .head) (l .count)) i noRec ≡ recOf (entryAt (cells t) (placeOf k (l .head + i)))
+  unfolding ringOf
+  ring-at i h = getD-tab (l .count) i _ noRec h
+
+  pub shows-record : (i : ℕ) → i < l .count → recordIs k (recOf (entryAt (cells t) (placeOf k (l .head + i)))) ≡ view (meant t) (waits k i)
+  unfolding view
+  shows-record i h = rw (weighs, found .held, lt-ltb i (l .count) h, queue-is, ring-at i h)
+
+-- ---- by what was found
+
+found-as : (t : List ℕ) (k : ℕ) (r q : Found) → r ≡ q → FindIs t k r → FindIs t k q
+found-as t k r q e f = subst (FindIs t k) e f
+
+pub find-bad : (a : Ask) (t : List ℕ) (k : ℕ) (r : Found) → r ≡ NotGood → FindIs t k r → Shows a t (Refused why.NotGood)
+find-bad a t k r e f = bad-shows a t (found-as t k r NotGood e f)
+
+pub find-row : (t : List ℕ) (k : ℕ) (r : Found) (l : LaneRow) → r ≡ Row l → FindIs t k r → FindIs t k (Row l)
+find-row t k r l e f = found-as t k r (Row l) e f
+
+module _ (t : List ℕ) (k : ℕ) (r : Found) (e : r ≡ NoLane) (f : FindIs t k r) where
+  absent : GoodTable t × (laneAt (meant t) k ≡ noLane)
+  absent = found-as t k r NoLane e f
+
+  pub find-no-lane : Shows (lane k) t (Refused why.NoLane)
+  find-no-lane = good-shows (lane k) t (Refused why.NoLane) (absent .0) (none-lane (meant t) k (absent .1))
+
+  pub find-no-backlog : Shows (backlog k) t (Refused why.NoLane)
+  find-no-backlog = good-shows (backlog k) t (Refused why.NoLane) (absent .0) (none-backlog (meant t) k (absent .1))
+
+  pub find-no-waits : (i : ℕ) → Shows (waits k i) t (Refused why.NoLane)
+  find-no-waits i = good-shows (waits k i) t (Refused why.NoLane) (absent .0) (none-waits (meant t) k (absent .1) i)

@@ -1,0 +1,131 @@
+// What a lent table holds, told to its host: the clock, a lane's setting, its backlog, and each record that waits. Nothing is taken and nothing is written.
+//
+// Each call tests the whole table first, as every public call does, and refuses by number: 10, 11, and 16 for a record that is not there. What each promises
+// is `Shows` (specs/Shows.antt), whole.
+//
+// The setup in force is what `lane` tells of the lanes 0 to 63.
+ghost use Rattle.show.specs.Views as Views;
+ghost use Rattle.show.specs.Shows.{Shows, FindIs};
+use good::good;
+use rules::Record;
+use rules::Refusal;
+use table::LaneRow;
+use table::present;
+use table::record_at;
+use table::row;
+use units::Bytes;
+use units::Clock;
+
+// What the setup gives a lane, with the line's framing bytes and the group that follows.
+pub struct Setting {
+    pub weight: u64,
+    pub longest: Bytes,
+    pub framing: Bytes,
+    pub group: u32,
+}
+
+// How many records wait in a lane, and its time: S while it holds records, F while it is idle.
+pub struct LaneQueue {
+    pub count: u64,
+    pub time: Clock,
+}
+
+pub enum Shown {
+    Clock(Clock),
+    Setting(Setting),
+    Backlog(LaneQueue),
+    Record(Record),
+    Refused(Refusal),
+}
+
+// A lane's row, if the table is good and its setup has the lane.
+pub enum Found {
+    NotGood,
+    NoLane,
+    Row(LaneRow),
+}
+
+fn find(t: &[u8], lane: u8) -> Found
+    ensures { λ r. ⌜ FindIs (now (t .entry)) lane r ⌝ }
+{
+    if !good(t) {
+        return Found::NotGood;
+    }
+    let k = lane as usize;
+    if 64 <= k {
+        return Found::NoLane;
+    }
+    if !present(t, k) {
+        return Found::NoLane;
+    }
+    Found::Row(row(t, k))
+}
+
+// The clock V.
+pub fn clock(t: &[u8]) -> Shown
+    ensures { λ r. ⌜ Shows Views.clock (now (t .entry)) r ⌝ }
+{
+    if !good(t) {
+        return Shown::Refused(Refusal::NotGood);
+    }
+    Shown::Clock(table::clock(t))
+}
+
+// What the setup gives a lane.
+pub fn lane(t: &[u8], lane: u8) -> Shown
+    ensures { λ r. ⌜ Shows (Views.lane lane) (now (t .entry)) r ⌝ }
+{
+    match find(t, lane) {
+        Found::NotGood => Shown::Refused(Refusal::NotGood),
+        Found::NoLane => Shown::Refused(Refusal::NoLane),
+        Found::Row(l) => {
+            let longest = l.longest;
+            let framing = l.framing;
+            Shown::Setting(Setting {
+                weight: l.weight,
+                longest,
+                framing,
+                group: l.group,
+            })
+        }
+    }
+}
+
+// How many records wait in a lane, and its time.
+pub fn backlog(t: &[u8], lane: u8) -> Shown
+    ensures { λ r. ⌜ Shows (Views.backlog lane) (now (t .entry)) r ⌝ }
+{
+    match find(t, lane) {
+        Found::NotGood => Shown::Refused(Refusal::NotGood),
+        Found::NoLane => Shown::Refused(Refusal::NoLane),
+        Found::Row(l) => {
+            let time = l.time;
+            Shown::Backlog(LaneQueue {
+                count: l.count,
+                time,
+            })
+        }
+    }
+}
+
+// The record of a lane that has `i` before it.
+pub fn record(t: &[u8], lane: u8, i: u64) -> Shown
+    ensures { λ r. ⌜ Shows (Views.waits lane i) (now (t .entry)) r ⌝ }
+{
+    match find(t, lane) {
+        Found::NotGood => Shown::Refused(Refusal::NotGood),
+        Found::NoLane => Shown::Refused(Refusal::NoLane),
+        Found::Row(l) => {
+            if l.count <= i {
+                return Shown::Refused(Refusal::NothingHeld);
+            }
+            let e = record_at(t, lane as usize, l.head + i);
+            let length = e.length;
+            Shown::Record(Record {
+                lane,
+                mark: e.mark,
+                length,
+            })
+        }
+    }
+}

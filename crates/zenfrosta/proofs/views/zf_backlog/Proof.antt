@@ -1,0 +1,32 @@
+-- `zf_backlog` meets its contract. Assumes nothing.
+use mathlib.Core.Path.{refl}
+use native.Mathlib.Omega.{arith}
+use borrow.Author.Needs.{needs}
+use Rattle.zenfrosta.proofs.views.zf_backlog.Statement.{statement}
+use Rattle.zenfrosta.proofs.views.zf_backlog.Tie as tie
+use Rattle.zenfrosta.proofs.views.zf_backlog.Reads as reads
+use Rattle.zenfrosta.proofs.views.zf_backlog.Lts as lts
+use Rattle.show.proofs.backlog.Reads as backlog-reads
+use Rattle.zenfrosta.proofs.views.tell_view.Reads as tell-view-reads
+
+returns : tie.Need-returns
+returns c = record { short = λ _. (refl, refl); told = λ h. absurd (omega (arith, c .if1 .taken)) }
+
+backlog-requires : tie.Need-backlog-requires
+backlog-requires c κs = search needs
+
+tell-view-requires : tie.Need-tell-view-requires
+tell-view-requires c κs = search needs
+
+same-length : tie.Need-same-length
+same-length c = search needs
+
+returns-2 : tie.Need-returns-2
+returns-2 c =
+    let m = c .before .before .before .backlog in
+    let w = c .before .before .tell-view .ensures in
+    record { short = λ h. absurd (omega (arith, c .before .before .before .before .before .if1 .left)); told = λ _. (m .result, m .ensures, w .0, w .1) }
+
+pub zf-backlog-spec : {M : Type 1} → statement M
+zf-backlog-spec =
+    tie.close (tie.spec returns backlog-requires tell-view-requires same-length returns-2)
