@@ -9,7 +9,7 @@
 
 #include "zenfrosta.h"
 
-#define MOST 12288 /* the header: less than 12 KiB */
+#define MOST 20480 /* the header: less than 20 KiB */
 #define PAINT 0xA5
 
 static uint8_t stack[262144] __attribute__((aligned(64)));
@@ -29,6 +29,7 @@ static void sheet_read(void) { result = zf_sheet_read(sheet, sheet_length, plan,
 static void make(void) { result = zf_make(setup, setup_length, table, sizeof table, out, sizeof out); }
 static void convert(void) { result = zf_convert(old, sizeof old, table, sizeof table, out, sizeof out); }
 static void put(void) { result = zf_put(table, sizeof table, 5, 1, 64, out, sizeof out); }
+static void put_train(void) { result = zf_put_train(table, sizeof table, 7, 3, 1, 64, out, sizeof out); }
 static void look(void) { result = zf_look(table, sizeof table, out, sizeof out); }
 static void sets(void) { result = zf_sets(table, sizeof table, out, sizeof out); }
 static void lag(void) { result = zf_lag(table, sizeof table, 5, out, sizeof out); }
@@ -36,6 +37,7 @@ static void show_clock(void) { result = zf_clock(table, sizeof table, out, sizeo
 static void show_lane(void) { result = zf_lane(table, sizeof table, 5, out, sizeof out); }
 static void show_backlog(void) { result = zf_backlog(table, sizeof table, 5, out, sizeof out); }
 static void show_record(void) { result = zf_record(table, sizeof table, 5, 0, out, sizeof out); }
+static void show_train(void) { result = zf_train_record(table, sizeof table, 7, 3, 0, out, sizeof out); }
 static void take(void) { result = zf_take(table, sizeof table, out, sizeof out); }
 static void restart(void) { result = zf_restart(table, sizeof table, out, sizeof out); }
 static void run(void) { result = zf_run(session, session_length, 1000, table, sizeof table, answers, sizeof answers, out, sizeof out); }
@@ -78,9 +80,11 @@ int main(void) {
     const char *name;
     void (*call)(void);
   } calls[] = {{"zf_setup_write", setup_write}, {"zf_setup_read", setup_read},   {"zf_sheet_write", sheet_write}, {"zf_sheet_read", sheet_read},
-               {"zf_make", make},               {"zf_put", put},                 {"zf_look", look},               {"zf_sets", sets},
-               {"zf_lag", lag},                 {"zf_clock", show_clock},        {"zf_lane", show_lane},          {"zf_backlog", show_backlog},
-               {"zf_record", show_record},      {"zf_take", take},               {"zf_restart", restart},         {"zf_run", run},
+               {"zf_make", make},               {"zf_put", put},                 {"zf_put_train", put_train},     {"zf_put_train", put_train},
+               {"zf_look", look},               {"zf_sets", sets},               {"zf_lag", lag},                 {"zf_clock", show_clock},
+               {"zf_lane", show_lane},          {"zf_backlog", show_backlog},    {"zf_record", show_record},      {"zf_train_record", show_train},
+               {"zf_take", take},               {"zf_take", take},               {"zf_take", take},               {"zf_restart", restart},
+               {"zf_run", run},
                {"zf_board_begin", begin},       {"zf_board_record", join},       {"zf_board_record", leave},      {"zf_board_line", line},
                {"zf_board_clear", clear},       {"zf_convert", convert}};
   size_t most = 0;
@@ -99,6 +103,12 @@ int main(void) {
     }
     if (calls[i].call == setup_write) setup_length = (size_t)zf_word(out, 0);
     if (calls[i].call == sheet_write) sheet_length = (size_t)zf_word(out, 0);
+    if (calls[i].call == sheet_read) {
+      /* No sheet has a shared lane; the table that is made has one. */
+      zf_plan_set_shared(plan, 7, 1);
+      setup_write();
+      setup_length = (size_t)zf_word(out, 0);
+    }
     if (calls[i].call == restart) write_session();
     printf("%-16s %5zu bytes of stack\n", calls[i].name, size);
     if (size > most) most = size;

@@ -11,7 +11,7 @@
  * A byte area is a pointer and its length in bytes. Any bytes are allowed in it, at any address. What the host must see to: a pointer may be
  * read (and written, where it is not const) over its whole length and is not null, also where the length is 0; areas of one call do not overlap;
  * no other thread uses them during the call; a length is at most PTRDIFF_MAX. The library keeps no pointer, has no state of its own, takes no
- * memory from a heap, and calls nothing but the C library's memcpy and memset. On x86-64 a call uses less than 12 KiB of stack (hosts/stack.c measures it).
+ * memory from a heap, and calls nothing but the C library's memcpy and memset. On x86-64 a call uses less than 20 KiB of stack (hosts/stack.c measures it).
  */
 #ifndef ZENFROSTA_H
 #define ZENFROSTA_H
@@ -35,7 +35,7 @@ extern "C" {
 /* The greatest limit of a run. */
 #define ZF_MOST_REQUESTS 1000
 
-/* Results. 1 to 7 and 50 to 54 come from zf_make and zf_run, 10 to 16 from the other calls, 17 from zf_run, 7 and 10 from zf_convert.
+/* Results. 1 to 7 and 50 to 54 come from zf_make and zf_run, 10 to 16, 70 and 71 from the other calls, 17 from zf_run, 7 and 10 from zf_convert.
  * docs/REFUSALS.md says what to mend. */
 #define ZF_DONE 0
 #define ZF_CUT 1             /* a field runs past the end, or the input ends before 0x7F; place: the field's tag, or the input's length */
@@ -47,7 +47,7 @@ extern "C" {
 #define ZF_NOT_GOOD 10       /* the table is not good; never on one that zf_make or zf_run made, also before an update, and these calls alone changed */
 #define ZF_NO_LANE 11        /* lane not in the setup */
 #define ZF_BAD_LENGTH 12     /* length 0, or over the lane's longest; framing bytes are not counted */
-#define ZF_LANE_FULL 13      /* the lane holds 64 records */
+#define ZF_LANE_FULL 13      /* the lane holds 64 records; in a shared lane 71 takes its place */
 #define ZF_STILL_HOLDS 15    /* restart while a record is held */
 #define ZF_NOTHING_HELD 16   /* take or look with nothing held */
 #define ZF_RUN_BOUNDS 17     /* a run's limit over 1,000, or its answer area too short */
@@ -56,6 +56,8 @@ extern "C" {
 #define ZF_BAD_WEIGHT 52     /* a weight that is not 1 to 1,024; place: the weight's first byte */
 #define ZF_BAD_LONGEST 53    /* a longest that is not 64 to 1,500; place: the longest's first byte */
 #define ZF_BAD_FRAMING 54    /* framing over 64 in the setup; place: the framing number */
+#define ZF_NO_TRAIN 70       /* a train over 7, or over 0 in a lane that is not shared */
+#define ZF_TRAIN_FULL 71     /* the train's queue in a shared lane holds 8 records */
 #define ZF_BUFFER_SHORT 255  /* the answer buffer is shorter than 32 bytes */
 
 /* Why a run stopped: word 2 of zf_run's answer. */
@@ -69,14 +71,20 @@ uint64_t zf_table_size(void);
 /* Makes the fresh table of a setup. out: the number of lanes. */
 uint64_t zf_make(const uint8_t *setup, size_t setup_length, uint8_t *table, size_t table_length, uint8_t *out, size_t out_length);
 
-/* Puts a record into a lane; the record is its mark, which the unit only carries, and its length in bytes. out: how many records the lane
- * held before it, 0 to 63: so many of this lane go out first. */
+/* Puts a record into a lane; the record is its mark, which the unit only carries, and its length in bytes. In a lane that trains share the record is
+ * train 0's. out: how many records the lane held before it, 0 to 63; in a shared lane how many train 0 held, 0 to 7. So many of its train go out first. */
 uint64_t zf_put(uint8_t *table, size_t table_length, uint8_t lane, uint32_t mark, uint64_t length, uint8_t *out, size_t out_length);
 
-/* Takes the next record off the table. out: its lane, mark and length. */
+/* Puts a record of a train into a lane: trains 0 to 7 in a shared lane, train 0 alone in another, where it is zf_put. Each train of a shared lane has a
+ * queue of 8 records, and they take turns by bytes. out: how many records the train held before it, 0 to 7 in a shared lane. Refusals: 10, 11, 70, 12, then
+ * 13, or 71 in a shared lane. */
+uint64_t zf_put_train(uint8_t *table, size_t table_length, uint8_t lane, uint8_t train, uint32_t mark, uint64_t length, uint8_t *out,
+                      size_t out_length);
+
+/* Takes the next record off the table. out: its lane, mark, length and train; the train is 0 in a lane that is not shared. */
 uint64_t zf_take(uint8_t *table, size_t table_length, uint8_t *out, size_t out_length);
 
-/* Looks at the record that zf_take would take. out: its lane, mark and length. */
+/* Looks at the record that zf_take would take. out: its lane, mark, length and train. */
 uint64_t zf_look(const uint8_t *table, size_t table_length, uint8_t *out, size_t out_length);
 
 /* The group sets. out: the words ER, IR, EB and IB, bit i for group i. */
@@ -85,21 +93,27 @@ uint64_t zf_sets(const uint8_t *table, size_t table_length, uint8_t *out, size_t
 /* How far the clock is ahead of a lane. out: the lag, a signed number in two's complement. */
 uint64_t zf_lag(const uint8_t *table, size_t table_length, uint8_t lane, uint8_t *out, size_t out_length);
 
-/* The four calls below show a table and change nothing. Like every call they test the whole table first: 10 if it is not good.
+/* The five calls below show a table and change nothing. Like every call they test the whole table first: 10 if it is not good.
  *
  * The clock V. out: V. */
 uint64_t zf_clock(const uint8_t *table, size_t table_length, uint8_t *out, size_t out_length);
 
-/* What the setup in force gives a lane. out: weight, longest, the line's framing bytes h, and the group index; c is 1,048,576 / weight, rounded up.
- * 11 if the lane is not in the setup, so the lanes 0 to 63 tell the whole setup. */
+/* What the setup in force gives a lane. out: weight, longest, the line's framing bytes h, and the group index, with 2^32 more where the lane is
+ * shared; c is 1,048,576 / weight, rounded up. 11 if the lane is not in the setup, so the lanes 0 to 63 tell the whole setup. */
 uint64_t zf_lane(const uint8_t *table, size_t table_length, uint8_t lane, uint8_t *out, size_t out_length);
 
-/* How many records wait in a lane, and its time. out: the number, 0 to 64; then S where the number is not 0, and F where it is. 11 as above. */
+/* How many records wait in a lane, and its time. out: the number, 0 to 64, of all its trains together; then S where the number is not 0, and F
+ * where it is. 11 as above. */
 uint64_t zf_backlog(const uint8_t *table, size_t table_length, uint8_t lane, uint8_t *out, size_t out_length);
 
-/* The record of a lane that `before` others of this lane go out before; 0 is the first. out: lane, mark, length. 11 as above; 16 if no more than
- * `before` records wait there. */
+/* The record of a lane that `before` others of this lane go out before; 0 is the first. In a shared lane the queue shown is train 0's, and `before` counts
+ * that train's records alone. out: lane, mark, length, and 0 for the train. 11 as above; 16 if no more than `before` records wait there. */
 uint64_t zf_record(const uint8_t *table, size_t table_length, uint8_t lane, uint64_t before, uint8_t *out, size_t out_length);
+
+/* The record of a train that `before` others of this train go out before. What other trains of the lane send in between depends on the puts to come;
+ * zf_look tells which record is next. out: lane, mark, length, train. Refusals: 10, 11, 70, 16. */
+uint64_t zf_train_record(const uint8_t *table, size_t table_length, uint8_t lane, uint8_t train, uint64_t before, uint8_t *out,
+                         size_t out_length);
 
 /* Gives the fresh table of the same setup, once no record is held. */
 uint64_t zf_restart(uint8_t *table, size_t table_length, uint8_t *out, size_t out_length);
@@ -136,7 +150,7 @@ uint64_t zf_convert(const uint8_t *old_table, size_t old_length, uint8_t *table,
  * A plan area is ZF_PLAN_SIZE lent bytes, 65 words of 64 bits, each low byte first:
  *
  *   word 0          format + 2^16 framing bytes
- *   word lane + 1   weight + 2^16 longest of that lane; 0: there is no such lane
+ *   word lane + 1   weight + 2^16 longest of that lane, and 2^32 where trains share it; 0: there is no such lane
  *
  * The host may write any words into it, by the helpers below or by itself. Whether they are a plan within the numbers is tested by zf_setup_write:
  * format 1 or 2; framing 0 to 64; one lane or more; each weight 1 to 1,024 and longest 64 to 1,500; weights that sum to at most 1,024. Bytes past the
@@ -145,7 +159,7 @@ uint64_t zf_convert(const uint8_t *old_table, size_t old_length, uint8_t *table,
 
 /* The fixed size of a plan area in bytes, as zf_plan_size() gives it, and the most bytes that a setup has when it is written. */
 #define ZF_PLAN_SIZE 520
-#define ZF_SETUP_MOST 524
+#define ZF_SETUP_MOST 780
 
 /* The format of a new plan. Formats differ in what a longest that is left out of a setup means: 1,500 bytes in format 1, 576 in format 2. A plan
  * that was read keeps its format, and is written with it; its longest records are always written out. */
@@ -161,9 +175,9 @@ uint64_t zf_plan_size(void);
  * The area stays for a refusal. */
 uint64_t zf_setup_read(const uint8_t *setup, size_t setup_length, uint8_t *plan, size_t plan_length, uint8_t *out, size_t out_length);
 
-/* Writes the plan of an area as a setup: lane fields always with their longest, the framing field only where there are framing bytes. out: the
- * exact size; bytes of the buffer past it stay. Refusals: 55, 56; the buffer stays for both. What was written is read as the same words, and a
- * setup of that form is written back as the same bytes. */
+/* Writes the plan of an area as a setup: lane fields always with their longest, the framing field only where there are framing bytes, a shared
+ * lane's field behind its lane. out: the exact size; bytes of the buffer past it stay. Refusals: 55, 56; the buffer stays for both. What was
+ * written is read as the same words, and a setup of that form is written back as the same bytes. */
 uint64_t zf_setup_write(const uint8_t *plan, size_t plan_length, uint8_t *setup, size_t setup_length, uint8_t *out, size_t out_length);
 
 /* A word of a plan area. */
@@ -191,7 +205,7 @@ static inline void zf_plan_set_framing(uint8_t *plan, uint8_t framing) {
   zf_plan_set_word(plan, 0, (uint64_t)zf_plan_format(plan) | (uint64_t)framing << 16);
 }
 
-/* Gives a lane, 0 to 63, its weight and longest, or adds it. 0 and nothing done for another number, else 1. */
+/* Gives a lane, 0 to 63, its weight and longest, or adds it; it is then one that is not shared. 0 and nothing done for another number, else 1. */
 static inline int zf_plan_set_lane(uint8_t *plan, uint8_t lane, uint16_t weight, uint16_t longest) {
   if (lane > 63) return 0;
   zf_plan_set_word(plan, (size_t)lane + 1, (uint64_t)weight | (uint64_t)longest << 16);
@@ -207,13 +221,26 @@ static inline uint16_t zf_plan_weight(const uint8_t *plan, uint8_t lane) {
 }
 
 static inline uint64_t zf_plan_longest(const uint8_t *plan, uint8_t lane) {
-  return lane > 63 ? 0 : zf_plan_word(plan, (size_t)lane + 1) >> 16;
+  return lane > 63 ? 0 : zf_plan_word(plan, (size_t)lane + 1) >> 16 & 0xFFFF;
+}
+
+/* Whether trains share a lane; 0 where there is no such lane. */
+static inline int zf_plan_shared(const uint8_t *plan, uint8_t lane) {
+  return lane > 63 ? 0 : (int)(zf_plan_word(plan, (size_t)lane + 1) >> 32 & 1);
+}
+
+/* Makes a lane that is in the plan shared, or one of its own again where `shared` is 0. 0 and nothing done where there is no such lane, else 1. */
+static inline int zf_plan_set_shared(uint8_t *plan, uint8_t lane, int shared) {
+  if (zf_plan_weight(plan, lane) == 0) return 0;
+  const uint64_t numbers = zf_plan_word(plan, (size_t)lane + 1) & 0xFFFFFFFF;
+  zf_plan_set_word(plan, (size_t)lane + 1, numbers | (uint64_t)(shared != 0) << 32);
+  return 1;
 }
 
 /* ---- Text sheets: plans as the office keeps them (docs/SHEETS.md)
  *
  * A sheet has a line for each lane: lane number, weight and longest in decimal, one space between two of them, a line feed behind the third. A
- * number has one to five digits and no 0 before another digit. A sheet says nothing of framing bytes.
+ * number has one to five digits and no 0 before another digit. A sheet says nothing of framing bytes or of lanes that are shared.
  */
 
 /* The most bytes that a sheet has when it is written. */
@@ -222,10 +249,10 @@ static inline uint64_t zf_plan_longest(const uint8_t *plan, uint8_t lane) {
 /* Refusals of sheets. */
 #define ZF_SHEET_BYTE 80 /* a byte that cannot stand there, also a digit behind a leading 0 and a sixth digit; place: that byte */
 #define ZF_SHEET_CUT 81  /* the sheet is empty, or ends in a line; place: the sheet's length */
-#define ZF_NO_SHEET 82   /* the plan has framing bytes, which a sheet cannot say; no place */
+#define ZF_NO_SHEET 82   /* the plan has framing bytes or a shared lane, which a sheet cannot say; no place */
 
-/* Reads a sheet into a plan area; the plan is of format 2 and has no framing bytes. out: the number of lanes. Refusals: 7 at place 0, the area is shorter than
- * ZF_PLAN_SIZE; then, line by line, 80 or 81, 51, 52, 53, 4, 6, each at the first digit of its number. The area stays for a refusal. */
+/* Reads a sheet into a plan area; the plan is of format 2 and has no framing bytes and no shared lane. out: the number of lanes. Refusals: 7 at
+ * place 0, the area is shorter than ZF_PLAN_SIZE; then, line by line, 80 or 81, 51, 52, 53, 4, 6, each at the first digit of its number. The area stays for a refusal. */
 uint64_t zf_sheet_read(const uint8_t *sheet, size_t sheet_length, uint8_t *plan, size_t plan_length, uint8_t *out, size_t out_length);
 
 /* Writes the plan of an area as a sheet. out: the exact size; bytes of the buffer past it stay. Refusals: 55, 82, 56; the buffer stays for all
@@ -296,11 +323,16 @@ static inline uint64_t zf_word(const uint8_t *out, size_t index) {
   return value;
 }
 
-/* The words by their meaning. After zf_put: how many of the lane are ahead. After zf_take and zf_look: the record. */
+/* The words by their meaning. After zf_put and zf_put_train: how many of the lane, or of the train, are ahead. After zf_take and zf_look: the record. */
 static inline uint64_t zf_out_ahead(const uint8_t *out) { return zf_word(out, 0); }
 static inline uint8_t zf_out_lane(const uint8_t *out) { return (uint8_t)(zf_word(out, 0) & 0xFF); }
 static inline uint32_t zf_out_mark(const uint8_t *out) { return (uint32_t)(zf_word(out, 1) & 0xFFFFFFFF); }
 static inline uint64_t zf_out_length(const uint8_t *out) { return zf_word(out, 2); }
+static inline uint8_t zf_out_train(const uint8_t *out) { return (uint8_t)(zf_word(out, 3) & 0xFF); }
+
+/* After zf_lane: the group index, and whether trains share the lane. */
+static inline uint32_t zf_out_group(const uint8_t *out) { return (uint32_t)(zf_word(out, 3) & 0xFFFFFFFF); }
+static inline int zf_out_shared(const uint8_t *out) { return (int)(zf_word(out, 3) >> 32 & 1); }
 
 /* After zf_lag. The words are those of two's complement; no conversion that C leaves open is made. */
 static inline int64_t zf_out_lag(const uint8_t *out) {
@@ -343,9 +375,11 @@ static inline const char *zf_text(uint64_t number) {
   case ZF_BAD_FRAMING: return "a framing number is over 64";
   case ZF_PLAN_OUTSIDE: return "the plan is outside the numbers";
   case ZF_SETUP_SHORT: return "the buffer is shorter than what is to be written";
+  case ZF_NO_TRAIN: return "the train is over 7, or over 0 in a lane that is not shared";
+  case ZF_TRAIN_FULL: return "the train's queue is full";
   case ZF_SHEET_BYTE: return "a byte that cannot stand there in a sheet";
   case ZF_SHEET_CUT: return "the sheet is empty, or ends in a line";
-  case ZF_NO_SHEET: return "the plan has framing bytes, which a sheet cannot say";
+  case ZF_NO_SHEET: return "the plan has framing bytes or a shared lane, which a sheet cannot say";
   case ZF_BUFFER_SHORT: return "the answer buffer is too short";
   default: return "no number of the list";
   }

@@ -5,7 +5,7 @@
  *
  * An input is a mode, four bytes that choose lengths and sides, and the rest:
  *   0  a setup for zf_make, then the calls on what it made
- *   1  a table made by calls, then changed word by word (three bytes: the word, and how), then the calls
+ *   1  a table made by calls, with shared lanes or without, then changed word by word (three bytes: the word, and how), then the calls
  *   2  a table that is the rest, over and over, then the calls
  *   3  a session for zf_run, then the calls on what it left
  *   4  the desk's board: one made by calls, or bytes, changed byte by byte (three bytes: the line, the byte and how), then its calls
@@ -86,7 +86,7 @@ static void beside(const struct area *area) {
 }
 
 static struct area input, table, answers, out;
-static uint8_t before[1 << 17], sample[ZF_TABLE_SIZE];
+static uint8_t before[1 << 17], sample[ZF_TABLE_SIZE], shared_sample[ZF_TABLE_SIZE];
 
 static uint64_t word(int index) {
   uint64_t value;
@@ -94,13 +94,15 @@ static uint64_t word(int index) {
   return value;
 }
 
-enum call { PUT, TAKE, LOOK, SETS, LAG, RESTART, CALLS };
+enum call { PUT, TAKE, LOOK, SETS, LAG, RESTART, PUT_TRAIN, TRAIN_RECORD, CALLS };
 
 /* One call: its result is one of those that it can give, and a refused or reading call writes nothing. */
 static uint64_t ask(enum call call, uint8_t lane, uint64_t length, size_t out_length, int at_end) {
   lend(&out, out_length, at_end);
   memcpy(before, table.at, table.length);
-  int reads = call == LOOK || call == SETS || call == LAG;
+  int reads = call == LOOK || call == SETS || call == LAG || call == TRAIN_RECORD;
+  /* Trains 0 to 7 mostly, and now and then one that there is not. */
+  uint8_t train = (uint8_t)(length % 9);
   if (reads) only_reading(&table, 1);
   uint64_t result = 0;
   switch (call) {
@@ -109,6 +111,8 @@ static uint64_t ask(enum call call, uint8_t lane, uint64_t length, size_t out_le
     case LOOK: result = zf_look(table.at, table.length, out.at, out.length); break;
     case SETS: result = zf_sets(table.at, table.length, out.at, out.length); break;
     case LAG: result = zf_lag(table.at, table.length, lane, out.at, out.length); break;
+    case PUT_TRAIN: result = zf_put_train(table.at, table.length, lane, train, 7, length, out.at, out.length); break;
+    case TRAIN_RECORD: result = zf_train_record(table.at, table.length, lane, train, length / 9 % 9, out.at, out.length); break;
     default: result = zf_restart(table.at, table.length, out.at, out.length); break;
   }
   if (reads) only_reading(&table, 0);
@@ -121,7 +125,9 @@ static uint64_t ask(enum call call, uint8_t lane, uint64_t length, size_t out_le
     check(memcmp(out.at, fill, out_length) == 0, "a short answer buffer was written");
     return result;
   }
-  check(result == ZF_DONE || (result >= ZF_NOT_GOOD && result <= ZF_NOTHING_HELD), "a result that no call gives");
+  check(result == ZF_DONE || (result >= ZF_NOT_GOOD && result <= ZF_NOTHING_HELD) || result == ZF_NO_TRAIN || result == ZF_TRAIN_FULL,
+        "a result that no call gives");
+  check((result != ZF_NO_TRAIN && result != ZF_TRAIN_FULL) || call == PUT || call == PUT_TRAIN || call == TRAIN_RECORD, "trains are of puts");
   check(!wrote || (result == ZF_DONE && !reads), "a refused or reading call wrote the table");
   check(table.length >= ZF_TABLE_SIZE || result == ZF_NOT_GOOD, "a short table is not good");
   if (table.length > ZF_TABLE_SIZE) {
@@ -129,10 +135,10 @@ static uint64_t ask(enum call call, uint8_t lane, uint64_t length, size_t out_le
     check(memcmp(before + ZF_TABLE_SIZE, table.at + ZF_TABLE_SIZE, past) == 0, "bytes past the table were written");
   }
   if (result != ZF_DONE) check(word(0) == 0 && word(1) == 0 && word(2) == 0 && word(3) == 0, "a refusal with values");
-  if (result == ZF_DONE && (call == TAKE || call == LOOK)) {
-    check(word(0) < 64 && word(1) <= UINT32_MAX && word(2) >= 1 && word(2) <= 1500 && word(3) == 0, "a record outside its numbers");
+  if (result == ZF_DONE && (call == TAKE || call == LOOK || call == TRAIN_RECORD)) {
+    check(word(0) < 64 && word(1) <= UINT32_MAX && word(2) >= 1 && word(2) <= 1500 && word(3) < 8, "a record outside its numbers");
   }
-  if (result == ZF_DONE && call == PUT) {
+  if (result == ZF_DONE && (call == PUT || call == PUT_TRAIN)) {
     check(word(0) < 64 && word(1) == 0 && word(2) == 0 && word(3) == 0, "a number ahead that no lane can hold");
   }
   if (result == ZF_DONE && call == SETS) saw(16, word(0) >> 16 ^ word(1) ^ word(2) ^ word(3));
@@ -143,15 +149,15 @@ static uint64_t ask(enum call call, uint8_t lane, uint64_t length, size_t out_le
 static void calls(const uint8_t *data, size_t size, int at_end) {
   uint64_t good = ask(SETS, 0, 0, ZF_OUT_SIZE, at_end);
   for (int call = PUT; call < CALLS; call++) {
-    uint64_t looked[3] = {0, 0, 0}, result = ZF_DONE;
+    uint64_t looked[4] = {0, 0, 0, 0}, result = ZF_DONE;
     if (call == TAKE && (result = ask(LOOK, 0, 0, ZF_OUT_SIZE, at_end)) == ZF_DONE) {
-      for (int i = 0; i < 3; i++) looked[i] = word(i);
+      for (int i = 0; i < 4; i++) looked[i] = word(i);
     }
     uint64_t given = ask((enum call)call, 0, 64, ZF_OUT_SIZE, at_end);
     check((good == ZF_NOT_GOOD) == (given == ZF_NOT_GOOD) || call > PUT, "two calls judge one table otherwise");
     if (call == TAKE) {
       check(given == result, "take and look differ");
-      if (given == ZF_DONE) check(looked[0] == word(0) && looked[1] == word(1) && looked[2] == word(2), "take and look differ");
+      if (given == ZF_DONE) check(looked[0] == word(0) && looked[1] == word(1) && looked[2] == word(2) && looked[3] == word(3), "take and look differ");
     }
     if (good == ZF_NOT_GOOD) check(given == ZF_NOT_GOOD, "a table that is not good was taken by another call");
   }
@@ -240,19 +246,24 @@ static void run(const uint8_t *data, size_t size, const uint8_t *choice, int at_
   calls(data, size, at_end);
 }
 
-/* A table with records in eight lanes of sixteen, to be changed. */
-static void make_sample(void) {
-  uint8_t setup[5 + 16 * 8 + 3] = {1, 0, 2, 0, 1};
+/* A table with records in eight lanes of sixteen, to be changed. Of the other sample trains share the lanes 0, 16, 32 and 48. */
+static void make_sample(uint8_t *made, int shared) {
+  uint8_t setup[5 + 16 * 8 + 4 * 4 + 3] = {1, 0, 2, 0, 1};
+  size_t size = 5;
   for (uint8_t i = 0; i < 16; i++) {
-    uint8_t field[8] = {16, 0, 5, (uint8_t)(4 * i), 0, (uint8_t)(1 + 3 * i), (uint8_t)(i % 5), 220};
-    memcpy(setup + 5 + 8 * i, field, 8);
+    uint8_t field[12] = {16, 0, 5, (uint8_t)(4 * i), 0, (uint8_t)(1 + 3 * i), (uint8_t)(i % 5), 220, 18, 0, 1, (uint8_t)(4 * i)};
+    size_t used = shared && i % 4 == 0 ? 12 : 8;
+    memcpy(setup + size, field, used);
+    size += used;
   }
-  setup[sizeof setup - 3] = 0x7F;
+  setup[size] = 0x7F;
   uint8_t answer[ZF_OUT_SIZE];
-  check(zf_make(setup, sizeof setup, sample, sizeof sample, answer, sizeof answer) == ZF_DONE, "the sample's setup");
+  check(zf_make(setup, size + 3, made, ZF_TABLE_SIZE, answer, sizeof answer) == ZF_DONE, "the sample's setup");
   for (uint8_t i = 0; i < 60; i++) {
-    zf_put(sample, sizeof sample, (uint8_t)(8 * (i % 8)), i, 1 + i % 60u, answer, sizeof answer);
-    if (i % 3 == 2) zf_take(sample, sizeof sample, answer, sizeof answer);
+    uint8_t lane = (uint8_t)(8 * (i % 8));
+    if (shared && lane % 16 == 0) zf_put_train(made, ZF_TABLE_SIZE, lane, i / 8 % 3, i, 1 + i % 60u, answer, sizeof answer);
+    else zf_put(made, ZF_TABLE_SIZE, lane, i, 1 + i % 60u, answer, sizeof answer);
+    if (i % 3 == 2) zf_take(made, ZF_TABLE_SIZE, answer, sizeof answer);
   }
 }
 
@@ -267,7 +278,8 @@ static void change(const struct area *area, const uint8_t *data, size_t size) {
     else if (d < 116) at = 80 + 16 * ((d - 52) / 4) + (d - 52) % 4;
     else if (d < 156) at = 336 + (d - 116) * 26;
     else if (d < 220) at = 1472 + d - 156;
-    else at = 1536 + (d - 220) * 110;
+    else if (d < 236 || area->length < ZF_TABLE_SIZE) at = 1536 + (d - 220) * 110;
+    else at = 7680 + 64 * ((d - 236) / 5) + (d - 236) % 4; /* the trains of the lanes that may be shared */
     uint64_t value, power = 1ull << (data[i + 1] & 63);
     memcpy(&value, area->at + 8 * at, 8);
     switch (data[i + 1] >> 6) {
@@ -539,7 +551,8 @@ int LLVMFuzzerInitialize(int *argc, char ***argv) {
   reserve(&table, ZF_TABLE_SIZE + 32 + WATCHED);
   reserve(&answers, ZF_ANSWER_AREA(ZF_MOST_REQUESTS) + 32 + WATCHED);
   reserve(&out, 64 + WATCHED);
-  make_sample();
+  make_sample(sample, 0);
+  make_sample(shared_sample, 1);
   make_old_sample();
   make_sample_board();
   return 0;
@@ -567,7 +580,7 @@ int LLVMFuzzerTestOneInput(const uint8_t *data, size_t size) {
     case 0: make(rest, left, choice[0], at_end); break;
     case 1:
       memset(lend(&table, ZF_TABLE_SIZE + choice[0] % 16u, at_end), choice[1], table.length);
-      memcpy(table.at, sample, ZF_TABLE_SIZE);
+      memcpy(table.at, choice[2] & 1 ? shared_sample : sample, ZF_TABLE_SIZE);
       change(&table, rest, left);
       calls(rest, left, at_end);
       break;

@@ -2,35 +2,49 @@
 
 use std::fmt;
 
-/// A record that take handed out or that look names: "lane, mark and length inside it".
+/// A record that take handed out or that look names: "lane, mark and length inside it", and its train, which is 0 in a lane that is not shared.
 #[derive(Clone, Copy, Debug, PartialEq, Eq)]
 pub struct Taken {
     pub lane: u8,
+    pub train: u8,
     pub mark: u32,
     pub length: u64,
 }
 
 #[derive(Clone, Copy, Debug, PartialEq, Eq)]
 pub enum Call {
-    Put { lane: u8, mark: u32, length: u64 },
+    /// A put without a train means train 0.
+    Put {
+        lane: u8,
+        mark: u32,
+        length: u64,
+    },
+    PutTrain {
+        lane: u8,
+        train: u8,
+        mark: u32,
+        length: u64,
+    },
     Take,
     Look,
     Sets,
-    Lag { lane: u8 },
+    Lag {
+        lane: u8,
+    },
     Restart,
 }
 
 /// "A put's answer, a taken record and a refusal are separate cases".
 #[derive(Clone, Copy, Debug, PartialEq, Eq)]
 pub enum Answer {
-    /// How many records the lane held before the put: those that go out before this one.
+    /// How many records of its train the lane held before the put: those of the train that go out before this one.
     Put(u64),
     Taken(Taken),
     Looked(Taken),
     Sets([u64; 4]),
     Lag(i64),
     Restarted,
-    /// A refusal, 10 to 16.
+    /// A refusal, 10 to 16, 70 or 71.
     No(u8),
 }
 
@@ -39,11 +53,28 @@ impl Call {
     pub fn only_reads(&self) -> bool {
         matches!(self, Call::Look | Call::Sets | Call::Lag { .. })
     }
+
+    /// The lane, train, mark and length of a put.
+    pub fn put(&self) -> Option<(u8, u8, u32, u64)> {
+        match *self {
+            Call::Put { lane, mark, length } => Some((lane, 0, mark, length)),
+            Call::PutTrain { lane, train, mark, length } => Some((lane, train, mark, length)),
+            _ => None,
+        }
+    }
 }
 
 impl Answer {
     pub fn refused(&self) -> bool {
         matches!(self, Answer::No(_))
+    }
+
+    /// The session's line for it, without its line feed. "a take or look line of a shared lane ends with the train"; `shared` tells of a lane whether it is.
+    pub fn line(&self, shared: impl Fn(u8) -> bool) -> String {
+        match self {
+            Answer::Taken(r) | Answer::Looked(r) if shared(r.lane) => format!("{self} {}", r.train),
+            _ => self.to_string(),
+        }
     }
 }
 
@@ -51,6 +82,9 @@ impl fmt::Display for Call {
     fn fmt(&self, f: &mut fmt::Formatter) -> fmt::Result {
         match self {
             Call::Put { lane, mark, length } => write!(f, "put {lane}/{mark}/{length}"),
+            Call::PutTrain { lane, train, mark, length } => {
+                write!(f, "put {lane}/{mark}/{length} for train {train}")
+            }
             Call::Take => write!(f, "take"),
             Call::Look => write!(f, "look"),
             Call::Sets => write!(f, "sets"),
@@ -60,7 +94,7 @@ impl fmt::Display for Call {
     }
 }
 
-/// The session's line for an answer, without its line feed ("A session in full").
+/// The session's line for an answer in a lane that is not shared, without its line feed ("A session in full").
 impl fmt::Display for Answer {
     fn fmt(&self, f: &mut fmt::Formatter) -> fmt::Result {
         match self {

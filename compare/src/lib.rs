@@ -1,7 +1,8 @@
 //! An independent implementation of document 01 ("The line scheduler defined, with its exact rules") and the
 //! machinery that compares the unit with it over long random lists of calls and random inputs.
 //!
-//! The implementation: [`numbers`], [`calls`], [`rules`], [`fields`], [`setup`], [`session`]; [`layout`] and [`slots`] read docs/TABLE.md's tables.
+//! The implementation: [`numbers`], [`calls`], [`rules`], [`fields`], [`setup`], [`session`]; [`layout`] and [`slots`] read docs/TABLE.md's tables;
+//! [`shown`] is what a table shows to a host that asks.
 //! [`journal`] is a second journal of the desk, [`plans`] a second writer of setups, [`sheets`] a second reader and writer of text
 //! sheets and [`convert`] a second converter of old tables, each with its own comparison; [`pages`] is a second reader of settings pages.
 //! The machinery: [`rng`], [`gen`], [`laws`], [`unit`], [`stand_in`], [`on_words`], [`driver`], [`pipes`]; [`loads`] and, with the feature `inner`,
@@ -36,6 +37,7 @@ pub mod session;
 pub mod setup;
 pub mod sheets;
 pub mod shelf;
+pub mod shown;
 pub mod slots;
 pub mod stand_in;
 pub mod unit;

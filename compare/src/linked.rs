@@ -10,6 +10,7 @@
 use crate::calls::Taken;
 use crate::fields::Fault;
 use crate::session::{Run, Stop};
+use crate::shown::Ask;
 use crate::unit::Unit;
 
 extern "C" {
@@ -31,10 +32,40 @@ extern "C" {
         out: *mut u8,
         out_len: usize,
     ) -> u64;
+    fn zf_put_train(
+        table: *mut u8,
+        table_len: usize,
+        lane: u8,
+        train: u8,
+        mark: u32,
+        length: u64,
+        out: *mut u8,
+        out_len: usize,
+    ) -> u64;
     fn zf_take(table: *mut u8, table_len: usize, out: *mut u8, out_len: usize) -> u64;
     fn zf_look(table: *mut u8, table_len: usize, out: *mut u8, out_len: usize) -> u64;
     fn zf_sets(table: *mut u8, table_len: usize, out: *mut u8, out_len: usize) -> u64;
     fn zf_lag(table: *mut u8, table_len: usize, lane: u8, out: *mut u8, out_len: usize) -> u64;
+    fn zf_clock(table: *const u8, table_len: usize, out: *mut u8, out_len: usize) -> u64;
+    fn zf_lane(table: *const u8, table_len: usize, lane: u8, out: *mut u8, out_len: usize) -> u64;
+    fn zf_backlog(table: *const u8, table_len: usize, lane: u8, out: *mut u8, out_len: usize) -> u64;
+    fn zf_record(
+        table: *const u8,
+        table_len: usize,
+        lane: u8,
+        before: u64,
+        out: *mut u8,
+        out_len: usize,
+    ) -> u64;
+    fn zf_train_record(
+        table: *const u8,
+        table_len: usize,
+        lane: u8,
+        train: u8,
+        before: u64,
+        out: *mut u8,
+        out_len: usize,
+    ) -> u64;
     fn zf_restart(table: *mut u8, table_len: usize, out: *mut u8, out_len: usize) -> u64;
     fn zf_run(
         session: *const u8,
@@ -90,10 +121,11 @@ fn plain(used: usize, ask: impl FnOnce(*mut u8, usize) -> u64) -> Result<[u64; 4
 }
 
 fn taken(words: [u64; 4]) -> Result<Taken, u8> {
-    let [lane, mark, length, _] = words;
+    let [lane, mark, length, train] = words;
     let lane = u8::try_from(lane).map_err(|_| OUT_OF_RANGE)?;
+    let train = u8::try_from(train).map_err(|_| OUT_OF_RANGE)?;
     let mark = u32::try_from(mark).map_err(|_| OUT_OF_RANGE)?;
-    Ok(Taken { lane, mark, length })
+    Ok(Taken { lane, train, mark, length })
 }
 
 // SAFETY, for every call below: each pointer comes from a slice with its own length, the slices do not overlap, and
@@ -124,12 +156,25 @@ impl Unit for Linked {
         plain(1, |out, len| unsafe { zf_put(at, size, lane, mark, length, out, len) }).map(|words| words[0])
     }
 
+    fn put_train(
+        &mut self,
+        table: &mut [u8],
+        lane: u8,
+        train: u8,
+        mark: u32,
+        length: u64,
+    ) -> Result<u64, u8> {
+        let (at, size) = (table.as_mut_ptr(), table.len());
+        plain(1, |out, len| unsafe { zf_put_train(at, size, lane, train, mark, length, out, len) })
+            .map(|words| words[0])
+    }
+
     fn take(&mut self, table: &mut [u8]) -> Result<Taken, u8> {
-        taken(plain(3, |out, len| unsafe { zf_take(table.as_mut_ptr(), table.len(), out, len) })?)
+        taken(plain(4, |out, len| unsafe { zf_take(table.as_mut_ptr(), table.len(), out, len) })?)
     }
 
     fn look(&mut self, table: &mut [u8]) -> Result<Taken, u8> {
-        taken(plain(3, |out, len| unsafe { zf_look(table.as_mut_ptr(), table.len(), out, len) })?)
+        taken(plain(4, |out, len| unsafe { zf_look(table.as_mut_ptr(), table.len(), out, len) })?)
     }
 
     fn sets(&mut self, table: &mut [u8]) -> Result<[u64; 4], u8> {
@@ -143,6 +188,21 @@ impl Unit for Linked {
 
     fn restart(&mut self, table: &mut [u8]) -> Result<(), u8> {
         plain(0, |out, len| unsafe { zf_restart(table.as_mut_ptr(), table.len(), out, len) }).map(|_| ())
+    }
+
+    fn show(&mut self, table: &mut [u8], ask: Ask) -> Option<Result<[u64; 4], u8>> {
+        let (at, size) = (table.as_mut_ptr().cast_const(), table.len());
+        Some(match ask {
+            Ask::Clock => plain(1, |out, len| unsafe { zf_clock(at, size, out, len) }),
+            Ask::Lane(lane) => plain(4, |out, len| unsafe { zf_lane(at, size, lane, out, len) }),
+            Ask::Backlog(lane) => plain(2, |out, len| unsafe { zf_backlog(at, size, lane, out, len) }),
+            Ask::Record(lane, before) => {
+                plain(4, |out, len| unsafe { zf_record(at, size, lane, before, out, len) })
+            }
+            Ask::TrainRecord(lane, train, before) => {
+                plain(4, |out, len| unsafe { zf_train_record(at, size, lane, train, before, out, len) })
+            }
+        })
     }
 
     fn run(&mut self, session: &[u8], limit: u64, table: &mut [u8], answers: &mut [u8]) -> Run {
@@ -202,10 +262,16 @@ pub fn short_buffers() -> Result<(), String> {
             [
                 zf_make(setup.as_ptr(), setup.len(), t, size, o, length),
                 zf_put(t, size, 0, 1, 64, o, length),
+                zf_put_train(t, size, 0, 0, 1, 64, o, length),
                 zf_take(t, size, o, length),
                 zf_look(t, size, o, length),
                 zf_sets(t, size, o, length),
                 zf_lag(t, size, 0, o, length),
+                zf_clock(t, size, o, length),
+                zf_lane(t, size, 0, o, length),
+                zf_backlog(t, size, 0, o, length),
+                zf_record(t, size, 0, 0, o, length),
+                zf_train_record(t, size, 0, 0, 0, o, length),
                 zf_restart(t, size, o, length),
                 zf_run(
                     session.as_ptr(),
@@ -221,7 +287,7 @@ pub fn short_buffers() -> Result<(), String> {
             ]
         };
         let written = out != [0x55; OUT] || table != before || answers.iter().any(|byte| *byte != 0x44);
-        if given != [OUT_SHORT; 8] || written {
+        if given != [OUT_SHORT; 14] || written {
             return Err(format!("an answer buffer of {length} bytes: {given:?}, written: {written}"));
         }
     }

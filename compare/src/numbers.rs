@@ -26,6 +26,10 @@ pub const DEPTH: usize = 64;
 /// What it had room for before, in the tables that are converted.
 pub const OLD_DEPTH: usize = 16;
 
+/// "up to 8 trains, each with its own queue of 8 records" (document 02, l).
+pub const TRAINS: u8 = 8;
+pub const TRAIN_DEPTH: usize = 8;
+
 /// "c = 1,048,576 / w, rounded up: clock units per byte of this lane."
 pub const UNITS_OF_A_FULL_LINE: i128 = 1_048_576;
 /// "Sending one byte of any lane moves the clock V by 1,024."
@@ -86,6 +90,9 @@ pub mod refusal {
     pub const WEIGHT: u8 = 52;
     pub const LONGEST: u8 = 53;
     pub const FRAMING: u8 = 54;
+    // Document 02, l: trains.
+    pub const NO_TRAIN: u8 = 70;
+    pub const TRAIN_FULL: u8 = 71;
     // Document 02, m: a sheet.
     pub const SHEET_BYTE: u8 = 80;
     pub const SHEET_CUT: u8 = 81;

@@ -4,13 +4,14 @@
 //! orders lanes by who "got its present S earliest".
 
 mod back;
+mod waiting;
 
 pub use back::taken_off;
+pub use waiting::{Train, Trains, Waiting};
 
 use crate::calls::{Answer, Call, Taken};
 use crate::numbers::{refusal, *};
 use crate::setup::{LanePlan, Setup};
-use std::collections::VecDeque;
 
 #[derive(Clone, Copy, Debug, PartialEq, Eq)]
 pub struct Record {
@@ -25,7 +26,7 @@ pub struct Lane {
     pub units_per_byte: i128,
     /// i: the least i with 2^i at least longest plus h, times c.
     pub group: u32,
-    pub queue: VecDeque<Record>,
+    pub waiting: Waiting,
     /// S and R, of no meaning while the lane is idle.
     pub start: i128,
     pub rounded_start: i128,
@@ -41,13 +42,18 @@ impl Lane {
         let units_per_byte = (UNITS_OF_A_FULL_LINE + weight - 1) / weight;
         let most = charged(plan.longest.into(), framing) * units_per_byte;
         let group = (0..).find(|i| (1_i128 << i) >= most).expect("some power of two is large enough");
-        let queue = VecDeque::new();
-        Lane { plan, units_per_byte, group, queue, start: 0, rounded_start: 0, finish: 0, since: 0 }
+        let waiting = Waiting::none(plan.shared);
+        Lane { plan, units_per_byte, group, waiting, start: 0, rounded_start: 0, finish: 0, since: 0 }
+    }
+
+    /// A lane that holds nothing, with this F.
+    pub fn idle(plan: LanePlan, framing: u8, finish: i128) -> Lane {
+        Lane { finish, ..Lane::fresh(plan, framing) }
     }
 
     /// A lane of any origin; `word` is its S while it holds records, and its F while it is idle.
-    pub fn of(plan: LanePlan, framing: u8, queue: VecDeque<Record>, word: i128, since: u64) -> Lane {
-        let mut lane = Lane { queue, ..Lane::fresh(plan, framing) };
+    pub fn of(plan: LanePlan, framing: u8, waiting: Waiting, word: i128, since: u64) -> Lane {
+        let mut lane = Lane { waiting, ..Lane::fresh(plan, framing) };
         if lane.holds() {
             lane.begin(word, since, framing);
         } else {
@@ -61,7 +67,7 @@ impl Lane {
     }
 
     pub fn holds(&self) -> bool {
-        !self.queue.is_empty()
+        !self.waiting.is_empty()
     }
 
     pub fn rounded_finish(&self) -> i128 {
@@ -75,7 +81,7 @@ impl Lane {
 
     /// A new S for the lane's first record, and the R and F that follow from it.
     fn begin(&mut self, start: i128, event: u64, framing: u8) {
-        let first = self.queue.front().expect("a lane that gets an S holds a record");
+        let (_, first) = self.waiting.first().expect("a lane that gets an S holds a record");
         self.start = start;
         self.rounded_start = start - start % self.slot();
         self.finish = start + charged(first.length, framing) * self.units_per_byte;
@@ -111,7 +117,7 @@ impl State {
     pub fn alike(&self, other: &State) -> bool {
         let lane = |lane: &Lane| {
             let start = lane.holds().then_some((lane.start, lane.rounded_start));
-            (lane.plan, lane.units_per_byte, lane.group, lane.queue.clone(), lane.finish, start)
+            (lane.plan, lane.units_per_byte, lane.group, lane.waiting.clone(), lane.finish, start)
         };
         (self.clock, self.framing) == (other.clock, other.framing)
             && self.lanes.iter().map(lane).eq(other.lanes.iter().map(lane))
@@ -143,34 +149,39 @@ impl State {
         self.events
     }
 
-    /// Answers how many records the lane held before (document 02, b). A put that is not refused takes a clock that is far on back first (h).
+    /// "0x20 means train 0".
     pub fn put(&mut self, number: u8, mark: u32, length: u64) -> Result<u64, u8> {
-        self.accepts(number, length)?;
-        self.lower(taken_off(self.clock));
-        self.put_endless(number, mark, length)
+        self.put_train(number, 0, mark, length)
     }
 
-    /// Whether a put is refused, by 11 to 13.
-    pub fn accepts(&self, number: u8, length: u64) -> Result<(), u8> {
+    /// Answers how many records of the train the lane held before (document 02, b and l). A put that is not refused takes a clock that is far on back first
+    /// (h).
+    pub fn put_train(&mut self, number: u8, train: u8, mark: u32, length: u64) -> Result<u64, u8> {
+        self.accepts(number, train, length)?;
+        self.lower(taken_off(self.clock));
+        self.put_endless(number, train, mark, length)
+    }
+
+    /// Whether a put is refused: by 11, 70, 12, then 13 or 71.
+    pub fn accepts(&self, number: u8, train: u8, length: u64) -> Result<(), u8> {
         let lane = &self.lanes[self.place(number)?];
+        lane.waiting.has_train(train)?;
         if length == 0 || length > u64::from(lane.plan.longest) {
             return Err(refusal::LENGTH);
         }
-        if lane.queue.len() >= DEPTH {
-            return Err(refusal::LANE_FULL);
-        }
-        Ok(())
+        lane.waiting.has_room(train)
     }
 
     /// A put by an endless clock, which is never taken back.
-    pub fn put_endless(&mut self, number: u8, mark: u32, length: u64) -> Result<u64, u8> {
-        self.accepts(number, length)?;
+    pub fn put_endless(&mut self, number: u8, train: u8, mark: u32, length: u64) -> Result<u64, u8> {
+        self.accepts(number, train, length)?;
         let at = self.place(number)?;
         let lane = &self.lanes[at];
-        let (was_idle, ahead) = (!lane.holds(), lane.queue.len() as u64);
+        let was_idle = !lane.holds();
+        let ahead = lane.waiting.queue(train).expect("a train that there is").len() as u64;
         let (event, framing) = (self.event(), self.framing);
         let lane = &mut self.lanes[at];
-        lane.queue.push_back(Record { mark, length });
+        lane.waiting.put(train, Record { mark, length }, lane.plan.longest.into());
         if was_idle {
             lane.begin(lane.finish.max(self.clock), event, framing);
         }
@@ -193,8 +204,8 @@ impl State {
 
     pub fn look(&self) -> Result<Taken, u8> {
         let lane = self.chosen().ok_or(refusal::NOTHING_HELD)?;
-        let first = lane.queue[0];
-        Ok(Taken { lane: lane.plan.number, mark: first.mark, length: first.length })
+        let (train, first) = lane.waiting.first().expect("an eligible lane holds a record");
+        Ok(Taken { lane: lane.plan.number, train, mark: first.mark, length: first.length })
     }
 
     pub fn take(&mut self) -> Result<Taken, u8> {
@@ -202,7 +213,7 @@ impl State {
         let at = self.place(taken.lane)?;
         let (event, framing) = (self.event(), self.framing);
         let lane = &mut self.lanes[at];
-        lane.queue.pop_front();
+        lane.waiting.hand_out(lane.plan.longest.into());
         self.clock += UNITS_PER_BYTE_SENT * charged(taken.length, framing);
         if lane.holds() {
             lane.begin(lane.finish, event, framing);
@@ -260,9 +271,17 @@ impl State {
         Ok(())
     }
 
+    /// Whether a lane of the setup is shared.
+    pub fn shared(&self, number: u8) -> bool {
+        self.lane(number).is_some_and(|lane| lane.plan.shared)
+    }
+
     pub fn answer(&mut self, call: Call) -> Answer {
         let answer = match call {
             Call::Put { lane, mark, length } => self.put(lane, mark, length).map(Answer::Put),
+            Call::PutTrain { lane, train, mark, length } => {
+                self.put_train(lane, train, mark, length).map(Answer::Put)
+            }
             Call::Take => self.take().map(Answer::Taken),
             Call::Look => self.look().map(Answer::Looked),
             Call::Sets => Ok(Answer::Sets(self.sets())),

@@ -13,10 +13,20 @@ pub const LOOK: u8 = 0x22;
 pub const SETS: u8 = 0x23;
 pub const LAG: u8 = 0x24;
 pub const RESTART: u8 = 0x25;
+/// "put with a train: lane u8, train u8, mark u32, length u16" (document 02, l).
+pub const PUT_TRAIN: u8 = 0x26;
 pub const END: u8 = 0x7F;
 
-const FIELDS: &Part =
-    &[(PUT, &[7]), (TAKE, &[0]), (LOOK, &[0]), (SETS, &[0]), (LAG, &[1]), (RESTART, &[0]), (END, &[0])];
+const FIELDS: &Part = &[
+    (PUT, &[7]),
+    (TAKE, &[0]),
+    (LOOK, &[0]),
+    (SETS, &[0]),
+    (LAG, &[1]),
+    (RESTART, &[0]),
+    (PUT_TRAIN, &[8]),
+    (END, &[0]),
+];
 
 /// "why it stopped: end field, limit, or a refusal with its number and place".
 #[derive(Clone, Copy, Debug, PartialEq, Eq)]
@@ -86,7 +96,8 @@ pub fn walk(session: &[u8], limit: u64) -> Outcome {
             Err(fault) => break Stop::Refused(fault),
             Ok(Request::End) => break Stop::End,
             Ok(Request::Call(call, next)) => {
-                writeln!(text, "{}", state.answer(call)).expect("a string takes every line");
+                let line = state.answer(call).line(|lane| state.shared(lane));
+                writeln!(text, "{line}").expect("a string takes every line");
                 answered += 1;
                 place = next;
             }
@@ -104,12 +115,18 @@ enum Request {
     End,
 }
 
-/// The request at `place`. Its numbers are not judged here: 10 to 16 answer the request.
+/// The request at `place`. Its numbers are not judged here: 10 to 16, 70 and 71 answer the request.
 fn request(session: &[u8], place: usize) -> Result<Request, Fault> {
     let field = field(session, place, FIELDS)?;
     let call = match (field.tag, field.value) {
         (PUT, &[lane, m3, m2, m1, m0, l1, l0]) => Call::Put {
             lane,
+            mark: u32::from_be_bytes([m3, m2, m1, m0]),
+            length: u64::from(u16::from_be_bytes([l1, l0])),
+        },
+        (PUT_TRAIN, &[lane, train, m3, m2, m1, m0, l1, l0]) => Call::PutTrain {
+            lane,
+            train,
             mark: u32::from_be_bytes([m3, m2, m1, m0]),
             length: u64::from(u16::from_be_bytes([l1, l0])),
         },

@@ -1,5 +1,6 @@
 //! "Setup: 0x01 (format, u16 = 1) first and once; one or more 0x10 (lane u8, weight u16, longest u16) with rising
-//! lane numbers; 0x7F, empty." And "field 0x11 (u8, 0 to 64) directly after 0x01; absent means 0" (document 02, d), and format 2 (j).
+//! lane numbers; 0x7F, empty." And "field 0x11 (u8, 0 to 64) directly after 0x01; absent means 0" (document 02, d), format 2 (j),
+//! and "field 0x12 (lane u8) directly after that lane's 0x10 makes it shared" (l).
 
 use crate::fields::{field, Fault, Field, Part};
 use crate::numbers::{refusal, *};
@@ -7,15 +8,18 @@ use crate::numbers::{refusal, *};
 pub const FORMAT: u8 = 0x01;
 pub const LANE: u8 = 0x10;
 pub const FRAMED: u8 = 0x11;
+pub const SHARED: u8 = 0x12;
 pub const END: u8 = 0x7F;
 
-const FIELDS: &Part = &[(FORMAT, &[2]), (FRAMED, &[1]), (LANE, &[3, 5]), (END, &[0])];
+const FIELDS: &Part = &[(FORMAT, &[2]), (FRAMED, &[1]), (LANE, &[3, 5]), (SHARED, &[1]), (END, &[0])];
 
 #[derive(Clone, Copy, Debug, PartialEq, Eq)]
 pub struct LanePlan {
     pub number: u8,
     pub weight: u16,
     pub longest: u16,
+    /// Trains share it, each with a queue of its own.
+    pub shared: bool,
 }
 
 /// What a setup says, lanes by rising number.
@@ -49,6 +53,7 @@ pub fn read(input: &[u8]) -> Result<(Setup, usize), Fault> {
         let in_place = match field.tag {
             FORMAT => before.is_none(),
             FRAMED => before == Some(FORMAT),
+            SHARED => before == Some(LANE) && lanes.last().is_some_and(|lane| lane.number == field.value[0]),
             _ => before.is_some(),
         };
         if !in_place {
@@ -66,6 +71,7 @@ pub fn read(input: &[u8]) -> Result<(Setup, usize), Fault> {
             }
             FRAMED => framing = field.value[0],
             LANE => lanes.push(lane(format, &field, &lanes)?),
+            SHARED => lanes.iter_mut().rev().take(1).for_each(|lane| lane.shared = true),
             _ if lanes.is_empty() => return Err(field.fault(refusal::ORDER)),
             _ => return Ok((Setup { format, framing, lanes }, field.next)),
         }
@@ -97,5 +103,5 @@ fn lane(format: u16, field: &Field, before: &[LanePlan]) -> Result<LanePlan, Fau
     if so_far + u32::from(weight) > WEIGHT_SUM {
         return Err(field.fault_in_value(refusal::WEIGHTS, 1));
     }
-    Ok(LanePlan { number, weight, longest })
+    Ok(LanePlan { number, weight, longest, shared: false })
 }

@@ -10,6 +10,7 @@ use crate::rules::State;
 use crate::session::{self, Run};
 use crate::setup;
 use crate::shelf::{Shelf, TABLE_SIZE};
+use crate::shown::Ask;
 
 pub trait Unit {
     /// The table's fixed size in bytes.
@@ -20,14 +21,22 @@ pub trait Unit {
     }
     /// The number of lanes, or a refusal 1 to 7 or 50 to 54 with its place.
     fn make(&mut self, setup: &[u8], table: &mut [u8]) -> Result<u64, Fault>;
-    /// The number of records that the lane held before.
+    /// The number of records of train 0 that the lane held before.
     fn put(&mut self, table: &mut [u8], lane: u8, mark: u32, length: u64) -> Result<u64, u8>;
+    /// The number of the train's records that the lane held before.
+    fn put_train(&mut self, table: &mut [u8], lane: u8, train: u8, mark: u32, length: u64)
+        -> Result<u64, u8>;
     fn take(&mut self, table: &mut [u8]) -> Result<Taken, u8>;
     fn look(&mut self, table: &mut [u8]) -> Result<Taken, u8>;
     fn sets(&mut self, table: &mut [u8]) -> Result<[u64; 4], u8>;
     fn lag(&mut self, table: &mut [u8], lane: u8) -> Result<i64, u8>;
     fn restart(&mut self, table: &mut [u8]) -> Result<(), u8>;
     fn run(&mut self, session: &[u8], limit: u64, table: &mut [u8], answers: &mut [u8]) -> Run;
+
+    /// What the table shows, if the unit has calls for that.
+    fn show(&mut self, _table: &mut [u8], _ask: Ask) -> Option<Result<[u64; 4], u8>> {
+        None
+    }
 
     /// No call of the unit: moves a good table's clock on by a multiple of 2^31, as if so much less had been taken off it, so that lists come to where the
     /// clock is taken back.
@@ -38,6 +47,9 @@ pub trait Unit {
     fn answer(&mut self, table: &mut [u8], call: Call) -> Answer {
         let answer = match call {
             Call::Put { lane, mark, length } => self.put(table, lane, mark, length).map(Answer::Put),
+            Call::PutTrain { lane, train, mark, length } => {
+                self.put_train(table, lane, train, mark, length).map(Answer::Put)
+            }
             Call::Take => self.take(table).map(Answer::Taken),
             Call::Look => self.look(table).map(Answer::Looked),
             Call::Sets => self.sets(table).map(Answer::Sets),
@@ -83,6 +95,17 @@ impl Unit for Reference {
 
     fn put(&mut self, table: &mut [u8], lane: u8, mark: u32, length: u64) -> Result<u64, u8> {
         self.change(table, |state| state.put(lane, mark, length))
+    }
+
+    fn put_train(
+        &mut self,
+        table: &mut [u8],
+        lane: u8,
+        train: u8,
+        mark: u32,
+        length: u64,
+    ) -> Result<u64, u8> {
+        self.change(table, |state| state.put_train(lane, train, mark, length))
     }
 
     fn take(&mut self, table: &mut [u8]) -> Result<Taken, u8> {

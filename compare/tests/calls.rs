@@ -8,7 +8,7 @@ use compare::rules::{taken_off, State};
 use compare::unit::{Reference, Unit};
 
 fn taken(lane: u8, mark: u32, length: u64) -> Result<Taken, u8> {
-    Ok(Taken { lane, mark, length })
+    Ok(Taken { lane, train: 0, mark, length })
 }
 
 #[test]

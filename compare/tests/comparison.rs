@@ -22,6 +22,8 @@ fn the_reference_with_itself_and_with_the_stand_in() {
     assert_eq!(itself, other, "the same seed gives the same cases");
     assert!(itself.calls > 100_000 && itself.inputs() > 5_000, "{itself}");
     assert!(itself.refused.iter().enumerate().all(|(at, count)| at == 4 || *count > 100), "{itself}");
+    assert!(itself.refused_trains.iter().all(|count| *count > 100), "{itself}");
+    assert!(itself.taken_of_trains > 1_000 && itself.train_ends > 10_000, "{itself}");
     assert!(itself.taken_back > 500 && itself.refused[4] == 0, "{itself}");
     assert!(itself.words.iter().all(|count| *count > 10), "{itself}");
 }

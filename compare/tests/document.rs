@@ -75,7 +75,7 @@ fn m3_m5_m6() {
 fn m4() {
     let mut state = fresh(&[(0, 1, 64)]);
     state.put(0, 1, 64).unwrap();
-    assert_eq!(state.take(), Ok(Taken { lane: 0, mark: 1, length: 64 }));
+    assert_eq!(state.take(), Ok(Taken { lane: 0, train: 0, mark: 1, length: 64 }));
     assert_eq!(state.clock, 65_536);
     state.put(0, 2, 64).unwrap();
     assert_eq!(state.clock, 67_108_864);

@@ -130,7 +130,7 @@ fn margins() {
 fn the_laws_count_charged_bytes() {
     use compare::calls::{Answer, Call};
     let put = |lane| (Call::Put { lane, mark: 0, length: 1 }, Answer::Put(0));
-    let take = |lane| (Call::Take, Answer::Taken(Taken { lane, mark: 0, length: 1 }));
+    let take = |lane| (Call::Take, Answer::Taken(Taken { lane, train: 0, mark: 0, length: 1 }));
     let lanes = [(0, 512, 64), (1, 256, 64)];
     // Lane 0 waits while lane 1 sends records of one byte. Group 18 of lane 0 with h = 64 (128 x 2,048), so 4 x 2^18 + 1,024 x 128 units: 1,152 charged bytes,
     // 65 for each record, where bare ones would come to 1.

@@ -7,11 +7,11 @@ use compare::gen::{caller::Caller, setups};
 use compare::laws::endless::{self, Endless};
 use compare::laws::{compared::Compared, fairness::Fairness, good, groups, order::Order, Laws};
 use compare::rng::Rng;
-use compare::rules::{Lane, State};
+use compare::rules::{Lane, State, Waiting};
 
 #[test]
 fn random_lists() {
-    let (mut checked, mut compared) = (0, 0);
+    let (mut checked, mut compared, mut trains) = (0, 0, 0);
     let mut blocked = 0;
     for seed in 0..3_000 {
         let mut rng = Rng::new(seed);
@@ -28,9 +28,11 @@ fn random_lists() {
         laws.end(&state).unwrap_or_else(|broken| panic!("seed {seed}: {broken}"));
         checked += laws.fairness.checked;
         compared += laws.compared.checked;
+        trains += laws.trains.checked;
     }
     assert!(checked > 1_000_000, "demand 3 was checked at {checked} points");
     assert!(compared > 500_000, "two lanes were compared at {compared} points");
+    assert!(trains > 100_000, "two trains were compared at {trains} points");
     assert!(blocked > 100, "{blocked} tables had an eligible group that is blocked");
 }
 
@@ -94,7 +96,7 @@ fn unfair(rng: &mut Rng, fresh: &State, calls: usize) -> Vec<(Call, Answer)> {
             queues[lane].push(length);
             (Call::Put { lane: lane as u8, mark: 0, length }, Answer::Put(0))
         } else {
-            let taken = Taken { lane: lane as u8, mark: 0, length: queues[lane].remove(0) };
+            let taken = Taken { lane: lane as u8, train: 0, mark: 0, length: queues[lane].remove(0) };
             (Call::Take, Answer::Taken(taken))
         });
     }
@@ -129,7 +131,7 @@ fn by_turns(fresh: &State, takes: usize) -> Result<(), String> {
         compared.step(put(lane), Answer::Put(0))?;
     }
     for &lane in lanes.iter().cycle().take(takes) {
-        compared.step(Call::Take, Answer::Taken(Taken { lane, mark: 0, length: 1_000 }))?;
+        compared.step(Call::Take, Answer::Taken(Taken { lane, train: 0, mark: 0, length: 1_000 }))?;
         compared.step(put(lane), Answer::Put(1))?;
     }
     Ok(())
@@ -152,7 +154,7 @@ fn a_lane_that_runs_dry_ends_the_stretch() {
     let fresh = fresh(&[(0, 512, 1500), (1, 256, 1500)]);
     let mut compared = Compared::new(&fresh);
     let put = |lane| (Call::Put { lane, mark: 0, length: 1_500 }, Answer::Put(0));
-    let take = |lane| (Call::Take, Answer::Taken(Taken { lane, mark: 0, length: 1_500 }));
+    let take = |lane| (Call::Take, Answer::Taken(Taken { lane, train: 0, mark: 0, length: 1_500 }));
     let mut step = |(call, answer)| compared.step(call, answer);
     step(put(0)).unwrap();
     step(put(1)).unwrap();
@@ -173,7 +175,7 @@ fn demand_3_is_lost_when_a_lane_is_shut_out() {
     let fresh = fresh(&[(0, 512, 1500), (1, 256, 1500)]);
     let mut fairness = Fairness::new(&fresh);
     let put = |lane| (Call::Put { lane, mark: 0, length: 1_000 }, Answer::Put(0));
-    let take = |lane| (Call::Take, Answer::Taken(Taken { lane, mark: 0, length: 1_000 }));
+    let take = |lane| (Call::Take, Answer::Taken(Taken { lane, train: 0, mark: 0, length: 1_000 }));
     let step = |fairness: &mut Fairness, (call, answer)| fairness.step(call, answer);
     step(&mut fairness, put(0)).unwrap();
     // Lane 0 waits: fewer than 17,884 bytes of lane 1 may go out.
@@ -188,7 +190,7 @@ fn demand_3_is_lost_when_a_lane_is_shut_out() {
 #[test]
 fn records_out_of_order_or_invented() {
     let put = |mark| Call::Put { lane: 0, mark, length: 5 };
-    let take = |mark, length| Answer::Taken(Taken { lane: 0, mark, length });
+    let take = |mark, length| Answer::Taken(Taken { lane: 0, train: 0, mark, length });
     let mut order = Order::default();
     order.step(put(1), Answer::Put(0)).unwrap();
     order.step(put(2), Answer::Put(1)).unwrap();
@@ -246,8 +248,15 @@ fn tables_that_are_not_good() {
     };
     assert!(broken(|state| state.clock = (1 << 62) + (1 << 44)));
     assert!(broken(|state| state.lanes[0].finish += 1));
-    assert!(broken(|state| state.lanes[0].queue[1].length = 1_501));
-    assert!(broken(|state| state.lanes[0].queue[1].length = 0));
+    let second = |state: &mut State, length: u64| match &mut state.lanes[0].waiting {
+        Waiting::Own(queue) => queue[1].length = length,
+        Waiting::Shared(_) => unreachable!("the lane is not shared"),
+    };
+    for length in [0, 1_501] {
+        let mut other = state.clone();
+        second(&mut other, length);
+        assert!(good::check(&other).is_err(), "{length} bytes");
+    }
     assert!(broken(|state| state.lanes[0].rounded_start = 1), "no lane is eligible");
     assert!(broken(|state| state.lanes[1].finish = 2 << 23));
     assert!(!broken(|state| state.lanes[1].finish = (2 << 23) - 1));

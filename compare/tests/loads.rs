@@ -5,7 +5,7 @@ use compare::rules::State;
 use compare::session::{self, Stop};
 
 fn held(state: &State) -> Vec<usize> {
-    state.lanes.iter().map(|lane| lane.queue.len()).collect()
+    state.lanes.iter().map(|lane| lane.waiting.len()).collect()
 }
 
 #[test]

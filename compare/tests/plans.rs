@@ -7,7 +7,7 @@ use compare::plans::{Depot, Refused};
 use compare::setup::{LanePlan, Setup};
 
 fn lane(number: u8, weight: u16, longest: u16) -> LanePlan {
-    LanePlan { number, weight, longest }
+    LanePlan { number, weight, longest, shared: false }
 }
 
 /// Document 01's setup.
@@ -69,6 +69,42 @@ fn edges_of_the_numbers() {
 }
 
 #[test]
+fn shared_lanes_go_there_and_back() {
+    let setup =
+        b"\x01\0\x02\0\x02\x10\0\x05\x03\x02\0\x05\xDC\x12\0\x01\x03\x10\0\x05\x3F\0\x01\0\x40\x7F\0\0";
+    assert!(in_form(setup));
+    let mut area = vec![0xEE; SIZE];
+    assert_eq!(Reference.read(setup, &mut area), Ok(2));
+    let all = words(&area);
+    assert_eq!((all[4], all[64]), ((1 << 32) + (1500 << 16) + 512, (64 << 16) + 1));
+    let mut buffer = vec![0xEE; 28];
+    assert_eq!(
+        Reference.write(&area, &mut buffer[..27]),
+        Err(Refused::by(56)),
+        "four bytes for each shared lane"
+    );
+    assert_eq!(Reference.write(&area, &mut buffer), Ok(28));
+    assert_eq!(buffer, setup);
+    let with = |at: usize, word: u64| {
+        let mut other = area.clone();
+        other[8 * at..8 * at + 8].copy_from_slice(&word.to_le_bytes());
+        plan(&other).map(|plan| plan.lanes.iter().filter(|lane| lane.shared).count())
+    };
+    assert_eq!(with(64, (1 << 32) + (64 << 16) + 1), Some(2));
+    assert_eq!(with(4, (1500 << 16) + 512), Some(0));
+    for word in [2 << 32, 3 << 32, 1 << 48, 1 << 63] {
+        assert_eq!(with(4, word + (1500 << 16) + 512), None, "a lane's word with {word}");
+    }
+    assert_eq!(with(9, 1 << 32), None, "a shared lane that is not there");
+}
+
+#[test]
+fn the_largest_setup() {
+    let lanes = (0..64).map(|number| LanePlan { shared: true, ..lane(number, 16, 64) }).collect();
+    assert_eq!(bytes(&Setup { format: 2, framing: 1, lanes }).len(), 780);
+}
+
+#[test]
 fn the_order_of_refusals() {
     let mut buffer = [];
     assert_eq!(Reference.write(&[], &mut buffer), Err(Refused::by(55)), "55 before 56");
@@ -84,6 +120,7 @@ fn no_difference_where_there_is_none_and_every_number_comes() {
         assert!(tally.refused.get(&number).is_some_and(|count| *count > 2), "{number}: {tally}");
     }
     assert!(tally.read > 500 && tally.in_form > 200 && tally.written > 500, "{tally}");
+    assert!(tally.shared > 200 && tally.shared < tally.read, "{tally}");
     assert!(tally.areas_good > 200 && tally.areas > tally.areas_good + 200, "{tally}");
 }
 

@@ -89,10 +89,13 @@ fn refused_fields() {
     assert_eq!(requests(&[TAKE, &put(0, 1, 1)[..9]], 9), no(1, 27));
     assert_eq!(requests(&[TAKE, FORMAT], 9), no(2, 27), "a setup's tag is not known here");
     assert_eq!(requests(&[TAKE, &lane(3, 1, 64)], 9), no(2, 27));
-    assert_eq!(requests(&[TAKE, &[0x26, 9, 9]], 9), no(2, 27), "2 before 3");
+    assert_eq!(requests(&[TAKE, &[0x27, 9, 9]], 9), no(2, 27), "2 before 3");
     assert_eq!(requests(&[TAKE, &[0x1F, 0, 0]], 9), no(2, 27));
     for field in [[0x20, 0, 6], [0x20, 0, 8], [0x20, 1, 7], [0x21, 0, 1], [0x22, 0, 1], [0x23, 0, 1]] {
         assert_eq!(requests(&[TAKE, &field], 9), no(3, 27), "3 before 1 of the value: {field:?}");
+    }
+    for field in [[0x26, 0, 0], [0x26, 0, 7], [0x26, 0, 9], [0x26, 8, 0], [0x26, 1, 8]] {
+        assert_eq!(requests(&[TAKE, &field], 9), no(3, 27), "{field:?}");
     }
     for field in [[0x24, 0, 0], [0x24, 0, 2], [0x24, 1, 1], [0x25, 0, 1], [0x25, 1, 0], [0x7F, 0, 1]] {
         assert_eq!(requests(&[TAKE, &field], 9), no(3, 27), "{field:?}");
@@ -151,7 +154,7 @@ fn lent_areas() {
 fn the_state_after_a_run() {
     let held = |fields: &[&[u8]]| {
         let outcome = walk(&[two_lanes(), fields.concat()].concat(), 1_000);
-        outcome.state.unwrap().lanes.iter().map(|lane| lane.queue.len()).collect::<Vec<_>>()
+        outcome.state.unwrap().lanes.iter().map(|lane| lane.waiting.len()).collect::<Vec<_>>()
     };
     assert_eq!(held(&[&put(1, 1, 1), &put(1, 2, 1), END]), [0, 2]);
     assert_eq!(

@@ -3,7 +3,7 @@
 mod common;
 use common::*;
 use compare::fields::Fault;
-use compare::setup::{read, whole};
+use compare::setup::{read, whole, Setup};
 
 /// The refusal of a setup made of these fields.
 fn refused(fields: &[&[u8]]) -> (u8, u64) {
@@ -57,7 +57,7 @@ fn every_cut_of_a_setup_is_told_by_1() {
 fn unknown_tags() {
     assert_eq!(refused(&[&[0x00, 0, 0]]), (2, 0), "2 comes before 4");
     assert_eq!(refused(&[&[0x02, 0xFF, 0xFF]]), (2, 0), "2 comes before 3 and 1");
-    assert_eq!(refused(&[FORMAT, &[0x12, 0, 0]]), (2, 5));
+    assert_eq!(refused(&[FORMAT, &[0x13, 0, 0]]), (2, 5));
     assert_eq!(refused(&[FORMAT, TAKE]), (2, 5), "requests are not known in a setup");
     assert_eq!(refused(&[FORMAT, &lane(0, 1, 64), &[0xFF, 0, 0]]), (2, 13));
 }
@@ -89,6 +89,39 @@ fn order_of_fields() {
     assert_eq!(refused(&[FORMAT, &lane(4, 1, 64), &lane(3, 1, 64), END]), (4, 13));
     assert_eq!(refused(&[FORMAT, &lane(4, 1, 64), END, &[0x55]]), (4, 16), "the byte after the end");
     assert_eq!(refused(&[FORMAT, &lane(4, 1, 64), END, END]), (4, 16));
+}
+
+#[test]
+fn shared_lanes() {
+    let are = |fields: &[&[u8]]| {
+        let setup = whole(&fields.concat()).expect("the setup is accepted");
+        setup.lanes.iter().map(|lane| (lane.number, lane.shared)).collect::<Vec<_>>()
+    };
+    let (three, four) = (lane(3, 1, 64), short_lane(4, 1));
+    assert_eq!(are(&[FORMAT, &three, &shared(3), &four, END]), [(3, true), (4, false)]);
+    assert_eq!(are(&[FORMAT, &three, &four, &shared(4), END]), [(3, false), (4, true)]);
+    assert_eq!(
+        are(&[FORMAT, &framing(1), &three, &shared(3), &four, &shared(4), END]),
+        [(3, true), (4, true)]
+    );
+    // 4 at its tag: another lane's number, elsewhere, twice.
+    for other in [0, 2, 4, 64, 67, 131, 255] {
+        assert_eq!(refused(&[FORMAT, &three, &shared(other), END]), (4, 13), "lane {other}");
+    }
+    assert_eq!(refused(&[&shared(3), FORMAT, &three, END]), (4, 0));
+    assert_eq!(refused(&[FORMAT, &shared(3), &three, END]), (4, 5));
+    assert_eq!(refused(&[FORMAT, &framing(1), &shared(3), &three, END]), (4, 9));
+    assert_eq!(refused(&[FORMAT, &three, &four, &shared(3), END]), (4, 19));
+    assert_eq!(refused(&[FORMAT, &three, &shared(3), &shared(3), END]), (4, 17));
+    assert_eq!(refused(&[FORMAT, &three, END, &shared(3)]), (4, 16));
+    assert_eq!(refused(&[FORMAT, &three, &shared(3), &three, END]), (4, 17), "the lane is still the last");
+    assert_eq!(refused(&[FORMAT, &three, &shared(3), &framing(1), END]), (4, 17));
+    // 3 and 1 before 4, and a lane's own faults before its 0x12.
+    assert_eq!(refused(&[FORMAT, &[0x12, 0, 0]]), (3, 5));
+    assert_eq!(refused(&[FORMAT, &three, &[0x12, 0, 2, 3, 3], END]), (3, 13));
+    assert_eq!(refused(&[FORMAT, &[0x12, 0, 1]]), (1, 5));
+    assert_eq!(refused(&[FORMAT, &lane(3, 0, 64), &shared(4), END]), (52, 9));
+    assert_eq!(refused(&[FORMAT, &three, &shared(3)]), (1, 17));
 }
 
 #[test]
@@ -143,4 +176,42 @@ fn several_faults_in_one_lane_field() {
     assert_eq!(refused(&[FORMAT, &first, &lane(5, 100, 63), END]), (53, 19), "53 before 6");
     assert_eq!(refused(&[&lane(64, 0, 0), END]), (4, 0), "a first lane field, whole: 4");
     assert_eq!(refused(&[FORMAT, &first, &lane(5, 100, 63), &[0x99]]), (53, 19), "the first faulty field");
+}
+
+/// The bytes of a line of `plan_vectors`, and the place where its second reading begins.
+fn vector(line: &str) -> (Vec<u8>, usize) {
+    let text = line.split('#').next().expect("a first part");
+    let digits: Vec<u8> = text.chars().filter_map(|c| c.to_digit(16)).map(|digit| digit as u8).collect();
+    let bytes = digits.chunks_exact(2).map(|pair| 16 * pair[0] + pair[1]).collect();
+    let begin = text.find('@').map_or(0, |at| text[..at].chars().filter(char::is_ascii_hexdigit).count() / 2);
+    (bytes, begin + text.matches('+').count())
+}
+
+/// What `plan_vectors` prints of a reading that began at a place.
+fn said(reading: Result<(Setup, usize), Fault>, from: usize) -> String {
+    match reading {
+        Err(fault) => format!("no {} {}", fault.number, fault.place + from as u64),
+        Ok((setup, end)) => {
+            let lanes = setup.lanes.iter().map(|l| {
+                let shared = if l.shared { "/shared" } else { "" };
+                format!(" {}/{}/{}/{}{shared}", l.number, l.weight, l.longest, setup.framing)
+            });
+            let lanes: String = lanes.collect();
+            format!("format {}, lanes {} to {},{lanes}", setup.format, setup.lanes.len(), end + from)
+        }
+    }
+}
+
+#[test]
+fn the_vectors_of_plans_say_the_same() {
+    let folder = concat!(env!("CARGO_MANIFEST_DIR"), "/../crates/plan_vectors");
+    let text = |name: &str| std::fs::read_to_string(format!("{folder}/{name}")).expect("a file of vectors");
+    let (given, wanted) = (text("stdin"), text("stdout"));
+    assert_eq!(given.lines().count(), wanted.lines().count());
+    for (line, wanted) in given.lines().zip(wanted.lines()) {
+        let (bytes, place) = vector(line);
+        let from = place.min(bytes.len());
+        let all = whole(&bytes).map(|setup| (setup, bytes.len()));
+        assert_eq!(format!("{}; {}", said(all, 0), said(read(&bytes[from..]), from)), wanted, "{line}");
+    }
 }

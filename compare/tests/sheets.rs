@@ -1,7 +1,7 @@
 //! The office's text sheet: what is read, each refusal with its place, and which fault of several is told.
 
 use compare::fields::Fault;
-use compare::setup::LanePlan;
+use compare::setup::{LanePlan, Setup};
 use compare::sheets::driver::{compare, Tally};
 use compare::sheets::slips::{Slip, Slipped, ALL};
 use compare::sheets::text::{read, write, Reference};
@@ -16,14 +16,19 @@ fn refused(sheet: &str) -> (u8, u64) {
 fn lanes_are_read_and_written_back() {
     let sheet = "0 512 1500\n7 1 64\n63 511 99\n";
     let plan = read(sheet.as_bytes()).expect("a sheet of the form");
-    let lane = |number, weight, longest| LanePlan { number, weight, longest };
+    let lane = |number, weight, longest| LanePlan { number, weight, longest, shared: false };
     assert_eq!(
         (plan.format, plan.framing, &plan.lanes[..]),
         (2, 0, &[lane(0, 512, 1500), lane(7, 1, 64), lane(63, 511, 99)][..])
     );
     assert_eq!(write(&plan).as_deref(), Some(sheet.as_bytes()));
-    let framed = compare::setup::Setup { framing: 1, ..plan };
+    let framed = Setup { framing: 1, ..plan.clone() };
     assert_eq!(write(&framed), None);
+    for shared in 0..3 {
+        let mut plan = plan.clone();
+        plan.lanes[shared].shared = true;
+        assert_eq!(write(&plan), None, "one shared lane");
+    }
 }
 
 #[test]
@@ -82,6 +87,11 @@ fn refusals_of_writing_in_their_order() {
     area[2] = 65;
     assert_eq!(Reference.write(&area, &mut []), Err(Refused::by(55)), "55 before 82");
     area[2] = 0;
+    area[8 * 4 + 4] = 1;
+    assert_eq!(Reference.write(&area, &mut []), Err(Refused::by(82)), "a shared lane: 82 before 56");
+    area[8 * 4 + 4] = 2;
+    assert_eq!(Reference.write(&area, &mut []), Err(Refused::by(55)), "no plan: 55 before 82");
+    area[8 * 4 + 4] = 0;
     let mut buffer = [9; 8];
     assert_eq!(Reference.write(&area, &mut buffer[..6]), Err(Refused::by(56)));
     assert_eq!(buffer, [9; 8]);

@@ -131,7 +131,7 @@ fn each_clause_from_both_sides() {
     // Settings: weights sum to 1,024 and 1,025, longest 64 and 63, 1,500 and 1,501, no weight, a wrong c, a wrong group.
     let setting = |longest: u64, weight: u64, group: u64, c: u64| {
         let mut changes: Vec<(usize, u64)> = (352..368).map(|at| (at, 63 * 0x0001_0001_0001_0001)).collect();
-        changes.push((84, layout::setting_of(longest, weight, group, c)));
+        changes.push((84, layout::setting_of(longest, weight, group, c, false)));
         filed(&changes)
     };
     assert_eq!(setting(1_500, 512, 22, 2_048), []);

@@ -1,9 +1,9 @@
 #!/usr/bin/env python3
 """Writes the frames of page_vectors (stdin) and the lines that are expected of them (stdout), in the folder that this file stands in.
 
-The expected lines are worked here from the papers alone: document 01's fields, numbers and refusals, and requests d, e, j (setups) and k (pages) of
-document 02, as docs/DECISIONS.md reads them; nothing here runs, reads or was copied from the program. Run it after a change of the rules, and compare
-what changed in stdout line by line. `vectors.py -v` prints each vector with its note and its line.
+The expected lines are worked here from the rules alone (docs/RULES.md: setups R8, refusals R14; pages as docs/DECISIONS.md reads them); nothing here
+runs, reads or was copied from the program. Run it after a change of the rules, and compare what changed in stdout line by
+line. `vectors.py -v` prints each vector with its note and its line.
 """
 import itertools
 import pathlib
@@ -36,7 +36,7 @@ def field_at(data, place, end, lengths):
 
 # ---- a setup, which stands in a page from a place to an end
 
-SETUP = {0x01: [2], 0x10: [3, 5], 0x11: [1], 0x7F: [0]}
+SETUP = {0x01: [2], 0x10: [3, 5], 0x11: [1], 0x12: [1], 0x7F: [0]}
 
 
 def setup_at(data, place, end):
@@ -47,6 +47,8 @@ def setup_at(data, place, end):
             misplaced = before is not None
         elif tag == 0x11:
             misplaced = before != 0x01
+        elif tag == 0x12:
+            misplaced = before != 0x10 or data[value] != lanes[-1][0]
         elif tag == 0x10:
             misplaced = before is None or lanes and data[value] <= lanes[-1][0]
         else:
@@ -74,6 +76,8 @@ def setup_at(data, place, end):
             if total > 1024:
                 raise No(6, value + 1)
             lanes.append((lane, weight, longest, framing))
+        elif tag == 0x12:
+            lanes[-1] += ('shared',)
         else:
             if behind < end:
                 raise No(4, behind)
@@ -117,7 +121,7 @@ def line_of(data):
         edition, (form, lanes) = page(data)
     except No as no:
         return 'no %d %d' % no.args
-    return 'edition %d, format %d, lanes %d,%s' % (edition, form, len(lanes), ''.join(' %d/%d/%d/%d' % lane for lane in lanes))
+    return 'edition %d, format %d, lanes %d,%s' % (edition, form, len(lanes), ''.join(' ' + '/'.join(map(str, lane)) for lane in lanes))
 
 
 # ---- building inputs
@@ -132,6 +136,10 @@ def field(tag, value=b'', length=None):
 
 def lane(k, weight, longest=None):
     return field(0x10, bytes([k]) + two(weight) + (two(longest) if longest is not None else b''))
+
+
+def shared(k):
+    return field(0x12, bytes([k]))
 
 
 def edition(n):
@@ -166,6 +174,7 @@ full = edition(513) + SKIPPED[1] + settings(SMALL) + SKIPPED[2] + END
 for cut in range(len(full) + 1):
     add('a page with skipped fields, cut at byte %d' % cut, full[:cut])
 add('64 lanes', edition(9), settings(FORM + b''.join(lane(k, 16, 64 + k) for k in range(64)) + END), END)
+add('64 lanes, every other one shared', edition(9), settings(FORM + b''.join(lane(k, 16) + shared(k) * (k % 2) for k in range(64)) + END), END)
 add('64 lanes, the sum over at the last', edition(9), SKIPPED[0], settings(FORM + b''.join(lane(k, 16 + (k == 63), 64) for k in range(64)) + END), END)
 add('a skipped field of 4,000 bytes', edition(9), field(0xA5, bytes(4000)), settings(SMALL), END)
 
@@ -231,6 +240,12 @@ FAULTS = {
     'longest 1,501': FORM + lane(3, 7, 1501) + END,
     'framing 65': FORM + field(0x11, b'\x41') + lane(3, 7) + END,
     'sum 1,025': FORM + lane(3, 1000) + lane(4, 25) + END,
+    'shared elsewhere': FORM + shared(3) + lane(3, 7) + END,
+    'shared twice': FORM + lane(3, 7) + shared(3) + shared(3) + END,
+    'another lane shared': FORM + lane(3, 7) + shared(4) + END,
+    'shared, its length 2': FORM + lane(3, 7) + field(0x12, bytes(2)) + END,
+    'shared, cut': FORM + lane(3, 7) + shared(3)[:-1],
+    'shared': FORM + lane(3, 1000) + shared(3) + lane(63, 24, 64) + shared(63) + END,
     'none': FORM + lane(3, 1000) + lane(63, 24, 64) + END,
     'empty': b'',
 }

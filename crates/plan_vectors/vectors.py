@@ -1,14 +1,13 @@
 #!/usr/bin/env python3
 """Writes the vectors of plan_vectors (stdin) and the lines that are expected of them (stdout), in the folder that this file stands in.
 
-The expected lines are worked here from document 01 alone, "Setup and session fields", "Numbers" and "Numbers given back", and from requests d
-(framing), e (the numbers and the places of a field's faults) and j (format 2 and its default) of document 02; nothing here runs, reads or was copied from the program. Run it after
-a change of the rules, and compare what changed in stdout line by line.
+The expected lines are worked here from the rules alone (docs/RULES.md: numbers R1, setups R8, refusals R14); nothing here runs, reads or was copied
+from the program. Run it after a change of the rules, and compare what changed in stdout line by line.
 """
 import itertools
 import pathlib
 
-# ---- document 01
+# ---- the rules
 
 LANES = range(0, 64)
 WEIGHTS = range(1, 1024 + 1)
@@ -16,7 +15,7 @@ LONGEST = range(64, 1500 + 1)
 MOST_WEIGHT = 1024
 DEFAULT_LONGEST = {1: 1500, 2: 576}
 FRAMING = range(0, 64 + 1)
-LENGTHS = {0x01: [2], 0x10: [3, 5], 0x11: [1], 0x7F: [0]}
+LENGTHS = {0x01: [2], 0x10: [3, 5], 0x11: [1], 0x12: [1], 0x7F: [0]}
 
 
 class No(Exception):
@@ -58,6 +57,8 @@ def read(data, place):
             raise No(4, place)
         if tag == 0x11 and before != 0x01:
             raise No(4, place)
+        if tag == 0x12 and (before != 0x10 or value[0] != lanes[-1][0]):
+            raise No(4, place)
         # 50 to 54, each at the first byte of its number, then 6 at the weight
         if tag == 0x11 and value[0] not in FRAMING:
             raise No(54, place + 3)
@@ -77,6 +78,8 @@ def read(data, place):
             if weight + sum(w for _, w, *_ in lanes) > MOST_WEIGHT:
                 raise No(6, place + 4)
             lanes.append((lane, weight, longest, framing))
+        if tag == 0x12:
+            lanes[-1] += ('shared',)
         if tag == 0x11:
             framing = value[0]
         first = False
@@ -98,7 +101,7 @@ def line_of(reader, *args):
         form, lanes, place = reader(*args)
     except No as no:
         return 'no %d %d' % no.args
-    return 'format %d, lanes %d to %d,%s' % (form, len(lanes), place, ''.join(' %d/%d/%d/%d' % lane for lane in lanes))
+    return 'format %d, lanes %d to %d,%s' % (form, len(lanes), place, ''.join(' ' + '/'.join(map(str, lane)) for lane in lanes))
 
 
 # ---- building inputs
@@ -120,6 +123,10 @@ def framing(h):
     return field(0x11, bytes([h]))
 
 
+def shared(k):
+    return field(0x12, bytes([k]))
+
+
 FORMAT = field(0x01, number(1))
 END = field(0x7F)
 GOOD = FORMAT + lane(0, 512, 1500) + lane(1, 256) + END
@@ -137,7 +144,7 @@ def setup(note, *fields):
 
 # ---- the vectors
 
-add('document 01, a session in full: its setup', FORMAT + lane(0, 512, 1500) + lane(1, 256, 1500) + END)
+add('the setup of the first session (R16.1)', FORMAT + lane(0, 512, 1500) + lane(1, 256, 1500) + END)
 for cut in range(len(GOOD) + 1):
     add('a good setup cut at byte %d' % cut, GOOD[:cut])
 
@@ -222,7 +229,7 @@ for tag in [t for t in (0x00, 0x02, 0x0F, 0x11, 0x12, 0x13, 0x20, 0x21, 0x25, 0x
     add('tag %02X first' % tag, field(tag, number(1)) + lane(0, 1) + END)
     setup('tag %02X later' % tag, lane(0, 1), field(tag))
 # every length near the right ones, and the high byte of the length
-for tag in (0x01, 0x10, 0x11, 0x7F):
+for tag in (0x01, 0x10, 0x11, 0x12, 0x7F):
     for length in (0, 1, 2, 3, 4, 5, 6, 255, 256, 258, 259, 261, 512, 768, 1280, 65535):
         value = (b'\x05' + number(1) + number(64) if tag == 0x10 else number(1)) + bytes(300)
         setup('tag %02X, length %d' % (tag, length), lane(0, 1), field(tag, value[:min(length, 6)], length))
@@ -288,6 +295,59 @@ for a, one in KINDS.items():
     add('fault %d, then the input ends in a header' % a, FORMAT + lane(5, 1000, 64) + one + b'\x10')
     add('the input ends in the value of a field, after which fault %d would be' % a, FORMAT + lane(5, 1000, 64) + (lane(6, 1, 64) + one)[:6])
 
+# shared lanes: the field directly after its lane's, of both lengths
+SHARED = FORMAT + framing(20) + lane(3, 512, 1500) + shared(3) + lane(9, 256) + shared(9) + END
+for cut in range(len(SHARED) + 1):
+    add('a setup with shared lanes cut at byte %d' % cut, SHARED[:cut])
+for v, longest in itertools.product((1, 2), (None, 64, 1500)):
+    form = field(0x01, number(v))
+    for k in (0, 1, 62, 63):
+        add('format %d, lane %d shared' % (v, k), form + lane(k, 1, longest) + shared(k) + END)
+setup('every lane shared', *[lane(k, 16, 64) + shared(k) for k in range(64)])
+setup('every other lane shared', *[lane(k, 16) + shared(k) * (k % 2) for k in range(64)])
+setup('the last lane alone shared', *[lane(k, 16) for k in range(64)], shared(63))
+setup('a shared lane between others', lane(2, 10, 100), lane(7, 20), shared(7), lane(31, 30, 1500), lane(63, 40))
+setup('framing and a shared lane', framing(64), lane(7, 20), shared(7), lane(8, 20))
+# the field names another lane, one over 63 among them, with that lane in the setup or not
+for k, other in ((5, 4), (5, 6), (5, 0), (5, 63), (5, 64), (5, 69), (5, 255), (0, 1), (0, 64), (0, 128), (63, 62), (63, 64), (63, 0), (63, 127), (63, 191)):
+    setup('lane %d, then 0x12 of %d' % (k, other), lane(k, 1), shared(other))
+    setup('lane %d with a longest, then 0x12 of %d' % (k, other), lane(k, 1, 64), shared(other))
+setup('0x12 of the lane before the last', lane(0, 1), lane(1, 1), shared(0))
+setup('0x12 of the lane to come', lane(0, 1), shared(1), lane(1, 1))
+# the field elsewhere, or twice
+for k in (0, 5, 63, 64, 255):
+    add('0x12 of %d first' % k, shared(k) + FORMAT + lane(5, 1) + END)
+    add('0x12 of %d alone' % k, shared(k))
+    setup('0x12 of %d before its lane' % k, shared(k), lane(5, 1))
+    setup('0x12 of %d after framing' % k, framing(1), shared(k), lane(5, 1))
+    setup('0x12 of %d and no lane' % k, shared(k))
+    setup('0x12 of %d after 0x12' % k, lane(5, 1), shared(5), shared(k))
+    setup('0x12 of %d after 0x12, and a lane' % k, lane(5, 1), shared(5), shared(k), lane(6, 1))
+    setup('0x12 of %d after a later lane and its own' % k, lane(5, 1), lane(63, 1), shared(63), shared(k))
+    add('0x12 of %d after 0x7F' % k, FORMAT + lane(5, 1) + END + shared(k))
+    add('0x12 of %d after 0x12 and 0x7F' % k, FORMAT + lane(5, 1) + shared(5) + END + shared(k))
+    add('0x12 of %d cut in its value' % k, FORMAT + lane(5, 1) + shared(k)[:-1])
+    add('0x12 of %d cut in its value, in no place' % k, FORMAT + shared(k)[:-1])
+    add('0x12 of %d, then the input ends' % k, FORMAT + lane(5, 1) + shared(k))
+# what follows a shared lane is judged as behind any lane
+setup('the same lane again, shared', lane(5, 1), shared(5), lane(5, 1))
+setup('the same lane again, shared twice', lane(5, 1), shared(5), lane(5, 1), shared(5))
+setup('a lower lane after a shared one', lane(5, 1), shared(5), lane(4, 1))
+setup('0x01 after a shared lane', lane(5, 1), shared(5), FORMAT)
+setup('framing after a shared lane', lane(5, 1), shared(5), framing(0))
+setup('weights over, behind a shared lane', lane(5, 1000), shared(5), lane(6, 25), shared(6))
+setup('weights to 1,024, behind a shared lane', lane(5, 1000), shared(5), lane(6, 24), shared(6))
+setup('an unknown tag after a shared lane', lane(5, 1), shared(5), field(0x13))
+add('two setups with shared lanes, one after the other', SHARED + SHARED)
+# a lane field's own fault goes before the 0x12 behind it; a fault of 0x12 before those of the next lane field
+for note, f in (('lane', lane(64, 1, 64)), ('weight', lane(5, 0, 64)), ('longest', lane(5, 1, 63)), ('over', lane(5, 1025 - 1000, 64))):
+    setup('a wrong %s, then 0x12 of it' % note, lane(4, 1000), f, shared(f[3]))
+    setup('0x12 of another lane, then a wrong %s' % note, lane(4, 1000), shared(5), f)
+for length in (0, 2, 3, 255, 256, 257, 65535):
+    setup('0x12 of length %d' % length, lane(5, 1), field(0x12, b'\x05' * min(length, 3), length))
+    setup('0x12 of length %d, in no place' % length, field(0x12, b'\x05' * min(length, 3), length), lane(5, 1))
+    setup('0x12 of length %d, of another lane' % length, lane(5, 1), field(0x12, b'\x06' * min(length, 3), length))
+
 # a setup that stands in a longer input: places count from the input's first byte
 for before in (1, 3, 22, 200):
     data = bytes((7 * i + 1) % 256 for i in range(before))
@@ -295,6 +355,9 @@ for before in (1, 3, 22, 200):
     add('a good setup at %d, and more after it' % before, data + GOOD + b'\x20\x00\x07', before)
     add('lanes that do not rise, at %d' % before, data + FORMAT + lane(1, 1) + lane(1, 1) + END, before)
     add('a cut setup at %d' % before, data + GOOD[:-4], before)
+    add('shared lanes at %d' % before, data + SHARED + b'\x12\x00\x01\x09', before)
+    add('a lane shared twice, at %d' % before, data + FORMAT + lane(1, 1) + shared(1) + shared(1) + END, before)
+    add('another lane shared, at %d' % before, data + FORMAT + lane(1, 1) + shared(0) + END, before)
 add('the place is the end', GOOD, len(GOOD))
 add('the place is one past the end', GOOD, len(GOOD) + 1)
 add('the place is 100 past the end', GOOD, len(GOOD) + 100)

@@ -1,17 +1,18 @@
 #!/usr/bin/env python3
 """Writes the frames of session_vectors (stdin) and what is expected of them (stdout), in the folder that this file stands in.
 
-What is expected is worked here from document 01 alone: "Numbers", "The plain rules", "Setup and session fields", "Numbers given back", "A session in
-full", and from requests d and g of document 02, framing and deeper lanes. Nothing here runs, reads or was copied from the program. Run it after a change
-of them, and compare what changed in stdout.
+What is expected is worked here from the rules alone (docs/RULES.md: R1 to R3, R8, R10, R14, R18). Nothing here runs, reads or was copied from the
+program. Run it after a change of them, and compare what changed in stdout.
 
-14 is not among the answers: a clock of 2^62 is out of reach of 1,000 requests.
+No put takes the clock back: 2^61 is out of reach of 1,000 requests.
 """
 import pathlib
 import random
 
 TABLE = 65536   # the fixed size of a table, docs/TABLE.md
-ROOM = 64       # records that a lane holds at most
+ROOM = 64       # records that a lane holds at most that is not shared
+TRAINS = 8      # trains of a shared lane
+TRAIN_ROOM = 8  # records that a train's queue holds at most there
 
 
 class No(Exception):
@@ -32,9 +33,9 @@ def read_setup(data):
         if len(left) < 3:
             raise No(1, place)
         tag, length = left[0], u16(left[1:3])
-        if tag not in (0x01, 0x10, 0x11, 0x7F):
+        if tag not in (0x01, 0x10, 0x11, 0x12, 0x7F):
             raise No(2, place)
-        if length not in {0x01: (2,), 0x10: (3, 5), 0x11: (1,), 0x7F: (0,)}[tag]:
+        if length not in {0x01: (2,), 0x10: (3, 5), 0x11: (1,), 0x12: (1,), 0x7F: (0,)}[tag]:
             raise No(3, place)
         value = left[3:3 + length]
         if len(value) < length:
@@ -43,6 +44,10 @@ def read_setup(data):
             raise No(4, place)
         if tag == 0x11 and before != 0x01:
             raise No(4, place)
+        if tag == 0x12:
+            if before != 0x10 or value[0] != lanes[-1][0]:
+                raise No(4, place)
+            lanes[-1] = *lanes[-1][:3], True
         # each number's refusal, at its first byte
         if tag == 0x11:
             framing = value[0]
@@ -61,9 +66,9 @@ def read_setup(data):
                 raise No(52, place + 4)
             if not 64 <= longest <= 1500:
                 raise No(53, place + 6)
-            if sum(w for _, w, _ in lanes) + weight > 1024:
+            if sum(w for _, w, _, _ in lanes) + weight > 1024:
                 raise No(6, place + 4)
-            lanes.append((lane, weight, longest))
+            lanes.append((lane, weight, longest, False))
         place, first, before = place + 3 + length, False, tag
         if tag == 0x7F:
             return lanes, framing, place
@@ -71,16 +76,59 @@ def read_setup(data):
 
 # ---- the plain rules
 
-class Lane:
-    def __init__(self, weight, longest, framing):
+class Waiting:
+    """What waits in a lane: a queue for each train, served by deficit round robin. A lane that is not shared has one train, which is always in turn."""
+
+    def __init__(self, longest, shared):
         self.longest = longest
+        self.queues = [[] for _ in range(TRAINS if shared else 1)]
+        self.deficits = [0 for _ in self.queues]
+        self.round = []     # the trains that hold records, the one in turn first
+
+    def turn(self):
+        """A turn begins."""
+        if self.round:
+            self.deficits[self.round[0]] += self.longest
+
+    def add(self, train, mark, length):
+        self.queues[train].append((mark, length))
+        if train not in self.round:
+            self.round.append(train)
+            if len(self.round) == 1:
+                self.turn()
+
+    def first(self):
+        """The train, the mark and the length of the lane's first record."""
+        train = self.round[0]
+        return train, *self.queues[train][0]
+
+    def hand_out(self):
+        train, _, length = self.first()
+        self.queues[train].pop(0)
+        self.deficits[train] -= length
+        if not self.queues[train]:
+            self.deficits[train] = 0
+            self.round.pop(0)
+            self.turn()
+        elif self.queues[train][0][1] > self.deficits[train]:
+            self.round.append(self.round.pop(0))
+            self.turn()
+
+
+class Lane:
+    def __init__(self, weight, longest, shared, framing):
+        self.longest = longest
+        self.shared = shared
         self.c = -(-1048576 // weight)
         self.group = 0
         while 2 ** self.group < (longest + framing) * self.c:
             self.group += 1
         self.slot = 2 ** self.group
         self.start = self.finish = self.since = 0
-        self.queue = []
+        self.waiting = Waiting(longest, shared)
+
+    def holds(self):
+        return bool(self.waiting.round)
 
     def rounded(self):
         return self.start - self.start % self.slot
@@ -96,34 +144,37 @@ class Unit:
         self.fresh()
 
     def fresh(self):
-        self.lanes = {k: Lane(w, m, self.framing) for k, w, m in self.given}
+        self.lanes = {k: Lane(w, m, shared, self.framing) for k, w, m, shared in self.given}
         self.v = 0
         self.turns = 0
 
     def holding(self):
-        return {k: l for k, l in self.lanes.items() if l.queue}
+        return {k: l for k, l in self.lanes.items() if l.holds()}
 
     def begin(self, lane, start, length):
         lane.start, lane.finish = start, start + (length + self.framing) * lane.c
         self.turns += 1
         lane.since = self.turns
 
-    def put(self, k, mark, length):
+    def put(self, k, train, mark, length):
         if k not in self.lanes:
             return 'no 11'
         lane = self.lanes[k]
+        if train >= len(lane.waiting.queues):
+            return 'no 70'
         if not 1 <= length <= lane.longest:
             return 'no 12'
-        if len(lane.queue) == ROOM:
-            return 'no 13'
+        ahead = len(lane.waiting.queues[train])
+        if ahead == (TRAIN_ROOM if lane.shared else ROOM):
+            return 'no 71' if lane.shared else 'no 13'
         others = any(j != k for j in self.holding())
-        idle = not lane.queue
-        lane.queue.append((mark, length))
+        idle = not lane.holds()
+        lane.waiting.add(train, mark, length)
         if idle:
             self.begin(lane, max(lane.finish, self.v), length)
             if not others:
                 self.v = max(self.v, lane.rounded())
-        return f'put ok {len(lane.queue) - 1}'
+        return f'put ok {ahead}'
 
     def choice(self):
         eligible = [(l.rounded_finish(), l.group, l.since, k) for k, l in self.holding().items() if l.rounded() <= self.v]
@@ -131,16 +182,19 @@ class Unit:
 
     def look(self, word='look'):
         k = self.choice()
-        return 'no 16' if k is None else '%s %d %d %d' % (word, k, *self.lanes[k].queue[0])
+        if k is None:
+            return 'no 16'
+        train, mark, length = self.lanes[k].waiting.first()
+        return f'{word} {k} {mark} {length}' + (f' {train}' if self.lanes[k].shared else '')
 
     def take(self):
         k, answer = self.choice(), self.look('take')
         if k is not None:
             lane = self.lanes[k]
-            _, length = lane.queue.pop(0)
-            self.v += 1024 * (length + self.framing)
-            if lane.queue:
-                self.begin(lane, lane.finish, lane.queue[0][1])
+            self.v += 1024 * (lane.waiting.first()[2] + self.framing)
+            lane.waiting.hand_out()
+            if lane.holds():
+                self.begin(lane, lane.finish, lane.waiting.first()[2])
             if self.holding():
                 self.v = max(self.v, min(l.rounded() for l in self.holding().values()))
         return answer
@@ -160,7 +214,7 @@ class Unit:
         if k not in self.lanes:
             return 'no 11'
         lane = self.lanes[k]
-        return 'lag %d' % (self.v - (lane.start if lane.queue else max(lane.finish, self.v)))
+        return 'lag %d' % (self.v - (lane.start if lane.holds() else max(lane.finish, self.v)))
 
     def restart(self):
         if self.holding():
@@ -171,12 +225,14 @@ class Unit:
 
 # ---- a run
 
-LENGTHS = {0x20: 7, 0x21: 0, 0x22: 0, 0x23: 0, 0x24: 1, 0x25: 0, 0x7F: 0}
+LENGTHS = {0x20: 7, 0x21: 0, 0x22: 0, 0x23: 0, 0x24: 1, 0x25: 0, 0x26: 8, 0x7F: 0}
 
 
 def request(unit, tag, value):
     if tag == 0x20:
-        return unit.put(value[0], int.from_bytes(value[1:5], 'big'), u16(value[5:7]))
+        return unit.put(value[0], 0, int.from_bytes(value[1:5], 'big'), u16(value[5:7]))
+    if tag == 0x26:
+        return unit.put(value[0], value[1], int.from_bytes(value[2:6], 'big'), u16(value[6:8]))
     if tag == 0x24:
         return unit.lag(value[0])
     return {0x21: unit.take, 0x22: unit.look, 0x23: unit.sets, 0x25: unit.restart}[tag]()
@@ -244,12 +300,21 @@ def put(k, mark, length):
     return field(0x20, bytes([k]) + mark.to_bytes(4, 'big') + length.to_bytes(2, 'big'))
 
 
+def put_train(k, train, mark, length):
+    return field(0x26, bytes([k, train]) + mark.to_bytes(4, 'big') + length.to_bytes(2, 'big'))
+
+
 def lag(k):
     return field(0x24, bytes([k]))
 
 
+def lane_field(k, weight, longest, *shared):
+    """A lane's field, and behind it the one that makes the lane shared."""
+    return field(0x10, bytes([k]) + weight.to_bytes(2, 'big') + longest.to_bytes(2, 'big')) + (field(0x12, bytes([k])) if shared else b'')
+
+
 def setup(*lanes, framing=b''):
-    return field(0x01, b'\0\1') + framing + b''.join(field(0x10, bytes([k]) + w.to_bytes(2, 'big') + m.to_bytes(2, 'big')) for k, w, m in lanes) + END
+    return field(0x01, b'\0\1') + framing + b''.join(lane_field(*lane) for lane in lanes) + END
 
 
 TAKE, LOOK, SETS, RESTART, END = (field(t) for t in (0x21, 0x22, 0x23, 0x25, 0x7F))
@@ -352,6 +417,58 @@ def inputs():
             k, _, longest = chance.choice(lanes)
             requests += put(k, step, chance.randint(1, longest)) if chance.random() < 0.8 else TAKE
         add(setup(*lanes) + requests + 3 * ROOM * TAKE + TAKE + RESTART + END)
+    trains(chance)
+
+
+def trains(chance):
+    """A lane that trains share, beside one that is not shared."""
+    head, shared, plain, mark = field(0x01, b'\0\1'), (0, 512, 100, 'shared'), (1, 256, 100), field(0x12, b'\0')
+    junction = setup(shared, plain)
+    # turns: trains 5, 0 and 2 in lane 0, the second by 0x20; then a record of lane 1
+    three = put_train(0, 5, 1, 100) + put_train(0, 5, 2, 100) + put(0, 3, 60) + put(0, 4, 60) + put_train(0, 2, 5, 80) + put(1, 6, 100)
+    add(junction + three + SETS + LOOK + 3 * (TAKE + LOOK + lag(0)) + 5 * TAKE + RESTART + three + 4 * TAKE + END)
+    # a train that starts, and one that starts again, go to the end of the round; a train that empties loses what it had left
+    more = put_train(0, 1, 7, 10) + TAKE + put_train(0, 5, 8, 95) + put_train(0, 2, 9, 1)
+    add(junction + three + more + TAKE + more + 3 * TAKE + more + 12 * TAKE + END)
+    # a record that the turn covers to the byte, and one that is a byte longer
+    for n in (60, 61):
+        add(junction + put_train(0, 7, 1, 40) + put_train(0, 7, 2, n) + put_train(0, 6, 3, 100) + 4 * TAKE + END)
+    # 0x12 elsewhere, twice, of another lane, of a lane that there is not; its length; among requests
+    first, second = lane_field(*shared[:3]), lane_field(*plain)
+    for fields in (mark + first + second, first + second + mark, first + mark + mark + second, first + field(0x12, b'\1') + second,
+                   first + field(0x12, b'\x40') + second, first + second + mark + field(0x12, b'\1'), first + mark + second + field(0x12, b'\1'),
+                   first + field(0x12) + second, first + field(0x12, b'\0\0') + second, first + mark[:3]):
+        add(head + fields + END + put_train(1, 1, 1, 1) + TAKE + END)
+    add(mark + head + first + END)
+    add(head + mark + first + END)
+    add(head + first + field(0x11, b'\0') + mark + END)
+    add(junction + TAKE + mark + END)
+    # 11, then 70, then 12, then 71 or 13
+    for k in (0, 1, 2, 255):
+        add(junction + b''.join(put_train(k, t, 9, n) for t in (0, 1, 7, 8, 255) for n in (0, 100, 101)) + 4 * TAKE + END)
+    eight = b''.join(put_train(0, 3, i, 10) for i in range(TRAIN_ROOM))
+    add(junction + eight + put_train(0, 3, 8, 10) + put_train(0, 3, 8, 101) + put(0, 9, 10) + TAKE + put_train(0, 3, 10, 10) + put_train(0, 3, 11, 10)
+        + RESTART + END)
+    add(junction + 9 * put(0, 1, 10) + put_train(0, 1, 2, 10) + TAKE + put(0, 3, 10) + put_train(0, 0, 4, 10) + END)
+    add(junction + 9 * put(1, 1, 10) + put_train(1, 0, 2, 10) + put_train(1, 1, 2, 10) + 2 * TAKE + END)
+    # every train's queue full
+    add(junction + b''.join(put_train(0, t, 10 * t + i, 100 - t) for i in range(TRAIN_ROOM + 1) for t in range(TRAINS)) + (ROOM + 1) * TAKE + END)
+    # every cut of a put with a train
+    for n in range(12):
+        add(junction + put_train(0, 3, 1, 64)[:n])
+    # deficits count bare bytes: the same turns whatever h is
+    for h in (0, 40):
+        add(setup(shared, plain, framing=field(0x11, bytes([h]))) + three + SETS + 3 * (TAKE + lag(0)) + 4 * TAKE + END)
+    # at random, two shared lanes and one that is not
+    lanes = ((3, 300, 64, 'shared'), (7, 200, 1500), (63, 500, 200, 'shared'))
+    for _ in range(6):
+        requests = b''
+        for step in range(30):
+            k, _, longest, *several = chance.choice(lanes)
+            length = chance.choice((chance.randint(1, longest), longest))
+            record = put_train(k, chance.choice((0, 1, 1, 4)), step, length) if several else put(k, step, length)
+            requests += chance.choice((record, record, record, TAKE, TAKE, LOOK))
+        add(setup(*lanes) + requests + 20 * TAKE + RESTART + END)
 
 
 inputs()

@@ -1,4 +1,5 @@
-/* A plan edited from C: a setup is read, lane 1 gets less, lane 5 comes in, the line is charged 12 framing bytes; then it is written, and a wrong edit is refused. */
+/* A plan edited from C: a setup is read, lane 1 gets less, lane 5 comes in for several trains, the line is charged 12 framing bytes; then it is
+ * written, and a wrong edit is refused. */
 #include <inttypes.h>
 #include <stdio.h>
 
@@ -14,7 +15,8 @@ static void show(void) {
   printf("format %d, framing %" PRIu64 "\n", zf_plan_format(plan), zf_plan_framing(plan));
   for (uint8_t lane = 0; lane < 64; lane++) {
     if (zf_plan_weight(plan, lane) == 0) continue;
-    printf("lane %d: weight %d, longest %" PRIu64 "\n", lane, zf_plan_weight(plan, lane), zf_plan_longest(plan, lane));
+    printf("lane %d: weight %d, longest %" PRIu64 "%s\n", lane, zf_plan_weight(plan, lane), zf_plan_longest(plan, lane),
+           zf_plan_shared(plan, lane) ? ", shared" : "");
   }
 }
 
@@ -37,6 +39,7 @@ int main(void) {
   show();
   zf_plan_set_lane(plan, 1, 128, 576);
   zf_plan_set_lane(plan, 5, 64, 64);
+  zf_plan_set_shared(plan, 5, 1); /* up to 8 trains */
   zf_plan_set_framing(plan, 12);
   show();
   write_setup();

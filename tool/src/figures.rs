@@ -15,6 +15,8 @@ pub struct Figures {
     pub group: u32,
     /// The longest record as it is charged.
     charged: u64,
+    /// .. and by itself.
+    longest: u64,
     framing: u64,
 }
 
@@ -24,7 +26,7 @@ impl Figures {
         let c = 1_048_576u64.div_ceil(u64::from(weight));
         let charged = u64::from(longest) + u64::from(framing);
         let group = (charged * c).next_power_of_two().trailing_zeros();
-        Figures { c, group, charged, framing: u64::from(framing) }
+        Figures { c, group, charged, longest: u64::from(longest), framing: u64::from(framing) }
     }
 
     /// The slot, 2^group.
@@ -37,6 +39,13 @@ impl Figures {
     pub fn wait(&self, ahead: u64) -> u64 {
         (ahead * self.c * self.charged + 4 * self.slot() + LINE_RATE * (LONGEST + self.framing))
             .div_ceil(LINE_RATE)
+    }
+
+    /// The same in a lane that trains share, with so many records of its own train before it: the seven others send up to 8 n + 21 times the longest, and
+    /// each byte of theirs may be a record of its own, which is charged 1 + h.
+    pub fn shared_wait(&self, ahead: u64) -> u64 {
+        let others = self.c * (1 + self.framing) * (8 * ahead + 21) * self.longest;
+        (others + 4 * self.slot() + LINE_RATE * (LONGEST + self.framing)).div_ceil(LINE_RATE)
     }
 }
 
@@ -74,6 +83,14 @@ mod tests {
         assert_eq!(Figures::of(512, 64, 20).group, 18);
         assert_eq!(Figures::of(256, 1_005, 20).group, 23);
         assert_eq!(Figures::of(512, 64, 0).wait(0), 2_012);
+    }
+
+    #[test]
+    fn in_a_shared_lane() {
+        assert_eq!(Figures::of(512, 1_500, 0).shared_wait(0), 80_884);
+        assert_eq!(Figures::of(512, 1_500, 0).shared_wait(2), 128_884);
+        assert_eq!(Figures::of(512, 1_500, 64).shared_wait(0), 4_112_948);
+        assert_eq!(Figures::of(512, 1_500, 64).wait(0), 17_948);
     }
 
     #[test]

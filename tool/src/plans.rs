@@ -90,7 +90,7 @@ pub fn edited(args: &Args) -> Result<Plan, Fault> {
     }
     for text in args.values("--lane") {
         let (lane, numbers) = lane(text).ok_or_else(|| {
-            args.usage(format!("--lane is '{text}', and not LANE:WEIGHT:LONGEST in numbers, as 5:64:576"))
+            args.usage(format!("--lane is '{text}', and not LANE:WEIGHT:LONGEST in numbers, as 5:64:576, with :shared behind them or not"))
         })?;
         plan.lanes[lane] = Some(numbers);
     }
@@ -102,14 +102,19 @@ fn lane(text: &str) -> Option<(usize, PlanLane)> {
     let lane = digits(numbers.next()?).filter(|lane| *lane < 64)?;
     let weight = digits(numbers.next()?)?;
     let longest = digits(numbers.next()?)?;
-    numbers.next().is_none().then_some((lane, PlanLane { weight, longest }))
+    let shared = match numbers.next() {
+        None => false,
+        Some("shared") => true,
+        Some(_) => return None,
+    };
+    numbers.next().is_none().then_some((lane, PlanLane { weight, longest, shared }))
 }
 
 /// What is outside the numbers in a plan that was refused with 55, for the one who edits it.
 pub fn outside(plan: &Plan) -> String {
     let mut sum = 0;
     for (number, lane) in plan.lanes.iter().enumerate() {
-        let Some(PlanLane { weight, longest }) = *lane else { continue };
+        let Some(PlanLane { weight, longest, .. }) = *lane else { continue };
         sum += u32::from(weight);
         if !(1..=1_024).contains(&weight) {
             return format!("lane {number}: the weight {weight} is not 1 to 1,024");
@@ -131,7 +136,9 @@ pub fn unwritten(plan: &Plan, refusal: Refusal) -> Fault {
     let name = "the plan".to_string();
     let says = match refusal.number {
         zenfrosta::refusals::PLAN_OUTSIDE => format!("refused with 55: {}", outside(plan)),
-        zenfrosta::refusals::NO_SHEET => format!("{}; --framing 0 takes them out", words(refusal)),
+        zenfrosta::refusals::NO_SHEET if plan.framing != 0 => {
+            format!("{}; --framing 0 takes them out", words(refusal))
+        }
         _ => words(refusal),
     };
     Fault::Input { name, says }

@@ -1,13 +1,10 @@
-//! A session gone through call by call, with what each lane held and how far it lagged behind after each call: what a picture shows.
-//!
-//! No call tells the clock. It is worked out: a lane's lag is V less its start, a record's start is the finish of the one before it or the clock where the
-//! lane was idle, and a finish is a start with c times what the record is charged for. So V is a lane's start with the lag that the library answers.
+//! A session gone through call by call, with what each lane held and how far it lagged behind after each call: what a picture shows. Clock, starts and
+//! backlogs are the library's own answers; a session is too short for its clock to be taken back.
 
 use crate::fields::{setup_of, Fields};
 use crate::figures::{Figures, LINE_RATE};
-use std::collections::VecDeque;
 use zenfrosta::refusals::{CUT, OUT_OF_ORDER, UNKNOWN_TAG, WRONG_LENGTH};
-use zenfrosta::{Plan, PlanLane, Refusal, TABLE_SIZE};
+use zenfrosta::{Plan, PlanLane, Record, Refusal, TABLE_SIZE};
 
 /// What a call did.
 #[derive(Clone, Copy, Debug, PartialEq, Eq)]
@@ -17,7 +14,7 @@ pub enum Did {
     /// A put was refused.
     PutRefused { lane: u8, number: u64 },
     /// A record was handed out; `from` is the clock before it, `lag` the lane's lag behind it, before the clock jumps if it does.
-    Sent { lane: u8, mark: u32, length: u64, from: u64, lag: i64 },
+    Sent { lane: u8, train: u8, mark: u32, length: u64, from: u64, lag: i64 },
     /// The table was made fresh again.
     Restarted,
 }
@@ -48,14 +45,6 @@ pub struct Trace {
     pub steps: Vec<Step>,
 }
 
-/// A lane's start and finish, and the lengths that it holds.
-#[derive(Clone, Default)]
-struct Times {
-    start: u64,
-    finish: u64,
-    held: VecDeque<u64>,
-}
-
 impl Trace {
     /// Goes through a session up to its end field, or to the first field that is refused, which is told too.
     pub fn of(session: &[u8]) -> Result<(Trace, Option<Refusal>), Refusal> {
@@ -70,7 +59,7 @@ impl Trace {
         };
         let lanes: Vec<Lane> = plan.lanes.iter().enumerate().filter_map(lane).collect();
         let mut walk = Walk {
-            times: vec![Times::default(); lanes.len()],
+            bytes: vec![0; lanes.len()],
             trace: Trace { framing: u64::from(plan.framing), lanes, steps: Vec::new() },
             table,
             clock: 0,
@@ -84,7 +73,8 @@ impl Trace {
 struct Walk {
     trace: Trace,
     table: Vec<u8>,
-    times: Vec<Times>,
+    /// The bytes that each lane holds.
+    bytes: Vec<u64>,
     /// The clock of the present table.
     clock: u64,
     /// The clocks of tables before a restart, together.
@@ -107,7 +97,8 @@ impl Walk {
         for field in Fields::new(&session[from..]) {
             let value = field.value;
             match (field.tag, value.len()) {
-                (0x20, 7) => self.put(value[0], field.number(1, 4) as u32, field.number(5, 2)),
+                (0x20, 7) => self.put(value[0], 0, field.number(1, 4) as u32, field.number(5, 2)),
+                (0x26, 8) => self.put(value[0], value[1], field.number(2, 4) as u32, field.number(6, 2)),
                 (0x21, 0) => self.take(),
                 (0x22, 0) | (0x23, 0) | (0x24, 1) => {}
                 (0x25, 0) => self.restart(),
@@ -122,8 +113,8 @@ impl Walk {
         // Tag and length are looked at before the value is.
         let number = match session[at..] {
             [tag, high, low, ..] => match (tag, u16::from_be_bytes([high, low])) {
-                (0x20, 7) | (0x21..=0x23 | 0x25 | 0x7F, 0) | (0x24, 1) => CUT,
-                (0x20..=0x25 | 0x7F, _) => WRONG_LENGTH,
+                (0x20, 7) | (0x21..=0x23 | 0x25 | 0x7F, 0) | (0x24, 1) | (0x26, 8) => CUT,
+                (0x20..=0x26 | 0x7F, _) => WRONG_LENGTH,
                 _ => UNKNOWN_TAG,
             },
             _ => CUT,
@@ -131,19 +122,13 @@ impl Walk {
         refused(number, at)
     }
 
-    fn put(&mut self, lane: u8, mark: u32, length: u64) {
+    fn put(&mut self, lane: u8, train: u8, mark: u32, length: u64) {
         let Some(index) = self.index(lane) else { return };
-        match zenfrosta::put(&mut self.table, lane, mark, length) {
+        match zenfrosta::put_train(&mut self.table, lane, train, mark, length) {
             Err(refusal) => self.step(Did::PutRefused { lane, number: refusal.number }),
             Ok(_) => {
-                let charged = self.charge(length) * self.trace.lanes[index].figures.c;
-                let times = &mut self.times[index];
-                if times.held.is_empty() {
-                    times.start = times.finish.max(self.clock);
-                    times.finish = times.start + charged;
-                }
-                times.held.push_back(length);
-                self.read_clock(index);
+                self.bytes[index] += length;
+                self.read_clock();
                 self.step(Did::Put { lane, mark, length });
             }
         }
@@ -153,43 +138,34 @@ impl Walk {
         let Ok(record) = zenfrosta::take(&mut self.table) else { return };
         let Some(index) = self.index(record.lane) else { return };
         let from = self.clock;
-        self.clock += LINE_RATE * self.charge(record.length);
-        let c = self.trace.lanes[index].figures.c;
-        let next = {
-            let times = &mut self.times[index];
-            times.held.pop_front();
-            times.held.front().copied()
-        };
-        if let Some(length) = next {
-            let charged = self.charge(length) * c;
-            let times = &mut self.times[index];
-            times.start = times.finish;
-            times.finish += charged;
-        }
-        let times = &self.times[index];
-        let start = if times.held.is_empty() { times.finish.max(self.clock) } else { times.start };
-        let lag = self.clock as i64 - start as i64;
-        // A clock that jumps does so only while a record is held, and then that lane's lag tells it.
-        if let Some(holds) = self.times.iter().position(|times| !times.held.is_empty()) {
-            self.read_clock(holds);
-        }
+        // Where the clock is before it jumps, if it does.
+        let sent = from + LINE_RATE * self.charge(record.length);
+        self.bytes[index] -= record.length;
+        let (records, time) = self.backlog(record.lane);
+        let start = if records == 0 { time.max(sent) } else { time };
+        let lag = sent as i64 - start as i64;
+        self.read_clock();
         let from = self.gone + from;
-        self.step(Did::Sent { lane: record.lane, mark: record.mark, length: record.length, from, lag });
+        let Record { lane, train, mark, length } = record;
+        self.step(Did::Sent { lane, train, mark, length, from, lag });
     }
 
     fn restart(&mut self) {
         if zenfrosta::restart(&mut self.table).is_ok() {
             self.gone += self.clock;
             self.clock = 0;
-            self.times.fill(Times::default());
+            self.bytes.fill(0);
             self.step(Did::Restarted);
         }
     }
 
-    /// The clock from a lane that holds records.
-    fn read_clock(&mut self, index: usize) {
-        let lag = self.lag(self.trace.lanes[index].number);
-        self.clock = self.times[index].start.saturating_add_signed(lag);
+    fn read_clock(&mut self) {
+        self.clock = zenfrosta::clock(&self.table).unwrap_or(self.clock);
+    }
+
+    /// How many records wait in a lane; its start, or its finish where none does.
+    fn backlog(&self, lane: u8) -> (u64, u64) {
+        zenfrosta::backlog(&self.table, lane).map_or((0, 0), |backlog| (backlog.records, backlog.time))
     }
 
     fn lag(&self, lane: u8) -> i64 {
@@ -197,7 +173,8 @@ impl Walk {
     }
 
     fn step(&mut self, did: Did) {
-        let held = self.times.iter().map(|times| (times.held.len(), times.held.iter().sum())).collect();
+        let count = |lane: &Lane| self.backlog(lane.number).0 as usize;
+        let held = self.trace.lanes.iter().map(count).zip(self.bytes.iter().copied()).collect();
         let lags = self.trace.lanes.iter().map(|lane| self.lag(lane.number)).collect();
         self.trace.steps.push(Step { did, clock: self.gone + self.clock, held, lags });
     }
@@ -234,7 +211,7 @@ mod tests {
     fn refused_where_a_run_is() {
         let mut noise = Noise(7);
         let good = session(
-            "framing 3\nlane 0 512\nlane 1 256 64\nput 0 1 9\nlag 1\ntake\nlook\nsets\nput 1 2 64\nrestart",
+            "framing 3\nlane 0 512\nlane 1 256 64\nshared 1\nput 0 1 9\nlag 1\ntake\nlook\nsets\nput 1 7 2 64\nrestart",
         );
         for _ in 0..3_000 {
             let mut bytes = good.clone();
@@ -258,10 +235,11 @@ mod tests {
     #[test]
     fn lags_follow_the_clock() {
         let mut noise = Noise(11);
-        let mut text = "framing 5\nlane 0 400 1500\nlane 1 3 64\nlane 9 77 300\n".to_string();
+        let mut text = "framing 5\nlane 0 400 1500\nlane 1 3 64\nlane 9 77 300\nshared 9\n".to_string();
         for mark in 0..900 {
             let (lane, longest) = [(0, 1500), (1, 64), (9, 300)][noise.below(3)];
             text += &match noise.below(2) {
+                0 if lane == 9 => format!("put 9 {} {mark} {}\n", noise.below(8), 1 + noise.below(longest)),
                 0 => format!("put {lane} {mark} {}\n", 1 + noise.below(longest)),
                 _ => "take\n".to_string(),
             };

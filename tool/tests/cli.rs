@@ -72,6 +72,9 @@ fn what_it_prints() {
         ("run", &["run", "examples/session.txt"][..]),
         ("run-framed", &["run", "examples/framed.txt"]),
         ("run-plain", &["run", "--plain", "examples/session.txt"]),
+        ("run-trains", &["run", "examples/junction.txt"]),
+        ("plan-trains", &["plan", "examples/junction.txt", "--rate=9600", "--ahead", "2"]),
+        ("hex-trains", &["session", "--hex", "examples/junction.txt"]),
         ("plan", &["plan", "examples/sheet.txt", "--rate", "9600"]),
         ("plan-framed", &["plan", "examples/framed.txt", "--ahead=3"]),
         ("hex", &["session", "--hex", "examples/session.txt"]),
@@ -105,7 +108,7 @@ fn help_and_version() {
 
 #[test]
 fn sessions_to_bytes_and_back() {
-    for name in ["examples/session.txt", "examples/framed.txt"] {
+    for name in ["examples/session.txt", "examples/framed.txt", "examples/junction.txt"] {
         let bytes = fine(&["session", name], b"").out;
         let text = fine(&["session"], &bytes).out;
         assert_eq!(fine(&["session", "-"], &text).out, bytes);
@@ -131,10 +134,25 @@ fn plans_setups_and_sheets() {
     let framed = fine(&["setup", "examples/sheet.txt", "--framing", "20", "--format", "1", "--hex"], b"");
     assert!(framed
         .text()
-        .starts_with("01 0002 0001            # format 1\n11 0001 14              # framing 20\n"));
-    let own = "the plan: refused with 82: the plan has framing bytes, which a sheet cannot say (take the \
-        framing bytes out, or keep the plan as a setup); --framing 0 takes them out";
-    refused(&["sheet", "examples/framed.txt"], "", 1, own);
+        .starts_with("01 0002 0001              # format 1\n11 0001 14                # framing 20\n"));
+    let own = "the plan: refused with 82: the plan has framing bytes or a shared lane, which a sheet cannot say (take \
+        the framing bytes out and let no lane be shared, or keep the plan as a setup)";
+    refused(&["sheet", "examples/framed.txt"], "", 1, &format!("{own}; --framing 0 takes them out"));
+    refused(&["sheet", "examples/junction.txt"], "", 1, own);
+    let shared = fine(&["setup", "--new", "--lane", "5:64:576:shared", "--lane", "6:64:576", "--hex"], b"");
+    assert!(shared.text().contains(
+        "\n10 0005 0500400240        # lane 5 64 576\n12 0001 05                # shared 5\n10 0005 06"
+    ));
+    let bytes = fine(&["setup", "--new", "--lane", "5:64:576:shared"], b"").out;
+    assert_eq!(fine(&["setup"], &bytes).out, bytes);
+    assert_eq!(fine(&["sheet", "--lane", "5:64:576"], &bytes).text(), "5 64 576\n");
+    refused(
+        &["setup", "--new", "--lane", "5:64:576:both"],
+        "",
+        2,
+        "zenfrosta: setup: --lane is '5:64:576:both', and not LANE:WEIGHT:LONGEST in numbers, as 5:64:576, with \
+         :shared behind them or not ('zenfrosta setup --help' says how)",
+    );
     refused(&["setup", "--new"], "", 1, "the plan: refused with 55: there is no lane");
     refused(
         &["setup", "examples/sheet.txt", "--lane", "9:1:64"],
@@ -161,7 +179,7 @@ fn faults_with_line_and_column() {
         &["run"],
         "lane 0 5\nput 0 1\n",
         1,
-        "standard input:2:8: a number is missing: 'put LANE MARK LENGTH'",
+        "standard input:2:8: a number is missing: 'put LANE [TRAIN] MARK LENGTH'",
     );
     refused(
         &["plan"],
@@ -274,6 +292,12 @@ fn pictures() {
         }
         assert!(!svg.contains("NaN") && !svg.contains("inf"));
     }
+    let trains = fine(&["picture", "examples/junction.txt"], b"").text().to_string();
+    elements(&trains);
+    assert!(
+        trains.contains("weight 512, shared<")
+            && trains.contains("lane 0 sends record 3 of train 0, 60 bytes")
+    );
     // Nothing is sent, nothing is put, and a title that is no XML.
     for text in
         ["lane 0 5\nput 0 1 9", "lane 0 5", "lane 0 1 64\nput 0 1 64\ntake\nrestart\nput 0 1 64\nput 0 1 65"]
@@ -293,6 +317,11 @@ fn tables() {
         "format 1\nframing 7\nlane 0 512 1500\nlane 40 3 77\nput 0 1 1000\nput 40 2 77\nput 0 3 500\ntake";
     fine(&["run", "--table", &path, "-"], text.as_bytes());
     assert_eq!(fine(&["table", &path, "--order"], b"").text(), expected("table"));
+    let shared = file("shared.table", b"");
+    let text = "format 1\nlane 0 512 100\nshared 0\nlane 1 16 64\nshared 1\nlane 2 16 64\n\
+        put 0 5 1 100\nput 0 5 2 100\nput 0 2 3 60\nput 0 4 10\nput 2 5 64\ntake";
+    fine(&["run", "--table", &shared, "-"], text.as_bytes());
+    assert_eq!(fine(&["table", &shared, "--order"], b"").text(), expected("table-trains"));
     let mut table = std::fs::read(&path).expect("the table");
     table[8] ^= 4;
     let done = tool(&["table"], &table);

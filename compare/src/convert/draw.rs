@@ -30,7 +30,7 @@ pub fn table(rng: &mut Rng) -> (Vec<u8>, Vec<String>) {
 
 /// Contents that calls of that time made from a fresh table.
 pub fn called(rng: &mut Rng) -> State {
-    let mut state = State::fresh(&setups::setup(rng));
+    let mut state = State::fresh(&setups::plain(rng));
     let mut caller = Caller::new(rng);
     for _ in 0..rng.below(CALLS) {
         let call = caller.next(rng, &state);

@@ -55,7 +55,7 @@ pub fn boundary() -> Result<(), String> {
     if size != THEN.size as u64 {
         return Err(format!("an old table's size is {size}"));
     }
-    let lanes = vec![LanePlan { number: 3, weight: 7, longest: 64 }];
+    let lanes = vec![LanePlan { number: 3, weight: 7, longest: 64, shared: false }];
     let mut old = vec![0; THEN.size];
     THEN.write(&State::fresh(&Setup { format: 1, framing: 0, lanes }), &mut old);
     let mut table = vec![0x33; TABLE_SIZE];

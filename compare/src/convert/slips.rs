@@ -5,7 +5,7 @@ use crate::calls::Taken;
 use crate::layout::{self, old::THEN, Clause, CLAUSES, DEPTH_WORD, NOW, TABLE_SIZE};
 use crate::numbers::{refusal, OLD_CLOCK_END, OLD_DEPTH};
 use crate::on_words::{Lapse, OnWords};
-use crate::rules::{Lane, Record, State};
+use crate::rules::{Lane, Record, State, Waiting};
 use crate::unit::Unit;
 
 #[derive(Clone, Copy, Debug, PartialEq, Eq)]
@@ -60,7 +60,9 @@ pub enum Slip {
 /// Every slip.
 pub fn slips() -> Vec<Slip> {
     use Slip::*;
-    let old = CLAUSES.iter().filter(|clause| !matches!(clause, Clause::Depth | Clause::Places));
+    let old = CLAUSES
+        .iter()
+        .filter(|clause| !matches!(clause, Clause::Depth | Clause::Places) && !clause.of_trains());
     let others = [
         ClockStrict,
         RecordsStrict,
@@ -99,7 +101,7 @@ impl Slipped {
         let Some(state) = reading.good() else { return false };
         match self.0 {
             Slip::ClockStrict => state.clock < OLD_CLOCK_END - 1,
-            Slip::RecordsStrict => state.lanes.iter().all(|lane| lane.queue.len() < OLD_DEPTH),
+            Slip::RecordsStrict => state.lanes.iter().all(|lane| lane.waiting.len() < OLD_DEPTH),
             Slip::FreeWordRead => layout::word(old, DEPTH_WORD) == 0,
             Slip::PlacesRead => state.holding().all(|lane| {
                 let record = |place: u64| (THEN.record)(old, lane.plan.number, place);
@@ -117,10 +119,14 @@ impl Slipped {
             match self.0 {
                 Slip::OrderLost => lane.since = lane.plan.number.into(),
                 Slip::IdleFinishLost if !lane.holds() => lane.finish = 0,
-                Slip::LastLost => lane.queue.truncate(OLD_DEPTH - 1),
+                Slip::LastLost => {
+                    if let Waiting::Own(queue) = &mut lane.waiting {
+                        queue.truncate(OLD_DEPTH - 1);
+                    }
+                }
                 Slip::FramingLost => {
                     let word = if lane.holds() { lane.start } else { lane.finish };
-                    *lane = Lane::of(lane.plan, 0, lane.queue.clone(), word, lane.since);
+                    *lane = Lane::of(lane.plan, 0, lane.waiting.clone(), word, lane.since);
                 }
                 _ => {}
             }
@@ -133,8 +139,9 @@ impl Slipped {
     fn spoil(&self, lane: &Lane, old: &[u8], before: &[u8], table: &mut [u8]) {
         let at = lane.plan.number;
         let ((first, _), (was, _)) = (NOW.ring(table, at), THEN.ring(old, at));
-        let count = lane.queue.len() as u64;
-        for (place, held) in (0..).zip(&lane.queue) {
+        let Waiting::Own(queue) = &lane.waiting else { return };
+        let count = queue.len() as u64;
+        for (place, held) in (0..).zip(queue) {
             match self.0 {
                 Slip::LengthWhole => {
                     let record = Record { length: held.length + 1, ..*held };

@@ -16,7 +16,11 @@ pub const TIMES: u64 = 40;
 
 /// The setup of the drive.
 pub fn setup() -> Setup {
-    Setup { format: 1, framing: 0, lanes: vec![LanePlan { number: 0, weight: 1, longest: 1_500 }] }
+    Setup {
+        format: 1,
+        framing: 0,
+        lanes: vec![LanePlan { number: 0, weight: 1, longest: 1_500, shared: false }],
+    }
 }
 
 /// Runs so many pairs from a fresh table; answers how often the clock was taken back.

@@ -86,13 +86,15 @@ fn same_contents<U: Unit>(
     tally: &mut Tally,
 ) -> Result<(), String> {
     let mut calls = look_around(&state);
-    let mut held = state.lanes.iter().map(|lane| lane.queue.len()).sum::<usize>();
+    let mut held = state.lanes.iter().map(|lane| lane.waiting.len()).sum::<usize>();
     if rng.once_in(2) {
         for lane in &state.lanes {
             let length = u64::from(lane.plan.longest);
             calls.push(Call::Put { lane: lane.plan.number, mark: 7, length });
             calls.push(Call::Put { lane: lane.plan.number, mark: 8, length: length + 1 });
-            held += 1;
+            let (lane, train) = (lane.plan.number, rng.pick(&[1, 7, 7, 8]));
+            calls.push(Call::PutTrain { lane, train, mark: 9, length: 1 });
+            held += 2;
         }
         calls.extend(look_around(&state));
     }

@@ -10,6 +10,7 @@ use crate::layout;
 use crate::numbers::{refusal, CLOCK_FAR, CLOCK_STEP};
 use crate::rng::Rng;
 use crate::rules::State;
+use crate::shown;
 use crate::slots;
 use crate::unit::Unit;
 use std::fmt;
@@ -36,6 +37,8 @@ pub fn case<U: Unit>(unit: &mut U, rng: &mut Rng, tally: &mut Tally) -> Result<(
     tally.closest = tally.closest.max(list.laws.fairness.closest);
     tally.pair_ends += list.laws.compared.checked;
     tally.closest_pair = tally.closest_pair.max(list.laws.compared.closest);
+    tally.train_ends += list.laws.trains.checked;
+    tally.closest_trains = tally.closest_trains.max(list.laws.trains.closest);
     let (mut calls, unit) = (list.calls, list.unit);
     result.map_err(|what| {
         let mut differs = |calls: &[Call]| replay(unit, &bytes, &fresh, lifts, calls);
@@ -69,6 +72,7 @@ fn replay<U: Unit>(
     let mut tally = Tally::default();
     let differs = calls.iter().find_map(|call| list.call(*call, &mut tally).err());
     let differs = differs.or_else(|| list.laws.end(&list.state).err()).or_else(|| list.contents().err());
+    let differs = differs.or_else(|| list.shown(&mut Tally::default()).err());
     differs.map(|what| (list.calls, what))
 }
 
@@ -144,6 +148,25 @@ impl<U: Unit> List<'_, U> {
         }
     }
 
+    /// What the table shows to a host that asks.
+    fn shown(&mut self, tally: &mut Tally) -> Result<(), String> {
+        let before = self.table.copy();
+        for ask in shown::all(&self.state) {
+            let Some(answer) = self.unit.show(self.table.bytes(), ask) else { return Ok(()) };
+            let expected = shown::shown(&self.state, ask);
+            if answer != expected {
+                return Err(format!("{ask:?} is shown as {answer:?}, and is {expected:?}"));
+            }
+            tally.asked += 1;
+        }
+        self.table.guarded()?;
+        if self.table.same(&before) {
+            Ok(())
+        } else {
+            Err("a call that shows the table changed it".to_string())
+        }
+    }
+
     fn run(&mut self, rng: &mut Rng, tally: &mut Tally) -> Result<(), String> {
         let length = match rng.below(40) {
             0 => 12_000,
@@ -209,6 +232,7 @@ impl<U: Unit> List<'_, U> {
             self.call(call, tally)?;
         }
         self.contents()?;
+        self.shown(tally)?;
         if rng.once_in(2) {
             return Ok(());
         }

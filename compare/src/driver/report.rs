@@ -14,8 +14,12 @@ pub struct Tally {
     /// Calls that only show what a table holds after `make` or `run`, not counted among those.
     pub shown: u64,
     pub taken: u64,
+    /// Questions about what the lists' tables show.
+    pub asked: u64,
     /// Calls refused, by the refusal's last digit: 0 for 10, up to 6 for 16. 14 is not given any more.
     pub refused: [u64; 7],
+    /// Puts refused by 70 and by 71.
+    pub refused_trains: [u64; 2],
     /// Puts that took the clock back, in the lists and on tables that no call made.
     pub taken_back: u64,
     pub tables_taken_back: u64,
@@ -42,6 +46,11 @@ pub struct Tally {
     /// Two lanes and a point at which they were compared for all stretches that end there, and the greatest part of the bound that one used.
     pub pair_ends: u64,
     pub closest_pair: i128,
+    /// Two trains of a shared lane and a point at which they were compared so, and the greatest part of three times the longest less 2 that one used.
+    pub train_ends: u64,
+    pub closest_trains: i128,
+    /// Records taken from shared lanes by trains other than 0.
+    pub taken_of_trains: u64,
 }
 
 impl Tally {
@@ -50,7 +59,11 @@ impl Tally {
         self.calls += 1;
         match answer {
             Answer::No(number @ 10..=16) => self.refused[usize::from(number) - 10] += 1,
-            Answer::Taken(_) => self.taken += 1,
+            Answer::No(number @ 70..=71) => self.refused_trains[usize::from(number) - 70] += 1,
+            Answer::Taken(taken) => {
+                self.taken += 1;
+                self.taken_of_trains += u64::from(taken.train != 0);
+            }
             Answer::Sets(words) => {
                 for (count, word) in self.words.iter_mut().zip(words) {
                     *count += u64::from(word != 0);
@@ -106,10 +119,15 @@ impl fmt::Display for Tally {
 /// The counts of each kind, a line feed before each line.
 impl Tally {
     fn of_lists(&self, f: &mut fmt::Formatter) -> fmt::Result {
-        write!(f, "\n  {} lists, {} records taken", self.lists, self.taken)?;
+        write!(
+            f,
+            "\n  {} lists, {} records taken, {} of them of trains 1 to 7 in shared lanes; {} questions to their tables",
+            self.lists, self.taken, self.taken_of_trains, self.asked
+        )?;
         let refused: Vec<String> = (10..)
             .zip(self.refused)
             .filter(|(number, _)| *number != 14)
+            .chain((70..).zip(self.refused_trains))
             .map(|(number, n)| format!("{number}: {n}"))
             .collect();
         write!(f, "\n  calls refused by {}", refused.join(", "))?;
@@ -132,6 +150,13 @@ impl Tally {
             self.pair_ends,
             self.closest_pair / 10,
             self.closest_pair % 10
+        )?;
+        write!(
+            f,
+            "\n  two trains of a lane compared on all stretches that end at {} points; the closest used {}.{} % of its bound",
+            self.train_ends,
+            self.closest_trains / 10,
+            self.closest_trains % 10
         )
     }
 

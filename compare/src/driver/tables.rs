@@ -13,6 +13,7 @@ use crate::layout::{self, Reading, NOW};
 use crate::numbers::refusal;
 use crate::rng::Rng;
 use crate::rules::State;
+use crate::shown::{self, Ask};
 use crate::slots;
 use crate::unit::Unit;
 
@@ -94,6 +95,7 @@ impl<U: Unit> Table<'_, U> {
         if rng.once_in(4) {
             self.cut_short(rng)?;
         }
+        self.shown()?;
         self.lay();
         if self.reading.broken.is_empty() {
             self.walk(rng)?;
@@ -113,9 +115,13 @@ impl<U: Unit> Table<'_, U> {
         let any = rng.byte();
         let lane = rng.pick(&[own, own, own, any]);
         let length = rng.pick(&[1, 64, longest, longest, longest + 1, 0]);
+        let train = rng.pick(&[0, 0, 1, 2, 3, 4, 5, 6, 7, 8, any]);
+        let mark = rng.word() as u32;
         vec![
             Call::Put { lane, mark: rng.word() as u32, length },
             Call::Put { lane: own, mark: rng.word() as u32, length: longest.max(1) },
+            Call::PutTrain { lane, train, mark, length },
+            Call::PutTrain { lane: own, train: train % 8, mark, length: longest.max(1) },
             Call::Take,
             Call::Look,
             Call::Sets,
@@ -130,7 +136,7 @@ impl<U: Unit> Table<'_, U> {
         let mut state = reading.clone().good();
         let back = state.as_ref().map(|state| state.back);
         let expected = state.as_mut().map_or(Answer::No(refusal::NOT_GOOD), |state| state.answer(call));
-        let taken_back = matches!(call, Call::Put { .. }) && state.as_ref().map(|state| state.back) != back;
+        let taken_back = call.put().is_some() && state.as_ref().map(|state| state.back) != back;
         self.tally.tables_taken_back += u64::from(taken_back);
         let before = self.lent.copy();
         let answer = self.unit.answer(self.lent.bytes(), call);
@@ -158,6 +164,27 @@ impl<U: Unit> Table<'_, U> {
             (after, state) => return Err(format!("{call} left {after:?}, the rules {state:?}")),
         }
         Ok(after)
+    }
+
+    /// What the table shows to a host that asks: 10 and nothing else, if it is not good.
+    fn shown(&mut self) -> Result<(), String> {
+        self.lay();
+        let state = self.reading.clone().good();
+        let asks =
+            state.as_ref().map_or(vec![Ask::Clock, Ask::Lane(0), Ask::TrainRecord(0, 0, 0)], shown::all);
+        for ask in asks {
+            let Some(answer) = self.unit.show(self.lent.bytes(), ask) else { return Ok(()) };
+            let expected = state.as_ref().map_or(Err(refusal::NOT_GOOD), |state| shown::shown(state, ask));
+            if answer != expected {
+                return Err(format!("{ask:?} is shown as {answer:?}, and is {expected:?}"));
+            }
+        }
+        self.lent.guarded()?;
+        if self.lent.same(self.bytes) {
+            Ok(())
+        } else {
+            Err("a call that shows the table changed it".to_string())
+        }
     }
 
     /// Calls one after another, as long as the table is good and at most once more.

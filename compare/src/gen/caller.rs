@@ -2,9 +2,9 @@
 //! up another; calls that must be refused and calls that only look are strewn in.
 
 use crate::calls::{Answer, Call};
-use crate::numbers::DEPTH;
+use crate::numbers::{DEPTH, TRAINS, TRAIN_DEPTH};
 use crate::rng::Rng;
-use crate::rules::State;
+use crate::rules::{Lane, State};
 
 #[derive(Clone, Copy, Debug)]
 enum Mood {
@@ -44,6 +44,8 @@ enum Lengths {
     /// The same for all lanes, so that starts and finishes meet.
     Same(u64),
     Powers,
+    /// 1 or the longest, so that deficits come to both of their ends.
+    Ends,
     Any,
 }
 
@@ -52,6 +54,8 @@ pub struct Caller {
     left: u64,
     lengths: Lengths,
     favourites: Vec<u8>,
+    /// The trains that the puts of a shared lane are for.
+    trains: Vec<u8>,
     same_marks: bool,
     mark: u32,
     last: Option<Answer>,
@@ -66,6 +70,7 @@ impl Caller {
             left: 0,
             lengths: Lengths::Any,
             favourites: vec![],
+            trains: vec![0],
             same_marks,
             mark,
             last: None,
@@ -111,7 +116,8 @@ impl Caller {
             _ if rng.once_in(3) => rng.between(1, 8),
             _ => rng.between(1, 160),
         };
-        self.lengths = match rng.below(6) {
+        self.lengths = match rng.below(7) {
+            6 => Lengths::Ends,
             0 => Lengths::One,
             1 => Lengths::Longest,
             2 => Lengths::Same(rng.between(1, 64)),
@@ -120,14 +126,31 @@ impl Caller {
         };
         let count = rng.between(1, state.lanes.len().min(6) as u64);
         self.favourites = (0..count).map(|_| own_lane(rng, state)).collect();
+        // One train floods its lane; two are compared best; all eight fill it.
+        let trains = rng.pick(&[1, 2, 2, 3, 8]);
+        self.trains = (0..trains).map(|_| rng.below(TRAINS.into()) as u8).collect();
+        if trains == 8 {
+            self.trains = (0..TRAINS).collect();
+        }
     }
 
     fn steady(&mut self, rng: &mut Rng, state: &State) -> Call {
         if let Some(Answer::Taken(taken)) = self.last {
-            return self.put(rng, state, taken.lane);
+            // Mostly the train that was served; without it trains run empty and start again.
+            let train = (!rng.once_in(6)).then_some(taken.train);
+            return self.put_for(rng, state, taken.lane, train);
         }
-        let depth = if self.left % 2 == 0 { DEPTH } else { 2 };
-        match state.lanes.iter().find(|lane| lane.queue.len() < depth) {
+        let deep = self.left % 2 == 0;
+        let room = |lane: &&Lane| {
+            let most = match (deep, lane.plan.shared) {
+                (false, false) => 2,
+                (false, true) => 12,
+                (true, false) => DEPTH,
+                (true, true) => TRAIN_DEPTH * self.trains.len(),
+            };
+            lane.waiting.len() < most
+        };
+        match state.lanes.iter().find(room) {
             Some(lane) if !rng.once_in(8) => self.put(rng, state, lane.plan.number),
             _ => Call::Take,
         }
@@ -158,10 +181,10 @@ impl Caller {
         if late_in_slot {
             if let Some(lane) = state.lanes.iter().find(|lane| lane.slot() == slot && !lane.holds()) {
                 let (lane, length) = (lane.plan.number, u64::from(lane.plan.longest));
-                return Call::Put { lane, mark: self.mark(), length };
+                return self.call(rng, state, lane, None, length);
             }
         }
-        let low = state.lanes.iter().find(|lane| lane.slot() < slot && lane.queue.len() < 2);
+        let low = state.lanes.iter().find(|lane| lane.slot() < slot && lane.waiting.len() < 2);
         match low {
             Some(lane) => self.put(rng, state, lane.plan.number),
             None if state.holding().next().is_none() => self.put_to_any(rng, state),
@@ -180,15 +203,36 @@ impl Caller {
     }
 
     fn put(&mut self, rng: &mut Rng, state: &State, lane: u8) -> Call {
+        self.put_for(rng, state, lane, None)
+    }
+
+    /// A put for this train, or for one that the caller likes.
+    fn put_for(&mut self, rng: &mut Rng, state: &State, lane: u8, train: Option<u8>) -> Call {
         let longest = u64::from(state.lane(lane).expect("a lane of the setup").plan.longest);
         let length = match self.lengths {
             Lengths::One => 1,
             Lengths::Longest => longest - rng.below(2),
             Lengths::Same(length) => length,
             Lengths::Powers => rng.pick(&[1, 16, 32, 64, 128, 256, 512, 1_024]).min(longest),
+            Lengths::Ends => rng.pick(&[1, longest]),
             Lengths::Any => rng.between(1, longest),
         };
-        Call::Put { lane, mark: self.mark(), length }
+        self.call(rng, state, lane, train, length)
+    }
+
+    /// A put with its train; train 0 now and then without saying it.
+    fn call(&mut self, rng: &mut Rng, state: &State, lane: u8, train: Option<u8>, length: u64) -> Call {
+        let mark = self.mark();
+        let train = match train {
+            _ if !state.shared(lane) => 0,
+            Some(train) => train,
+            None => rng.pick(&self.trains),
+        };
+        if train == 0 && !rng.once_in(4) {
+            Call::Put { lane, mark, length }
+        } else {
+            Call::PutTrain { lane, train, mark, length }
+        }
     }
 
     /// A put that is refused, or would be but for the other refusal that it also meets.
@@ -196,7 +240,15 @@ impl Caller {
         let lane = any_lane(rng, state);
         let longest = state.lane(lane).map_or(1_500, |lane| u64::from(lane.plan.longest));
         let edges = [0, 0, 1, longest, longest + 1, longest + 1, 65_535, 65_536 + longest, 1 << 32, u64::MAX];
-        Call::Put { lane, mark: self.mark(), length: rng.pick(&edges) }
+        let (mark, length) = (self.mark(), rng.pick(&edges));
+        let any = rng.byte();
+        match rng.below(3) {
+            0 => Call::Put { lane, mark, length },
+            _ => {
+                let train = rng.pick(&[0, 1, 7, 7, 8, 8, 9, 15, 16, 128, 255, any]);
+                Call::PutTrain { lane, train, mark, length }
+            }
+        }
     }
 
     fn mark(&mut self) -> u32 {

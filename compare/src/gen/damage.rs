@@ -4,10 +4,12 @@ use crate::rng::Rng;
 use crate::session;
 use crate::setup;
 
-const TAGS: &[u8] =
-    &[0x00, 0x01, 0x02, 0x10, 0x11, 0x20, 0x21, 0x22, 0x23, 0x24, 0x25, 0x26, 0x7E, 0x7F, 0x80, 0xFF];
+const TAGS: &[u8] = &[
+    0x00, 0x01, 0x02, 0x10, 0x11, 0x12, 0x13, 0x20, 0x21, 0x22, 0x23, 0x24, 0x25, 0x26, 0x27, 0x7E, 0x7F,
+    0x80, 0xFF,
+];
 const BYTES: &[u8] =
-    &[0x00, 0x01, 0x02, 0x03, 0x04, 0x05, 0x07, 0x10, 0x20, 0x3F, 0x40, 0x7F, 0x80, 0xFE, 0xFF];
+    &[0x00, 0x01, 0x02, 0x03, 0x04, 0x05, 0x07, 0x08, 0x10, 0x20, 0x3F, 0x40, 0x7F, 0x80, 0xFE, 0xFF];
 const WEIGHTS: &[u16] = &[0, 1, 2, 255, 256, 512, 1_022, 1_023, 1_024, 1_025, 1_026, 0x8001, 65_535];
 const LONGESTS: &[u16] = &[0, 1, 63, 64, 65, 320, 1_499, 1_500, 1_501, 0x0540, 65_535];
 const FRAMINGS: &[u8] = &[0, 1, 2, 63, 64, 65, 128, 255];
@@ -20,7 +22,8 @@ pub fn fields(rng: &mut Rng, fields: &mut Vec<Vec<u8>>) {
             return;
         }
         let at = rng.index(fields.len());
-        match rng.below(14) {
+        match rng.below(16) {
+            14 | 15 => shared_field(rng, fields),
             12 => {
                 // In place, in each wrong place, and twice.
                 let at = rng.index(fields.len() + 1);
@@ -74,6 +77,49 @@ fn framed(rng: &mut Rng) -> Vec<u8> {
         0 => vec![setup::FRAMED, 0, 0],
         1 => vec![setup::FRAMED, 0, 2, 0, value],
         _ => vec![setup::FRAMED, 0, 1, value],
+    }
+}
+
+/// A shared lane's field in place or not; and the list's other faults now and then.
+pub fn shared(rng: &mut Rng, whole: &mut Vec<Vec<u8>>) {
+    shared_field(rng, whole);
+    if rng.once_in(8) {
+        fields(rng, whole);
+    }
+}
+
+/// A shared lane's field in place, of another lane, in any place, twice, behind another field, or of a wrong length.
+fn shared_field(rng: &mut Rng, whole: &mut Vec<Vec<u8>>) {
+    let lanes: Vec<usize> =
+        (0..whole.len()).filter(|&i| whole[i].len() >= 6 && whole[i][0] == setup::LANE).collect();
+    if lanes.is_empty() {
+        return;
+    }
+    let at = rng.pick(&lanes);
+    let lane = whole[at][3];
+    let own = vec![setup::SHARED, 0, 1, lane];
+    let any = rng.index(whole.len() + 1);
+    match rng.below(8) {
+        0 | 7 => whole.insert(at + 1, own),
+        1 => {
+            let other =
+                rng.pick(&[lane ^ 1, lane ^ 64, lane ^ 128, lane.wrapping_add(1), whole[lanes[0]][3]]);
+            whole.insert(at + 1, vec![setup::SHARED, 0, 1, other]);
+        }
+        2 => whole.insert(any, own),
+        3 => whole.insert(at, own),
+        4 => {
+            whole.insert(at + 1, own.clone());
+            whole.insert(at + 2, own);
+        }
+        5 => whole.insert(
+            at + 1,
+            rng.pick(&[&[setup::SHARED, 0, 0][..], &[setup::SHARED, 0, 2, lane, lane]]).to_vec(),
+        ),
+        _ => {
+            whole.insert(at + 1, framed(rng));
+            whole.insert(at + rng.index(2) + 1, own);
+        }
     }
 }
 

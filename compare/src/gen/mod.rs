@@ -4,7 +4,7 @@
 //! - [`caller`] — lists of calls, each chosen with the table's present contents in view
 //! - [`sessions`] — sessions for the run and for the program
 //! - [`damage`] — faults in setups and sessions, field by field and byte by byte
-//! - [`tables`] — tables that no call made; [`slots`] — faults in their slot lists
+//! - [`tables`] — tables that no call made; [`slots`] — faults in their slot lists; [`trains`] — their shared lanes
 
 pub mod caller;
 pub mod damage;
@@ -12,3 +12,4 @@ pub mod sessions;
 pub mod setups;
 pub mod slots;
 pub mod tables;
+pub mod trains;

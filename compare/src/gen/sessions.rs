@@ -15,6 +15,10 @@ pub fn request(call: Call) -> Vec<u8> {
             let length = u16::try_from(length).unwrap_or(u16::MAX);
             [&[PUT, 0, 7, lane][..], &mark.to_be_bytes(), &length.to_be_bytes()].concat()
         }
+        Call::PutTrain { lane, train, mark, length } => {
+            let length = u16::try_from(length).unwrap_or(u16::MAX);
+            [&[PUT_TRAIN, 0, 8, lane, train][..], &mark.to_be_bytes(), &length.to_be_bytes()].concat()
+        }
         Call::Take => vec![TAKE, 0, 0],
         Call::Look => vec![LOOK, 0, 0],
         Call::Sets => vec![SETS, 0, 0],

@@ -2,7 +2,7 @@
 
 use crate::numbers::*;
 use crate::rng::Rng;
-use crate::setup::{LanePlan, Setup, END, FORMAT, FRAMED, LANE};
+use crate::setup::{LanePlan, Setup, END, FORMAT, FRAMED, LANE, SHARED};
 
 const FLAVOURS: &[fn(&mut Rng) -> Setup] = &[
     one_lane,
@@ -18,9 +18,20 @@ const FLAVOURS: &[fn(&mut Rng) -> Setup] = &[
     anything,
 ];
 
-pub fn setup(rng: &mut Rng) -> Setup {
+/// A setup with no shared lane.
+pub fn plain(rng: &mut Rng) -> Setup {
     let flavour = rng.pick(FLAVOURS);
     Setup { format: rng.between(1, 2) as u16, framing: framing(rng), ..flavour(rng) }
+}
+
+/// A setup with shared lanes, all of them or some among the others, in half of the cases.
+pub fn setup(rng: &mut Rng) -> Setup {
+    let mut setup = plain(rng);
+    let often = rng.pick(&[0, 0, 0, 1, 2, 4]);
+    if often > 0 {
+        setup.lanes.iter_mut().for_each(|lane| lane.shared = rng.once_in(often));
+    }
+    setup
 }
 
 fn framing(rng: &mut Rng) -> u8 {
@@ -51,6 +62,9 @@ pub fn fields(rng: &mut Rng, setup: &Setup) -> Vec<Vec<u8>> {
         } else {
             vec![LANE, 0, 5, plan.number, w1, w0, l1, l0]
         });
+        if plan.shared {
+            fields.push(vec![SHARED, 0, 1, plan.number]);
+        }
     }
     fields.push(vec![END, 0, 0]);
     fields
@@ -84,7 +98,7 @@ fn of_weights(rng: &mut Rng, weights: &[u16], mut longest: impl FnMut(&mut Rng) 
         let weight = weight.min(left);
         if weight > 0 {
             left -= weight;
-            lanes.push(LanePlan { number, weight, longest: longest(rng) });
+            lanes.push(LanePlan { number, weight, longest: longest(rng), shared: false });
         }
     }
     Setup { format: 1, framing: 0, lanes }

@@ -1,13 +1,12 @@
 //! Tables that no call made: contents at the edges of "A good table", words and bits changed, and noise; in today's layout or in the one before it.
 
-use super::setups;
+use super::{setups, trains};
 use crate::layout::*;
 use crate::numbers::*;
 use crate::rng::Rng;
-use crate::rules::{taken_off, Lane, Record, State};
+use crate::rules::{taken_off, Lane, Record, State, Waiting};
 use crate::setup::LanePlan;
 use crate::slots;
-use std::collections::VecDeque;
 
 /// Bytes that no contents give a meaning: all the same, or random.
 pub fn blank(rng: &mut Rng, form: &Form) -> Vec<u8> {
@@ -27,7 +26,7 @@ pub fn written(rng: &mut Rng, form: &Form, state: &State) -> Vec<u8> {
 
 /// Contents near the edges of what is good, on one side or the other, in a table of their own.
 pub fn laid(rng: &mut Rng, form: &Form) -> Vec<u8> {
-    let setup = setups::setup(rng);
+    let setup = if form.trains { setups::setup(rng) } else { setups::plain(rng) };
     // A fault in some lane once in three tables.
     let faults = 3 * setup.lanes.len() as u64;
     let framing = setup.framing;
@@ -43,12 +42,12 @@ pub fn laid(rng: &mut Rng, form: &Form) -> Vec<u8> {
         // No lane is eligible: each begins in the slot after the clock's.
         for lane in lanes.iter_mut().filter(|lane| lane.holds()) {
             let next = clock - clock % lane.slot() + lane.slot() + i128::from(rng.below(1 << 16));
-            *lane = Lane::of(lane.plan, framing, lane.queue.clone(), next, lane.since);
+            *lane = Lane::of(lane.plan, framing, lane.waiting.clone(), next, lane.since);
         }
     } else if !lanes.iter().any(|lane| lane.eligible(clock)) {
         if let Some(lane) = lanes.iter_mut().find(|lane| lane.holds()) {
             let now = clock - clock % lane.slot();
-            *lane = Lane::of(lane.plan, framing, lane.queue.clone(), now, lane.since);
+            *lane = Lane::of(lane.plan, framing, lane.waiting.clone(), now, lane.since);
         }
     }
     let back = back(rng);
@@ -74,7 +73,7 @@ fn clock(rng: &mut Rng, form: &Form, framing: u8, lanes: &[LanePlan]) -> i128 {
         4 => end + i128::from(rng.below(2)),
         5..=7 => {
             // 1,024 (1,500 + h) past a multiple of some lane's slot, or at the multiple, or beside those: R's lower edge is met, or the edge of being eligible.
-            let slot = Lane::of(rng.pick(lanes), framing, VecDeque::new(), 0, 0).slot();
+            let slot = Lane::idle(rng.pick(lanes), framing, 0).slot();
             let bits = rng.between(33, 61);
             let near = i128::from(rng.below(1 << bits));
             let past = rng.pick(&[margin(framing), margin(framing), margin(0), 0]);
@@ -93,7 +92,7 @@ fn lane(
     holds: bool,
     faults: u64,
 ) -> Lane {
-    let slot = Lane::of(plan, framing, VecDeque::new(), 0, 0).slot();
+    let slot = Lane::idle(plan, framing, 0).slot();
     let ahead = clock + 2 * slot;
     let within = |rng: &mut Rng, span: i128| i128::from(rng.below(span as u64));
     if !holds {
@@ -107,7 +106,7 @@ fn lane(
             3 => clock + within(rng, 2 * slot),
             _ => within(rng, ahead),
         };
-        return Lane::of(plan, framing, VecDeque::new(), finish, 0);
+        return Lane::idle(plan, framing, finish);
     }
     // The least R above V - 2s - 1,024 (1,500 + h).
     let behind = clock - 2 * slot - margin(framing);
@@ -122,13 +121,17 @@ fn lane(
         4 => clock + within(rng, 2 * slot),
         _ => clock - clock % slot,
     };
-    let most = form.depth;
-    let count = if rng.once_in(3) { rng.pick(&[1, most - 1, most]) } else { rng.between(1, most) };
-    let queue = (0..count).map(|_| held(rng, plan.longest.into())).collect();
-    Lane::of(plan, framing, queue, start, rng.below(1 << 60))
+    let waiting = if plan.shared {
+        trains::waiting(rng, plan.longest.into(), faults)
+    } else {
+        let most = form.depth;
+        let count = if rng.once_in(3) { rng.pick(&[1, most - 1, most]) } else { rng.between(1, most) };
+        Waiting::Own((0..count).map(|_| held(rng, plan.longest.into())).collect())
+    };
+    Lane::of(plan, framing, waiting, start, rng.below(1 << 60))
 }
 
-fn held(rng: &mut Rng, longest: u64) -> Record {
+pub fn held(rng: &mut Rng, longest: u64) -> Record {
     let length = if rng.once_in(3) { rng.pick(&[1, longest]) } else { rng.between(1, longest) };
     Record { mark: rng.word() as u32, length }
 }
@@ -138,7 +141,16 @@ pub fn damage(rng: &mut Rng, form: &Form, bytes: &mut [u8]) -> String {
     if rng.once_in(3) {
         return super::slots::damage(rng, bytes);
     }
-    let changed = lanes(rng, form, bytes);
+    let shared: Vec<u8> = present(bytes)
+        .filter(|lane| form.trains && word(bytes, setting(*lane)) & SHARED_BIT != 0)
+        .filter(|lane| form.ring(bytes, *lane).1 > 0)
+        .collect();
+    let changed = if !shared.is_empty() && rng.once_in(2) {
+        let lane = rng.pick(&shared);
+        trains::damage(rng, form, bytes, lane)
+    } else {
+        lanes(rng, form, bytes)
+    };
     // A lane's S and group decide where it stands: the lists go along or stay behind.
     match form.read(bytes).state {
         Some(state) if rng.once_in(2) => {
@@ -202,6 +214,7 @@ fn lanes(rng: &mut Rng, form: &Form, bytes: &mut [u8]) -> String {
                 2,
                 5 + rng.index(75),
                 83 + 4 * rng.index(64),
+                if form.trains { 7_680 + rng.index(256) } else { 2 },
                 1_362 + rng.index(14),
                 rng.pick(&(form.words_of)(lane, place)),
                 form.size / 8 - 1 - rng.index(512),
@@ -305,7 +318,7 @@ fn clock_near(rng: &mut Rng, form: &Form, bytes: &[u8]) -> u64 {
 
 /// One number of a setting word at an edge, or beside what it was.
 fn field_of_setting(rng: &mut Rng, setting: u64) -> u64 {
-    let (at, width) = rng.pick(&[(0, 16), (16, 16), (32, 8), (40, 24)]);
+    let (at, width) = rng.pick(&[(0, 16), (16, 16), (16, 16), (32, 8), (40, 23), (40, 24), (63, 1)]);
     let mask = (1 << width) - 1;
     let value = setting >> at & mask;
     let edges = [0, 1, 15, 16, 31, 32, 63, 64, 65, 1_024, 1_025, 1_500, 1_501, 1 << 20, mask];
@@ -326,9 +339,10 @@ fn setting_at_sum(rng: &mut Rng, bytes: &[u8], lanes: &[u8], lane: u8) -> u64 {
     let sum = rng.pick(&[1_023, 1_024, 1_024, 1_025, 1_025]);
     let weight = if rng.once_in(4) { weight(lane).max(1) } else { sum.max(others + 1) - others };
     let longest = if rng.once_in(2) { old & 0xFFFF } else { rng.pick(&[63, 64, 65, 1_499, 1_500, 1_501]) };
-    let plan = LanePlan { number: lane, weight: weight as u16, longest: longest as u16 };
-    let numbers = Lane::of(plan, framing_of(bytes), VecDeque::new(), 0, 0);
-    setting_of(longest, weight, numbers.group.into(), numbers.units_per_byte as u64)
+    let shared = old & SHARED_BIT != 0;
+    let plan = LanePlan { number: lane, weight: weight as u16, longest: longest as u16, shared };
+    let numbers = Lane::idle(plan, framing_of(bytes), 0);
+    setting_of(longest, weight, numbers.group.into(), numbers.units_per_byte as u64, shared)
 }
 
 fn framing_of(bytes: &[u8]) -> u8 {

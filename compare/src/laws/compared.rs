@@ -51,7 +51,7 @@ impl Compared {
 
     pub fn step(&mut self, call: Call, answer: Answer) -> Result<(), String> {
         match (call, answer) {
-            (Call::Put { lane, .. }, Answer::Put(_)) => {
+            (Call::Put { lane, .. } | Call::PutTrain { lane, .. }, Answer::Put(_)) => {
                 let at = self.at(lane)?;
                 self.lanes[at].held += 1;
                 if self.lanes[at].held == 1 {

@@ -44,7 +44,7 @@ fn beside(table: &State, twin: &State) -> Result<(), String> {
     let time = |lane: &Lane, clock: i128| if lane.holds() { lane.start } else { lane.finish.max(clock) };
     for (own, other) in table.lanes.iter().zip(&twin.lanes) {
         let idle = !own.holds();
-        let same = (own.plan, &own.queue) == (other.plan, &other.queue)
+        let same = (own.plan, &own.waiting) == (other.plan, &other.waiting)
             && time(own, table.clock) + on == time(other, twin.clock)
             && (idle || own.rounded_start + on == other.rounded_start && own.finish + on == other.finish);
         if !same {

@@ -57,7 +57,7 @@ impl Fairness {
 
     pub fn step(&mut self, call: Call, answer: Answer) -> Result<(), String> {
         match (call, answer) {
-            (Call::Put { lane, .. }, Answer::Put(_)) => {
+            (Call::Put { lane, .. } | Call::PutTrain { lane, .. }, Answer::Put(_)) => {
                 let watch = self.lanes.iter_mut().find(|watch| watch.number == lane);
                 let watch = watch.ok_or("a put to a lane that is not in the setup was accepted")?;
                 watch.held += 1;

@@ -2,7 +2,7 @@
 //! of the contents and not of the layout.
 
 use crate::numbers::*;
-use crate::rules::{Lane, State};
+use crate::rules::{Lane, State, Trains, Waiting};
 
 pub fn check(state: &State) -> Result<(), String> {
     if !(0..CLOCK_END).contains(&state.clock) {
@@ -29,13 +29,19 @@ fn broken(lane: &Lane, clock: i128, framing: u8) -> Option<&'static str> {
     if !(16..=31).contains(&lane.group) {
         return Some("the group lies in 16 to 31");
     }
-    if lane.queue.len() > DEPTH {
+    if lane.waiting.len() > DEPTH {
         return Some("0 to 64 records");
     }
-    if !lane.queue.iter().all(|record| lengths.contains(&record.length)) {
+    let mut held = lane.waiting.queues().flat_map(|(_, queue)| queue);
+    if !held.all(|record| lengths.contains(&record.length)) {
         return Some("each length 1 to the lane's longest");
     }
-    let Some(first) = lane.queue.front() else {
+    if let Waiting::Shared(trains) = &lane.waiting {
+        if let Some(broken) = of_trains(trains, lane.plan.longest.into()) {
+            return Some(broken);
+        }
+    }
+    let Some((_, first)) = lane.waiting.first() else {
         return (lane.finish >= clock + two_slots).then_some("F below V + 2s for an idle lane");
     };
     if lane.finish != lane.start + charged(first.length, framing) * lane.units_per_byte {
@@ -46,6 +52,34 @@ fn broken(lane: &Lane, clock: i128, framing: u8) -> Option<&'static str> {
     }
     if lane.rounded_start <= clock - two_slots - margin(framing) {
         return Some("R above V - 2s - 1,024 (1,500 + h)");
+    }
+    None
+}
+
+/// "In a good table an empty train's is 0; the train in turn has its first record's length or more, below twice the longest; any other has less than its
+/// first record's." And the round has each train that holds records once.
+fn of_trains(trains: &Trains, longest: u64) -> Option<&'static str> {
+    for (number, train) in (0..).zip(&trains.trains) {
+        let named = trains.round.iter().filter(|train| **train == number).count();
+        let deficit = train.deficit;
+        let Some(first) = train.queue.front() else {
+            let idle = deficit == 0 && named == 0;
+            if idle {
+                continue;
+            }
+            return Some("a train that holds nothing has deficit 0 and no turn");
+        };
+        if named != 1 || train.queue.len() > TRAIN_DEPTH {
+            return Some("a train that holds records is in the round once and holds at most 8");
+        }
+        let within = if trains.round.front() == Some(&number) {
+            (first.length..2 * longest).contains(&deficit)
+        } else {
+            deficit < first.length
+        };
+        if !within {
+            return Some("the deficits are those of the train in turn and of the others");
+        }
     }
     None
 }

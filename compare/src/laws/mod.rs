@@ -3,7 +3,8 @@
 //!
 //! - [`fairness`] — demand 3, on every stretch of the list and every lane
 //! - [`compared`] — two busy lanes compared, on every stretch and every two lanes
-//! - [`order`] — accepted records are handed out once, in order, or still held; a put tells how many are ahead of it
+//! - [`trains`] — two trains of a shared lane, on every stretch
+//! - [`order`] — accepted records are handed out once, in their train's order, or still held; a put tells how many are ahead of it
 //! - [`groups`] — the four words part the groups, name the chosen lane's group, and are in order of finish
 //! - [`good`] — the clock's range and every other clause of "A good table"
 //! - [`endless`] — every answer is that of a clock which is never taken back, and the clock is taken back in time
@@ -14,6 +15,7 @@ pub mod fairness;
 pub mod good;
 pub mod groups;
 pub mod order;
+pub mod trains;
 
 use crate::calls::{Answer, Call};
 use crate::rules::State;
@@ -22,6 +24,7 @@ use crate::rules::State;
 pub struct Laws {
     pub fairness: fairness::Fairness,
     pub compared: compared::Compared,
+    pub trains: trains::Even,
     pub order: order::Order,
     pub endless: endless::Endless,
     /// The endless clock.
@@ -33,6 +36,7 @@ impl Laws {
         Laws {
             fairness: fairness::Fairness::new(fresh),
             compared: compared::Compared::new(fresh),
+            trains: trains::Even::new(fresh),
             order: order::Order::default(),
             endless: endless::Endless::new(fresh),
             clock: fresh.clock + fresh.back,
@@ -43,6 +47,7 @@ impl Laws {
     pub fn step(&mut self, call: Call, answer: Answer, after: &State) -> Result<(), String> {
         self.fairness.step(call, answer)?;
         self.compared.step(call, answer)?;
+        self.trains.step(call, answer)?;
         self.order.step(call, answer)?;
         self.endless.step(call, answer, after)?;
         if call.only_reads() || answer.refused() {

@@ -28,6 +28,20 @@ pub enum Clause {
     Length,
     /// In a lane that holds records the places without one have a length of 1 to the lane's longest too.
     Places,
+    /// The row of a shared lane counts the records of all its trains.
+    TrainsCounted,
+    /// A train holds 0 to 8 records.
+    TrainRecords,
+    /// The round names each train that holds records once, nothing else, and nothing stands behind those.
+    Round,
+    /// "In a good table an empty train's is 0"
+    EmptyDeficit,
+    /// "the train in turn has its first record's length or more"
+    TurnCovers,
+    /// "below twice the longest"
+    TurnBelow,
+    /// "any other has less than its first record's"
+    OthersBelow,
     /// V below its end.
     Clock,
     /// "S below V + 2s"
@@ -61,6 +75,13 @@ pub const CLAUSES: &[Clause] = &[
     Clause::Records,
     Clause::Length,
     Clause::Places,
+    Clause::TrainsCounted,
+    Clause::TrainRecords,
+    Clause::Round,
+    Clause::EmptyDeficit,
+    Clause::TurnCovers,
+    Clause::TurnBelow,
+    Clause::OthersBelow,
     Clause::Clock,
     Clause::StartAhead,
     Clause::StartBehind,
@@ -73,6 +94,15 @@ pub const CLAUSES: &[Clause] = &[
 ];
 
 impl Clause {
+    /// Whether it speaks of trains, which old tables have not.
+    pub fn of_trains(self) -> bool {
+        use Clause::*;
+        matches!(
+            self,
+            TrainsCounted | TrainRecords | Round | EmptyDeficit | TurnCovers | TurnBelow | OthersBelow
+        )
+    }
+
     /// Whether a call on a good table may leave one that breaks the clause: "a good table of other origin may lead to one that gives 10". What is
     /// stored is never spoiled.
     pub fn may_be_lost(self) -> bool {

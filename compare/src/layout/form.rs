@@ -1,12 +1,11 @@
 //! A table read and written, over what tells one layout from another: today's ([`NOW`](super::NOW)) and the one before it ([`THEN`](super::old::THEN)).
 
-use super::{clock_word, present, ring, set_word, setting, setting_of, word, Clause, Reading};
-use super::{CLOCK, FRAMING_WORD, PRESENT};
+use super::{clock_word, present, ring, set_word, setting, setting_of, trains, word, Clause, Reading};
+use super::{CLOCK, FRAMING_WORD, PRESENT, SHARED_BIT};
 use crate::numbers::*;
-use crate::rules::{Lane, Record, State};
+use crate::rules::{Lane, Record, State, Waiting};
 use crate::setup::LanePlan;
 use crate::slots;
-use std::collections::VecDeque;
 
 pub struct Form {
     /// A table's fixed size in bytes.
@@ -15,6 +14,8 @@ pub struct Form {
     pub depth: u64,
     /// The word that holds that number too, if there is one. Then every place of a lane that holds records has a length within the lane's numbers.
     pub depth_word: Option<usize>,
+    /// Whether a setting's top bit says that trains share the lane; else it is c's.
+    pub trains: bool,
     /// V of a good table is below this.
     pub clock_end: i128,
     /// The record at a place of a lane's ring; places are counted on past the ring's end.
@@ -29,6 +30,20 @@ impl Form {
     pub fn ring(&self, bytes: &[u8], lane: u8) -> (u64, u64) {
         let word = word(bytes, ring(lane));
         (word % self.depth, word / self.depth)
+    }
+
+    /// The places at which a holding lane has records.
+    fn taken(&self, bytes: &[u8], lane: u8, shared: bool) -> Vec<u64> {
+        if shared {
+            let of_train = |train: u8| {
+                let number = trains::number(bytes, lane, train);
+                let count = trains::count_of(number);
+                (0..count).map(move |place| trains::place_of(train, trains::first_of(number) + place))
+            };
+            return (0..TRAINS).flat_map(of_train).collect();
+        }
+        let (first, count) = self.ring(bytes, lane);
+        (0..count.min(self.depth)).map(|place| (first + place) % self.depth).collect()
     }
 
     pub fn read(&self, bytes: &[u8]) -> Reading {
@@ -80,24 +95,39 @@ impl Form {
         reading: &mut Reading,
     ) -> Option<Lane> {
         let setting = word(bytes, setting(number));
-        let plan = LanePlan { number, weight: (setting >> 16) as u16, longest: setting as u16 };
+        let shared = self.trains && setting & SHARED_BIT != 0;
+        let plan = LanePlan { number, weight: (setting >> 16) as u16, longest: setting as u16, shared };
         reading.breaks(Clause::Weight, !WEIGHT.contains(&plan.weight));
         reading.breaks(Clause::Longest, !LONGEST.contains(&plan.longest));
         let (first, count) = self.ring(bytes, number);
-        reading.breaks(Clause::Records, count > self.depth);
-        if plan.weight == 0 || count > self.depth {
+        reading.breaks(Clause::Records, !shared && count > self.depth);
+        if plan.weight == 0 {
             return None;
         }
-        let record = |place: u64| (self.record)(bytes, number, first + place);
         let fits = |record: &Record| (1..=u64::from(plan.longest)).contains(&record.length);
-        let queue: VecDeque<Record> = (0..count).map(record).collect();
-        reading.breaks(Clause::Length, !queue.iter().all(fits));
+        let waiting = if shared && count > 0 {
+            let trains = trains::read(self, bytes, number, plan.longest.into(), count, reading);
+            Waiting::Shared(trains?)
+        } else if shared || count > self.depth {
+            Waiting::none(shared)
+        } else {
+            Waiting::Own((0..count).map(|place| (self.record)(bytes, number, first + place)).collect())
+        };
+        if !shared && count > self.depth {
+            return None;
+        }
+        let held = || waiting.queues().flat_map(|(_, queue)| queue);
+        reading.breaks(Clause::Length, !held().all(fits));
+        let taken = self.taken(bytes, number, shared);
+        let mut free = (0..self.depth).filter(|place| !taken.contains(place));
         let asked = self.depth_word.is_some() && count > 0;
-        reading.breaks(Clause::Places, asked && !(count..self.depth).map(record).all(|free| fits(&free)));
+        reading
+            .breaks(Clause::Places, asked && !free.all(|place| fits(&(self.record)(bytes, number, place))));
         let turn = order.iter().position(|lane| *lane == number);
         let (time, since) = (i128::from(word(bytes, clock_word(number))), turn.map_or(0, |at| at as u64));
-        let lane = Lane::of(plan, framing, queue, time, since);
-        reading.breaks(Clause::UnitsPerByte, i128::from(setting >> 40) != lane.units_per_byte);
+        let lane = Lane::of(plan, framing, waiting, time, since);
+        let units_per_byte = if self.trains { (setting & !SHARED_BIT) >> 40 } else { setting >> 40 };
+        reading.breaks(Clause::UnitsPerByte, i128::from(units_per_byte) != lane.units_per_byte);
         reading.breaks(Clause::Group, setting >> 32 & 0xFF != u64::from(lane.group));
         Some(lane)
     }
@@ -119,7 +149,7 @@ impl Form {
             set_word(
                 bytes,
                 setting(at),
-                setting_of(plan.longest.into(), plan.weight.into(), lane.group.into(), units),
+                setting_of(plan.longest.into(), plan.weight.into(), lane.group.into(), units, plan.shared),
             );
             set_word(bytes, clock_word(at), number(if lane.holds() { lane.start } else { lane.finish }));
             self.write_queue(lane, bytes);
@@ -127,19 +157,28 @@ impl Form {
     }
 
     fn write_queue(&self, lane: &Lane, bytes: &mut [u8]) {
-        let (at, count) = (lane.plan.number, lane.queue.len() as u64);
+        let (at, count) = (lane.plan.number, lane.waiting.len() as u64);
         let (first, _) = self.ring(bytes, at);
         set_word(bytes, ring(at), first + self.depth * count);
-        for (place, held) in (first..).zip(&lane.queue) {
+        let queue = match &lane.waiting {
+            Waiting::Own(queue) => queue,
+            // The trains' words of an idle lane mean nothing.
+            Waiting::Shared(_) if count == 0 => return,
+            Waiting::Shared(trains) => return trains::write(self, lane, trains, bytes),
+        };
+        for (place, held) in (first..).zip(queue) {
             (self.set_record)(bytes, at, place, *held);
         }
         if self.depth_word.is_none() || !lane.holds() {
             return;
         }
-        for place in first + count..first + self.depth {
-            let free = (self.record)(bytes, at, place);
-            let length = (free.length - 1) % u64::from(lane.plan.longest.max(1)) + 1;
-            (self.set_record)(bytes, at, place, Record { length, ..free });
-        }
+        (first + count..first + self.depth).for_each(|place| self.fit(bytes, lane, place));
+    }
+
+    /// The length of a place without a record, brought within the lane's numbers.
+    pub fn fit(&self, bytes: &mut [u8], lane: &Lane, place: u64) {
+        let free = (self.record)(bytes, lane.plan.number, place);
+        let length = (free.length - 1) % u64::from(lane.plan.longest.max(1)) + 1;
+        (self.set_record)(bytes, lane.plan.number, place, Record { length, ..free });
     }
 }

@@ -3,11 +3,13 @@
 //!
 //! - [`clauses`] — the clauses, and what a reader says of bytes
 //! - [`form`] — reading and writing, over what tells one layout from another
+//! - [`trains`] — a shared lane's trains and round
 //! - [`old`] — the layout before this one, with 16 places in a lane
 
 pub mod clauses;
 pub mod form;
 pub mod old;
+pub mod trains;
 
 pub use clauses::{Clause, Reading, CLAUSES};
 pub use form::Form;
@@ -16,11 +18,12 @@ use crate::numbers::*;
 use crate::rules::{Record, State};
 use crate::slots;
 
-/// A table is 65,536 bytes: 1,408 words of 64 bits, low byte first; the bytes of the slot lists' rings; the words of the marks; bytes that mean nothing.
+/// A table is 65,536 bytes: 1,408 words of 64 bits, low byte first; the bytes of the slot lists' rings; the words of the marks; those of the shared lanes'
+/// trains; bytes that mean nothing.
 pub const WORDS: usize = 1_408;
 pub const TABLE_SIZE: usize = 65_536;
-/// Where the marks end, and with them what a call looks at.
-pub const KEPT: usize = 61_440;
+/// Where the trains' numbers end, and with them what a call looks at.
+pub const KEPT: usize = 63_488;
 
 /// Where the words lie.
 pub const CLOCK: usize = 0;
@@ -45,6 +48,7 @@ pub const NOW: Form = Form {
     size: TABLE_SIZE,
     depth: DEPTH as u64,
     depth_word: Some(DEPTH_WORD),
+    trains: true,
     clock_end: CLOCK_END,
     record: |bytes, lane, place| {
         let length: [u8; 2] = bytes[length_byte(lane, place)..][..2].try_into().expect("two bytes");
@@ -73,9 +77,17 @@ pub fn mark_byte(lane: u8, place: u64) -> usize {
     45_056 + 4 * place_of(lane, place)
 }
 
+/// The bit of a setting word by which trains share the lane.
+pub const SHARED_BIT: u64 = 1 << 63;
+
 /// A setting word of these numbers.
-pub fn setting_of(longest: u64, weight: u64, group: u64, units_per_byte: u64) -> u64 {
-    longest | weight << 16 | group << 32 | units_per_byte << 40
+pub fn setting_of(longest: u64, weight: u64, group: u64, units_per_byte: u64, shared: bool) -> u64 {
+    let shared = if shared { SHARED_BIT } else { 0 };
+    longest | weight << 16 | group << 32 | units_per_byte << 40 | shared
+}
+
+fn record_in(form: &Form, bytes: &[u8], lane: u8, place: u64) -> Record {
+    (form.record)(bytes, lane, place)
 }
 
 pub fn word(bytes: &[u8], at: usize) -> u64 {

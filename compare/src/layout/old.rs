@@ -11,6 +11,7 @@ pub const THEN: Form = Form {
     size: 45_056,
     depth: OLD_DEPTH as u64,
     depth_word: None,
+    trains: false,
     clock_end: OLD_CLOCK_END,
     record: |bytes, lane, place| {
         let word = word(bytes, at(lane, place));
@@ -31,7 +32,7 @@ fn at(lane: u8, place: u64) -> usize {
 pub fn answer(state: &mut State, call: Call) -> Answer {
     if let Call::Put { lane, length, .. } = call {
         let full = |lane: &&crate::rules::Lane| {
-            lane.queue.len() >= OLD_DEPTH && (1..=u64::from(lane.plan.longest)).contains(&length)
+            lane.waiting.len() >= OLD_DEPTH && (1..=u64::from(lane.plan.longest)).contains(&length)
         };
         if state.lane(lane).filter(full).is_some() {
             return Answer::No(refusal::LANE_FULL);

@@ -35,6 +35,34 @@ pub enum Lapse {
     IdlePlacesRead,
     /// A put to an idle lane leaves the lengths of the other places as they are.
     PlacesLeft,
+    /// The train in turn must have more than its first record's length.
+    TurnStrict,
+    /// Its deficit must be below twice the longest less 1.
+    TurnBelowStrict,
+    /// Any other train's deficit must be below its first record's length less 1.
+    OthersStrict,
+    /// Eight records of a train are too many.
+    TrainRecordsStrict,
+    /// A train without a record must have the number 0.
+    EmptyTrainRead,
+    /// So must the trains of an idle shared lane,
+    IdleTrainsRead,
+    /// and those of a lane that is not shared.
+    PlainTrainsRead,
+    /// A shared lane's first place must be 0.
+    SharedRingRead,
+    /// The row of a shared lane is not kept.
+    RowNotKept,
+    /// The deficit drops when a record is chosen.
+    DeficitAtChoice,
+    /// A hand-out leaves the round where it was.
+    RoundKept,
+    /// A lane's setting does not tell that it is shared.
+    SharedNotShown,
+    /// A shared lane's backlog is train 0's.
+    OneTrainCounted,
+    /// A train's records are shown as train 0's.
+    TrainShownAsLane,
     /// A put forgets the tie order: the lanes of a list stand by their number.
     OrderLost,
     /// A group's start may be off by a multiple of 32 slots, which is the same list.
@@ -97,6 +125,20 @@ pub fn lapses() -> Vec<Lapse> {
         KeptRead,
         IdlePlacesRead,
         PlacesLeft,
+        TurnStrict,
+        TurnBelowStrict,
+        OthersStrict,
+        TrainRecordsStrict,
+        EmptyTrainRead,
+        IdleTrainsRead,
+        PlainTrainsRead,
+        SharedRingRead,
+        RowNotKept,
+        DeficitAtChoice,
+        RoundKept,
+        SharedNotShown,
+        OneTrainCounted,
+        TrainShownAsLane,
         OrderLost,
         StartModulo,
         ListsAdded,

@@ -7,11 +7,12 @@ pub use lapses::{lapses, Lapse};
 
 use crate::calls::Taken;
 use crate::fields::Fault;
-use crate::layout::{self, Clause, NOW, TABLE_SIZE};
+use crate::layout::{self, trains, Clause, NOW, TABLE_SIZE};
 use crate::numbers::*;
-use crate::rules::{taken_off, Lane, State};
+use crate::rules::{taken_off, Lane, State, Train, Waiting};
 use crate::session::{self, Run};
 use crate::setup;
+use crate::shown::{shown, Ask};
 use crate::slots;
 use crate::unit::Unit;
 
@@ -45,7 +46,17 @@ impl OnWords {
                 let mut holding = state.holding().peekable();
                 holding.peek().is_some() && !holding.any(|lane| lane.rounded_start < state.clock)
             }
-            Lapse::RecordsStrict => state.lanes.iter().any(|lane| lane.queue.len() == DEPTH),
+            Lapse::RecordsStrict => {
+                state.lanes.iter().any(|lane| !lane.plan.shared && lane.waiting.len() == DEPTH)
+            }
+            Lapse::TurnStrict
+            | Lapse::TurnBelowStrict
+            | Lapse::OthersStrict
+            | Lapse::TrainRecordsStrict
+            | Lapse::EmptyTrainRead
+            | Lapse::IdleTrainsRead
+            | Lapse::PlainTrainsRead
+            | Lapse::SharedRingRead => state.lanes.iter().any(|lane| self.refuses_trains(table, lane)),
             Lapse::FreeWordRead => layout::word(table, 2) != 0,
             Lapse::KeptRead => table[layout::KEPT..TABLE_SIZE].iter().any(|byte| *byte != 0),
             Lapse::IdlePlacesRead => {
@@ -61,6 +72,56 @@ impl OnWords {
             Err(refusal::NOT_GOOD)
         } else {
             Ok(state)
+        }
+    }
+
+    /// Whether a good lane's trains are refused.
+    fn refuses_trains(&self, table: &[u8], lane: &Lane) -> bool {
+        let numbers: Vec<u32> =
+            (0..TRAINS).map(|train| trains::number(table, lane.plan.number, train)).collect();
+        let meaningless = numbers.iter().any(|number| *number != 0);
+        let Waiting::Shared(shared) = &lane.waiting else {
+            return self.lapse == Lapse::PlainTrainsRead && meaningless;
+        };
+        let Some(turn) = shared.round.front().map(|train| &shared.trains[usize::from(*train)]) else {
+            return self.lapse == Lapse::IdleTrainsRead && meaningless;
+        };
+        let waits = shared.round.iter().skip(1).map(|train| &shared.trains[usize::from(*train)]);
+        let first = |train: &Train| train.queue[0].length;
+        match self.lapse {
+            Lapse::TurnStrict => turn.deficit == first(turn),
+            Lapse::TurnBelowStrict => turn.deficit + 1 == 2 * u64::from(lane.plan.longest),
+            Lapse::OthersStrict => waits.into_iter().any(|train| train.deficit + 1 == first(train)),
+            Lapse::TrainRecordsStrict => shared.trains.iter().any(|train| train.queue.len() == TRAIN_DEPTH),
+            Lapse::EmptyTrainRead => {
+                numbers.iter().any(|number| trains::count_of(*number) == 0 && *number != 0)
+            }
+            Lapse::SharedRingRead => NOW.ring(table, lane.plan.number).0 != 0,
+            _ => false,
+        }
+    }
+
+    /// What is left wrong of the shared lanes that hold records.
+    fn spoil_trains(&self, state: &State, before: &State, table: &mut [u8]) {
+        for (lane, was) in state.lanes.iter().zip(&before.lanes) {
+            let Waiting::Shared(trains) = &lane.waiting else { continue };
+            let Some(turn) = trains.round.front().copied() else { continue };
+            let at = lane.plan.number;
+            match (self.lapse, &was.waiting) {
+                (Lapse::RowNotKept, _) if was.waiting.len() > 1 => {
+                    let count = was.waiting.len() as u64;
+                    layout::set_word(table, layout::ring(at), NOW.depth * count);
+                }
+                (Lapse::DeficitAtChoice, _) if lane.waiting != was.waiting => {
+                    let number = trains::number(table, at, turn);
+                    let first = trains.trains[usize::from(turn)].queue[0].length as u32;
+                    trains::set_number(table, at, turn, number - 128 * first);
+                }
+                (Lapse::RoundKept, Waiting::Shared(old)) if old.round.len() == trains.round.len() => {
+                    layout::set_word(table, trains::round_word(at), trains::round_of(&old.round));
+                }
+                _ => {}
+            }
         }
     }
 
@@ -95,8 +156,14 @@ impl OnWords {
     /// Where the lengths of the places without a record lie, and what is there: of the lanes that hold one record, if a put leaves them.
     fn free_lengths(&self, state: &State, table: &[u8]) -> Vec<(usize, [u8; 2])> {
         let mut free = vec![];
-        for lane in state.holding().filter(|lane| self.lapse == Lapse::PlacesLeft && lane.queue.len() == 1) {
-            let (first, _) = NOW.ring(table, lane.plan.number);
+        for lane in state.holding().filter(|lane| self.lapse == Lapse::PlacesLeft && lane.waiting.len() == 1)
+        {
+            let (mut first, _) = NOW.ring(table, lane.plan.number);
+            if let Waiting::Shared(shared) = &lane.waiting {
+                let train = shared.round[0];
+                let number = trains::number(table, lane.plan.number, train);
+                first = trains::place_of(train, trains::first_of(number));
+            }
             free.extend((1..NOW.depth).map(|place| {
                 let at = layout::length_byte(lane.plan.number, first + place);
                 (at, [table[at], table[at + 1]])
@@ -144,7 +211,7 @@ impl OnWords {
             }
             number
         })?;
-        let (before, back) = (state.clock, state.back);
+        let (before, back, was) = (state.clock, state.back, state.clone());
         let answer = call(&mut state)?;
         if self.lapse == Lapse::ClockKept && state.holding().next().is_none() && state.clock > 0 {
             state.clock = before;
@@ -157,6 +224,7 @@ impl OnWords {
         for (at, length) in free {
             table[at..at + 2].copy_from_slice(&length);
         }
+        self.spoil_trains(&state, &was, table);
         let off = state.back - back;
         match self.lapse {
             Lapse::BackForgotten if off > 0 => layout::set_word(table, slots::BACK, back as u64),
@@ -169,7 +237,7 @@ impl OnWords {
             _ => {}
         }
         if self.lapse == Lapse::RingTurned {
-            if let Some(lane) = state.holding().next() {
+            if let Some(lane) = state.holding().find(|lane| !lane.plan.shared) {
                 let at = layout::ring(lane.plan.number);
                 layout::set_word(table, at, layout::word(table, at) ^ 1);
             }
@@ -197,10 +265,21 @@ impl Unit for OnWords {
     }
 
     fn put(&mut self, table: &mut [u8], lane: u8, mark: u32, length: u64) -> Result<u64, u8> {
+        self.put_train(table, lane, 0, mark, length)
+    }
+
+    fn put_train(
+        &mut self,
+        table: &mut [u8],
+        lane: u8,
+        train: u8,
+        mark: u32,
+        length: u64,
+    ) -> Result<u64, u8> {
         let answer = self.change(table, |state| {
-            state.accepts(lane, length)?;
+            state.accepts(lane, train, length)?;
             self.take_back(state, lane)?;
-            state.put_endless(lane, mark, length)
+            state.put_endless(lane, train, mark, length)
         });
         if self.lapse == Lapse::BackByRefused && answer.is_err() && answer != Err(refusal::NOT_GOOD) {
             self.change(table, |state| {
@@ -235,6 +314,25 @@ impl Unit for OnWords {
 
     fn restart(&mut self, table: &mut [u8]) -> Result<(), u8> {
         self.change(table, State::restart)
+    }
+
+    fn show(&mut self, table: &mut [u8], ask: Ask) -> Option<Result<[u64; 4], u8>> {
+        let state = match self.read(table) {
+            Ok(state) => state,
+            Err(number) => return Some(Err(number)),
+        };
+        let answer = shown(&state, ask);
+        Some(match (self.lapse, ask) {
+            (Lapse::SharedNotShown, Ask::Lane(_)) => answer.map(|[w, l, h, group]| [w, l, h, group & 0xFF]),
+            (Lapse::OneTrainCounted, Ask::Backlog(lane)) => answer.map(|[count, time, ..]| {
+                let queue = state.lane(lane).and_then(|lane| lane.waiting.queue(0));
+                [queue.map_or(count, |queue| queue.len() as u64), time, 0, 0]
+            }),
+            (Lapse::TrainShownAsLane, Ask::TrainRecord(lane, _, before)) => {
+                shown(&state, Ask::Record(lane, before))
+            }
+            _ => answer,
+        })
     }
 
     fn run(&mut self, session: &[u8], limit: u64, table: &mut [u8], answers: &mut [u8]) -> Run {

@@ -85,6 +85,8 @@ fn inside(rng: &mut Rng) -> Vec<u8> {
     let plan = setups::setup(rng);
     let mut inner = setups::fields(rng, &plan);
     if rng.once_in(6) {
+        damage::shared(rng, &mut inner);
+    } else if rng.once_in(6) {
         let at = rng.index(inner.len() + 1);
         inner.insert(at, skipped(rng));
     } else {

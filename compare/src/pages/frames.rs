@@ -31,7 +31,10 @@ pub fn line(page: &[u8]) -> String {
         Ok(page) => {
             let setup = &page.setup;
             let lanes = setup.lanes.iter();
-            let lanes = lanes.map(|l| format!(" {}/{}/{}/{}", l.number, l.weight, l.longest, setup.framing));
+            let lanes = lanes.map(|l| {
+                let shared = if l.shared { "/shared" } else { "" };
+                format!(" {}/{}/{}/{}{shared}", l.number, l.weight, l.longest, setup.framing)
+            });
             let lanes: String = lanes.collect();
             format!("edition {}, format {}, lanes {},{lanes}", page.edition, setup.format, setup.lanes.len())
         }

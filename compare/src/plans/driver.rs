@@ -20,6 +20,8 @@ pub struct Tally {
     pub refused: BTreeMap<u64, u64>,
     /// Setups that were read and are in the form.
     pub in_form: u64,
+    /// Setups that were read and have a shared lane.
+    pub shared: u64,
     /// Areas that a host filled, and how many of them were plans.
     pub areas: u64,
     pub areas_good: u64,
@@ -29,8 +31,8 @@ impl fmt::Display for Tally {
     fn fmt(&self, f: &mut fmt::Formatter) -> fmt::Result {
         write!(
             f,
-            "plans: {} cases, {} setups read, {} of them in the form, ",
-            self.cases, self.read, self.in_form
+            "plans: {} cases, {} setups read, {} of them in the form, {} with shared lanes, ",
+            self.cases, self.read, self.in_form, self.shared
         )?;
         write!(f, "{} written", self.written)?;
         let refused: Vec<String> = self.refused.iter().map(|(number, n)| format!("{number}: {n}")).collect();
@@ -60,8 +62,13 @@ pub fn case<D: Depot>(depot: &mut D, rng: &mut Rng, tally: &mut Tally) -> Result
 /// A setup, right or wrong, read into an area; and written back from there.
 fn setup<D: Depot>(depot: &mut D, rng: &mut Rng, tally: &mut Tally) -> Result<(), Found> {
     let drawn = setups::setup(rng);
-    let input = match rng.below(8) {
+    let input = match rng.below(9) {
         0 => damage::noise(rng),
+        8 => {
+            let mut fields = setups::fields(rng, &drawn);
+            damage::shared(rng, &mut fields);
+            fields.concat()
+        }
         1 | 2 => {
             let fields = setups::fields(rng, &drawn);
             damage::setup(rng, fields)
@@ -88,6 +95,7 @@ fn setup<D: Depot>(depot: &mut D, rng: &mut Rng, tally: &mut Tally) -> Result<()
         return Ok(());
     }
     tally.read += 1;
+    tally.shared += u64::from(plan(&right).is_some_and(|plan| plan.lanes.iter().any(|lane| lane.shared)));
     let back = write(depot, rng, &right, tally)?;
     let formed = in_form(&input);
     tally.in_form += u64::from(formed);
@@ -166,7 +174,7 @@ fn edit(rng: &mut Rng, area: &mut [u8]) {
     let sum: u64 = all[1..].iter().map(|word| word & 0xFFFF).sum();
     let there = (1..65).filter(|at| all[*at] != 0).collect::<Vec<_>>();
     let held = if there.is_empty() { lane } else { rng.pick(&there) };
-    match rng.below(12) {
+    match rng.below(14) {
         0 => all[rng.index(65)] ^= 1 << rng.below(64),
         1 => all[held] = all[held] & !0xFFFF | rng.pick(&[0, 1, 1_024, 1_025, 65_535]),
         2 => all[held] = all[held] & 0xFFFF | rng.pick(&[0, 63, 64, 1_500, 1_501, 65_535, 65_536 + 64]) << 16,
@@ -182,6 +190,9 @@ fn edit(rng: &mut Rng, area: &mut [u8]) {
         8 => all[1..].fill(0),
         9 => all[held] = 0,
         10 => all[held] |= 1 << (32 + rng.below(32)),
+        // A shared lane, there or not.
+        12 => all[held] ^= 1 << 32,
+        13 => all[lane] |= 1 << 32,
         _ => all[lane] = rng.between(1, 9) + (rng.between(64, 1_500) << 16),
     }
     for (bytes, word) in area.chunks_exact_mut(8).zip(all) {

@@ -3,7 +3,7 @@
 use super::words::{bytes, lay, plan, words, Reference, BUFFER_SHORT, OUTSIDE, SIZE};
 use super::{Depot, Refused};
 use crate::numbers::longest_unsaid;
-use crate::setup::{Setup, END, FRAMED, LANE};
+use crate::setup::{Setup, END, FRAMED, LANE, SHARED};
 
 #[derive(Clone, Copy, Debug, PartialEq, Eq)]
 pub enum Slip {
@@ -46,6 +46,20 @@ pub enum Slip {
     TellsLength,
     /// The setup is looked at before the area's length.
     SetupBeforeArea,
+    /// 0x12 is not written.
+    SharedLost,
+    /// Every 0x12 is written behind the last lane.
+    SharedLast,
+    /// A shared lane that is not there is no lane.
+    SharedAbsent,
+    /// Reading leaves a shared lane's mark out.
+    SharedNotStored,
+    /// 0x12 twice is taken.
+    SharedTwice,
+    /// 0x12 of any lane is taken for that of the lane before.
+    SharedOfAny,
+    /// 0x12 before its lane's 0x10 is taken.
+    SharedBefore,
 }
 
 pub const ALL: &[Slip] = &[
@@ -68,6 +82,13 @@ pub const ALL: &[Slip] = &[
     Slip::AbsentStays,
     Slip::TellsLength,
     Slip::SetupBeforeArea,
+    Slip::SharedLost,
+    Slip::SharedLast,
+    Slip::SharedAbsent,
+    Slip::SharedNotStored,
+    Slip::SharedTwice,
+    Slip::SharedOfAny,
+    Slip::SharedBefore,
 ];
 
 pub struct Slipped(pub Slip);
@@ -93,10 +114,13 @@ impl Slipped {
         }
         match self.0 {
             Slip::StrayBits => {
-                plan(&with(area, |all| all[1..].iter_mut().for_each(|word| *word &= 0xFFFF_FFFF)))
+                plan(&with(area, |all| all[1..].iter_mut().for_each(|word| *word &= 0x1_FFFF_FFFF)))
             }
             Slip::AbsentWithLongest => plan(&with(area, |all| {
                 all[1..].iter_mut().filter(|word| **word & 0xFFFF == 0).for_each(|word| *word = 0)
+            })),
+            Slip::SharedAbsent => plan(&with(area, |all| {
+                all[1..].iter_mut().filter(|word| **word == 1 << 32).for_each(|word| *word = 0)
             })),
             Slip::SumOver => {
                 let at = words(&area[..SIZE])[1..].iter().position(|word| word & 0xFFFF > 1)? + 1;
@@ -140,10 +164,48 @@ impl Slipped {
                 Slip::LowFirst => out.extend(lane.longest.to_le_bytes()),
                 _ => out.extend(lane.longest.to_be_bytes()),
             }
+            if lane.shared && ![Slip::SharedLost, Slip::SharedLast].contains(&self.0) {
+                out.extend([SHARED, 0, 1, lane.number]);
+            }
+        }
+        if self.0 == Slip::SharedLast {
+            let shared = setup.lanes.iter().filter(|lane| lane.shared);
+            shared.for_each(|lane| out.extend([SHARED, 0, 1, lane.number]));
         }
         out.extend([END, 0, 0]);
         out
     }
+}
+
+impl Slipped {
+    /// The setup that a refused one is taken for, where a slip is of the place of 0x12.
+    fn taken_as(&self, setup: &[u8]) -> Option<Vec<u8>> {
+        let mut fields = fields(setup)?;
+        let shared: Vec<usize> = (1..fields.len()).filter(|at| fields[*at][0] == SHARED).collect();
+        for at in shared.into_iter().rev() {
+            let before = fields[at - 1].clone();
+            match self.0 {
+                Slip::SharedTwice if before == fields[at] => drop(fields.remove(at)),
+                Slip::SharedOfAny if before[0] == LANE => fields[at][3] = before[3],
+                Slip::SharedBefore if at + 1 < fields.len() => fields.swap(at, at + 1),
+                _ => {}
+            }
+        }
+        Some(fields.concat())
+    }
+}
+
+/// The fields of a setup, if they are whole and the fields of a shared lane have a byte.
+fn fields(setup: &[u8]) -> Option<Vec<Vec<u8>>> {
+    let mut fields = vec![];
+    let mut left = setup;
+    while let [tag, high, low, ..] = *left {
+        let length = 3 + usize::from(u16::from_be_bytes([high, low]));
+        let field = left.get(..length).filter(|field| tag != SHARED && tag != LANE || field.len() > 3)?;
+        fields.push(field.to_vec());
+        left = &left[length..];
+    }
+    left.is_empty().then_some(fields)
 }
 
 impl Depot for Slipped {
@@ -153,8 +215,16 @@ impl Depot for Slipped {
             let mut whole = vec![0; SIZE];
             Reference.read(setup, &mut whole)?;
         }
-        let answer = Reference.read(setup, area);
+        let mut answer = Reference.read(setup, area);
+        if answer.is_err() {
+            if let Some(other) = self.taken_as(setup) {
+                answer = Reference.read(&other, area).or(answer);
+            }
+        }
         match (self.0, &answer) {
+            (Slip::SharedNotStored, Ok(_)) => {
+                (8..SIZE).step_by(8).for_each(|at| area[at + 4] = 0);
+            }
             (Slip::RefusalClears, Err(_)) => area.fill(0),
             (Slip::AbsentStays, Ok(_)) => {
                 for at in (8..SIZE).step_by(8) {
@@ -195,7 +265,7 @@ pub fn sample() -> (Vec<u8>, Vec<u8>) {
     let setup = Setup {
         format: 2,
         framing: 0,
-        lanes: vec![crate::setup::LanePlan { number: 3, weight: 7, longest: 64 }],
+        lanes: vec![crate::setup::LanePlan { number: 3, weight: 7, longest: 64, shared: false }],
     };
     let mut area = vec![0; SIZE];
     lay(&setup, &mut area);

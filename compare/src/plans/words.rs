@@ -2,7 +2,7 @@
 
 use super::{Depot, Refused};
 use crate::numbers::*;
-use crate::setup::{whole, LanePlan, Setup, END, FORMAT, FRAMED, LANE};
+use crate::setup::{whole, LanePlan, Setup, END, FORMAT, FRAMED, LANE, SHARED};
 
 /// 65 words.
 pub const SIZE: usize = 520;
@@ -20,7 +20,8 @@ pub fn lay(setup: &Setup, area: &mut [u8]) {
     let mut all = [0_u64; SIZE / 8];
     all[0] = u64::from(setup.format) + (u64::from(setup.framing) << 16);
     for lane in &setup.lanes {
-        all[usize::from(lane.number) + 1] = u64::from(lane.weight) + (u64::from(lane.longest) << 16);
+        all[usize::from(lane.number) + 1] =
+            u64::from(lane.weight) + (u64::from(lane.longest) << 16) + (u64::from(lane.shared) << 32);
     }
     for (bytes, word) in area.chunks_exact_mut(8).zip(all) {
         bytes.copy_from_slice(&word.to_le_bytes());
@@ -38,17 +39,22 @@ pub fn plan(area: &[u8]) -> Option<Setup> {
             continue;
         }
         let weight = *word as u16;
-        let longest = u16::try_from(word >> 16).ok().filter(|longest| LONGEST.contains(longest))?;
+        let longest = Some((word >> 16) as u16).filter(|longest| LONGEST.contains(longest))?;
+        let shared = match word >> 32 {
+            0 => false,
+            1 => true,
+            _ => return None,
+        };
         if !WEIGHT.contains(&weight) {
             return None;
         }
-        lanes.push(LanePlan { number, weight, longest });
+        lanes.push(LanePlan { number, weight, longest, shared });
     }
     let sum: u32 = lanes.iter().map(|lane| u32::from(lane.weight)).sum();
     (!lanes.is_empty() && sum <= WEIGHT_SUM).then_some(Setup { format, framing, lanes })
 }
 
-/// "lane fields always five bytes long, framing field only where h isn't 0"
+/// "lane fields always five bytes long, framing field only where h isn't 0", 0x12 behind a shared lane's.
 pub fn bytes(setup: &Setup) -> Vec<u8> {
     let mut bytes = vec![FORMAT, 0, 2];
     bytes.extend(setup.format.to_be_bytes());
@@ -59,6 +65,9 @@ pub fn bytes(setup: &Setup) -> Vec<u8> {
         bytes.extend([LANE, 0, 5, lane.number]);
         bytes.extend(lane.weight.to_be_bytes());
         bytes.extend(lane.longest.to_be_bytes());
+        if lane.shared {
+            bytes.extend([SHARED, 0, 1, lane.number]);
+        }
     }
     bytes.extend([END, 0, 0]);
     bytes

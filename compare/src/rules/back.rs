@@ -16,6 +16,10 @@ pub fn taken_off(clock: i128) -> i128 {
 impl State {
     /// Takes so much off V and every S and F; "an idle lane's F below K becomes 0".
     pub fn lower(&mut self, off: i128) {
+        if off == 0 {
+            // Most puts: no lane is gone through, with a remainder of 128 bits each.
+            return;
+        }
         self.clock -= off;
         self.back += off;
         for lane in &mut self.lanes {
@@ -36,11 +40,11 @@ impl State {
 
     /// The answer of an endless clock.
     pub fn answer_endless(&mut self, call: Call) -> Answer {
-        match call {
-            Call::Put { lane, mark, length } => {
-                self.put_endless(lane, mark, length).map_or_else(Answer::No, Answer::Put)
+        match call.put() {
+            Some((lane, train, mark, length)) => {
+                self.put_endless(lane, train, mark, length).map_or_else(Answer::No, Answer::Put)
             }
-            _ => self.answer(call),
+            None => self.answer(call),
         }
     }
 }

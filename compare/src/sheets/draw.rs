@@ -13,9 +13,9 @@ const WEIGHTS: &[u32] =
 const LONGEST: &[u32] =
     &[0, 1, 63, 64, 99, 100, 999, 1_000, 1_499, 1_500, 1_501, 65_599, 65_600, 67_036, 99_999];
 
-/// A plan with no framing bytes.
+/// A plan with no framing bytes and no shared lane.
 pub fn plan(rng: &mut Rng) -> Setup {
-    Setup { framing: 0, ..setups::setup(rng) }
+    Setup { framing: 0, ..setups::plain(rng) }
 }
 
 pub fn sheet(rng: &mut Rng) -> Vec<u8> {

@@ -85,7 +85,7 @@ fn sheet<O: Office>(office: &mut O, rng: &mut Rng, tally: &mut Tally) -> Result<
     }
 }
 
-/// An area that a host filled, with framing bytes or numbers that are off now and then, written; and what was written read again.
+/// An area that a host filled, with framing bytes, shared lanes or numbers that are off now and then, written; and what was written read again.
 fn filled<O: Office>(office: &mut O, rng: &mut Rng, tally: &mut Tally) -> Result<(), Found> {
     let drawn = if rng.once_in(3) { setups::setup(rng) } else { draw::plan(rng) };
     let mut area = vec![0; SIZE];

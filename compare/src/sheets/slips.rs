@@ -64,6 +64,10 @@ slips! {
     TellsLength,
     /// A plan with framing bytes is written without them.
     FramingDropped,
+    /// A plan with shared lanes is written as if they were not.
+    SharedDropped,
+    /// A lane is shared only if every lane is.
+    SharedIfAll,
     /// 82 is told before 55.
     NoSheetFirst,
     /// 56 is told before 82.
@@ -139,7 +143,7 @@ impl Slipped {
                         numbers.clear();
                     } else {
                         numbers.clear();
-                        lanes.push(LanePlan { number: 0, weight: 0, longest: 0 });
+                        lanes.push(LanePlan { number: 0, weight: 0, longest: 0, shared: false });
                     }
                     now = Reading { from: at + 1, ..Reading::default() };
                     line = at + 1;
@@ -203,7 +207,7 @@ impl Slipped {
             };
             return Err(Refused::at(refusal, place as u64));
         }
-        Ok(LanePlan { number: lane as u8, weight: weight as u16, longest: longest as u16 })
+        Ok(LanePlan { number: lane as u8, weight: weight as u16, longest: longest as u16, shared: false })
     }
 }
 
@@ -231,7 +235,7 @@ impl Office for Slipped {
             return Err(Refused::by(OUTSIDE));
         }
         let mut text = String::new();
-        for LanePlan { number, weight, longest } in &plan.lanes {
+        for LanePlan { number, weight, longest, .. } in &plan.lanes {
             text += &format!("{number} {weight} {longest}\n");
         }
         if self.is(Slip::FeedLeftOut) {
@@ -242,6 +246,11 @@ impl Office for Slipped {
             return Err(Refused::by(BUFFER_SHORT));
         }
         if plan.framing != 0 && !self.is(Slip::FramingDropped) {
+            return Err(Refused::by(NO_SHEET));
+        }
+        let shared = plan.lanes.iter().filter(|lane| lane.shared).count();
+        let few = if self.is(Slip::SharedIfAll) { plan.lanes.len() } else { 1 };
+        if shared >= few && !self.is(Slip::SharedDropped) {
             return Err(Refused::by(NO_SHEET));
         }
         if short {

@@ -22,7 +22,7 @@ const MOST_DIGITS: usize = 5;
 /// The format of a plan that comes from a sheet.
 pub const FORMAT: u16 = 2;
 
-/// The plan of a sheet: format 2, no framing, and its lanes by rising number.
+/// The plan of a sheet: format 2, no framing, no shared lane, and its lanes by rising number.
 pub fn read(sheet: &[u8]) -> Result<Setup, Fault> {
     let mut lanes: Vec<LanePlan> = Vec::new();
     let mut place = 0;
@@ -83,14 +83,16 @@ fn judge([lane, weight, longest]: [Figure; 3], before: &[LanePlan]) -> Result<La
             number: lane.value as u8,
             weight: weight.value as u16,
             longest: longest.value as u16,
+            shared: false,
         }),
     }
 }
 
-/// The sheet of a plan of either format that has no framing bytes.
+/// The sheet of a plan of either format that has no framing bytes and no shared lane.
 pub fn write(plan: &Setup) -> Option<Vec<u8>> {
     let line = |lane: &LanePlan| format!("{} {} {}\n", lane.number, lane.weight, lane.longest);
-    (plan.framing == 0).then(|| plan.lanes.iter().map(line).collect::<String>().into_bytes())
+    let bare = plan.framing == 0 && !plan.lanes.iter().any(|lane| lane.shared);
+    bare.then(|| plan.lanes.iter().map(line).collect::<String>().into_bytes())
 }
 
 /// The words of the plan of a sheet.

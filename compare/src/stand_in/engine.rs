@@ -1,6 +1,7 @@
 //! The stand-in's scheduler. It is built otherwise than the reference: 64-bit numbers, the choice goes through the
 //! group sets, and ties by a list of lanes, the one with the oldest S first.
 
+use super::junction::Junction;
 use super::reader::Plan;
 use super::slips::Slip;
 use crate::calls::Taken;
@@ -12,7 +13,7 @@ pub struct Flow {
     group: u32,
     start: u64,
     finish: u64,
-    queue: Vec<(u32, u64)>,
+    queue: Junction,
 }
 
 impl Flow {
@@ -33,7 +34,7 @@ pub struct Engine {
 impl Engine {
     pub fn new(plan: &Plan, slip: Slip) -> Engine {
         let mut flows: Vec<Option<Flow>> = (0..64).map(|_| None).collect();
-        for &(number, weight, longest) in &plan.lanes {
+        for &(number, weight, longest, shared) in &plan.lanes {
             let cost = if slip == Slip::CostRoundedDown {
                 (1 << 20) / weight
             } else {
@@ -42,7 +43,8 @@ impl Engine {
             let framing = if slip == Slip::FramingNotInGroup { 0 } else { plan.framing };
             let most = (longest + framing) * cost + u64::from(slip == Slip::GroupTooHigh);
             let group = most.next_power_of_two().trailing_zeros();
-            flows[number] = Some(Flow { weight, longest, cost, group, start: 0, finish: 0, queue: vec![] });
+            let queue = Junction::new(shared, longest, plan.framing, slip);
+            flows[number] = Some(Flow { weight, longest, cost, group, start: 0, finish: 0, queue });
         }
         Engine { slip, clock: 0, framing: plan.framing, flows, turns: vec![] }
     }
@@ -73,7 +75,7 @@ impl Engine {
         let flow = self.flows[lane].as_mut().expect("only lanes of the setup begin");
         let before = flow.round();
         flow.start = start;
-        flow.finish = start + (flow.queue[0].1 + framing) * flow.cost;
+        flow.finish = start + (flow.queue.first().2 + framing) * flow.cost;
         let keeps = slip == Slip::SameRoundKeepsTurn && flow.round() == before && self.turns.contains(&lane);
         if !keeps {
             self.renew(lane);
@@ -94,11 +96,12 @@ impl Engine {
                 (Slip::BackLeavesIdleLanes, true) => {}
                 (Slip::BackKeepsLowFinish, true) if flow.finish < off => {}
                 (Slip::BackForgetsFinish, true) => flow.finish = 0,
-                (Slip::BackLeavesFinish, false) => flow.start -= off,
+                // With a slip a lane may lie further back.
+                (Slip::BackLeavesFinish, false) => flow.start = flow.start.saturating_sub(off),
                 (_, true) => flow.finish = flow.finish.saturating_sub(off),
                 (_, false) => {
-                    flow.start -= off;
-                    flow.finish -= off;
+                    flow.start = flow.start.saturating_sub(off);
+                    flow.finish = flow.finish.saturating_sub(off);
                 }
             }
         }
@@ -116,45 +119,70 @@ impl Engine {
         }
     }
 
-    /// How many records wait before this one.
-    pub fn put(&mut self, lane: u8, mark: u32, mut length: u64) -> Result<u64, u8> {
+    /// How many records of its train wait before this one.
+    pub fn put(&mut self, lane: u8, train: u8, mark: u32, mut length: u64) -> Result<u64, u8> {
         if self.slip == Slip::LengthCut {
             length &= 0xFFFF;
         }
         if self.slip == Slip::LengthBeforeLane && (length == 0 || length > 1_500) {
             return Err(12);
         }
+        if self.slip == Slip::TrainBeforeLane && train > 7 {
+            return Err(70);
+        }
         let lane = usize::from(lane);
         let flow = self.flows.get_mut(lane).and_then(Option::as_mut).ok_or(11)?;
-        let room = match self.slip {
-            Slip::RoomForSixteen => 16,
-            Slip::RoomForSixtyThree => 63,
-            Slip::RoomForSixtyFive => 65,
+        let shared = flow.queue.shared;
+        let trains = match (shared, self.slip) {
+            (true, Slip::SevenTrains) => 7,
+            (true, Slip::NineTrains) => 9,
+            (true, _) => 8,
+            (false, Slip::TrainNotAsked) => 255,
+            (false, _) => 1,
+        };
+        let train_fails = train >= trains;
+        if train_fails && self.slip != Slip::LengthBeforeTrain {
+            return Err(70);
+        }
+        let train = if shared { train } else { 0 };
+        let room = match (shared, self.slip) {
+            (true, Slip::TrainRoomSeven) => 7,
+            (true, Slip::TrainRoomNine) => 9,
+            (true, Slip::TrainsShareRoom) => 64 + flow.queue.count(train) - flow.queue.len(),
+            (true, _) => 8,
+            (_, Slip::RoomForSixteen) => 16,
+            (_, Slip::RoomForSixtyThree) => 63,
+            (_, Slip::RoomForSixtyFive) => 65,
             _ => 64,
         };
-        let full = flow.queue.len() >= room;
+        let full = flow.queue.count(train) >= room;
+        let no_room = if shared && self.slip != Slip::FullAsThirteen { 71 } else { 13 };
         if full && self.slip == Slip::FullBeforeLength {
-            return Err(13);
+            return Err(no_room);
         }
         let compared =
             if self.slip == Slip::FramingInPut { length.saturating_add(self.framing) } else { length };
         if length == 0 || compared > flow.longest {
             return Err(12);
         }
+        if train_fails {
+            return Err(70);
+        }
         if full {
-            return Err(13);
+            return Err(no_room);
         }
         if self.slip == Slip::FarIsRefused && self.clock >> 61 != 0 {
             return Err(14);
         }
         self.take_back();
         let flow = self.flows[lane].as_mut().expect("the lane is in the setup");
-        flow.queue.push((mark, length));
+        flow.queue.push((train, mark, length));
         let ahead = match self.slip {
-            Slip::CountsItself => flow.queue.len(),
-            Slip::TellsOnlyWhetherIdle => usize::from(flow.queue.len() > 1),
+            Slip::CountsItself => flow.queue.count(train),
+            Slip::TellsOnlyWhetherIdle => usize::from(flow.queue.count(train) > 1),
             Slip::CountsAllLanes => self.held().map(|(_, flow)| flow.queue.len()).sum::<usize>() - 1,
-            _ => flow.queue.len() - 1,
+            Slip::CountsAllTrains => flow.queue.len() - 1,
+            _ => flow.queue.count(train) - 1,
         } as u64;
         let flow = self.flows[lane].as_ref().expect("the lane is in the setup");
         let finish = if self.slip == Slip::ForgetsFinish { 0 } else { flow.finish };
@@ -194,9 +222,11 @@ impl Engine {
 
     pub fn look(&self) -> Result<Taken, u8> {
         let lane = self.chosen().ok_or(16)?;
-        let (mark, length) = self.flows[lane].as_ref().expect("the chosen lane is in the setup").queue[0];
+        let (train, mark, length) =
+            self.flows[lane].as_ref().expect("the chosen lane is in the setup").queue.first();
         let told = if self.slip == Slip::FramingInAnswer { length + self.framing } else { length };
-        Ok(Taken { lane: lane as u8, mark, length: told })
+        let train = if self.slip == Slip::TrainNotTold { 0 } else { train };
+        Ok(Taken { lane: lane as u8, train, mark, length: told })
     }
 
     /// V becomes the least R if none of the held lanes may go.
@@ -211,7 +241,7 @@ impl Engine {
         let taken = self.look()?;
         let lane = usize::from(taken.lane);
         let flow = self.flows[lane].as_mut().expect("the chosen lane is in the setup");
-        flow.queue.remove(0);
+        flow.queue.pop(self.framing);
         let charged = match self.slip {
             Slip::ChargesLongest => flow.longest + self.framing,
             Slip::FramingNotInClock => taken.length,
@@ -235,6 +265,10 @@ impl Engine {
             self.jump(None);
         }
         Ok(taken)
+    }
+
+    pub fn shared(&self, lane: u8) -> bool {
+        self.flows[usize::from(lane)].as_ref().is_some_and(|flow| flow.queue.shared)
     }
 
     pub fn sets(&self) -> [u64; 4] {
@@ -279,7 +313,10 @@ impl Engine {
             return Err(15);
         }
         let flows = self.flows.iter().enumerate();
-        let lanes = flows.filter_map(|(n, f)| f.as_ref().map(|f| (n, f.weight, f.longest))).collect();
+        let keeps = self.slip != Slip::RestartForgetsShared;
+        let lanes = flows
+            .filter_map(|(n, f)| f.as_ref().map(|f| (n, f.weight, f.longest, f.queue.shared && keeps)))
+            .collect();
         let framing = if self.slip == Slip::RestartDropsFraming { 0 } else { self.framing };
         let clock = if self.slip == Slip::RestartKeepsClock { self.clock } else { 0 };
         *self = Engine { clock, ..Engine::new(&Plan { format: 0, framing, lanes }, self.slip) };

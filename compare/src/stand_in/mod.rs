@@ -2,6 +2,7 @@
 //! to make one [`Slip`]. Without a slip the comparison must find no difference; with any slip it must find one.
 
 mod engine;
+mod junction;
 mod reader;
 mod session;
 mod slips;
@@ -54,7 +55,18 @@ impl Unit for StandIn {
     }
 
     fn put(&mut self, table: &mut [u8], lane: u8, mark: u32, length: u64) -> Result<u64, u8> {
-        let answer = self.on(table, |engine| engine.put(lane, mark, length));
+        self.put_train(table, lane, 0, mark, length)
+    }
+
+    fn put_train(
+        &mut self,
+        table: &mut [u8],
+        lane: u8,
+        train: u8,
+        mark: u32,
+        length: u64,
+    ) -> Result<u64, u8> {
+        let answer = self.on(table, |engine| engine.put(lane, train, mark, length));
         if answer.is_ok() || (self.slip == Slip::RefusalWrites && answer != Err(10)) {
             self.shelf.sign(table);
         }

@@ -11,8 +11,8 @@ pub struct Reader<'a> {
     slip: Slip,
 }
 
-/// A lane as (number, weight, longest).
-type Lane = (usize, u64, u64);
+/// A lane as (number, weight, longest, shared).
+type Lane = (usize, u64, u64, bool);
 
 #[derive(Default)]
 pub struct Plan {
@@ -74,6 +74,8 @@ impl<'a> Reader<'a> {
     pub fn setup(&mut self) -> Result<Plan, Refused> {
         let mut plan = Plan::default();
         let mut behind_format = false;
+        // The lane whose 0x12 may stand here.
+        let mut behind_lane = None;
         loop {
             let at = self.at;
             let (tag, value) = self.field(of_setup)?;
@@ -119,10 +121,27 @@ impl<'a> Reader<'a> {
                     }
                     plan.lanes.push(lane);
                 }
+                0x12 => {
+                    let lane = usize::from(value[0]);
+                    let last = plan.lanes.last().map(|lane| lane.0);
+                    let named = match self.slip {
+                        Slip::SharedOfAnyLane => behind_lane,
+                        Slip::SharedTwice => last.filter(|last| *last == lane),
+                        _ => behind_lane.filter(|last| *last == lane),
+                    };
+                    if named.is_none() {
+                        return match self.slip {
+                            Slip::SharedWrongAsLane if behind_lane.is_some() => self.refuse_value(51, at, 3),
+                            _ => self.refuse(4, at),
+                        };
+                    }
+                    plan.lanes.last_mut().expect("a lane was read").3 = self.slip != Slip::SharedForgotten;
+                }
                 _ if plan.lanes.is_empty() => return self.refuse(4, at),
                 _ => return Ok(plan),
             }
             behind_format = tag == 0x01;
+            behind_lane = plan.lanes.last().map(|lane| lane.0).filter(|_| tag == 0x10);
         }
     }
 
@@ -133,12 +152,12 @@ impl<'a> Reader<'a> {
             _ => 576,
         };
         let longest = if value.len() == 5 { number(&value[3..]) } else { unsaid };
-        (usize::from(value[0]), number(&value[1..3]), longest)
+        (usize::from(value[0]), number(&value[1..3]), longest, false)
     }
 
     /// The refusal that a lane gets after those before it, and how far behind the tag its byte stands.
     fn judge(&self, lane: Lane, before: &[Lane]) -> Option<(u8, usize)> {
-        let (lane_number, weight, longest) = lane;
+        let (lane_number, weight, longest, _) = lane;
         let next = before.last().map_or(0, |last| last.0 + usize::from(self.slip != Slip::EqualLaneRises));
         let sum = before.iter().map(|lane| lane.1).sum::<u64>() + weight;
         let over = sum > 1_024 || (sum == 1_024 && self.slip == Slip::SumTooSmall);
@@ -185,7 +204,7 @@ fn of_setup(tag: u8) -> &'static [usize] {
     match tag {
         0x01 => &[2],
         0x10 => &[3, 5],
-        0x11 => &[1],
+        0x11 | 0x12 => &[1],
         0x7F => &[0],
         _ => &[],
     }
@@ -194,6 +213,7 @@ fn of_setup(tag: u8) -> &'static [usize] {
 pub fn of_requests(tag: u8) -> &'static [usize] {
     match tag {
         0x20 => &[7],
+        0x26 => &[8],
         0x24 => &[1],
         0x21..=0x23 | 0x25 | 0x7F => &[0],
         _ => &[],

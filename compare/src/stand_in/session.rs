@@ -3,6 +3,7 @@
 use super::engine::Engine;
 use super::reader::{number, of_requests, Reader, Refused};
 use super::{Slip, StandIn, TABLE_SIZE};
+use crate::calls::Taken;
 use crate::fields::Fault;
 use crate::session::{Run, Stop};
 
@@ -120,17 +121,40 @@ fn request<'a>(reader: &mut Reader<'a>, slip: Slip) -> Result<Request<'a>, Refus
     Ok(None)
 }
 
+/// A record's line; a shared lane's ends with the train.
+fn record(word: &str, r: Taken, engine: &Engine, slip: Slip) -> String {
+    let line = format!("{word} {} {} {}", r.lane, r.mark, r.length);
+    let told = match slip {
+        Slip::LineWithoutTrain => false,
+        Slip::LineWithTrainAlways => true,
+        Slip::LineWithoutTrainZero => r.train != 0,
+        _ => engine.shared(r.lane),
+    };
+    if told {
+        format!("{line} {}", r.train)
+    } else {
+        line
+    }
+}
+
 fn line(engine: &mut Engine, tag: u8, value: &[u8], slip: Slip) -> String {
+    let accepted = |ahead: u64| {
+        if slip == Slip::LineWithoutNumber {
+            "put ok".to_string()
+        } else {
+            format!("put ok {ahead}")
+        }
+    };
     let answer = match tag {
-        0x20 => engine.put(value[0], number(&value[1..5]) as u32, number(&value[5..7])).map(|ahead| {
-            if slip == Slip::LineWithoutNumber {
-                "put ok".to_string()
-            } else {
-                format!("put ok {ahead}")
-            }
-        }),
-        0x21 => engine.take().map(|r| format!("take {} {} {}", r.lane, r.mark, r.length)),
-        0x22 => engine.look().map(|r| format!("look {} {} {}", r.lane, r.mark, r.length)),
+        0x20 => engine.put(value[0], 0, number(&value[1..5]) as u32, number(&value[5..7])).map(accepted),
+        0x26 if slip == Slip::TrainBehindMark => {
+            engine.put(value[0], value[5], number(&value[1..5]) as u32, number(&value[6..8])).map(accepted)
+        }
+        0x26 => {
+            engine.put(value[0], value[1], number(&value[2..6]) as u32, number(&value[6..8])).map(accepted)
+        }
+        0x21 => engine.take().map(|r| record("take", r, engine, slip)),
+        0x22 => engine.look().map(|r| record("look", r, engine, slip)),
         0x23 => Ok(engine.sets()).map(|[a, b, c, d]| format!("sets {a} {b} {c} {d}")),
         0x24 if slip == Slip::SignLost => {
             engine.lag(value[0]).map(|lag| format!("lag {}", lag.unsigned_abs()))

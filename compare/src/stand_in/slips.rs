@@ -91,6 +91,68 @@ slips! {
     /// The session's line has no number.
     LineWithoutNumber,
 
+    // Trains.
+    /// A train that empties keeps its deficit.
+    KeepsDeficit,
+    /// A train whose rest does not cover its next record loses it.
+    TurnLosesRest,
+    /// A turn adds the longest and the framing bytes.
+    TurnAddsFraming,
+    /// A turn adds 1,500.
+    TurnAddsFixed,
+    /// A deficit drops by what the line charges.
+    DeficitWithFraming,
+    /// Trains take turns record by record.
+    OneRecordATurn,
+    /// A deficit that is just the record's length does not cover it.
+    CoversStrictly,
+    /// A train that starts goes right behind the one in turn.
+    StartsSecond,
+    /// A train that starts goes before the one in turn.
+    StartsFirst,
+    /// A train that starts has the longest at once.
+    StarterHasTurn,
+    /// Train 7 is refused.
+    SevenTrains,
+    /// Train 8 is taken.
+    NineTrains,
+    /// In a lane that is not shared any train is taken for train 0.
+    TrainNotAsked,
+    /// 70 is told before 11.
+    TrainBeforeLane,
+    /// 12 is told before 70.
+    LengthBeforeTrain,
+    /// A train has room for seven.
+    TrainRoomSeven,
+    /// A train has room for nine.
+    TrainRoomNine,
+    /// 71 only where the lane holds 64.
+    TrainsShareRoom,
+    /// 13 in place of 71.
+    FullAsThirteen,
+    /// A put in a shared lane tells the lane's number.
+    CountsAllTrains,
+    /// A take does not tell the train.
+    TrainNotTold,
+    /// Restart makes every lane one that is not shared.
+    RestartForgetsShared,
+    /// 0x12 changes nothing.
+    SharedForgotten,
+    /// 0x12 of another lane's number is taken.
+    SharedOfAnyLane,
+    /// 0x12 of another lane's number gives 51.
+    SharedWrongAsLane,
+    /// 0x12 is taken twice.
+    SharedTwice,
+    /// 0x26 has its train behind the mark.
+    TrainBehindMark,
+    /// A shared lane's line does not end with the train,
+    LineWithoutTrain,
+    /// or not with train 0;
+    LineWithoutTrainZero,
+    /// or every line does.
+    LineWithTrainAlways,
+
     // Framing.
     /// V grows by the bare length.
     FramingNotInClock,

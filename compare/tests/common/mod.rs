@@ -35,8 +35,24 @@ pub fn two_lanes() -> Vec<u8> {
 }
 
 pub fn fresh(lanes: &[(u8, u16, u16)]) -> State {
-    let plan = |&(number, weight, longest): &(u8, u16, u16)| LanePlan { number, weight, longest };
+    let plan =
+        |&(number, weight, longest): &(u8, u16, u16)| LanePlan { number, weight, longest, shared: false };
     State::fresh(&Setup { format: 1, framing: 0, lanes: lanes.iter().map(plan).collect() })
+}
+
+/// A fresh table in which every lane is shared.
+pub fn fresh_shared(lanes: &[(u8, u16, u16)]) -> State {
+    let plan =
+        |&(number, weight, longest): &(u8, u16, u16)| LanePlan { number, weight, longest, shared: true };
+    State::fresh(&Setup { format: 1, framing: 0, lanes: lanes.iter().map(plan).collect() })
+}
+
+pub fn put_train(lane: u8, train: u8, mark: u32, length: u16) -> Vec<u8> {
+    [&[0x26, 0, 8, lane, train][..], &mark.to_be_bytes(), &length.to_be_bytes()].concat()
+}
+
+pub fn shared(number: u8) -> Vec<u8> {
+    vec![0x12, 0, 1, number]
 }
 
 pub fn framing(h: u8) -> Vec<u8> {

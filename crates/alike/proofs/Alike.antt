@@ -50,6 +50,7 @@ alike-good s t a g =
     subst Good e (record {
       setup = g .setup;
       waiting = g .waiting;
+      kind = g .kind;
       clock = g .clock;
       numbers = g .numbers;
       live = g .live;
@@ -58,7 +59,7 @@ alike-good s t a g =
 
 -- ---- states alike, of which one is good (so that both are)
 
-accept-alike : (s t : State) → Good s → Alike s t → (j : ℕ) (r : Rec) → Allowed s j (r .len) → Turns (accept s j r) (accept t j r)
+accept-alike : (s t : State) → Good s → Alike s t → (j : ℕ) (r : Rec) → Allowed s j r → Turns (accept s j r) (accept t j r)
 accept-alike s t g a j r ok =
     subst (λ (x : State). Turns (accept s j r) (accept x j r)) (same-parts s t (a .clock) (a .lanes))
     (accept-same (s .clock) (s .lanes) (s .order) (t .order) (g .order) (λ k. sym (a .names k) ∙ g .order k) (a .turns) (g .waiting) j r ok)
@@ -110,9 +111,9 @@ pub record Respects (x y : Outcome) : Type 0 where
 pub step-alike : (s t : State) → Good s → Alike s t → (c : Call) → Respects (step s c) (step t c)
 unfolding Tied
 step-alike s t g a c =
-    let after : (j : ℕ) (r : Rec) → Allowed s j (r .len) → Turns (accept (shifted s) j r) (accept (shifted (record { clock = s .clock; lanes = s .lanes; order = t .order })) j r)
+    let after : (j : ℕ) (r : Rec) → Allowed s j r → Turns (accept (shifted s) j r) (accept (shifted (record { clock = s .clock; lanes = s .lanes; order = t .order })) j r)
     = λ j r ok. subst (λ (x : State). Turns (accept (shifted s) j r) (accept (shifted x) j r)) (sym (same-parts s t (a .clock) (a .lanes)))
-    (accept-alike (shifted s) (shifted t) (shifted-good s g) (shifted-alike s t g a) j r (shifted-allowed s j (r .len) ok)) in
+    (accept-alike (shifted s) (shifted t) (shifted-good s g) (shifted-alike s t g a) j r (shifted-allowed s j r ok)) in
     let same : Same (step s c) (step t c)
     = subst (λ (x : State). Same (step s c) (step x c)) (same-parts s t (a .clock) (a .lanes))
     (step-same (s .clock) (s .lanes) (s .order) (t .order) (g .order) (λ k. sym (a .names k) ∙ g .order k) (a .turns) (g .waiting) after c) in

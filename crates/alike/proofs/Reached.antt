@@ -22,6 +22,7 @@ tied-with s o e r =
         setup = w .setup;
         range = record { lane = w .range .lane; few = w .range .few; clock = w .range .clock };
         tied = λ k. sym (e k) ∙ w .tied k;
+        kind = w .kind;
         beside = record { clock = b .clock; order = refl; size = b .size; lane = b .lane };
         kept = w .kept;
         live = w .live;

@@ -86,7 +86,7 @@ module _ (v : ℕ) (ls : List Lane) (o o′ : List ℕ) (n : Names ls o) (n′ :
 
   -- ---- put
 
-  module _ (j : ℕ) (r : Rec) (a : Allowed s j (r .len)) where
+  module _ (j : ℕ) (r : Rec) (a : Allowed s j r) where
     abbrev l : Lane
     l = getD ls j noLane
 
@@ -123,9 +123,9 @@ module _ (v : ℕ) (ls : List Lane) (o o′ : List ℕ) (n : Names ls o) (n′ :
 
   -- a put puts into the shifted states
   abbrev After : Type 0
-  After = (j : ℕ) (r : Rec) → Allowed s j (r .len) → Turns (accept (shifted s) j r) (accept (shifted t) j r)
+  After = (j : ℕ) (r : Rec) → Allowed s j r → Turns (accept (shifted s) j r) (accept (shifted t) j r)
 
-  put-same : After → (j : ℕ) (r : Rec) (p : Option ℕ) → PutOk s j (r .len) p → Same (putOf s j r p) (putOf t j r p)
+  put-same : After → (j : ℕ) (r : Rec) (p : Option ℕ) → PutOk s j r p → Same (putOf s j r p) (putOf t j r p)
   unfolding putOf
   put-same after j r none a = record { reply = refl; state = after j r a }
   put-same after j r (some c) a = record { reply = refl; state = unmoved }
@@ -150,7 +150,7 @@ module _ (v : ℕ) (ls : List Lane) (o o′ : List ℕ) (n : Names ls o) (n′ :
 
   pub step-same : After → (c : Call) → Same (step s c) (step t c)
   unfolding step doPut doTake doLook doSets putRefusal
-  step-same after (put j m n) = put-same after j (record { mark = m; len = n }) (putRefusal s j n) (put-ok s j n)
+  step-same after (put j k m n) = put-same after j (record { train = k; mark = m; len = n }) (putRefusal s j (record { train = k; mark = m; len = n })) (put-ok s j (record { train = k; mark = m; len = n }))
   step-same after take = rw (← same-picked v ls o o′ n n′ same) (take-same (picked s) (pick-is s))
   step-same after look = rw (← same-picked v ls o o′ n n′ same) (look-same (picked s))
   step-same after sets = record { reply = refl; state = unmoved }

@@ -1,4 +1,4 @@
--- States that no call tells apart. Only ties within a group and a rounded start are ever looked at, so two tie orders count as one when they name the
+-- States that no call tells apart (R2.8). Only ties within a group and a rounded start are ever looked at, so two tie orders count as one when they name the
 -- same lanes and agree there. A table encodes a state up to this. proofs/Alike.antt: every call respects it. Assumes nothing.
 use Prim.Native.Nat.{ℕ}
 use mathlib.Core.Path.{_≡_}

@@ -2,7 +2,7 @@
 use Prim.Native.Nat.{ℕ}
 use mathlib.Core.Path.{_≡_, sym, ap, subst, _∙_}
 use mathlib.Core.List.{List}
-use Rattle.rules.specs.State.{Setting, State}
+use Rattle.rules.specs.State.{Setting, State, setupOf}
 use Rattle.rules.specs.Setup.{Setup}
 use Rattle.rules.specs.Calls.{Call, step}
 use Rattle.rules.proofs.AlwaysGood.{Reached, fresh-reached, step-reached, reached-good}
@@ -14,7 +14,9 @@ use Rattle.table.specs.Encodes.{Encodes}
 use Rattle.table.proofs.Lists.{empty-listed}
 use Rattle.choice.specs.Known.{Known}
 use Rattle.fresh.specs.Makes.{Makes}
+use Rattle.answers.specs.Lines.{lineBy}
 use Rattle.answers.specs.Answers.{Made}
+use Rattle.answers.proofs.Shared.{encodes-setup}
 
 pub reached-known : (t : List ℕ) → Made t → Known t
 reached-known t m = record {
@@ -43,5 +45,8 @@ encodes-step t t′ c s m e d = record {
   listed = d .listed;
 }
 
-pub reply-step : (t : List ℕ) (c : Call) (s : State) → Made t → Encodes t s → (step (meant t) c) .reply ≡ (step s c) .reply
-reply-step t c s m e = step-alike (meant t) s (reached-good (meant t) (m .reached)) (e .alike) c .reply
+-- and the line of the reply
+pub line-step : (t : List ℕ) (c : Call) (s : State) → Made t → Encodes t s → lineBy (setupOf (meant t)) ((step (meant t) c) .reply) ≡ lineBy (setupOf s) ((step s c) .reply)
+line-step t c s m e =
+    ap (λ (gs : List Setting). lineBy gs ((step (meant t) c) .reply)) (encodes-setup t s e)
+    ∙ ap (lineBy (setupOf s)) (step-alike (meant t) s (reached-good (meant t) (m .reached)) (e .alike) c .reply)

@@ -31,7 +31,7 @@ pick-words false x y p q = q
 
 pub words32 : (s : State) (c : Call) → Words32 ((step s c) .reply)
 unfolding step doPut doTake doLook doSets doLag doRestart
-words32 s (put j m n) = put-words s j (record { mark = m; len = n }) (putRefusal s j n)
+words32 s (put j k m n) = put-words s j (record { train = k; mark = m; len = n }) (putRefusal s j (record { train = k; mark = m; len = n }))
 words32 s take = take-words s (picked s)
 words32 s look = look-words s (picked s)
 words32 s sets = (

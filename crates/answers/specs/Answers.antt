@@ -8,25 +8,28 @@ use Prim.Native.Nat.{ℕ, _+_}
 use mathlib.Core.Path.{_≡_}
 use mathlib.Core.List.{List}
 use lib.ListN.{drop}
+use Rattle.rules.specs.State.{setupOf}
 use Rattle.rules.specs.Calls.{Call, step}
 use Rattle.rules.proofs.AlwaysGood.{Reached}
 use Rattle.table.specs.Layout.{SIZE, Room, cells}
 use Rattle.table.specs.Means.{meant, Beside, Listed}
 use Rattle.table.specs.Encodes.{Encodes}
-use Rattle.lines.specs.Line.{lineOf, Line}
+use Rattle.lines.specs.Line.{Line}
+use Rattle.answers.specs.Lines.{lineBy}
 use Rattle.answers.specs.declared.Tally.{Tally}
 
--- "No table made by these calls from a fresh one is ever found not good": `Reached` is what a fresh state has and every call keeps, and it gives `Good`.
+-- R6.14. `Reached` is what a fresh state has and every call keeps, and it gives `Good`.
 pub record Made (t : List ℕ) : Type 0 where
   pub room : Room t
   pub beside : Beside (cells t)
   pub listed : Listed t
   pub reached : Reached (meant t)
 
+-- R10.8
 pub record Answers (c : Call) (t t′ a a′ : List ℕ) (so-far r : Tally) : Type 0 where
   pub made : Made t′
   pub state : Encodes t′ ((step (meant t) c) .state)
   pub rest : drop SIZE t′ ≡ drop SIZE t
-  pub line : Line a a′ (so-far .next) (lineOf ((step (meant t) c) .reply)) (r .next)
-  -- "Numbers 10 to 16 answer their request with a `no` line": whatever the reply is
+  pub line : Line a a′ (so-far .next) (lineBy (setupOf (meant t)) ((step (meant t) c) .reply)) (r .next)
+  -- R10.8: a request is counted whatever the reply is, a refusal too
   pub count : r .answered ≡ so-far .answered + 1

@@ -1,15 +1,23 @@
-// A request of a session answered: the call on the run's table, and its line in the answer area (document 01, "A session in full").
+// A request of a session answered (docs/RULES.md, R10): the call on the run's table, and its line in the answer area.
 //
-// The calls are `engine`'s. They rest on a table known to be good, and no test is made for each request: the run's table was made by these calls from a
-// fresh one, and such a table is never found not good (proofs/Made.antt).
+// The calls are `engine`'s. They rest on a table known to be good, and no test is made for each request: the run began with a fresh table, and its requests
+// keep it good (R6.14; proofs/Made.antt).
+ghost use mathlib.Core.Path.{_≡_};
 ghost use Prim.Native.Nat.{_+_, _≤_, _<_};
 ghost use lib.ListN.{length};
+ghost use Rattle.rules.specs.State.{settingAt, setupOf};
+ghost use Rattle.rules.specs.Reads.{reads};
+ghost use Rattle.table.specs.Layout.{Room};
+ghost use Rattle.table.specs.Means.{meant};
 ghost use Rattle.choice.specs.Known.{Known};
 ghost use Rattle.engine.specs.Does.{Does};
 ghost use Rattle.requests.specs.Request.{callIs};
+ghost use Rattle.answers.specs.Lines.{inShared};
 ghost use Rattle.answers.specs.Answers.{Made, Answers};
 use requests::Request;
 use rules::Answer;
+use table::present;
+use table::row;
 
 // How far the answers have come: the requests answered, and the place behind their lines.
 pub struct Tally {
@@ -23,12 +31,45 @@ fn call(t: &mut [u8], q: Request) -> Answer
     ensures { λ r. ⌜ Does (callIs q) (now (t .entry)) r (now (t .exit)) ⌝ }
 {
     match q {
-        Request::Put { lane, mark, length } => engine::put(t, lane, mark, length),
+        Request::Put {
+            lane,
+            train,
+            mark,
+            length,
+        } => engine::put(t, lane, train, mark, length),
         Request::Take => engine::take(t),
         Request::Look => engine::look(t),
         Request::Sets => engine::sets(t),
         Request::Lag(lane) => engine::lag(t, lane),
         Request::Restart => engine::restart(t),
+    }
+}
+
+// Whether trains share a lane.
+fn shared_lane(t: &[u8], lane: u8) -> bool
+    requires { ⌜ Room (now t) ⌝ }
+    ensures { λ r. ⌜ r ≡ settingAt (setupOf (meant (now (t .entry)))) lane .shared ⌝ }
+{
+    let k = lane as usize;
+    if 64 <= k {
+        return false;
+    }
+    if !present(t, k) {
+        return false;
+    }
+    let l = row(t, k);
+    l.shared
+}
+
+// Whether an answer names a record of a shared lane: its line ends with the train then.
+fn in_shared(t: &[u8], x: Answer) -> bool
+    requires { ⌜ Room (now t) ⌝ }
+    ensures { λ r. ⌜ r ≡ inShared (setupOf (meant (now (t .entry)))) (reads x) ⌝ }
+{
+    match x {
+        Answer::Taken(r) => shared_lane(t, r.lane),
+        Answer::Seen(r) => shared_lane(t, r.lane),
+        _ => false,
     }
 }
 
@@ -38,7 +79,8 @@ pub fn answer(t: &mut [u8], a: &mut [u8], done: Tally, q: Request) -> Tally
     ensures { λ r. ⌜ Answers (callIs q) (now (t .entry)) (now (t .exit)) (now (a .entry)) (now (a .exit)) done r ⌝ }
 {
     let x = call(t, q);
-    let next = lines::put_answer(a, done.next, x);
+    let shared = in_shared(t, x);
+    let next = lines::put_answer(a, done.next, x, shared);
     let answered = done.answered + 1;
     Tally { answered, next }
 }

@@ -1,4 +1,4 @@
-// The clock is taken back (document 02, h): a put that finds V at 2^61 or more first takes K off V and off every S and F.
+// The clock is taken back (R5.1, R5.2): where V has reached 2^61, a put takes K off V and off every S and F before it is done.
 //
 // A lane has one clock word, S while it holds records and F while it is idle, so one loop over the present lanes does both: a word that is below K becomes 0,
 // which of a good table happens to an idle lane's F only. The groups' starts go along. The slot lists are numbered by the endless clock, so no lane moves to
@@ -58,7 +58,7 @@ fn lower_lanes(t: &mut [u8], d: Clock)
     }
 }
 
-// Takes the clock back where it is far on: by K, the largest multiple of 2^31 that is not above V - 2^33.
+// Takes the clock back where it is far on: by the K of R5.1.
 pub fn take_back(t: &mut [u8])
     requires { ⌜ Known (now t) ⌝ }
     ensures { λ _. ⌜ TakesBack (now (t .entry)) (now (t .exit)) ⌝ }

@@ -9,7 +9,11 @@ pub fn words() {
         base::LAST_FREE,
         77,
     );
-    base::one(b"a lane's free word", base::LANE_0 + base::FREE_OF_LANE, 77);
+    base::one(
+        b"the round of a lane that is not shared",
+        base::LANE_0 + base::ROUND,
+        77,
+    );
     base::one(b"an absent lane's words", base::LANE_2, 77);
 }
 
@@ -24,6 +28,7 @@ pub fn marks() {
 }
 
 pub fn kept() {
+    base::spot(b"a train of a lane that is not shared", base::TRAINS, 255);
     base::spot(b"first kept byte", base::KEPT, 255);
     base::spot(b"last kept byte", base::SIZE - 1, 255);
 }

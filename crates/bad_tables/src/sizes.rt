@@ -16,6 +16,7 @@ pub fn sizes() {
 // No part may be left out, the kept bytes neither.
 fn shorter(t: &[u8]) {
     base::part(b"without the kept bytes", t, base::KEPT);
+    base::part(b"without the trains", t, base::TRAINS);
     base::part(b"without the marks", t, base::MARKS);
     base::part(b"without the lists", t, base::LISTS);
     base::part(b"empty", t, 0);

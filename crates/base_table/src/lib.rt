@@ -1,4 +1,4 @@
-// The table that the programs `bad_tables` and `bad_lists` change: document 01's session after its three puts. Lane 0 (weight 512, longest 1,500,
+// The table that the programs `bad_tables` and `bad_lists` change: the session of R16.3 after its three puts. Lane 0 (weight 512, longest 1,500,
 // c 2,048, group 22) holds records of 1,000 and 500 bytes, lane 1 (weight 256, longest 1,500, c 4,096, group 23) one of 1,000; V and both S are 0, so each
 // lane stands in list 0 of its group.
 //
@@ -27,7 +27,7 @@ pub const DEPTH: usize = 3;
 
 pub const FRAMING: usize = 4;
 
-// The first word of each lane's row, and where the parts of a row lie from there: setting, clock word, ring and a free word.
+// The first word of each lane's row, and where the parts of a row lie from there: setting, clock word, ring, and the round of a shared lane.
 pub const LANE_0: usize = 80;
 
 pub const LANE_1: usize = 84;
@@ -38,7 +38,7 @@ pub const TIME: usize = 1;
 
 pub const RING: usize = 2;
 
-pub const FREE_OF_LANE: usize = 3;
+pub const ROUND: usize = 3;
 
 // Places of a lane, which is the depth number too. A ring word is the first place and this many times the number of records.
 pub const ROOM: u64 = 64;
@@ -57,8 +57,8 @@ pub const STARTS: usize = 1360;
 
 pub const MAPS: usize = 1376;
 
-// The first byte of the lengths, of the slot lists, of the first ring's first place, number and places, of the marks, and of the bytes that are kept behind
-// them.
+// The first byte of the lengths, of the slot lists, of the first ring's first place, number and places, of the marks, of the shared lanes' trains, and of the
+// bytes that are kept behind them.
 const LENGTHS: usize = 2688;
 
 pub const LISTS: usize = 10880;
@@ -71,14 +71,21 @@ pub const PLACES: usize = 12288;
 
 pub const MARKS: usize = 45056;
 
-pub const KEPT: usize = 61440;
+pub const TRAINS: usize = 61440;
 
-// 2^16, 2^32 and 2^40: where the parts of a setting word begin.
+pub const KEPT: usize = 63488;
+
+// 2^16, 2^32 and 2^40: where the parts of a setting word begin. 2^63 says that trains share the lane.
 const WEIGHT: u64 = 65536;
 
 const GROUP: u64 = 4294967296;
 
 const RATE: u64 = 1099511627776;
+
+const SHARED: u64 = 9223372036854775808;
+
+// 2^32: where the number of trains begins in a round.
+const NAMED: u64 = 4294967296;
 
 pub fn put(t: &mut [u8], i: usize, v: u64) {
     if i < WORDS {
@@ -105,6 +112,41 @@ pub fn setting(weight: u64, longest: u64, group: u64, c: u64) -> u64 {
         }
     }
     0
+}
+
+// The same of a lane that trains share.
+pub fn shared(weight: u64, longest: u64, group: u64, c: u64) -> u64 {
+    let plain = setting(weight, longest, group, c);
+    if plain < SHARED {
+        return plain + SHARED;
+    }
+    plain
+}
+
+// Lane 0's round names so many trains, four bits each, the one in turn lowest.
+pub fn round(t: &mut [u8], named: u64, order: u64) {
+    if named < 16 {
+        if order < NAMED {
+            put(t, LANE_0 + ROUND, order + named * NAMED);
+        }
+    }
+}
+
+// Train `j` of lane 0: its first place, how many records it holds, and its deficit.
+pub fn train(t: &mut [u8], j: usize, head: u64, count: u64, deficit: u64) {
+    if j < 8 {
+        if head < 8 {
+            if count < 16 {
+                if deficit < 65536 {
+                    let n = head + 8 * count + 128 * deficit;
+                    let a = TRAINS + 4 * j;
+                    byte(t, a, (n % 256) as u8);
+                    byte(t, a + 1, (n / 256 % 256) as u8);
+                    byte(t, a + 2, (n / 65536 % 256) as u8);
+                }
+            }
+        }
+    }
 }
 
 // The number of lane `k`'s place `i` among the places of all lanes.
@@ -175,7 +217,7 @@ pub fn alone(t: &mut [u8], g: usize, b: usize, k: u8) {
     byte(t, place(g, b, 0), k);
 }
 
-// Lanes 0 and 1 of document 01's session, and nothing held.
+// Lanes 0 and 1 of that session (R16.2), and nothing held.
 pub fn idle(t: &mut [u8]) {
     put(t, PRESENT, 3);
     put(t, DEPTH, ROOM);

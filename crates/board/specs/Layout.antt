@@ -1,4 +1,4 @@
--- A board in bytes: 64 lines of two words.
+-- A board in bytes (R11.3): 64 lines of two words.
 --
 --   Room                   the bytes have room for a board
 --   trainWord, cellWord    the two words of a line
@@ -8,7 +8,7 @@
 --   recOf, lineOf          the line of a value; of two words
 --   boardOf                the board that bytes mean
 --   wellFormed             two words are a line: the test of 29, for one line
---   NoBoard, Tells         the bytes show none; what the test of 29 says of bytes
+--   NoBoard, Tells         R11.4: the bytes show none; what the test of 29 says of bytes
 --   Decided                bytes show a board or none
 --   Found                  where a test first passes on the lines below n
 --   Parted                 whether a line's train stands on no line below

@@ -1,4 +1,4 @@
-// Which lane is served next, and the four words of the group sets, on a table known to be good: document 01, "Take" and "Sets".
+// Which lane is served next, and the four words of the group sets, on a table known to be good (R3.10, R4.4).
 //
 // Both go by the groups' stored starts, at most sixteen, whatever the number of lanes. The group of least finish among those whose start V has reached is
 // served next (crate groups), and in it the lane that stands first in the slot list of the group's start: filing/proofs/Choose.antt says that this is the

@@ -14,10 +14,11 @@ use Rattle.units.specs.Plain.{if_then_else_}
 use Rattle.lines.specs.Line.{noLine}
 use Rattle.walk.specs.Script.{script}
 
--- "18: program's input over 32,768 bytes"; "18 prints `no 18` alone". "The program reads standard input; its limit is 1,000."
+-- R10.15, R14.15, R14.38: over 32,768 bytes of input give 18, alone; else the limit is 1,000
 abbrev pub printed : List ℕ → List ℕ
 printed s = if ltb 32768 (length s) then noLine 18 none else script s 1000 .text
 
+-- R10.15
 pub record Prints (s a a′ : List ℕ) (n : ℕ) : Type 0 where
   pub is : a′ ≡ printed s ++ drop (length (printed s)) a
   pub size : n ≡ length (printed s)

@@ -1,4 +1,4 @@
-// The unit's program: document 01, "A session in full". It reads standard input, runs it as a session with a limit of 1,000, and writes the lines.
+// The unit's program (docs/RULES.md, R10.15). It reads standard input, runs it as a session with a limit of 1,000, and writes the lines.
 //
 // `answered` is the work, on slices, with its promise (specs/Prints.antt); `serve` adds standard input and output, of which no contract can speak.
 ghost use Prim.Native.Nat.{_*_, _≤_, _<_};
@@ -8,7 +8,7 @@ ghost use Rattle.table.specs.Layout.{Room};
 ghost use Rattle.console.specs.Prints.{Prints};
 use rules::Refusal;
 
-// "18: program's input over 32,768 bytes."
+// The most bytes of input; 18 is for more.
 pub const MOST_INPUT: usize = 32768;
 
 // One byte more than the most, to see an input that is too long.

@@ -36,7 +36,7 @@ module _ (old t : List ℕ) (g : OldTable old) (room : Room t) (o : Over old t 6
         alike = subst (Alike (meant t)) state-over (alike-refl (meant t));
         beside = record {
           depth = o .carried .depth;
-          places = λ k h p some. o .lanes k h .places p some;
+          housed = λ k h p some. o .lanes k h .housed p some;
           rows = λ k h p.
               agrees-over (cells old) (cells t) k (o .carried .single framingWord (omega arith) (omega arith)) (o .carried .settings k h)
               (g .agrees .rows k h (sym (present-kept (cells old) (cells t) k (o .carried .single presentWord (omega arith) (omega arith))) ∙ p));

@@ -7,21 +7,22 @@ use lib.ListN.{getD}
 use Rattle.words.specs.Runs.{tab, tabFrom}
 use Rattle.words.proofs.Runs.{tab-snoc}
 use Rattle.waiting.specs.Waiting.{Lengths}
-use Rattle.rules.specs.State.{Rec, laneDepth}
-use Rattle.table.specs.Layout.{Now, cells, lengthsCell, placeOf, putEntry, clearLengths}
+use Rattle.rounds.specs.Round.{Rec}
+use Rattle.rules.specs.State.{laneDepth}
+use Rattle.table.specs.Layout.{Now, cells, lengthsCell, placeOf, putEntry, clearCells}
 use Rattle.table.specs.Means.{recOf, ringOf}
 use Rattle.table.specs.declared.LaneRow.{LaneRow}
 use Rattle.table.specs.declared.Entry.{Entry}
 use Rattle.table.proofs.Stores.{length-cells, behind-refl, behind-then}
 use Rattle.table.proofs.Entries.{Fits, put-other, clear-other}
 use Rattle.queue.proofs.Ring.{ring-snoc}
-use Rattle.queue.proofs.Lane.{places-one, places-cleared}
+use Rattle.queue.proofs.Moves.{places-one, places-cleared}
 use Rattle.old_table.specs.Old.{oldEntryAt, oldRing}
 use Rattle.old_table.proofs.Lengths.{ring-length}
 use Rattle.convert.specs.Over.{Filled}
 
 module _ (old t : List ℕ) (k : ℕ) (hk : k < 64) (l : LaneRow) where
-  pub filled-none : (u : List ℕ) → 0 < l .longest .0 → Now t u (clearLengths (cells t) (lengthsCell + 16 * k) 16) → Filled old t u k l 0
+  pub filled-none : (u : List ℕ) → 0 < l .longest .0 → Now t u (clearCells (cells t) (lengthsCell + 16 * k) 16) → Filled old t u k l 0
   unfolding ringOf oldRing tab tabFrom
   filled-none u some n =
       record {
@@ -50,7 +51,7 @@ module _ (old t : List ℕ) (k : ℕ) (hk : k < 64) (l : LaneRow) where
       record {
         kept = λ j q. rw (n .words) (put-other (cells u) (placeOf k i) e j (λ x. q .0 (omega arith) (omega arith)) (λ x. q .1 (omega arith) (omega arith)) ∙ f .kept j q);
         ring = rw (n .words) (ring ∙ ap (λ (x : List Rec). x ++ recOf e ∷ []) (f .ring) ∙ ap (λ (e : Entry). oldRing (cells old) k (l .head) i ++ recOf e ∷ []) is ∙ sym (old-snoc i));
-        places = rw (n .words) (places-one (cells u) k i e l hk (length-cells u) fits le (f .places));
+        places = rw (n .words) (places-one (cells u) k l hk (length-cells u) i e fits le (f .places));
         rest = behind-then (f .rest) (n .rest);
       }
 

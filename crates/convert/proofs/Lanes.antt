@@ -8,10 +8,10 @@ use native.Mathlib.Omega.{arith}
 use lib.ListN.{getD}
 use Rattle.words.specs.Bits.{bit}
 use Rattle.words.proofs.Runs.{eq-or-ne, le-or-lt}
-use Rattle.table.specs.Layout.{cells, presentWord, depthWord, laneWord, rowAt}
-use Rattle.table.specs.Means.{presentAt, Next, laneOf, PlacesFit}
+use Rattle.table.specs.Layout.{cells, presentWord, depthWord, laneWord, roundWord, rowAt}
+use Rattle.table.specs.Means.{presentAt, Next, laneOf}
 use Rattle.table.proofs.Next.{bit-absent}
-use Rattle.table.proofs.Footprint.{Outside, SameLane, others-kept, present-kept, row-kept, lane-kept, fit-kept}
+use Rattle.table.proofs.Footprint.{Outside, SameLane, others-kept, present-kept, row-kept, lane-kept, housed-kept}
 use Rattle.table.proofs.Rows.{lane-absent}
 use Rattle.old_table.specs.Old.{oldLane}
 use Rattle.old_table.proofs.Reading.{old-absent}
@@ -24,7 +24,7 @@ absent-over old t k c none =
     let b : presentAt (cells t) k ≡ false = present-kept (cells old) (cells t) k (c .single presentWord (omega arith) (omega arith)) ∙ a in
     record {
       lane = lane-absent (cells t) k b ∙ sym (old-absent (cells old) k a);
-      places = λ p some. absurd (false≢true (sym b ∙ p));
+      housed = λ p some. absurd (false≢true (sym b ∙ p));
     }
 
 pub over-none : (old t : List ℕ) (lanes k : ℕ) → lanes ≡ getD (cells old) presentWord 0 → Carried old t → Next lanes 0 k → Over old t k
@@ -33,7 +33,7 @@ over-none old t lanes k e c x =
 
 module _ (old t u : List ℕ) (k : ℕ) (hk : k < 64) (m : Moved old t u k) where
   outside : Outside (cells t) (cells u) k
-  outside = record { kept = m .kept }
+  outside = record { kept = λ i a b c d. m .kept i (λ p q. a p (omega arith)) b c }
 
   carried-on : Carried old t → Carried old u
   carried-on c =
@@ -48,10 +48,10 @@ module _ (old t u : List ℕ) (k : ℕ) (hk : k < 64) (m : Moved old t u k) wher
   other-over : (j : ℕ) → j < 64 → (j ≡ k → ⊥) → LaneOver old t j → LaneOver old u j
   other-over j h ne o =
       let s = others-kept (cells t) (cells u) k hk outside j h ne in
-      let row : rowAt (cells u) j ≡ rowAt (cells t) j = row-kept (cells t) (cells u) j (s .framing) (s .row) in
+      let row : rowAt (cells u) j ≡ rowAt (cells t) j = row-kept (cells t) (cells u) j (s .framing) (λ i p q. s .row i p (omega arith)) in
       record {
         lane = lane-kept (cells t) (cells u) j s ∙ o .lane;
-        places = rw row (λ p some. fit-kept (cells t) (cells u) j (s .lengths) (s .marks) (rowAt (cells t) j) (o .places (sym (s .present) ∙ p) some));
+        housed = rw row (λ p some. housed-kept (cells t) (cells u) j (s .lengths) (s .marks) (s .trains) (s .row (roundWord j) (omega arith) (omega arith)) (rowAt (cells t) j) (o .housed (sym (s .present) ∙ p) some));
       }
 
   pub over-more : (lanes n : ℕ) → lanes ≡ getD (cells old) presentWord 0 → Over old t k → Next lanes (k + 1) n → Over old u n

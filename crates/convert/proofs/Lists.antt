@@ -33,7 +33,7 @@ put-early s j r (some n) h = refl
 
 same-early : (s : State) (c : Call) → Early c s → (endless s c) .state ≡ (step s c) .state
 unfolding endless step endlessPut doPut
-same-early s (put j m n) h = put-early s j (record { mark = m; len = n }) (putRefusal s j n) h
+same-early s (put j k m n) h = let r : Rec = record { train = k; mark = m; len = n } in put-early s j r (putRefusal s j r) h
 same-early s take h = refl
 same-early s look h = refl
 same-early s sets h = refl

@@ -1,4 +1,4 @@
--- Takes answer from both tables alike before the old one's first 10. Assumes nothing.
+-- R7.6: takes answer from both tables alike, up to a 10 of the old one. Assumes nothing.
 use Prim.Native.Nat.{ℕ}
 use mathlib.Core.Path.{_≡_, refl, sym, _∙_}
 use mathlib.Core.Logic.{inl, inr}

@@ -26,17 +26,19 @@ abbrev pub reads : Converting → Reply
 reads Converted = converted
 reads (Refused x) = notConverted (number x) (placeOf x)
 
--- the bytes `after` are a table with the old one's queues, V, S, F and tie order; those past it are as they were
+-- R7.5: the bytes `after` are a table with the old one's queues, V, S, F and tie order; those past it are as they were
 pub record TakenOver (old before after : List ℕ) : Type 0 where
   pub encodes : Encodes after (oldMeant old)
   pub good : GoodTable after
   pub rest : drop SIZE after ≡ drop SIZE before
 
+-- R7.1, R14.39
 pub record Converts (old before : List ℕ) (a : Converting) (after : List ℕ) : Type 0 where
-  -- 7 for too little room, at place 0; it goes before 10
+  -- R7.4, R14.13: 7 for too little room, at place 0; it goes before 10
   pub short : length before < SIZE → (reads a ≡ notConverted 7 (some 0)) × (after ≡ before)
-  -- 10 for an old table that is not good by the rule of its time
+  -- R7.4, R14.22: 10 for an old table that is not good by the rule of its time
   pub not-good : SIZE ≤ length before → (OldTable old → ⊥) → (reads a ≡ notConverted 10 none) × (after ≡ before)
+  -- R7.5
   pub converts : SIZE ≤ length before → OldTable old → (reads a ≡ converted) × TakenOver old before after
   -- and so an answer that it is done says that the old table was good
   pub was-good : reads a ≡ converted → OldTable old

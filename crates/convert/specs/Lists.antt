@@ -1,12 +1,12 @@
--- A list of calls that began before the update goes on after it.
+-- R7.7: a list of calls that began before the update goes on after it.
 --
 --   Early       a put of that time that found the clock below 2^61, and any other call
---   OldList     the unit of that time made a table of the setup gs, and its calls led to these bytes; cs are the calls that it did, without those that it refused
+--   OldList     the unit of that time made a table of the setup gs, and its calls led to these bytes; cs are the calls that it did, without those it refused
 --   ListsGoOn   the claim: converted, the bytes are a table that today's rules lead to by the same calls
 --
 -- A call that the unit refused left every byte; one that it did left bytes that encode what the rules without a taking back of the clock give. `Led` is the
 -- premise of every promise about lists (scheduler/specs/Demands.antt), so all of them hold of the old calls and the new ones together: 10 is never given, and
--- demand 3 counts stretches that span the update. A put of that time that found the clock at 2^61 or more is none of the calls that today's rules make: a table
+-- R15.8 counts stretches that span the update. A put of that time that found the clock at 2^61 or more is none of the calls that today's rules make: a table
 -- that had it is taken over all the same, its next put takes the clock back, and what is promised of it is what is promised of any good table.
 -- Assumes nothing.
 use Prim.Native.Nat.{ℕ, _<_}
@@ -22,7 +22,7 @@ use Rattle.old_table.specs.Old.{oldMeant, OldEncodes}
 use Rattle.convert.specs.Converts.{TakenOver}
 
 abbrev pub Early : Call → State → Type 0
-Early (put j m n) s = s .clock < clockFar
+Early (put j k m n) s = s .clock < clockFar
 Early take s = Unit {0}
 Early look s = Unit {0}
 Early sets s = Unit {0}

@@ -4,7 +4,7 @@
 --   Carried    what both layouts keep in the same places is the old table's, and the depth number is today's
 --   Filled     n records of lane k, which has the old row l, stand in its new ring from place 0 on
 --   unrolled   an old row with another clock word, its ring begun at place 0
---   LaneOver   lane k means what it meant, and its places are within its numbers
+--   LaneOver   lane k means what it meant, and its records are housed
 --   Moved      lane k is taken over, and no word but its clock word, its ring word and its places is changed
 --   Over       the lanes below n are taken over
 --
@@ -18,7 +18,7 @@ use Rattle.rules.specs.State.{laneDepth}
 use Rattle.rings.specs.Rings.{ringsEnd}
 use Rattle.slot_lists.specs.Lists.{listsFrom}
 use Rattle.table.specs.Layout.{SIZE, Behind, cells, depthWord, laneWord, lengthsCell, marksCell, rowAt}
-use Rattle.table.specs.Means.{presentAt, ringOf, PlacesFit, laneOf}
+use Rattle.table.specs.Means.{presentAt, ringOf, PlacesFit, Housed, laneOf}
 use Rattle.table.specs.declared.LaneRow.{LaneRow}
 use Rattle.old_table.specs.Old.{oldRing, oldLane}
 
@@ -43,11 +43,11 @@ pub record Filled (old before after : List ℕ) (k : ℕ) (l : LaneRow) (n : ℕ
   pub rest : Behind before after
 
 abbrev pub unrolled : LaneRow → ℕ → LaneRow
-unrolled l x = record { longest = l .longest; framing = l .framing; weight = l .weight; group = l .group; rate = l .rate; time = record { 0 = x }; head = 0; count = l .count }
+unrolled l x = record { longest = l .longest; framing = l .framing; weight = l .weight; group = l .group; rate = l .rate; shared = l .shared; time = record { 0 = x }; head = 0; count = l .count }
 
 pub record LaneOver (old t : List ℕ) (k : ℕ) : Type 0 where
   pub lane : laneOf (cells t) k ≡ oldLane (cells old) k
-  pub places : presentAt (cells t) k ≡ true → 0 < rowAt (cells t) k .count → PlacesFit (cells t) k (rowAt (cells t) k)
+  pub housed : presentAt (cells t) k ≡ true → 0 < rowAt (cells t) k .count → Housed (cells t) k (rowAt (cells t) k)
 
 pub record Moved (old before after : List ℕ) (k : ℕ) : Type 0 where
   pub kept : (i : ℕ) → ((laneWord k + 1 ≤ i) → (i < laneWord k + 3) → ⊥) → ((lengthsCell + 16 * k ≤ i) → (i < lengthsCell + 16 * k + 16) → ⊥) → ((marksCell + 32 * k ≤ i) → (i < marksCell + 32 * k + 32) → ⊥) → getD (cells after) i 0 ≡ getD (cells before) i 0

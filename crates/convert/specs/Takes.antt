@@ -1,13 +1,13 @@
--- Takes from an old table, and from the table that it was converted to.
+-- R7.6: takes from an old table, and from the table that it was converted to.
 --
 --   OldTake     one take by the unit of that time, on its own bytes
---   OldTakes    takes one after another, with no other call between: from some bytes to others, with their answers
+--   OldTakes    takes in a row: from some bytes to others, with their answers
 --   Takes       the same by today's public call
 --   UntilTen    two lists of answers are the same, as far as both go, before the first list's first 10
 --   SameTakes   the claim
 --
--- The rules of a take have not changed: only the room of a lane and the clock's edge have, at which no take looks, and a put. A good table of other origin may
--- lead to one that is not good; so a list of the old unit's takes may reach its 10. Assumes nothing.
+-- The rules of a take have not changed: only the room of a lane and the clock's edge have, at which no take looks, and a put. An old table that its unit did
+-- not make may be good and not stay so (R6.13); so a list of the old unit's takes may reach its 10. Assumes nothing.
 use Prim.Native.Nat.{ℕ, _≤_}
 use mathlib.Core.Path.{_≡_}
 use mathlib.Core.Logic.{_⊎_}

@@ -1,4 +1,4 @@
-// The converter: a table made while a lane had room for 16 records is taken over into other lent bytes, with room for 64 (document 02, g).
+// The converter: a table made while a lane had room for 16 records is taken over into other lent bytes, with room for 64 (docs/RULES.md, R7).
 //
 // The old table is tested whole, as every public call tests its table, and is never written. Nothing is written to the new bytes before the last test.
 // What it promises is `Converts` (specs/Converts.antt), whole; specs/Takes.antt says that takes answer from both tables alike.

@@ -7,7 +7,7 @@
 --   sheet-framed                   a plan that a sheet cannot say
 --
 -- Assumes nothing.
-use Prim.Native.Nat.{ℕ, _≤_, _<_}
+use Prim.Native.Nat.{ℕ, _+_, _≤_, _<_}
 use native.Mathlib.Nat.{zero-add}
 use native.Mathlib.Decide.{decLe}
 use native.Mathlib.Omega.{arith}
@@ -28,7 +28,7 @@ use Rattle.plan.specs.declared.Reading.{Reading}
 use Rattle.plan.specs.declared.Outcome.the-variants as outcome
 use Rattle.plan.proofs.Accepted.{accepted-setup}
 use Rattle.plan_writer.specs.Write as setup
-use Rattle.plan_writer.specs.Write.{Planned, planned, Within, setupBytes}
+use Rattle.plan_writer.specs.Write.{Planned, planned, Within, shareds, setupBytes}
 use Rattle.plan_writer.specs.declared.Written as setup-answer
 use Rattle.plan_writer.specs.declared.Written.the-variants as setup-told
 use Rattle.plan_writer.specs.declared.Unwritten as setup-unwritten
@@ -130,10 +130,10 @@ module _ (s a : List ℕ) (few : length s ≤ 32768) (room : 1024 ≤ length a) 
       fits = omega (arith, sheet-most (p .lanes) (setup-within .setup), room)
 
       text-bare : Bare p → asSheet s ≡ sheetBytes (p .lanes)
-      text-bare b = short-sheet ∙ ap sheetText setup-is ∙ rw (eq-eqb (framingOf (p .lanes)) 0 b)
+      text-bare b = short-sheet ∙ ap sheetText setup-is ∙ rw (eq-eqb (framingOf (p .lanes) + shareds (p .lanes)) 0 (omega (arith, b .0, b .1)))
 
       text-framed : (Bare p → ⊥) → asSheet s ≡ noLine 82 none
-      text-framed b = short-sheet ∙ ap sheetText setup-is ∙ rw (ne-eqb (framingOf (p .lanes)) 0 b)
+      text-framed b = short-sheet ∙ ap sheetText setup-is ∙ rw (ne-eqb (framingOf (p .lanes) + shareds (p .lanes)) 0 (λ z. b (omega (arith, z), omega (arith, z))))
 
       pub sheet-written : (n : ℕ) → answer ≡ sheet-told.Size n → Prints (asSheet s) a a′ n
       sheet-written n t =

@@ -1,11 +1,11 @@
--- What the depot's two programs print.
+-- What the depot's two programs print (R12.11).
 --
 --   asSetup   for a sheet: its plan as a setup, or the line of a refusal
 --   asSheet   for a setup: its plan as a sheet, or the line of a refusal
 --   Prints    a text stands at the front of the lent bytes, and the bytes past it stay
 --
 -- Assumes nothing.
-use Prim.Native.Nat.{ℕ, _≤_}
+use Prim.Native.Nat.{ℕ, _+_, _≤_}
 use mathlib.Core.Path.{_≡_}
 use mathlib.Core.List.{List, _++_}
 use mathlib.Core.Option.{none}
@@ -15,7 +15,7 @@ use Rattle.units.specs.Plain.{if_then_else_}
 use Rattle.rules.specs.Setup.{framingOf}
 use Rattle.lines.specs.Line.{noLine}
 use Rattle.plan.specs.Read.{Reply, read, refused, readSetup}
-use Rattle.plan_writer.specs.Write.{setupBytes}
+use Rattle.plan_writer.specs.Write.{setupBytes, shareds}
 use Rattle.sheet.specs.Read.{readSheet}
 use Rattle.sheet.specs.Text.{sheetBytes}
 
@@ -23,15 +23,16 @@ abbrev pub setupText : Reply → List ℕ
 setupText (refused n q) = noLine n q
 setupText (read v gs n at) = setupBytes (record { format = v; lanes = gs; count = n })
 
--- 82 for a plan that a sheet cannot say.
+-- 82 for a plan that a sheet cannot say: with framing bytes, or with a shared lane.
 abbrev pub sheetText : Reply → List ℕ
 sheetText (refused n q) = noLine n q
-sheetText (read v gs n at) = if eqb (framingOf gs) 0 then sheetBytes gs else noLine 82 none
+sheetText (read v gs n at) = if eqb (framingOf gs + shareds gs) 0 then sheetBytes gs else noLine 82 none
 
--- 18 for an input over 32,768 bytes.
+-- R14.15: 18 for an input over 32,768 bytes.
 abbrev pub asSetup : List ℕ → List ℕ
 asSetup s = if ltb 32768 (length s) then noLine 18 none else setupText (readSheet s)
 
+-- R14.15
 abbrev pub asSheet : List ℕ → List ℕ
 asSheet s = if ltb 32768 (length s) then noLine 18 none else sheetText (readSetup s)
 

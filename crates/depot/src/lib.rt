@@ -58,7 +58,7 @@ pub fn sheet_of_setup(input: &[u8], out: &mut [u8]) -> usize
             let plan = r.plan;
             match sheet_writer::write_sheet(plan, out) {
                 sheet_writer::Written::Size(n) => n,
-                // Within the numbers, and with room: what is left is a plan with framing bytes.
+                // Within the numbers, and with room: what is left is a plan with framing bytes or a shared lane.
                 sheet_writer::Written::Refused(_) => lines::put_no(out, 0, Refusal::NoSheet),
             }
         }

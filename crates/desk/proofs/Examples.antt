@@ -9,7 +9,7 @@ use Rattle.desk.specs.Calls.{enter, clear, told, refused, refusal, targe
 abbrev rec : ℕ → ℕ → ℕ → ℕ → Rec
 rec t c k s = record { train = t; cell = c; kind = k; sequence = s }
 
--- a first record may have any sequence, and must be a join
+-- R11.9: a leave is no first record, whatever its sequence
 first-leave : (step emptyBoard (enter (rec 5 1 2 7))) .reply ≡ refused 33
 unfolding step refusal target first
 first-leave = refl
@@ -37,7 +37,7 @@ last-sequence : (step (after emptyBoard (enter (rec 5 1 1 4294967295) ∷ [])) (
 unfolding step refusal target first after
 last-sequence = refl
 
--- a clear needs a leave; the line is free, and a new train takes the lowest free line
+-- R11.12: no clear of a train that is joined; after a leave its line is free, for the next train that has none
 still-joined : (step (after emptyBoard (enter (rec 5 1 1 7) ∷ [])) (clear 5)) .reply ≡ refused 34
 unfolding step refusal target first after
 still-joined = refl

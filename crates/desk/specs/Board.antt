@@ -1,4 +1,4 @@
--- The board: 64 lines, each free or the last accepted record of a train.
+-- The board (R11.1): 64 lines, each free or the last accepted record of a train.
 --
 --   Rec              a handover record: train, cell, kind and sequence
 --   Board            the lines by number; a free one is `none`
@@ -6,7 +6,7 @@
 --   isOf, isFree     the tests of a line: it is of a train; it is free
 --   place, lowest    the line of a train; the lowest free line. 64 where there is none
 --   Fine             the numbers that a line can hold
---   Makeable         the boards that the rules can make
+--   Makeable         R11.2: the boards that the rules can make
 --
 -- Assumes nothing.
 use Prim.Native.Nat.{ℕ, suc, _^_, _≤_, _<_}
@@ -33,6 +33,7 @@ Board = List (Option Rec)
 abbrev pub emptyBoard : Board
 emptyBoard = replicate 64 none
 
+-- R11.13
 abbrev pub lineAt : Board → ℕ → Option Rec
 lineAt b k = getD b k none
 
@@ -66,7 +67,7 @@ pub record Carried (r : Rec) : Type 0 where
   pub kind : r .kind < 2 ^ 8
   pub sequence : r .sequence < 2 ^ 32
 
--- a first record is a join, so a leave always comes one after a join, and its sequence is 1 or more
+-- R11.2: a first record is a join, so a leave always comes one after a join, and its sequence is 1 or more
 pub record Fine (r : Rec) : Type 0 where
   pub carried : Carried r
   pub kind : (r .kind ≡ 1) ⊎ ((r .kind ≡ 2) × (1 ≤ r .sequence))

@@ -2,8 +2,8 @@
 --
 --   Call, Reply, Outcome   the two calls; the line that an accepted one changed, or a refusal's number; the reply and the board after it
 --   refusal                the number that refuses a record, in the list's order: 30, 31, 32, 33
---   target                 the line that an accepted record changes
---   step                   one call
+--   target                 R11.11: the line that an accepted record changes
+--   step                   R11.11: one call
 --   after, trace           a list of calls, each on the board that the last one left
 --   Made                   a list of calls from the empty board makes it
 --   lastOf                 a train's last accepted record since its last clear, from the calls and their replies alone
@@ -33,24 +33,24 @@ pub record Outcome : Type 0 where
 
 -- ---- a record
 
--- joined, left
+-- R11.8: joined, left
 abbrev pub known : ℕ → Bool
 known n = eqb n 1 || eqb n 2
 
--- the next sequence; after the greatest there is none, so it never wraps
+-- R11.10, R14.32: the next sequence; after the greatest there is none, so it never wraps
 abbrev pub inTurn : Rec → Rec → Bool
 inTurn old r = ltb (old .sequence) 4294967295 && eqb (r .sequence) (old .sequence + 1)
 
--- a leave comes after a join and of the same cell, a join after a leave
+-- R11.10, R14.33: a leave comes after a join and of the same cell, a join after a leave
 abbrev pub follows : Rec → Rec → Bool
 follows old r = if eqb (r .kind) 2 then eqb (old .kind) 1 && eqb (r .cell) (old .cell) else eqb (old .kind) 2
 
--- of a record whose kind is known, by what stands on its train's line (`none`: it is on no line) and whether a line is free
+-- R11.9, R11.10, R14.31 to R14.33: of a record whose kind is known, by what stands on its train's line (`none`: it is on no line) and whether a line is free
 abbrev pub judged : Option Rec → Bool → Rec → Option ℕ
 judged none free r = if not free then some 31 else if eqb (r .kind) 1 then none else some 33
 judged (some old) free r = if not (inTurn old r) then some 32 else if follows old r then none else some 33
 
--- 30 goes before what `judged` finds
+-- R11.8, R14.30, R14.42: 30 goes before what `judged` finds
 unfoldable pub refusal : Board → Rec → Option ℕ
 refusal b r = if not (known (r .kind)) then some 30 else judged (lineAt b (place (r .train) b)) (ltb (lowest b) (length b)) r
 
@@ -63,11 +63,12 @@ entered (some n) b k r = record { reply = refused n; board = b }
 
 -- ---- a clear
 
+-- R11.12, R14.34
 abbrev pub left : Option Rec → Bool
 left none = false
 left (some r) = eqb (r .kind) 2
 
--- 34 for a train on no line, whose place holds nothing, and for one that is joined
+-- R11.12, R14.34: 34 for a train on no line, whose place holds nothing, and for one that is joined
 abbrev pub cleared : Bool → Board → ℕ → Outcome
 cleared true b k = record { reply = told k; board = set b k none }
 cleared false b k = record { reply = refused 34; board = b }

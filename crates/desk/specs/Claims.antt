@@ -1,11 +1,11 @@
 -- What is proved of the rules; the proofs have the names of the claims.
 --
---   KeepsMakeable   every call keeps it
---   ExactlyMade     the boards that calls make from the empty board are the makeable ones, both ways
+--   KeepsMakeable   R11.2: every call keeps it
+--   ExactlyMade     R11.2: the boards that calls make from the empty board are the makeable ones, both ways
 --   Commutes        two records of different trains, one of them on the board, refused records too: the same replies and the same board in either order
---   OneLine         an accepted record changes its train's line, or the lowest free one of a new train, and no other
---   ShowsLast       what a board shows of a train is its last accepted record since its last clear
---   EndsAtLast      after sequence 4,294,967,295 nothing of that train is accepted until it is cleared
+--   OneLine         R11.11: an accepted record changes its train's line, or the lowest free one of a new train, and no other
+--   ShowsLast       R11.16: what a board shows of a train is its last accepted record since its last clear
+--   EndsAtLast      R11.17: after sequence 4,294,967,295 nothing of that train is accepted until it is cleared
 --
 -- Assumes nothing.
 use Prim.Native.Nat.{ℕ, _<_}
@@ -31,7 +31,7 @@ pub record InEitherOrder (b : Board) (q r : Rec) : Type 0 where
   pub reply-r : (step ((step b (enter q)) .board) (enter r)) .reply ≡ (step b (enter r)) .reply
   pub board : (step ((step b (enter q)) .board) (enter r)) .board ≡ (step ((step b (enter r)) .board) (enter q)) .board
 
--- r's train may be on the board or new. (Two new trains do not commute: the first takes the lower line.)
+-- R11.15: r's train may be on the board or new. (Two new trains do not commute: the first takes the lower line.)
 abbrev pub Commutes : Type 0
 Commutes = (b : Board) (q r : Rec) → (q .train ≡ r .train → ⊥) → place (q .train) b < length b → InEitherOrder b q r
 
@@ -57,13 +57,13 @@ unfoldable pub NotCleared : ℕ → List Call → Type 0
 NotCleared t [] = Unit {0}
 NotCleared t (c ∷ cs) = (c ≡ clear t → ⊥) × NotCleared t cs
 
--- the board b shows o, which has the greatest sequence
+-- R11.17: the board b shows o, which has the greatest sequence
 pub record Ended (b : Board) (o : Rec) : Type 0 where
   -- every record of the train is refused by 32, or by 30 which goes before it
   pub refuses : (r : Rec) → r .train ≡ o .train → step b (enter r) ≡ record { reply = refused (if known (r .kind) then 32 else 30); board = b }
   -- its line stays, whatever the calls are, until it is cleared
   pub stays : (cs : List Call) → AllSayable cs → NotCleared (o .train) cs → shown (o .train) (after b cs) ≡ some o
-  -- a leave is cleared: then the train is on no line, and its next record is a first one
+  -- a leave is cleared: then the train is on no line, and begins anew (R11.9)
   pub left : o .kind ≡ 2 → shown (o .train) ((step b (clear (o .train))) .board) ≡ none
   -- a join is not: its line stays for good
   pub joined : o .kind ≡ 1 → (cs : List Call) → AllSayable cs → shown (o .train) (after b cs) ≡ some o

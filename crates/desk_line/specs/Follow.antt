@@ -1,4 +1,4 @@
--- A line that takes its train's next record: the train stays, the rest is the record's.
+-- A line that takes its train's next record (R11.11): the train stays, the rest is the record's.
 use Prim.Native.Nat.{ℕ}
 use Rattle.desk_line.specs.declared.Line.{Line}
 

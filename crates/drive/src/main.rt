@@ -1,12 +1,6 @@
-// Drives the public calls and prints what they answer, and some words of the table. The file `stdout` has what is to be written; expected.py works it out
-// from document 01, and knows nothing of this program but the list of its calls.
-//
-// Each scene begins with a table of bytes 165, some of them past the fixed size, so that making has something to write over and something to leave.
-mod bytes;
-mod calls;
-mod damage;
-mod far;
-mod print;
+// Drives the public calls and prints what they answer, and some words of the table. The file `stdout` has what is to be written; expected.py of the crate
+// `driven` works it out from the rules, and knows nothing of this program but the list of its calls. The program `drive_edges` has what lies further
+// off: the clock taken back, tables that are not good, and shared lanes.
 mod refusals;
 mod session;
 
@@ -19,9 +13,4 @@ fn main() {
     refusals::calls();
     refusals::full();
     refusals::sizes();
-    far::at_last();
-    far::taken_back();
-    far::groups();
-    damage::damaged();
-    damage::idle_places();
 }

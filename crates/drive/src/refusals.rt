@@ -1,8 +1,7 @@
 // Refusals 1 to 7 and 50 to 54 of making, and 11, 12, 13, 15 and 16 of the calls, with the order of their tests; what a refusal leaves of the table.
-use crate::bytes;
-use crate::calls;
-use crate::print;
-use crate::session;
+use driven::bytes;
+use driven::calls;
+use driven::tables;
 
 fn cut_or_unknown(t: &mut [u8]) {
     calls::make(b"", t);
@@ -52,7 +51,7 @@ fn outside(t: &mut [u8]) {
 }
 
 pub fn making() {
-    print::line(b"- making refused");
+    printed::line(b"- making refused");
     let mut t = [bytes::FILL; bytes::LONG];
     let before = t;
     cut_or_unknown(&mut t);
@@ -82,9 +81,9 @@ fn nothing_held(t: &mut [u8]) {
 }
 
 pub fn calls() {
-    print::line(b"- calls refused");
+    printed::line(b"- calls refused");
     let mut t = [bytes::FILL; bytes::LONG];
-    session::setup(&mut t);
+    tables::setup(&mut t);
     let before = t;
     no_lane(&mut t);
     nothing_held(&mut t);
@@ -100,11 +99,11 @@ fn overfull(t: &mut [u8]) {
     calls::restart(t);
 }
 
-// M7: 64 puts to one lane accepted, the 65th gives 13; after one take a put is accepted.
+// R16.9: a lane is filled, refuses one more by 13, and has room again after a take.
 pub fn full() {
-    print::line(b"- a full lane");
+    printed::line(b"- a full lane");
     let mut t = [bytes::FILL; bytes::LONG];
-    session::setup(&mut t);
+    tables::setup(&mut t);
     calls::fill(&mut t, 0, calls::ROOM);
     let before = t;
     overfull(&mut t);
@@ -122,10 +121,10 @@ fn after_full(t: &mut [u8]) {
 
 // A byte too short: 7 comes before the setup's own refusals, and every call gives 10. At the fixed size, all is well.
 pub fn sizes() {
-    print::line(b"- sizes");
+    printed::line(b"- sizes");
     let mut t = [bytes::FILL; bytes::SHORT];
     let before = t;
-    session::setup(&mut t);
+    tables::setup(&mut t);
     calls::make(b"", &mut t);
     calls::every(&mut t);
     bytes::compare(&before, &t);
@@ -134,6 +133,6 @@ pub fn sizes() {
 
 fn exact() {
     let mut t = [bytes::FILL; scheduler::SIZE];
-    session::setup(&mut t);
+    tables::setup(&mut t);
     calls::every(&mut t);
 }

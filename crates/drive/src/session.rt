@@ -1,24 +1,9 @@
-// Document 01's session by calls, its marked examples M1, M2 and M4, and lines of several groups.
-use crate::bytes;
-use crate::calls;
-use crate::print;
+// The session of R16.3 by calls, what comes after it (R16.4), the one lane of R16.7, and lines of several groups.
+use driven::bytes;
+use driven::calls;
+use driven::tables;
 
-// Document 01's setup: lane 0 of weight 512, lane 1 of weight 256, both of longest 1,500.
-pub fn setup(t: &mut [u8]) {
-    calls::make(
-        b"\x01\x00\x02\x00\x01\x10\x00\x05\x00\x02\x00\x05\xDC\x10\x00\x05\x01\x01\x00\x05\xDC\x7F\x00\x00",
-        t,
-    );
-}
-
-// The session's three puts.
-pub fn puts(t: &mut [u8]) {
-    calls::put(t, 0, 1, 1000);
-    calls::put(t, 1, 2, 1000);
-    calls::put(t, 0, 3, 500);
-}
-
-// M1: the clock and the finishes after the third take.
+// R16.3: the clock and the finishes after the third take.
 fn takes(t: &mut [u8]) {
     calls::take(t);
     calls::lag(t, 1);
@@ -28,7 +13,7 @@ fn takes(t: &mut [u8]) {
     calls::take(t);
 }
 
-// M2: S, V and lag after one more put; then F, once that record is taken.
+// R16.4: S, V and lag after one more put; then F, once that record is taken.
 fn late_put(t: &mut [u8]) {
     calls::put(t, 0, 4, 100);
     bytes::times(t);
@@ -51,10 +36,10 @@ fn anew(t: &mut [u8]) {
 }
 
 pub fn session() {
-    print::line(b"- session");
+    printed::line(b"- session");
     let mut t = [bytes::FILL; bytes::LONG];
-    setup(&mut t);
-    puts(&mut t);
+    tables::setup(&mut t);
+    tables::puts(&mut t);
     calls::sets(&t);
     calls::look(&t);
     takes(&mut t);
@@ -63,9 +48,9 @@ pub fn session() {
     bytes::tail(&t);
 }
 
-// M4: weight 1 and longest 64, alone.
+// R16.7: weight 1 and longest 64, alone.
 pub fn one_lane() {
-    print::line(b"- one lane");
+    printed::line(b"- one lane");
     let mut t = [bytes::FILL; bytes::LONG];
     calls::make(
         b"\x01\x00\x02\x00\x01\x10\x00\x05\x00\x00\x01\x00\x40\x7F\x00\x00",
@@ -78,53 +63,13 @@ pub fn one_lane() {
     bytes::time(&t);
 }
 
-// Lanes 0, 1, 2 and 63 of weights 600, 300, 100 and 1, and longest 1,500, 64, 199 and 1,500: groups 22, 18, 21 and 31.
-pub fn four_lanes(t: &mut [u8]) {
-    calls::make(
-        b"\x01\x00\x02\x00\x01\x10\x00\x03\x00\x02\x58\x10\x00\x05\x01\x01\x2C\x00\x40\x10\x00\x05\x02\x00\x64\x00\xC7\x10\x00\x03\x3F\x00\x01\x7F\x00\x00",
-        t,
-    );
-}
-
-pub fn first(t: &mut [u8]) {
-    calls::put(t, 63, 1, 1500);
-    calls::put(t, 63, 2, 64);
-    calls::put(t, 2, 3, 199);
-    calls::put(t, 2, 4, 199);
-}
-
-pub fn more(t: &mut [u8]) {
-    calls::put(t, 2, 5, 1);
-    calls::put(t, 1, 6, 64);
-    calls::put(t, 1, 7, 64);
-    calls::put(t, 0, 8, 1500);
-    calls::put(t, 0, 9, 1500);
-}
-
-// What the calls that change nothing say, before each take.
-fn look_and_take(t: &mut [u8]) {
-    calls::sets(t);
-    calls::lag(t, 0);
-    calls::lag(t, 2);
-    calls::look(t);
-    calls::take(t);
-}
-
-pub fn looks_and_takes(t: &mut [u8], n: u32) {
-    let mut i: u32 = 0;
-    while i < n {
-        look_and_take(t);
-        i += 1;
-    }
-}
-
 pub fn four_groups() {
-    print::line(b"- four groups");
+    printed::line(b"- four groups");
     let mut t = [bytes::FILL; bytes::LONG];
-    four_lanes(&mut t);
-    first(&mut t);
-    more(&mut t);
-    looks_and_takes(&mut t, 10);
+    tables::four_lanes(&mut t);
+    tables::first(&mut t);
+    tables::more(&mut t);
+    tables::looks_and_takes(&mut t, 10);
     bytes::times(&t);
     bytes::tail(&t);
 }
@@ -151,12 +96,12 @@ fn the_rest(t: &mut [u8]) {
 
 // Two records of lane 2 leave group 21 blocked and not eligible; a third moves the clock far enough that it is eligible and blocked.
 pub fn blocked_groups() {
-    print::line(b"- a blocked group");
+    printed::line(b"- a blocked group");
     let mut t = [bytes::FILL; bytes::LONG];
     three_lanes(&mut t);
     the_rest(&mut t);
-    looks_and_takes(&mut t, 8);
-    print::line(b"- a blocked group that is eligible");
+    tables::looks_and_takes(&mut t, 8);
+    printed::line(b"- a blocked group that is eligible");
     three_lanes(&mut t);
     the_rest(&mut t);
     third(&mut t);
@@ -164,5 +109,5 @@ pub fn blocked_groups() {
 
 fn third(t: &mut [u8]) {
     calls::put(t, 2, 9, 64);
-    looks_and_takes(t, 9);
+    tables::looks_and_takes(t, 9);
 }

@@ -20,7 +20,7 @@ use Rattle.fresh.specs.Makes.{Makes}
 use Rattle.engine.specs.Turns.{Turns}
 use Rattle.engine.proofs.Waking.{accept-busy}
 
-pub append-turns : (t u : List ℕ) (k : ℕ) (r : Rec) → Known t → Allowed (meant t) k (r .len) → holds (laneAt (meant t) k) ≡ true → length u ≡ length t
+pub append-turns : (t u : List ℕ) (k : ℕ) (r : Rec) → Known t → Allowed (meant t) k r → holds (laneAt (meant t) k) ≡ true → length u ≡ length t
     → Leaves t u (withLane (meant t) k (appended (laneAt (meant t) k) r)) → Turns t u (accept (meant t) k r)
 append-turns t u k r known a busy len lv =
     let s = meant t in

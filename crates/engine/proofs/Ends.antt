@@ -3,7 +3,7 @@ use mathlib.Core.Path.{_≡_, refl, sym, ap, subst, _∙_}
 use mathlib.Core.Bool.{true, false, false≢true}
 use mathlib.Core.List.{List}
 use mathlib.Core.Option.{some}
-use Prim.Native.Nat.{ℕ, _≤_}
+use Prim.Native.Nat.{ℕ}
 use native.Mathlib.Omega.{arith}
 use lib.Count.{trailingZeros}
 use lib.Pow.{pow-pos}
@@ -12,7 +12,7 @@ use Rattle.words.specs.Runs.{tab}
 use Rattle.words.specs.Words.{wordAt}
 use Rattle.words.proofs.Bits.{low-set, bit-above}
 use lib.ListN.{getD}
-use Rattle.rules.specs.State.{Lane, State, holds, laneAt, setupOf, anyHolds}
+use Rattle.rules.specs.State.{Lane, State, laneAt, anyHolds}
 use Rattle.rules.specs.Calls.{Call, step}
 use Rattle.rules.specs.Sets.{inGroup, groupStart}
 use Rattle.rules.specs.Setup.{Setup}

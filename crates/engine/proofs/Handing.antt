@@ -1,48 +1,45 @@
 -- The stores of `serve` and `settle` come to the rules' `serve`. Assumes nothing.
 use mathlib.Core.Path.{_≡_, refl, sym, ap, subst, _∙_}
-use mathlib.Core.Bool.{Bool, true, not}
+use mathlib.Core.Bool.{Bool, true}
 use mathlib.Core.Option.{Option, none, some}
 use mathlib.Core.Logic.{_⊎_, inl, inr}
 use Prim.Native.Nat.{ℕ, _+_, _*_, _^_, _≤_, _<_}
 use mathlib.Core.List.{List}
 use native.Mathlib.Omega.{arith}
-use lib.Dec.{eqb, ltb}
+use lib.Dec.{ltb}
 use lib.ListN.{length, drop, set}
 use borrow.Author.Tests.{lt-ltb, le-ltb}
 use Rattle.units.specs.Numbers.{lineRate}
 use Rattle.units.specs.Plain.{if_then_else_}
 use Rattle.units.proofs.Round.{round-le}
 use Rattle.rules.specs.State.{Rec, Lane, State, noLane, charge, slot, group, startR, holds, laneAt}
-use Rattle.rules.specs.Choice.{choose, leastOf}
-use Rattle.rules.specs.BySets.{laneOf}
+use Rattle.rules.specs.Choice.{leastOf}
 use Rattle.rules.specs.Calls.{served, settledAt, settled, serve, takeOf}
 use Rattle.rules.specs.Sets.{inGroup, groupStart}
-use Rattle.rules.specs.Good.{Good}
 use Rattle.rules.specs.declared.Record.{Record}
 use Rattle.rules.proofs.Bools.{not-passed}
 use Rattle.rules.proofs.Lists.{set-cases}
-use Rattle.rules.specs.Lowest.{LowOf, LowestOf}
+use Rattle.rules.specs.Lowest.{LowOf}
 use Rattle.rules.proofs.Lowest.{lowest}
 use Rattle.rules.proofs.GroupRule.{in-group, group-low}
 use Rattle.rules.proofs.Queues.{served-given}
 use Rattle.rules.proofs.Ties.{Tied, take-tied}
-use Rattle.table.specs.Layout.{SIZE, Behind, cells, rowAt}
+use Rattle.table.specs.Layout.{SIZE, Behind, cells}
 use Rattle.table.specs.Means.{meant, Sound, Leaves, withClock}
-use Rattle.table.specs.declared.LaneRow.{LaneRow}
-use Rattle.table.specs.declared.Entry.{Entry}
 use Rattle.queue.specs.Queue.{Takes}
+use Rattle.queue.specs.declared.Item.{Item}
 use Rattle.choice.proofs.Held.{held-early}
 use Rattle.slot_lists.specs.Lists.{backAt, listAt, startAt}
 use Rattle.filing.specs.Filing.{Starting, Agrees}
 use Rattle.filing.proofs.Slots.{low-unique, group-held}
 use Rattle.filing.proofs.Starts.{Named, Grouped}
-use Rattle.filing.proofs.LeastStart.{LeastStart, group-of, least-all}
+use Rattle.filing.proofs.LeastStart.{group-of, least-all}
 use Rattle.groups.specs.Front.{Settles, stays, nothing, jumps}
 use Rattle.lane_moves.specs.Moves.{never, Tells, Refiled}
 use Rattle.lane_moves.proofs.Rules.{refile-agrees}
 use Rattle.choice.specs.Known.{Known, Standing}
 use Rattle.choice.specs.declared.Place.{Place}
-use Rattle.engine.specs.Turns.{Holds, Turns, Reaching, Settled}
+use Rattle.engine.specs.Turns.{Holds, Reaching, Settled}
 use Rattle.engine.specs.Does.{Serves}
 use Rattle.engine.proofs.Ends.{lanes-same, known-holds}
 use Rattle.table.proofs.Lists.{cells-apart, solid-stays, agrees-stay, past-stays, past-rings}
@@ -78,7 +75,7 @@ settles-is s starts st grouped v r (jumps m lt) = settled-at v r (leastOf holds 
 
 -- ---- once the lane has its new list
 
-module _ (t : List ℕ) (s : State) (g r k : ℕ) (a : At t s g r k) (t₁ : List ℕ) (e : Entry) (taken : Takes t t₁ k e) (len : length t₁ ≡ length t)
+module _ (t : List ℕ) (s : State) (g r k : ℕ) (a : At t s g r k) (t₁ : List ℕ) (e : Item) (taken : Takes t t₁ k e) (len : length t₁ ≡ length t)
     (t₂ : List ℕ) (y : ℕ) (ey : y ≡ laneAt s k .finish) (m : Bool) (em : m ≡ holds (served (laneAt s k))) (len₂ : length t₂ ≡ length t₁) (n : ℕ) (re : Refiled t₁ t₂ g r y k m n) where
   abbrev pub u : State
   u = serve s k (x t s g r k a)
@@ -168,17 +165,18 @@ pub at-chosen : (t : List ℕ) (known : Known t) (p : Place) → Standing t p �
 at-chosen t known p st = record { holds = known-holds t known; good = known .good; low = st .low; high = st .high; start = st .start; first = st .first; lane = st .chosen }
 
 -- what was handed out
-module _ (t : List ℕ) (g r k : ℕ) (a : At t (meant t) g r k) (t₁ : List ℕ) (e : Entry) (taken : Takes t t₁ k e) (len : length t₁ ≡ length t)
+module _ (t : List ℕ) (g r k : ℕ) (a : At t (meant t) g r k) (t₁ : List ℕ) (e : Item) (taken : Takes t t₁ k e) (len : length t₁ ≡ length t)
     (t₂ : List ℕ) (y : ℕ) (ey : y ≡ laneAt (meant t) k .finish) (m : Bool) (em : m ≡ holds (served (laneAt (meant t) k))) (len₂ : length t₂ ≡ length t₁) (n : ℕ) (re : Refiled t₁ t₂ g r y k m n) where
   pub handed : (t₃ : List ℕ) (v : ℕ) (rec : Record) → length t₃ ≡ length t₂ → v ≡ meant t .clock + lineRate * charge (laneAt (meant t) k .given) (x t (meant t) g r k a .len) → Settled t₂ t₃ v
-      → rec .lane ≡ k → rec .mark ≡ e .mark → rec .length .0 ≡ e .length .0 → Serves t rec t₃
-  handed t₃ v rec len₃ ev st p q d =
+      → rec .lane ≡ k → rec .train ≡ e .train → rec .mark ≡ e .mark → rec .length .0 ≡ e .length .0 → Serves t rec t₃
+  handed t₃ v rec len₃ ev st p i q d =
       let w = f t (meant t) g r k a in
       let same = entry-is t (meant t) g r k a t₁ e taken len in
       record {
         pick = w .pick;
         picks = w .picks;
         lane = p ∙ sym (w .lane);
+        train = i ∙ ap (λ (y : Rec). y .train) same;
         mark = q ∙ ap (λ (y : Rec). y .mark) same;
         size = d ∙ ap (λ (y : Rec). y .len) same;
         turns = record {

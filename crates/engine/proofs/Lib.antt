@@ -1,3 +1,4 @@
+pub mod LaneTrains
 pub mod RowIs
 pub mod Verdicts
 pub mod Waking

@@ -1,58 +1,44 @@
 -- The stores of `put_first` come to the rules' `accept`. Assumes nothing.
-use mathlib.Core.Path.{_≡_, refl, sym, ap, subst, _∙_}
-use mathlib.Core.Bool.{Bool, true, false, not, false≢true}
-use mathlib.Core.Option.{Option, none, some}
-use mathlib.Core.Logic.{⊎-elim}
-use Prim.Native.Nat.{ℕ, suc, _+_, _-_, _*_, _/_, _%_, _^_, _≤_, _<_, max}
-use mathlib.Core.List.{List, [], _∷_, _++_}
+use mathlib.Core.Path.{_≡_, sym, ap, subst, _∙_}
+use mathlib.Core.Bool.{false}
+use mathlib.Core.Option.{none}
+use Prim.Native.Nat.{ℕ, _-_, _^_, _≤_, _<_, max}
+use mathlib.Core.List.{List}
 use native.Mathlib.Omega.{arith}
-use lib.Count.{trailingZeros}
-use lib.Dec.{eqb}
 use lib.ListN.{length, getD, drop, set}
 use Rattle.units.specs.Numbers.{roundDown}
-use Rattle.words.specs.Bits.{bit}
-use Rattle.words.specs.Words.{wordAt}
-use Rattle.words.proofs.Bits.{low-set, bit-above}
-use Rattle.words.proofs.Runs.{eq-or-ne}
-use lib.Pow.{pow-pos}
-use Rattle.rules.specs.State.{Rec, Lane, State, noLane, slot, group, startR, holds, laneAt, anyHolds}
+use Rattle.waiting.specs.Waiting.{GoodWaiting}
+use Rattle.waiting.proofs.Laws.{Enters}
+use Rattle.rules.specs.State.{Rec, Lane, State, noLane, group, startR, holds, laneAt}
 use Rattle.rules.specs.Calls.{woken, accept}
-use Rattle.rules.specs.Sets.{inGroup, groupStart}
 use Rattle.rules.specs.Good.{Good}
-use Rattle.rules.proofs.Bools.{not-passed}
 use Rattle.rules.proofs.Claim.{in-range}
 use Rattle.rules.proofs.Keep.{Allowed, allowed-enters}
-use Rattle.rules.specs.Lowest.{LowOf, LowestOf}
-use Rattle.rules.proofs.GroupRule.{in-group, group-low}
-use Rattle.rules.proofs.Live.{some-holds, holds-some}
-use Rattle.rules.proofs.Figures.{longest-at, slot-at}
+use Rattle.rules.proofs.Figures.{slot-at}
 use Rattle.table.specs.Layout.{SIZE, cells, rowAt}
 use Rattle.rules.specs.Good.{Times}
 use Rattle.rules.proofs.Moves.{idle-first}
 use Rattle.rules.specs.State.{firstOf}
 use Rattle.table.specs.Means.{meant, Sound, Leaves, withLane, withClock}
 use Rattle.table.specs.declared.LaneRow.{LaneRow}
-use Rattle.table.specs.declared.Entry.{Entry}
 use Rattle.table.proofs.Few.{room-idle}
 use Rattle.table.proofs.Rows.{weight-present}
-use Rattle.queue.specs.Queue.{Fitting, waiting}
+use Rattle.queue.specs.Queue.{waiting}
+use Rattle.queue.specs.declared.Item.{Item}
 use Rattle.choice.proofs.Held.{lanes-many}
 use Rattle.engine.specs.Does.{Idle}
 use Rattle.engine.proofs.RowIs.{RowIs, row-is}
-use Rattle.engine.proofs.Waking.{joined, accept-beside, accept-alone, woken-start}
-use Rattle.slot_lists.specs.Lists.{groupsAt, startWord, backAt, listAt, startAt, Solid}
-use Rattle.slot_lists.proofs.Laws.{start-on, start-off}
+use Rattle.engine.proofs.Waking.{accept-beside, accept-alone, woken-start}
+use Rattle.slot_lists.specs.Lists.{groupsAt, backAt, listAt, startAt, Solid}
 use Rattle.filing.specs.Filing.{inList, Agrees}
 use Rattle.filing.proofs.Sift.{length-sift}
-use Rattle.filing.proofs.Slots.{group-held}
-use Rattle.filing.proofs.LeastStart.{none-held}
 use Rattle.lane_moves.specs.Moves.{Added}
 use Rattle.lane_moves.proofs.Rules.{add-agrees}
 use Rattle.engine.specs.Turns.{Holds, Turns}
 use Rattle.engine.proofs.Ends.{lanes-same, clock-same, nobody, somebody}
 use Rattle.table.proofs.Lists.{cells-apart, solid-stays, agrees-stay, past-stays, past-rings}
 
-module _ (t : List ℕ) (s : State) (h : Holds t s) (good : Good s) (k : ℕ) (e : Entry) (a : Allowed s k (e .length .0)) (idle : Idle s k) where
+module _ (t : List ℕ) (s : State) (h : Holds t s) (good : Good s) (k : ℕ) (e : Item) (a : Allowed s k (waiting e)) (idle : Idle s k) where
   abbrev pub x : Rec
   x = waiting e
 
@@ -71,8 +57,11 @@ module _ (t : List ℕ) (s : State) (h : Holds t s) (good : Good s) (k : ℕ) (e
   pub idle-t : holds (laneAt (meant t) k) ≡ false
   idle-t = rw same-lane idle
 
-  pub bytes : Fitting (laneAt (meant t) k) e
-  bytes = rw same-lane (a .some-bytes, a .fits)
+  pub lane-good : GoodWaiting (laneAt (meant t) k .given .longest) (laneAt (meant t) k .waiting)
+  lane-good = rw same-lane (good .waiting k)
+
+  pub lane-enters : Enters (laneAt (meant t) k .given .longest) (laneAt (meant t) k .waiting) x
+  lane-enters = rw same-lane (allowed-enters s k x a)
 
   pub row : (l : LaneRow) → l ≡ rowAt (cells t) k → RowIs (laneAt s k) l
   row l el = subst (λ (m : Lane). RowIs m l) same-lane (subst (RowIs (laneAt (meant t) k)) (sym el) (row-is t (h .sound) k small (weight-present (cells t) _ k small weight)))

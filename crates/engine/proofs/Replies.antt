@@ -1,14 +1,12 @@
 -- From what a call found to what it promises. Assumes nothing.
-use Prim.Native.Nat.{ℕ, _^_, _≤_, _<_, max}
+use Prim.Native.Nat.{ℕ, _^_, _<_, max}
 use native.Mathlib.Omega.{arith}
 use mathlib.Core.Path.{_≡_, refl, sym, ap, subst, _∙_}
 use mathlib.Core.Bool.{true, false, false≢true}
-use mathlib.Core.List.{List, [], _∷_}
+use mathlib.Core.List.{List}
 use mathlib.Core.Option.{Option, none, some}
 use lib.IntN.{ℤ, subℕ}
-use lib.ListN.{length}
 use borrow.Author.Tests.{lt-ltb, le-ltb}
-use Rattle.waiting.specs.Waiting.{Waiting, queueOf}
 use Rattle.rules.specs.State.{anyHolds, Rec, State, firstOf, holds, laneAt, setupOf}
 use Rattle.rules.specs.Choice.{Candidate, choose}
 use Rattle.rules.specs.Calls.{restart, fresh, doRestart, Call, put, take, look, lag, lagged, lagOf, doLag, refused, Outcome, no, putRefusal, accept, accepted, ahead, shifted, putOf, doPut, Pick, pickFirst, pickOf, picked, serve, takeOf, doTake, lookOf, doLook, step}
@@ -20,7 +18,7 @@ use Rattle.rules.specs.Good.{Times, Good}
 use Rattle.rules.proofs.Figures.{slot-at}
 use Rattle.rules.proofs.Moves.{idle-first}
 use Rattle.rules.proofs.Keep.{Picked, PickIs, pick-is, Allowed, PutOk, put-ok}
-use Rattle.rules.proofs.Shift.{shifted-waiting, shifted-allowed}
+use Rattle.rules.proofs.Shift.{shifted-allowed}
 use Rattle.rules.proofs.Chosen.{Choice, chosen}
 use Rattle.rules.proofs.BySets.{laneOf}
 use Rattle.table.specs.Means.{meant}
@@ -45,35 +43,32 @@ refusal-does c t x known p e = record {
 
 -- ---- put
 
-pub put-refused : (s : State) (j m n r : ℕ) → some r ≡ putRefusal s j n → step s (put j m n) ≡ no r s
+pub put-refused : (s : State) (j t m n r : ℕ) → some r ≡ putRefusal s j (record { train = t; mark = m; len = n }) → step s (put j t m n) ≡ no r s
 unfolding step doPut putOf
-put-refused s j m n r e = ap (putOf s j (record { mark = m; len = n })) (sym e)
+put-refused s j t m n r e = ap (putOf s j (record { train = t; mark = m; len = n })) (sym e)
 
-put-accepted : (s : State) (j m n : ℕ) → none ≡ putRefusal s j n → step s (put j m n) ≡ putOf s j (record { mark = m; len = n }) none
+put-accepted : (s : State) (j t m n : ℕ) → none ≡ putRefusal s j (record { train = t; mark = m; len = n }) → step s (put j t m n) ≡ putOf s j (record { train = t; mark = m; len = n }) none
 unfolding step doPut
-put-accepted s j m n e = ap (putOf s j (record { mark = m; len = n })) (sym e)
+put-accepted s j t m n e = ap (putOf s j (record { train = t; mark = m; len = n })) (sym e)
 
-pub put-allowed : (s : State) (j n : ℕ) → none ≡ putRefusal s j n → Allowed s j n
-put-allowed s j n e = subst (PutOk s j n) (sym e) (put-ok s j n)
+pub put-allowed : (s : State) (j : ℕ) (r : Rec) → none ≡ putRefusal s j r → Allowed s j r
+put-allowed s j r e = subst (PutOk s j r) (sym e) (put-ok s j r)
 
--- the clock taken back changes no lane's room, so that the put stays allowed ..
-pub back-allowed : (t b : List ℕ) (j n : ℕ) → TakesBack t b → Allowed (meant t) j n → Allowed (meant b) j n
-back-allowed t b j n k a = subst (λ (s : State). Allowed s j n) (sym (k .state)) (shifted-allowed (meant t) j n a)
-
--- .. and answers the same
-back-ahead : (t b : List ℕ) (j : ℕ) → TakesBack t b → ahead (meant b) j ≡ ahead (meant t) j
-back-ahead t b j k =
-    ap (λ (s : State). ahead s j) (k .state) ∙ ap (λ (w : Waiting). length (queueOf w 0)) (shifted-waiting (meant t) j)
+-- the clock taken back changes no lane's room, so that the put stays allowed
+pub back-allowed : (t b : List ℕ) (j : ℕ) (r : Rec) → TakesBack t b → Allowed (meant t) j r → Allowed (meant b) j r
+back-allowed t b j r k a = subst (λ (s : State). Allowed s j r) (sym (k .state)) (shifted-allowed (meant t) j r a)
 
 -- t before the put, b with the clock taken back, u after it
-pub put-does : (t b u : List ℕ) (j m n a : ℕ) → Known t → none ≡ putRefusal (meant t) j n → TakesBack t b → Turns b u (accept (meant b) j (record { mark = m; len = n })) → a ≡ ahead (meant b) j → Does (put j m n) t (Accepted a) u
+pub put-does : (t b u : List ℕ) (j i m n a : ℕ) → Known t → none ≡ putRefusal (meant t) j (record { train = i; mark = m; len = n }) → TakesBack t b → Turns b u (accept (meant b) j (record { train = i; mark = m; len = n }))
+    → a ≡ ahead (meant t) j i → Does (put j i m n) t (Accepted a) u
 unfolding putOf
-put-does t b u j m n a known e k l h =
-    let o = put-accepted (meant t) j m n e in
-    let turns : Turns b u (accept (shifted (meant t)) j (record { mark = m; len = n })) = subst (λ (s : State). Turns b u (accept s j (record { mark = m; len = n }))) (k .state) l in
+put-does t b u j i m n a known e k l h =
+    let r : Rec = record { train = i; mark = m; len = n } in
+    let o = put-accepted (meant t) j i m n e in
+    let turns : Turns b u (accept (shifted (meant t)) j r) = subst (λ (s : State). Turns b u (accept s j r)) (k .state) l in
     record {
-      says = ap accepted (h ∙ back-ahead t b j k) ∙ sym (ap (λ (x : Outcome). x .reply) o);
-      encodes = step-encodes (meant t) (put j m n) u (known .good) (subst (Holds u) (sym (ap (λ (x : Outcome). x .state) o)) (turns .holds));
+      says = ap accepted h ∙ sym (ap (λ (x : Outcome). x .reply) o);
+      encodes = step-encodes (meant t) (put j i m n) u (known .good) (subst (Holds u) (sym (ap (λ (x : Outcome). x .state) o)) (turns .holds));
       unchanged = tt;
       rest = l .rest ∙ k .rest;
     }
@@ -124,15 +119,15 @@ served-state s p e = rw e
 pub take-does : (t u : List ℕ) (r : Record) → Known t → Serves t r u → Does take t (Taken r) u
 unfolding step doTake takeOf
 take-does t u r known s = record {
-  says = rw (s .picks, s .lane, s .mark, s .size);
+  says = rw (s .picks, s .lane, s .train, s .mark, s .size);
   encodes = step-encodes (meant t) take u (known .good) (subst (Holds u) (sym (served-state (meant t) (s .pick) (s .picks))) (s .turns .holds));
   unchanged = tt;
   rest = s .turns .rest;
 }
 
-pub look-says : (t : List ℕ) (r : Record) (p : Pick) → picked (meant t) ≡ some p → r .lane ≡ p .lane → r .mark ≡ p .first .mark → r .length .0 ≡ p .first .len → Says look t (Seen r)
+pub look-says : (t : List ℕ) (r : Record) (p : Pick) → picked (meant t) ≡ some p → r .lane ≡ p .lane → r .train ≡ p .first .train → r .mark ≡ p .first .mark → r .length .0 ≡ p .first .len → Says look t (Seen r)
 unfolding step doLook lookOf
-look-says t r p e l m n = rw (e, l, m, n)
+look-says t r p e l i m n = rw (e, l, i, m, n)
 
 -- ---- lag
 

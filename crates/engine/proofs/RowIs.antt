@@ -1,24 +1,28 @@
 -- What a lane's row says of the lane that the table means. Assumes nothing.
-use Prim.Native.Nat.{ℕ, _≤_, _<_}
+use Prim.Native.Nat.{ℕ, _^_, _≤_, _<_}
 use native.Mathlib.Omega.{arith}
 use borrow.Author.Tests.{not-false}
-use mathlib.Core.Path.{_≡_, refl, sym, ap, _∙_}
+use mathlib.Core.Path.{_≡_, refl, sym, ap, subst, _∙_}
 use mathlib.Core.Bool.{Bool, true, false, not, false≢true}
-use mathlib.Core.List.{List, [], _∷_}
-use lib.ListN.{List·getD-eq-default}
+use mathlib.Core.List.{List}
+use lib.Dec.{leb, ltb}
+use lib.ListN.{length, List·getD-eq-default}
 use mathlib.Core.Option.{Option, none, some}
-use Rattle.waiting.specs.Waiting.{Waiting, plain, first, head, held, GoodWaiting}
+use Rattle.units.proofs.PerByte.{rate-le}
+use Rattle.waiting.specs.Waiting.{Waiting, first, held, queueOf, full, known, isShared, GoodWaiting}
 use Rattle.waiting.proofs.Laws.{held-none, held-hand}
 use Rattle.rules.specs.State.{Rec, Setting, Lane, noLane, group, rate, some?, firstOf, holds, laneAt}
-use Rattle.words.proofs.Runs.{length-tab}
+use Rattle.rules.specs.Calls as rules
 use Rattle.table.specs.Layout.{cells, rowAt}
-use Rattle.table.specs.Means.{presentAt, ringOf, givenOf, timed, meant, RowAgrees, Sound}
+use Rattle.table.specs.Means.{presentAt, waitingOf, givenOf, timed, meant, RowAgrees, Sound}
 use Rattle.table.specs.declared.LaneRow.{LaneRow}
 use Rattle.table.proofs.Agrees.{agrees-group}
 use Rattle.table.proofs.Footprint.{lane-is}
-use Rattle.table.proofs.Rows.{lane-present, lane-absent}
-use Rattle.table.proofs.Timed.{timed-given, timed-waiting}
+use Rattle.table.proofs.Rows.{lane-present, lane-absent, waiting-kind, waiting-held}
+use Rattle.table.proofs.Timed.{timed-given, timed-waiting, timed-start}
 use Rattle.choice.proofs.Held.{lanes-many}
+use Rattle.engine.specs.Does.{laneTrains, queueDepth, heldBy}
+use Rattle.engine.proofs.LaneTrains.{known-is, full-is, held-is}
 
 -- a lane that the setup does not have
 pub absent-lane : (t : List ℕ) (k : ℕ) → k < 64 → presentAt (cells t) k ≡ false → laneAt (meant t) k ≡ noLane
@@ -35,6 +39,7 @@ pub record RowIs (l : Lane) (r : LaneRow) : Type 0 where
   pub grouped : r .group ≡ group (l .given)
   pub low : 16 ≤ r .group
   pub high : r .group ≤ 31
+  pub kind : isShared (l .waiting) ≡ r .shared
   pub held : held (l .waiting) ≡ r .count
   pub busy : holds l ≡ true → l .start ≡ r .time .0
   pub idle : holds l ≡ false → l .finish ≡ r .time .0
@@ -53,22 +58,18 @@ count-idle l g e = go (firstOf l) refl
     go none q = ap some? q
     go (some r) q = absurd (omega (arith, held-hand (l .given .longest) (l .waiting) r g q))
 
-timed-start : (g : Setting) (x : ℕ) (q : List Rec) → some? (head q) ≡ true → (timed g x q) .start ≡ x
-unfolding timed
-timed-start g x [] e = absurd (false≢true e)
-timed-start g x (r ∷ rs) e = refl
-
-timed-finish : (g : Setting) (x : ℕ) (q : List Rec) → some? (head q) ≡ false → (timed g x q) .finish ≡ x
-unfolding timed
-timed-finish g x [] e = refl
-timed-finish g x (r ∷ rs) e = absurd (false≢true (sym e))
+-- an idle lane's clock word is its F
+timed-finish : (g : Setting) (x : ℕ) (w : Waiting) (o : Option Rec) → some? o ≡ false → rules.timed g x w o .finish ≡ x
+unfolding rules.timed
+timed-finish g x w none e = refl
+timed-finish g x w (some r) e = absurd (false≢true (sym e))
 
 module _ (t : List ℕ) (sound : Sound t) (k : ℕ) (small : k < 64) (here : presentAt (cells t) k ≡ true) where
   abbrev r : LaneRow
   r = rowAt (cells t) k
 
-  abbrev q : List Rec
-  q = ringOf (cells t) k (r .head) (r .count)
+  abbrev q : Waiting
+  q = waitingOf (cells t) k r
 
   abbrev l : Lane
   l = laneAt (meant t) k
@@ -82,11 +83,11 @@ module _ (t : List ℕ) (sound : Sound t) (k : ℕ) (small : k < 64) (here : pre
   same-given : l .given ≡ givenOf r
   same-given = ap (λ (x : Lane). x .given) is-timed ∙ timed-given (givenOf r) (r .time .0) q
 
-  same-waiting : l .waiting ≡ plain q
+  same-waiting : l .waiting ≡ q
   same-waiting = ap (λ (x : Lane). x .waiting) is-timed ∙ timed-waiting (givenOf r) (r .time .0) q
 
   pub row-is : RowIs l r
-  unfolding ringOf held
+  unfolding timed
   row-is = record {
     given = same-given;
     weight = agrees .numbers .weight-low;
@@ -95,15 +96,36 @@ module _ (t : List ℕ) (sound : Sound t) (k : ℕ) (small : k < 64) (here : pre
     grouped = agrees .grouped ∙ ap group (sym same-given);
     low = agrees-group r agrees .0;
     high = agrees-group r agrees .1;
-    held = ap held same-waiting ∙ length-tab (r .count) _;
+    kind = ap isShared same-waiting ∙ waiting-kind (cells t) k r;
+    held = ap held same-waiting ∙ waiting-held (cells t) k r (sound .beside .housed k small here);
     busy = λ e. ap (λ (x : Lane). x .start) is-timed ∙ timed-start (givenOf r) (r .time .0) q (sym (ap (λ (x : Waiting). some? (first x)) same-waiting) ∙ e);
-    idle = λ e. ap (λ (x : Lane). x .finish) is-timed ∙ timed-finish (givenOf r) (r .time .0) q (sym (ap (λ (x : Waiting). some? (first x)) same-waiting) ∙ e);
+    idle = λ e. ap (λ (x : Lane). x .finish) is-timed ∙ timed-finish (givenOf r) (r .time .0) q (first q) (sym (ap (λ (x : Waiting). some? (first x)) same-waiting) ∙ e);
   }
+
+  -- how many records of a train the words tell of
+  pub row-held : (j : ℕ) → j < laneTrains (r .shared) → heldBy (cells t) k r j ≡ length (queueOf (l .waiting) j)
+  row-held j h = held-is (cells t) k r j h ∙ ap (λ (x : Waiting). length (queueOf x j)) (sym same-waiting)
 
 -- a lane with a row is in the setup
 pub row-weighs : (l : Lane) (r : LaneRow) → RowIs l r → 0 < l .given .weight
 row-weighs l r is = rw (is .given) (is .weight)
 
+-- and its c is in its numbers
+pub row-rate : (l : Lane) (r : LaneRow) → RowIs l r → r .rate .0 ≤ 2 ^ 20
+row-rate l r is = omega (arith, is .rated, rate-le (l .given .weight))
+
+-- which trains it knows, and when one of these is full
+pub row-knows : (l : Lane) (r : LaneRow) → RowIs l r → (j : ℕ) → known (l .waiting) j ≡ ltb j (laneTrains (r .shared))
+row-knows l r is j = known-is (l .waiting) j ∙ ap (λ (b : Bool). ltb j (laneTrains b)) (is .kind)
+
+pub row-full : (l : Lane) (r : LaneRow) → RowIs l r → (j : ℕ) → known (l .waiting) j ≡ true → full (l .waiting) j ≡ leb (queueDepth (r .shared)) (length (queueOf (l .waiting) j))
+row-full l r is j h = full-is (l .waiting) j h ∙ ap (λ (b : Bool). leb (queueDepth b) (length (queueOf (l .waiting) j))) (is .kind)
+
 -- the row that was read of a lane that was found present
 pub read-row : (t : List ℕ) → Sound t → (k : ℕ) → k < 64 → {b : Bool} → b ≡ presentAt (cells t) k → not b ≡ false → (r : LaneRow) → r ≡ rowAt (cells t) k → RowIs (laneAt (meant t) k) r
 read-row t sound k small {b} found here r is = rw is (row-is t sound k small (sym found ∙ not-false b here))
+
+pub read-held : (t : List ℕ) → Sound t → (k : ℕ) → k < 64 → {b : Bool} → b ≡ presentAt (cells t) k → not b ≡ false → (r : LaneRow) → r ≡ rowAt (cells t) k
+    → (j : ℕ) → j < laneTrains (r .shared) → heldBy (cells t) k r j ≡ length (queueOf (laneAt (meant t) k .waiting) j)
+read-held t sound k small {b} found here r is j =
+    subst (λ (x : LaneRow). j < laneTrains (x .shared) → heldBy (cells t) k x j ≡ length (queueOf (laneAt (meant t) k .waiting) j)) (sym is) (row-held t sound k small (sym found ∙ not-false b here) j)

@@ -1,17 +1,17 @@
 -- The chosen lane before and after its first record is taken out of its ring. Assumes nothing.
 use mathlib.Core.Path.{_≡_, refl, sym, ap, subst, _∙_}
-use mathlib.Core.Bool.{Bool, true, false, not, false≢true}
+use mathlib.Core.Bool.{Bool, true, false, false≢true}
 use mathlib.Core.Option.{Option, none, some}
 use Prim.Native.Nat.{ℕ, suc, _+_, _*_, _/_, _%_, _^_, _≤_, _<_}
 use mathlib.Core.List.{List, [], _∷_}
 use native.Mathlib.Omega.{arith}
 use lib.Dec.{ltb}
-use lib.ListN.{length, getD, drop, set}
+use lib.ListN.{length, getD, set}
 use borrow.Author.Tests.{lt-ltb, le-ltb}
 use Rattle.units.specs.Numbers.{lineRate}
 use Rattle.units.specs.Plain.{times, without}
-use Rattle.waiting.specs.Waiting.{Waiting, GoodWaiting, first, held, laneDepth}
-use Rattle.waiting.proofs.Laws.{first-fits, good-hand, held-hand, held-none, held-most}
+use Rattle.waiting.specs.Waiting.{Waiting, GoodWaiting, first, held}
+use Rattle.waiting.proofs.Laws.{first-fits, good-hand, held-hand, held-none}
 use Rattle.rules.specs.State.{Rec, Setting, Lane, State, noLane, charge, rate, startR, some?, firstOf, holds, laneAt}
 use Rattle.rules.specs.Choice.{choose}
 use Rattle.rules.specs.Calls.{behind, served}
@@ -21,17 +21,16 @@ use Rattle.rules.specs.Sets.{inGroup}
 use Rattle.rules.proofs.Lowest.{LowOf, LowestOf}
 use Rattle.rules.proofs.GroupRule.{is-in-group, group-low}
 use Rattle.rules.proofs.Lane.{charge-slot}
-use Rattle.rules.proofs.Lists.{set-cases}
 use Rattle.rules.proofs.Figures.{longest-at, slot-at}
 use Rattle.rules.proofs.Serve.{served-ind}
-use Rattle.rules.proofs.Queues.{held-inside, served-waiting, served-given}
+use Rattle.rules.proofs.Queues.{held-inside, served-waiting}
 use Rattle.table.specs.Layout.{Behind, cells, rowAt}
 use Rattle.table.specs.Means.{givenOf, meant, Sound}
 use Rattle.table.specs.declared.LaneRow.{LaneRow}
-use Rattle.table.specs.declared.Entry.{Entry}
 use Rattle.table.proofs.Few.{few-good, room-held}
-use Rattle.table.proofs.Rows.{weight-present, holds-present}
+use Rattle.table.proofs.Rows.{holds-present}
 use Rattle.queue.specs.Queue.{waiting, First, Takes}
+use Rattle.queue.specs.declared.Item.{Item}
 use Rattle.choice.proofs.Held.{held-small}
 use Rattle.engine.proofs.RowIs.{RowIs, row-is}
 use Rattle.engine.proofs.Replies.{Found, found}
@@ -39,7 +38,6 @@ use Rattle.slot_lists.specs.Lists.{backAt, listAt, startAt, listOf, Solid}
 use Rattle.filing.specs.Filing.{headOf, sift, inList, Agrees}
 use Rattle.filing.proofs.Sift.{length-sift, sift-without, without-none, times-sift}
 use Rattle.filing.proofs.Moves.{stands, elsewhere}
-use Rattle.filing.proofs.Slots.{numbers-held}
 use Rattle.filing.proofs.KeepsTake.{old-in}
 use Rattle.lane_moves.specs.Moves.{Rooms}
 use Rattle.engine.specs.Turns.{Holds}
@@ -83,11 +81,11 @@ module _ (t : List ℕ) (s : State) (g r k : ℕ) (a : At t s g r k) where
   pub lane-small : k < 64
   lane-small = held-small t k lane-holds
 
-  pub lane-few : held (laneAt (meant t) k .waiting) ≤ laneDepth
-  lane-few = subst (λ (l : Lane). held (l .waiting) ≤ laneDepth) (sym same-lane) (held-most (laneAt s k .given .longest) (laneAt s k .waiting) (a .good .waiting k))
+  pub lane-good : GoodWaiting (laneAt (meant t) k .given .longest) (laneAt (meant t) k .waiting)
+  lane-good = rw same-lane (a .good .waiting k)
 
   -- what is read of its queue is its first record
-  pub seen-is : (e : Entry) → First (laneAt (meant t) k) e → waiting e ≡ x
+  pub seen-is : (e : Item) → First (laneAt (meant t) k) e → waiting e ≡ x
   seen-is e h = let q : some (waiting e) ≡ some x = sym h ∙ ap firstOf same-lane ∙ is-first in cc
 
   -- V has reached the start of its group
@@ -118,7 +116,7 @@ module _ (t : List ℕ) (s : State) (g r k : ℕ) (a : At t s g r k) where
 
   -- ---- once its first record is taken out
 
-  module _ (t₁ : List ℕ) (e : Entry) (taken : Takes t t₁ k e) (len : length t₁ ≡ length t) where
+  module _ (t₁ : List ℕ) (e : Item) (taken : Takes t t₁ k e) (len : length t₁ ≡ length t) where
     pub entry-is : waiting e ≡ x
     entry-is = seen-is e (taken .first)
 

@@ -32,8 +32,8 @@ lag-still s j = lag-same s j
 
 same-bytes : (r : Reply) (t : List ℕ) → Unchanged r t t
 same-bytes (accepted n) t = tt
-same-bytes (taken j m n) t = tt
-same-bytes (seen j m n) t = tt
+same-bytes (taken j k m n) t = tt
+same-bytes (seen j k m n) t = tt
 same-bytes (words a b c d) t = tt
 same-bytes (lagged z) t = tt
 same-bytes restarted t = tt

@@ -14,7 +14,6 @@ use Rattle.rules.specs.Calls.{appended, woken, accept}
 use Rattle.rules.proofs.Bools.{if-ind}
 use Rattle.rules.proofs.Claim.{in-range}
 use Rattle.rules.proofs.Keep.{Allowed}
-use Rattle.rules.proofs.Figures.{longest-at}
 use Rattle.table.specs.Layout.{cells, rowAt}
 use Rattle.table.specs.Means.{meant, withClock, withLane}
 use Rattle.table.specs.declared.LaneRow.{LaneRow}
@@ -25,15 +24,12 @@ use Rattle.engine.proofs.RowIs.{RowIs, row-is}
 
 -- ---- a lane that a put is allowed to
 
-module _ (t : List ℕ) (known : Known t) (k n : ℕ) (a : Allowed (meant t) k n) where
+module _ (t : List ℕ) (known : Known t) (k : ℕ) (r : Rec) (a : Allowed (meant t) k r) where
   pub put-small : k < 64
   put-small = omega (arith, in-range (meant t .lanes) k (a .has), lanes-many t)
 
   pub put-row : RowIs (laneAt (meant t) k) (rowAt (cells t) k)
   put-row = row-is t (known .sound) k put-small (weight-present (cells t) _ k put-small (a .has))
-
-  pub put-length : n < 2 ^ 32
-  put-length = omega (arith, a .fits, longest-at (meant t) (known .good .setup) k)
 
 -- ---- the two forms of `accept`
 

@@ -1,4 +1,4 @@
-// The calls on a table known to be good: document 01, "The plain rules", worked in the table's own words.
+// The calls on a table known to be good (docs/RULES.md, R3), worked in the table's own words.
 //
 // Each does what the rules do (specs/Does.antt) with the state that the table means. They rest on `Known`: what the good-table test shows, and what every
 // call from a fresh table keeps. The public calls, which test the table each time, are in `scheduler`. None of put, take and look goes through the lanes:
@@ -12,16 +12,16 @@ ghost use Prim.Native.Nat.{ℕ, _^_, _<_, _≤_};
 ghost use lib.Dec.{eqb};
 ghost use lib.IntN.{subℕ};
 ghost use Rattle.rules.specs.Calls as Calls;
-ghost use Rattle.rules.specs.Calls.{accept, ahead, putRefusal};
+ghost use Rattle.rules.specs.Calls.{accept, putRefusal};
 ghost use Rattle.rules.proofs.Keep.{Allowed};
-ghost use Rattle.table.specs.Layout.{Room};
+ghost use Rattle.table.specs.Layout.{Room, cells};
 ghost use Rattle.table.specs.Means.{meant, Sound};
 ghost use Rattle.queue.specs.Queue.{waiting};
 ghost use Rattle.slot_lists.specs.Lists.{groupsAt, startAt, Solid};
 ghost use Rattle.lane_moves.specs.Moves.{never};
 ghost use Rattle.choice.specs.Known.{Known, Standing};
 ghost use Rattle.engine.specs.Turns.{Turns, Reaching, Settled};
-ghost use Rattle.engine.specs.Does.{Says, Does, verdictIs, Placeless, Idle, Serves};
+ghost use Rattle.engine.specs.Does.{Says, Does, laneTrains, queueDepth, heldBy, verdictIs, Placeless, Finds, Idle, Serves};
 use back::take_back;
 use choice::Choice;
 use choice::Place;
@@ -31,6 +31,8 @@ use fresh::renew;
 use groups::settled_clock;
 use lane_moves::add;
 use lane_moves::refile;
+use parts::TRAINS;
+use queue::Item;
 use queue::append;
 use queue::first;
 use queue::take_first;
@@ -40,13 +42,14 @@ use rules::Record;
 use rules::Refusal;
 use slot_lists::GROUPS;
 use table::DEPTH;
-use table::Entry;
 use table::LaneRow;
 use table::charged;
 use table::clock;
 use table::present;
 use table::row;
 use table::set_clock;
+use turns::COUNT_UNIT;
+use turns::TRAIN_DEPTH;
 use units::Bytes;
 use units::Clock;
 use units::lane_charge;
@@ -56,16 +59,46 @@ use units::plus;
 use units::rounded_start;
 use words::word;
 
-// Whether a put is allowed.
+// Whether a put is allowed, and then how many records of its train the lane holds.
 pub enum Verdict {
-    Allowed,
+    Allowed(u64),
     Refused(Refusal),
 }
 
-// "Calls: in rising number": 11, 12, 13.
-fn put_verdict(t: &[u8], lane: u8, length: Bytes) -> Verdict
+// How many trains a lane knows: one that is not shared has train 0 alone.
+fn trains(shared: bool) -> usize
+    ensures { λ r. ⌜ r ≡ laneTrains shared ⌝ }
+{
+    if shared { TRAINS } else { 1 }
+}
+
+// How many records of one train a lane has room for.
+fn depth(shared: bool) -> u64
+    ensures { λ r. ⌜ r ≡ queueDepth shared ⌝ }
+{
+    if shared { TRAIN_DEPTH } else { DEPTH }
+}
+
+// How many records of train `j` wait in lane `k`, which has the row `l`: in a lane that is not shared, all. While a shared lane is idle, its trains' words mean
+// nothing.
+fn train_held(t: &[u8], k: usize, l: LaneRow, j: usize) -> u64
+    requires { ⌜ Room (now t) × (k < 64) × (j < laneTrains (l .shared)) ⌝ }
+    ensures { λ r. ⌜ r ≡ heldBy (cells (now (t .entry))) k l j ⌝ }
+{
+    if !l.shared {
+        return l.count;
+    }
+    if l.count == 0 {
+        return 0;
+    }
+    table::train(t, k, j) / COUNT_UNIT % 16
+}
+
+// Refusals in their order: 11, 70, 12, then 71 in a shared lane, 13 in any other. The train's records are counted once: the answer of the put is the same
+// number.
+fn put_verdict(t: &[u8], lane: u8, e: Item) -> Verdict
     requires { ⌜ Known (now t) ⌝ }
-    ensures { λ r. ⌜ (verdictIs r ≡ putRefusal (meant (now (t .entry))) lane (length .0)) × Placeless r ⌝ }
+    ensures { λ r. ⌜ (verdictIs r ≡ putRefusal (meant (now (t .entry))) lane (waiting e)) × Placeless r × Finds (meant (now (t .entry))) lane (e .train) r ⌝ }
 {
     let k = lane as usize;
     if 64 <= k {
@@ -75,21 +108,31 @@ fn put_verdict(t: &[u8], lane: u8, length: Bytes) -> Verdict
         return Verdict::Refused(Refusal::NoLane);
     }
     let l = row(t, k);
+    let j = e.train as usize;
+    if trains(l.shared) <= j {
+        return Verdict::Refused(Refusal::NoTrain);
+    }
+    let length = e.length;
     if length.0 == 0 {
         return Verdict::Refused(Refusal::BadLength);
     }
     if l.longest.0 < length.0 {
         return Verdict::Refused(Refusal::BadLength);
     }
-    if DEPTH <= l.count {
+    let held = train_held(t, k, l, j);
+    if depth(l.shared) <= held {
+        if l.shared {
+            return Verdict::Refused(Refusal::TrainFull);
+        }
         return Verdict::Refused(Refusal::LaneFull);
     }
-    Verdict::Allowed
+    Verdict::Allowed(held)
 }
 
-// "S = the greater of F and V .. If no other lane holds a record and V is below R, then V = R." Lane `k` goes to the end of its slot's list.
-fn put_first(t: &mut [u8], k: usize, e: Entry)
-    requires { ⌜ Known (now t) × Allowed (meant (now t)) k (e .length .0) × Idle (meant (now t)) k ⌝ }
+// R3.7, R3.8: an idle lane begins at the later of its F and V, and where no other lane holds, V is moved up to its R. Lane `k` goes to the end of its slot's
+// list.
+fn put_first(t: &mut [u8], k: usize, e: Item)
+    requires { ⌜ Known (now t) × Allowed (meant (now t)) k (waiting e) × Idle (meant (now t)) k ⌝ }
     ensures { λ _. ⌜ Turns (now (t .entry)) (now (t .exit)) (accept (meant (now (t .entry))) k (waiting e)) ⌝ }
 {
     let l = row(t, k);
@@ -104,10 +147,10 @@ fn put_first(t: &mut [u8], k: usize, e: Entry)
     }
 }
 
-// "Put appends the record." The answer: how many the lane held before.
-fn put_record(t: &mut [u8], k: usize, e: Entry) -> u64
-    requires { ⌜ Known (now t) × Allowed (meant (now t)) k (e .length .0) ⌝ }
-    ensures { λ r. ⌜ Turns (now (t .entry)) (now (t .exit)) (accept (meant (now (t .entry))) k (waiting e)) × (r ≡ ahead (meant (now (t .entry))) k) ⌝ }
+// R3.6 to R3.8: the record goes to the end of its queue, and wakes the lane if that was idle.
+fn put_record(t: &mut [u8], k: usize, e: Item)
+    requires { ⌜ Known (now t) × Allowed (meant (now t)) k (waiting e) ⌝ }
+    ensures { λ _. ⌜ Turns (now (t .entry)) (now (t .exit)) (accept (meant (now (t .entry))) k (waiting e)) ⌝ }
 {
     let l = row(t, k);
     if l.count == 0 {
@@ -115,26 +158,30 @@ fn put_record(t: &mut [u8], k: usize, e: Entry) -> u64
     } else {
         append(t, k, e);
     }
-    l.count
 }
 
-// Put: takes the clock back where it is far on, and appends the record; or refuses.
-pub fn put(t: &mut [u8], lane: u8, mark: u32, length: Bytes) -> Answer
+// Put: takes the clock back where it is far on, and appends the record; or refuses. The answer: how many records of its train the lane held before.
+pub fn put(t: &mut [u8], lane: u8, train: u8, mark: u32, length: Bytes) -> Answer
     requires { ⌜ Known (now t) ⌝ }
-    ensures { λ r. ⌜ Does (Calls.put lane mark (length .0)) (now (t .entry)) r (now (t .exit)) ⌝ }
+    ensures { λ r. ⌜ Does (Calls.put lane train mark (length .0)) (now (t .entry)) r (now (t .exit)) ⌝ }
 {
-    let verdict = put_verdict(t, lane, length);
+    let e = Item {
+        train,
+        mark,
+        length,
+    };
+    let verdict = put_verdict(t, lane, e);
     match verdict {
         Verdict::Refused(x) => Answer::Refused(x),
-        Verdict::Allowed => {
+        Verdict::Allowed(n) => {
             take_back(t);
-            let n = put_record(t, lane as usize, Entry { mark, length });
+            put_record(t, lane as usize, e);
             Answer::Accepted(n)
         }
     }
 }
 
-// "Last, if records are held and no lane is eligible, V becomes the least R." `r` is at most V only if some group's start is.
+// R3.14: where lanes hold and none is eligible, V is set to the least R. `r` is at most V only if some group's start is.
 fn settle(t: &mut [u8], v: Clock, r: u64)
     requires { ⌜ Sound (now t) × Solid (now t) × ((i q : ℕ) → 16 ≤ i → i ≤ 31 → startAt (now t) i ≡ some q → q < 2 ^ 63) × (v .0 < never) × ((r ≡ never) ⊎ Reaching (now t) (v .0) r) ⌝ }
     ensures { λ _. ⌜ Settled (now (t .entry)) (now (t .exit)) (v .0) ⌝ }
@@ -163,6 +210,7 @@ fn serve_lane(t: &mut [u8], p: Place) -> Record
     settle(t, plus(v, line_charge(charge)), r);
     Record {
         lane: k as u8,
+        train: e.train,
         mark: e.mark,
         length,
     }
@@ -193,6 +241,7 @@ pub fn look(t: &[u8]) -> Answer
             let length = e.length;
             let record = Record {
                 lane: k as u8,
+                train: e.train,
                 mark: e.mark,
                 length,
             };
@@ -218,7 +267,7 @@ fn difference(v: Clock, s: Clock) -> i64
     (v.0 as i64) - (s.0 as i64)
 }
 
-// Lag: "V minus S .. for an idle lane V minus the greater of F and V".
+// Lag (R3.18): how far V is ahead of S, or of what S would be in an idle lane.
 pub fn lag(t: &[u8], lane: u8) -> Answer
     requires { ⌜ Known (now t) ⌝ }
     ensures { λ r. ⌜ Says (Calls.lag lane) (now (t .entry)) r ⌝ }
@@ -246,7 +295,7 @@ fn none_held(t: &[u8]) -> bool
     word(t, GROUPS) == 0
 }
 
-// Restart: the fresh table of the same setup.
+// Restart (R3.19): the fresh table of the table's own setup.
 pub fn restart(t: &mut [u8]) -> Answer
     requires { ⌜ Known (now t) ⌝ }
     ensures { λ r. ⌜ Does Calls.restart (now (t .entry)) r (now (t .exit)) ⌝ }

@@ -8,10 +8,11 @@ use Prim.Native.Nat.{ℕ, zero, suc, _+_, _*_, _^_}
 use mathlib.Core.List.{List}
 use lib.ListN.{getD}
 
+-- R8.1
 abbrev pub byteAt : List ℕ → ℕ → ℕ
 byteAt s at = getD s at 0
 
--- "High byte first": the first byte counts 256 for each byte after it.
+-- R8.1: the first byte is the highest
 unfoldable pub big : List ℕ → ℕ → ℕ → ℕ
 big s at zero = 0
 big s at (suc n) = byteAt s at * 256 ^ n + big s (at + 1) n

@@ -17,7 +17,7 @@ abbrev pub pick : {A : Type 0} → Bool → A → A → A
 pick true a b = a
 pick false a b = b
 
--- "Each field: one-byte tag, two-byte length, value; high byte first." No byte left: `Nothing`; one or two: `Cut`.
+-- R8.1: a byte of tag and two of length, if three are left. No byte left: `Nothing`; one or two: `Cut`.
 abbrev pub headerAt : List ℕ → ℕ → Field
 headerAt s at =
     pick (leb (at + 3) (length s)) (Header (byteAt s at) (at + 3) (big s (at + 1) 2))
@@ -29,5 +29,6 @@ behind s at Nothing = at
 behind s at Cut = at
 behind s at (Header tag value n) = pick (leb (value + n) (length s)) (value + n) at
 
+-- R8.1
 unfoldable pub behindAt : List ℕ → ℕ → ℕ
 behindAt s at = behind s at (headerAt s at)

@@ -1,4 +1,4 @@
-// Fields of lent bytes: document 01, "Setup and session fields". "Each field: one-byte tag, two-byte length, value; high byte first."
+// Fields of lent bytes (R8.1): a tag, the length of a value, and the value.
 //
 // A field is read in two steps, for the order in a field is 1 (header), 2, 3, 1 (value): `field_at` answers the header, the caller judges the tag
 // and the length, and `fits` then says whether the value is whole. `behind` moves on by a field. Nothing here knows what a tag means, and nothing here

@@ -15,7 +15,7 @@ use Rattle.rules.proofs.Bools.{not-passed}
 use Rattle.rules.proofs.Lists.{set-cases}
 use Rattle.rules.proofs.Lowest.{LowOf, LowestOf}
 use Rattle.rules.proofs.Moves.{Sound, MayEnter, appended-holds}
-use Rattle.rules.proofs.Bounds.{idle-at}
+use Rattle.rules.proofs.Bounds.{fresh-free}
 use Rattle.rules.proofs.GroupRule.{in-group, group-low}
 use Rattle.filing.specs.Filing.{sift, slotAt, inList, Lists, Filing, Agrees}
 use Rattle.filing.proofs.Sift.{sift-ext}
@@ -68,4 +68,4 @@ fresh-agrees B gs lists starts empty nothing =
     }
   where
     none-held : (j : ℕ) → holds (getD (map idle gs) j noLane) ≡ false
-    none-held j = simp idle-at
+    none-held j = fresh-free gs j

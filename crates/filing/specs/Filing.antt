@@ -1,5 +1,5 @@
--- Lanes filed in slot lists, beside a state of the rules. QFQ keeps the lanes of a group in lists, one for each slot in which an S may lie; a slot's list
--- is used again 32 slots later.
+-- Lanes filed in slot lists, beside a state of the rules (R6.11). QFQ keeps the lanes of a group in lists, one for each slot in which an S may lie; a slot's
+-- list is used again 32 slots later.
 --
 --   sift        the numbers of a list at which a test passes, in the list's order
 --   Whole       what may have been taken off the clock: multiples of 2^31, so whole slots of every group

@@ -10,19 +10,20 @@ use lib.Pow.{pow-pos}
 use lib.ListN.{length, getD, set, length-set}
 use lib.Seq.{getD-set-same, getD-set-other}
 use Rattle.words.specs.Bits.{bit}
-use Rattle.words.specs.Runs.{tab, tabFrom}
+use Rattle.words.specs.Runs.{tab}
 use Rattle.words.proofs.Bits.{bit-above, bit-add-same, bit-add-other}
 use Rattle.words.proofs.Runs.{tab-ext, tab-set, eq-or-ne}
+use Rattle.waiting.specs.Waiting.{nothing}
 use Rattle.rules.specs.State.{Setting, Lane, laneAt, laneDepth, noSetting}
 use Rattle.rules.specs.Calls.{idle, fresh}
 use Rattle.slot_lists.specs.Lists.{listAt}
 use Rattle.filing.specs.Filing.{inARow}
 use Rattle.table.specs.Layout.{CELLS, presentWord, depthWord, framingWord, laneWord, rowAt, rowOf, cells}
-use Rattle.table.specs.Means.{presentAt, ringOf, RowAgrees, laneOf, stateOf, meant, Beside, Sound, withLane}
+use Rattle.table.specs.Means.{presentAt, givenOf, waitingOf, RowAgrees, laneOf, stateOf, meant, Beside, Sound, withLane}
 use Rattle.table.specs.declared.LaneRow.{LaneRow}
-use Rattle.table.proofs.Footprint.{SameLane, lane-kept, lane-is, agrees-kept, places-kept}
+use Rattle.table.proofs.Footprint.{SameLane, lane-kept, lane-is, agrees-kept, lane-housed}
 use Rattle.table.proofs.Next.{bit-present, bit-absent}
-use Rattle.table.proofs.Rows.{lane-present, lane-absent, given-row}
+use Rattle.table.proofs.Rows.{lane-present, lane-absent, given-row, waiting-none}
 use Rattle.table.proofs.Timed.{timed-idle}
 use Rattle.fresh.specs.Makes.{SettingWord, upTo}
 use Rattle.fresh.proofs.Mixed.{mixed-none, map-tab}
@@ -64,7 +65,7 @@ module _ (w : List ℕ) (h : ℕ) (len : length w ≡ CELLS) where
       rw (zero-word 0 (omega arith), lanes)
 
   pub begun-beside : Beside begun
-  begun-beside = record { depth = begun-depth; places = λ k b p n. absurd (false≢true (sym (none-present k) ∙ p)); rows = λ k b p. absurd (false≢true (sym (none-present k) ∙ p)) }
+  begun-beside = record { depth = begun-depth; housed = λ k b p n. absurd (false≢true (sym (none-present k) ∙ p)); rows = λ k b p. absurd (false≢true (sym (none-present k) ∙ p)) }
 
 -- ---- add_lane
 
@@ -119,9 +120,17 @@ module _ (w : List ℕ) (k word : ℕ) (g : Setting) (len : length w ≡ CELLS) 
       let framing : getD added framingWord 0 ≡ g .framing = other framingWord (omega arith) (λ p q. omega arith) ∙ f in
       rw (framing, first, second, third)
 
+  idle-here : rowAt added k .count ≡ 0
+  idle-here = ap (λ (l : LaneRow). l .count) row-here
+
+  given-here : givenOf (rowAt added k) ≡ g
+  given-here = ap givenOf row-here ∙ a .given 0 0
+
   lane-here : laneOf added k ≡ idle g
-  unfolding ringOf tab tabFrom
-  lane-here = lane-present added k here ∙ rw (row-here, a .given 0 0) (sym (timed-idle g))
+  lane-here =
+      let none : waitingOf added k (rowAt added k) ≡ nothing (g .shared) = waiting-none added k (rowAt added k) idle-here ∙ ap nothing (ap (λ (x : Setting). x .shared) given-here) in
+      let time : rowAt added k .time .0 ≡ 0 = ap (λ (l : LaneRow). l .time .0) row-here in
+      lane-present added k here ∙ rw (none, time, given-here) (sym (timed-idle g))
 
   lane-other : (j : ℕ) → j < 64 → (j ≡ k → ⊥) → SameLane w added j
   lane-other j h ne =
@@ -131,6 +140,7 @@ module _ (w : List ℕ) (k word : ℕ) (g : Setting) (len : length w ≡ CELLS) 
         row = λ i p q. other i (omega arith) (λ x y. omega arith);
         lengths = λ i p q. other i (omega arith) (λ x y. omega arith);
         marks = λ i p q. other i (omega arith) (λ x y. omega arith);
+        trains = λ i p q. other i (omega arith) (λ x y. omega arith);
       }
 
   pub added-state : (o : List ℕ) → stateOf added o ≡ withLane (stateOf w o) k (idle g)
@@ -140,17 +150,14 @@ module _ (w : List ℕ) (k word : ℕ) (g : Setting) (len : length w ≡ CELLS) 
       let lanes : tab 64 (laneOf added) ≡ set (tab 64 (laneOf w)) k (laneOf added k) = tab-set 64 k (laneOf w) (laneOf added) hk (λ j h ne. lane-kept w added j (lane-other j h ne)) in
       rw (clock, lanes, lane-here)
 
-  idle-here : rowAt added k .count ≡ 0
-  idle-here = ap (λ (l : LaneRow). l .count) row-here
-
   pub added-beside : Beside w → Beside added
   added-beside b =
       record {
         depth = other depthWord (omega arith) (λ x y. omega arith) ∙ b .depth;
-        places = λ j h p n.
+        housed = λ j h p n.
             ⊎-elim
             (λ (e : j ≡ k). absurd (omega (arith, idle-here, subst (λ (i : ℕ). 0 < rowAt added i .count) e n)))
-            (λ (ne : j ≡ k → ⊥). places-kept w added j (lane-other j h ne) b h p n)
+            (λ (ne : j ≡ k → ⊥). lane-housed w added j (lane-other j h ne) b h p n)
             (eq-or-ne j k);
         rows = λ j h p.
             ⊎-elim

@@ -6,7 +6,6 @@ use native.Mathlib.Omega.{arith}
 use lib.ListN.{length, getD, set}
 use lib.Seq.{getD-set-other}
 use Rattle.words.specs.Bits.{bit}
-use Rattle.words.specs.Runs.{tab, tabFrom}
 use Rattle.words.proofs.Bits.{shift-one}
 use Rattle.words.proofs.Runs.{length-tab}
 use Rattle.rules.specs.State.{Setting, Lane, State, laneAt, noLane}
@@ -14,13 +13,13 @@ use Rattle.rules.specs.Calls.{idle}
 use Rattle.slot_lists.specs.Lists.{listAt}
 use Rattle.filing.specs.Filing.{inARow}
 use Rattle.table.specs.Layout.{Now, cells, presentWord, framingWord, laneWord, rowAt, putRow}
-use Rattle.table.specs.Means.{Next, ringOf, givenOf, laneOf, stateOf, meant, Sound, Leaves, withLane}
+use Rattle.table.specs.Means.{Next, givenOf, timed, laneOf, stateOf, meant, Sound, Leaves, withLane}
 use Rattle.table.specs.declared.LaneRow.{LaneRow}
 use Rattle.table.proofs.Stores.{length-cells, now-then, behind-refl}
 use Rattle.table.proofs.Footprint.{lane-is}
 use Rattle.table.proofs.Leave.{meant-now, leave-lane, leaves-then}
 use Rattle.table.proofs.Next.{bit-present, bit-absent}
-use Rattle.table.proofs.Rows.{retimed, outside-row, row-put, lane-put, given-row, lane-absent, weight-present}
+use Rattle.table.proofs.Rows.{retimed, outside-row, row-put, lane-put, given-row, lane-absent, weight-present, waiting-none}
 use Rattle.table.proofs.Timed.{timed-idle}
 use Rattle.fresh.specs.Makes.{SettingWord, restedTo}
 use Rattle.fresh.proofs.States.{rested-none, rested-at, rested-more, rested-next}
@@ -61,14 +60,13 @@ module _ (t t₁ t₂ t₃ : List ℕ) (k word : ℕ) (g : Setting) (s : Sound t
 
 rest-at : (t t′ : List ℕ) (k : ℕ) → k < 64 → 0 < laneAt (meant t) k .given .weight → Now t t′ (putRow (cells t) k (retimed (rowAt (cells t) k) 0 0 0))
     → Leaves t t′ (withLane (meant t) k (idle (laneAt (meant t) k .given)))
-unfolding ringOf tab tabFrom
 rest-at t t′ k hk weight n =
     let w = cells t in
     let o = inARow (listAt t) in
     let p = weight-present w o k hk weight in
     let given : laneAt (meant t) k .given ≡ givenOf (rowAt w k) = ap (λ (l : Lane). l .given) (lane-is w o k hk) ∙ given-row w k p in
     let none : rowAt (putRow w k (retimed (rowAt w k) 0 0 0)) k .count ≡ 0 = ap (λ (l : LaneRow). l .count) (row-put w k 0 0 0 (length-cells t) hk (omega arith)) in
-    leave-lane t t′ (putRow w k (retimed (rowAt w k) 0 0 0)) k (idle (laneAt (meant t) k .given)) hk n (outside-row w k (retimed (rowAt w k) 0 0 0)) (lane-put w k 0 0 0 (length-cells t) hk (omega arith) p ∙ sym (timed-idle (givenOf (rowAt w k))) ∙ ap idle (sym given))
+    leave-lane t t′ (putRow w k (retimed (rowAt w k) 0 0 0)) k (idle (laneAt (meant t) k .given)) hk n (outside-row w k (retimed (rowAt w k) 0 0 0)) (lane-put w k 0 0 0 (length-cells t) hk (omega arith) p ∙ ap (timed (givenOf (rowAt w k)) 0) (waiting-none w k (retimed (rowAt w k) 0 0 0) refl) ∙ sym (timed-idle (givenOf (rowAt w k))) ∙ ap idle (sym given))
     (λ b q some. absurd (omega (arith, none)))
 
 pub rest-leaves : (t t′ : List ℕ) (k : ℕ) (l : LaneRow) → l ≡ rowAt (cells t) k → k < 64 → 0 < laneAt (meant t) k .given .weight → Now t t′ (putRow (cells t) k (retimed l 0 0 0))

@@ -1,6 +1,7 @@
 -- The loop of `write`, and what `begin` and `renew` leave. Assumes nothing.
 use mathlib.Core.Path.{_≡_, refl, sym, ap, subst, _∙_}
 use mathlib.Core.Logic.{_⊎_, ⊎-elim}
+use mathlib.Core.Bool.{false}
 use Prim.Native.Nat.{ℕ, zero, suc, _+_, _≤_, _<_}
 use mathlib.Core.List.{List, []}
 use native.Mathlib.Decide.{decLt}
@@ -32,7 +33,7 @@ pub makes-sound : (t₀ t : List ℕ) (gs : List Setting) → Room t → Makes t
 makes-sound t₀ t gs room m = record { room = room; beside = m .beside }
 
 abbrev pub none : plan.Lane
-none = record { weight = 0; longest = record { 0 = 0 }; framing = record { 0 = 0 } }
+none = record { weight = 0; longest = record { 0 = 0 }; framing = record { 0 = 0 }; shared = false }
 
 module _ (lanes : List plan.Lane) (t₀ t : List ℕ) (k : ℕ) (hk : k < 64) (m : Makes t₀ t (upTo k (settings lanes))) where
   at : settingAt (settings lanes) k ≡ settingOf (getD lanes k none)
@@ -85,13 +86,13 @@ module _ (lanes : List plan.Lane) (s : Setup (settings lanes)) where
 
   module _ (h : ℕ) (f : FramedBy h (settings lanes)) (k : ℕ) (ne : getD lanes k none .weight ≡ 0 → ⊥) where
     abbrev framed : Setting
-    framed = record { weight = getD lanes k none .weight; longest = getD lanes k none .longest .0; framing = h }
+    framed = record { weight = getD lanes k none .weight; longest = getD lanes k none .longest .0; framing = h; shared = getD lanes k none .shared }
 
     weighs : 0 < settingAt (settings lanes) k .weight
     weighs = omega (arith, ap (λ (g : Setting). g .weight) (lane-at k), pos-of-ne-zero ne)
 
     same : settingOf (getD lanes k none) ≡ framed
-    same = ap (λ (x : ℕ). record { weight = getD lanes k none .weight; longest = getD lanes k none .longest .0; framing = x }) (sym (ap (λ (g : Setting). g .framing) (lane-at k)) ∙ f k weighs)
+    same = ap (λ (x : ℕ). record { weight = getD lanes k none .weight; longest = getD lanes k none .longest .0; framing = x; shared = getD lanes k none .shared }) (sym (ap (λ (g : Setting). g .framing) (lane-at k)) ∙ f k weighs)
 
     pub framed-most : h ≤ 64
     framed-most = omega (arith, framing-most (settings lanes) s k, f k weighs)

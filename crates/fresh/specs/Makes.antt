@@ -24,7 +24,7 @@ use Rattle.table.specs.Means.{meant, Beside, RowAgrees, givenOf}
 use Rattle.plan.specs.Read.{settingOf}
 use Rattle.plan.specs.declared.Lane.{Lane}
 
--- "Fresh: V = 0, each lane idle with F = 0."
+-- The fresh state of R2.4 in bytes, and those past the table as they were.
 pub record Makes (before after : List ℕ) (gs : List Setting) : Type 0 where
   pub state : meant after ≡ fresh gs
   pub beside : Beside (cells after)

@@ -1,4 +1,4 @@
-// Fresh tables: document 01's "Fresh: V = 0, each lane idle with F = 0" and "Restart gives the fresh table of the same setup".
+// Fresh tables (R2.4), of a new setup or of the one that a table has (R3.19).
 //
 // A fresh table is begun with no lane in it and empty slot lists; then each lane of the setup is added. Words of lanes that are not in the setup, places
 // of a ring that hold no record, and the words and rings of a group that has no lanes are left as they stand: they mean nothing. The one division, for c,
@@ -26,6 +26,7 @@ use table::PRESENT;
 use table::RATE_UNIT;
 use table::ROW_WORDS;
 use table::ROWS;
+use table::SHARED_UNIT;
 use table::WEIGHT_UNIT;
 use table::cell;
 use table::charged;
@@ -41,9 +42,9 @@ use units::lane_charge;
 use units::lane_rate;
 
 // The setting word of a lane: the group is that of the longest record with the line's framing bytes `h`.
-fn setting_word(h: Bytes, weight: u64, longest: Bytes) -> u64
-    requires { ⌜ InNumbers (record { weight = weight; longest = longest .0; framing = h .0 }) × (h .0 ≤ 64) ⌝ }
-    ensures { λ r. ⌜ SettingWord (record { weight = weight; longest = longest .0; framing = h .0 }) r ⌝ }
+fn setting_word(h: Bytes, weight: u64, longest: Bytes, shared: bool) -> u64
+    requires { ⌜ InNumbers (record { weight = weight; longest = longest .0; framing = h .0; shared = shared }) × (h .0 ≤ 64) ⌝ }
+    ensures { λ r. ⌜ SettingWord (record { weight = weight; longest = longest .0; framing = h .0; shared = shared }) r ⌝ }
 {
     let c = lane_rate(weight);
     let lane = LaneRow {
@@ -52,12 +53,17 @@ fn setting_word(h: Bytes, weight: u64, longest: Bytes) -> u64
         weight: weight,
         group: 0,
         rate: c,
+        shared: shared,
         time: Clock(0),
         head: 0,
         count: 0,
     };
     let group = group_index(lane_charge(charged(lane, longest), c));
-    longest.0 + WEIGHT_UNIT * weight + GROUP_UNIT * (group as u64) + RATE_UNIT * c.0
+    let word = longest.0 + WEIGHT_UNIT * weight + GROUP_UNIT * (group as u64) + RATE_UNIT * c.0;
+    if shared {
+        return word + SHARED_UNIT;
+    }
+    word
 }
 
 // Begins a table with no lane in it, on a line with `h` framing bytes.
@@ -73,12 +79,12 @@ pub fn begin(t: &mut [u8], h: Bytes)
 }
 
 // Adds lane `k`, which is not in the setup yet: idle, with F = 0. The line has `h` framing bytes.
-pub fn add_lane(t: &mut [u8], k: usize, h: Bytes, weight: u64, longest: Bytes)
-    requires { ⌜ Sound (now t) × (k < 64) × InNumbers (record { weight = weight; longest = longest .0; framing = h .0 }) × (laneAt (meant (now t)) k .given .weight ≡ 0) × (h .0 ≤ 64) × (getD (cells (now t)) framingWord 0 ≡ h .0) ⌝ }
-    ensures { λ _. ⌜ Leaves (now (t .entry)) (now (t .exit)) (withLane (meant (now (t .entry))) k (idle (record { weight = weight; longest = longest .0; framing = h .0 }))) × (getD (cells (now (t .exit))) framingWord 0 ≡ getD (cells (now (t .entry))) framingWord 0) ⌝ }
+pub fn add_lane(t: &mut [u8], k: usize, h: Bytes, weight: u64, longest: Bytes, shared: bool)
+    requires { ⌜ Sound (now t) × (k < 64) × InNumbers (record { weight = weight; longest = longest .0; framing = h .0; shared = shared }) × (laneAt (meant (now t)) k .given .weight ≡ 0) × (h .0 ≤ 64) × (getD (cells (now t)) framingWord 0 ≡ h .0) ⌝ }
+    ensures { λ _. ⌜ Leaves (now (t .entry)) (now (t .exit)) (withLane (meant (now (t .entry))) k (idle (record { weight = weight; longest = longest .0; framing = h .0; shared = shared }))) × (getD (cells (now (t .exit))) framingWord 0 ≡ getD (cells (now (t .entry))) framingWord 0) ⌝ }
 {
     let base = ROWS + ROW_WORDS * k;
-    set_cell(t, base, setting_word(h, weight, longest));
+    set_cell(t, base, setting_word(h, weight, longest, shared));
     set_cell(t, base + 1, 0);
     set_cell(t, base + 2, 0);
     let lanes = cell(t, PRESENT);
@@ -112,7 +118,7 @@ pub fn write(t: &mut [u8], lanes: [Lane; LANES])
     while k < LANES {
         let g = lanes[k];
         if g.weight != 0 {
-            add_lane(t, k, h, g.weight, g.longest);
+            add_lane(t, k, h, g.weight, g.longest, g.shared);
         }
         k += 1;
     }
@@ -145,7 +151,7 @@ fn rest_lanes(t: &mut [u8])
     }
 }
 
-// Gives the fresh table of the same setup.
+// R3.19: the table is fresh again, its setup kept.
 pub fn renew(t: &mut [u8])
     requires { ⌜ Sound (now t) ⌝ }
     ensures { λ _. ⌜ Makes (now (t .entry)) (now (t .exit)) (setupOf (meant (now (t .entry)))) ⌝ }

@@ -3,17 +3,20 @@ use mathlib.Core.Path.{_≡_, refl, sym, ap, subst, _∙_}
 use mathlib.Core.Logic.{⊎-elim}
 use mathlib.Core.Bool.{true, false, _&&_, false≢true}
 use Prim.Native.Nat.{ℕ, zero, suc, _+_, _-_, _^_, _≤_, _<_}
-use mathlib.Core.List.{List, [], _∷_}
+use mathlib.Core.List.{List}
+use mathlib.Core.Option.{Option, none, some}
 use native.Mathlib.Nat.{add-zero, add-suc}
 use native.Mathlib.Numerals.{add-one}
 use native.Mathlib.Omega.{arith}
 use borrow.Author.Tests.{lt-ltb, le-ltb}
 use lib.Dec.{leb, ltb}
-use lib.ListN.{length, getD}
+use lib.ListN.{getD}
 use Rattle.words.proofs.Runs.{eq-or-ne}
 use Rattle.units.specs.Numbers.{roundDown}
-use Rattle.waiting.specs.Waiting.{Waiting, first, head}
+use Rattle.waiting.specs.Waiting.{Waiting, first, held, GoodWaiting}
+use Rattle.waiting.proofs.Laws.{held-none, held-hand}
 use Rattle.rules.specs.State.{Rec, Setting, Lane, holds, some?, eligible, slot, noLane}
+use Rattle.rules.specs.Calls as rules
 use Rattle.units.specs.Plain.{anyBelow, wordOf}
 use Rattle.table.specs.Layout.{presentWord}
 use Rattle.table.specs.Means.{presentAt, Next, givenOf, timed}
@@ -66,24 +69,38 @@ module _ (v : ℕ) (w : List ℕ) (x : Kept w) (P : ℕ → Type 0) where
     abbrev row : LaneRow
     row = x .row k
 
-    some-count : (q : List Rec) → length q ≡ row .count → some? (head q) ≡ ltb 0 (row .count)
-    some-count [] e = sym (le-ltb 0 (row .count) (omega arith))
-    some-count (r ∷ rs) e = sym (lt-ltb 0 (row .count) (omega arith))
+    abbrev waits : Waiting
+    waits = x .waiting k
+
+    abbrev longest : ℕ
+    longest = x .lane k .given .longest
+
+    good-waits : GoodWaiting longest waits
+    good-waits = subst (GoodWaiting longest) (waiting-kept w x k p) (fine k g .waiting)
+
+    size : held waits ≡ row .count
+    size = sym (ap held (waiting-kept w x k p)) ∙ fine k g .counted
+
+    -- the row's count tells whether there is a first record
+    some-count : (o : Option Rec) → first waits ≡ o → ltb 0 (row .count) ≡ some? o
+    some-count none e = le-ltb 0 (row .count) (omega (arith, held-none longest waits good-waits e, size))
+    some-count (some r) e = lt-ltb 0 (row .count) (omega (arith, held-hand longest waits r good-waits e, size))
 
     holds-is : holdsAt (x .lane) k ≡ ltb 0 (row .count)
-    holds-is = ap (λ (l : Waiting). some? (first l)) (waiting-kept w x k p) ∙ some-count (x .queue k) (x .size k)
+    holds-is = ap (λ (l : Waiting). some? (first l)) (waiting-kept w x k p) ∙ sym (some-count (first waits) refl)
 
     slot-is : slot (givenOf row) ≡ 2 ^ (row .group)
     unfolding slot
     slot-is = ap (λ (i : ℕ). 2 ^ i) (sym (fine k g .agrees .grouped))
 
-    eligible-of : (q : List Rec) → length q ≡ row .count → eligible v (timed (givenOf row) (row .time .0) q) ≡ (ltb 0 (row .count) && leb (roundDown (2 ^ (row .group)) (row .time .0)) v)
-    unfolding eligible timed
-    eligible-of [] e = rw (le-ltb 0 (row .count) (omega arith))
-    eligible-of (r ∷ rs) e = rw (lt-ltb 0 (row .count) (omega arith), slot-is)
+    eligible-of : (o : Option Rec) → first waits ≡ o → eligible v (rules.timed (givenOf row) (row .time .0) waits o) ≡ (ltb 0 (row .count) && leb (roundDown (2 ^ (row .group)) (row .time .0)) v)
+    unfolding eligible rules.timed
+    eligible-of none e = rw (some-count none e, e)
+    eligible-of (some r) e = rw (some-count (some r) e, e, slot-is)
 
     eligible-is : eligibleAt v (x .lane) k ≡ (ltb 0 (row .count) && leb (roundDown (2 ^ (row .group)) (row .time .0)) v)
-    eligible-is = ap (eligible v) (x .present k p) ∙ eligible-of (x .queue k) (x .size k)
+    unfolding timed
+    eligible-is = ap (eligible v) (x .present k p) ∙ eligible-of (first waits) refl
 
     found-row : (f r : Found) → FoundSays v w (x .lane) P k f → Noted f k row v r → FoundSays v w (x .lane) P (suc k) r
     unfolding sumTo wordOf anyBelow

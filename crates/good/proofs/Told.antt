@@ -13,8 +13,8 @@ use Rattle.words.specs.Runs.{tab}
 use Rattle.words.proofs.Bits.{bit-above}
 use Rattle.words.proofs.Runs.{length-tab, getD-tab}
 use Rattle.units.specs.Plain.{if_then_else_, anyBelow, wordOf, count}
-use Rattle.waiting.specs.Waiting.{GoodWaiting, first}
-use Rattle.waiting.proofs.Laws.{good-nothing}
+use Rattle.waiting.specs.Waiting.{GoodWaiting, first, held, isShared}
+use Rattle.waiting.proofs.Laws.{good-nothing, shared-nothing}
 use Rattle.rules.specs.State.{Setting, settingAt, clockEdge, Lane, State, group, laneAt, some?, firstOf, holds, eligible, noLane, noSetting, setupOf}
 use Rattle.rules.specs.Setup.{InNumbers, Setup, weights}
 use Rattle.rules.specs.Good.{Good, Times}
@@ -42,6 +42,7 @@ use Rattle.good.proofs.Sums.{sum-map, sum-tab, any-some, any-at, word-s
 pub record Told (t : List ℕ) (row : ℕ → LaneRow) (s : State) : Type 0 where
   pub good : Good s
   pub rows : (k : ℕ) → k < 64 → presentAt (cells t) k ≡ true → RowAgrees (row k)
+  pub counted : (k : ℕ) → k < 64 → presentAt (cells t) k ≡ true → held (laneAt s k .waiting) ≡ row k .count
   pub solid : Solid t
   pub agrees : Agrees (backAt t) (listAt t) (startAt t) s
 
@@ -156,6 +157,9 @@ module _ (t : List ℕ) (x : Kept (cells t)) (s : State) (m : Means t (x .lane) 
             framed = framed-by h (setupOf s) most-framing same-framing;
           }
 
+      kept-kind : (k : ℕ) → k < 64 → presentAt (cells t) k ≡ true → isShared (x .lane k .waiting) ≡ x .lane k .given .shared
+      kept-kind k b p = ap isShared (waiting-kept (cells t) x k p) ∙ x .kind k ∙ ap (λ (g : Setting). g .shared) (sym (given-kept (cells t) x k p))
+
       eligible-lane : (k : ℕ) → holds (laneAt s k) ≡ true → (i : ℕ) × (eligible v (laneAt s i) ≡ true)
       eligible-lane k h =
           let bit-set : bit k (f .held) ≡ 1 = bit-held k ∙ ap one h in
@@ -167,11 +171,13 @@ module _ (t : List ℕ) (x : Kept (cells t)) (s : State) (m : Means t (x .lane) 
       found-told =
           record {
             rows = λ k h p. lane-fine k h p .agrees;
+            counted = λ k h p. ap (λ (l : Lane). held (l .waiting)) (lane-of k h) ∙ lane-fine k h p .counted;
             solid = stored-solid t s (f .held) row-says bit-held (m .order) stored;
             agrees = stored-agrees t s (f .held) row-says bit-held (m .order) stored;
             good = record {
               setup = setup;
-              waiting = each-lane (λ (l : Lane). GoodWaiting (l .given .longest) (l .waiting)) (good-nothing 0) (λ k h p. lane-fine k h p .waiting);
+              waiting = each-lane (λ (l : Lane). GoodWaiting (l .given .longest) (l .waiting)) (good-nothing 0 false) (λ k h p. lane-fine k h p .waiting);
+              kind = each-lane (λ (l : Lane). isShared (l .waiting) ≡ l .given .shared) (shared-nothing false) kept-kind;
               clock = omega (arith, clock);
               numbers = λ k. subst (λ (v : ℕ). Times v (laneAt s k) (firstOf (laneAt s k))) clock (each-lane (λ (l : Lane). Times v l (firstOf l)) (omega (arith, slot-pos noSetting)) (λ k h p. lane-fine k h p .numbers) k);
               live = λ k h. subst (λ (v : ℕ). (i : ℕ) × (eligible v (laneAt s i) ≡ true)) clock (eligible-lane k h);
@@ -211,6 +217,7 @@ module _ (t : List ℕ) (x : Kept (cells t)) (s : State) (m : Means t (x .lane) 
         record {
           agrees = g .rows k h p;
           waiting = subst (λ (l : Lane). GoodWaiting (l .given .longest) (l .waiting)) (lane-of k h) (g .good .waiting k);
+          counted = ap (λ (l : Lane). held (l .waiting)) (sym (lane-of k h)) ∙ g .counted k h p;
           numbers = subst (λ (l : Lane). Times (s .clock) l (firstOf l)) (lane-of k h) (g .good .numbers k);
         }
 

@@ -1,12 +1,15 @@
 -- What the test finds, and a good table: each gives the other. Assumes nothing.
-use mathlib.Core.Path.{_≡_, refl, sym, subst}
+use mathlib.Core.Path.{_≡_, refl, sym, ap, subst, _∙_}
 use mathlib.Core.Bool.{Bool, true, false, false≢true}
 use Prim.Native.Nat.{ℕ, _≤_, _<_}
 use mathlib.Core.List.{List}
 use lib.ListN.{getD}
-use Rattle.rules.specs.State.{clockEdge, laneDepth}
+use Rattle.waiting.specs.Waiting.{held}
+use Rattle.rules.specs.State.{Lane, clockEdge, laneDepth}
 use Rattle.table.specs.Layout.{Room, cells, depthWord, framingWord, rowAt}
 use Rattle.table.specs.Means.{presentAt, laneOf, stateOf, meant}
+use Rattle.table.proofs.Rows.{count-row}
+use Rattle.table.proofs.Footprint.{lane-is}
 use Rattle.lists_test.specs.Stored.{Stored}
 use Rattle.lane_test.specs.Says.{Says, LaneFine, LaneGood}
 use Rattle.good.specs.Pass.{FoundSays}
@@ -21,7 +24,7 @@ module _ (t : List ℕ) where
   means = record { lanes = refl; order = refl }
 
   told : GoodTable t → Told t (rowAt (cells t)) (meant t)
-  told g = record { good = g .good; rows = g .beside .rows; solid = g .listed .solid; agrees = g .listed .agrees }
+  told g = record { good = g .good; rows = g .beside .rows; counted = λ k h p. ap (λ (l : Lane). held (l .waiting)) (lane-is (cells t) _ k h) ∙ count-row (cells t) k p (g .beside .housed k h p); solid = g .listed .solid; agrees = g .listed .agrees }
 
   module _ (v : ℕ) (f : Found) (clock : v ≡ meant t .clock) (s : FoundSays v (cells t) (laneOf (cells t)) (LaneGood v (cells t)) 64 f) where
     pub whole-good : Room t → v < clockEdge → getD (cells t) depthWord 0 ≡ laneDepth → getD (cells t) framingWord 0 ≤ 64
@@ -31,7 +34,7 @@ module _ (t : List ℕ) where
         record {
           room = room;
           good = x .good;
-          beside = record { depth = deep; places = λ k h p n. s .lanes k h p .places n; rows = x .rows };
+          beside = record { depth = deep; housed = λ k h p. s .lanes k h p .housed; rows = x .rows };
           listed = record { solid = x .solid; agrees = x .agrees };
         }
 
@@ -43,7 +46,7 @@ module _ (t : List ℕ) where
   good-lanes v clock g k h p =
       record {
         fine = subst (λ (v : ℕ). LaneFine v (rowAt (cells t) k) (laneOf (cells t) k)) (sym clock) (told-fine t (today (cells t)) (meant t) means (told g) k h p);
-        places = λ n. g .beside .places k h p n;
+        housed = g .beside .housed k h p;
       }
 
   pub good-framing : GoodTable t → getD (cells t) framingWord 0 ≤ 64

@@ -1,4 +1,4 @@
--- Good tables and the states that they encode.
+-- Good tables and the states that they encode (R6.12).
 --
 --   GoodEncodes   a good table encodes the state that its words mean, so no promise about a good table's states is empty
 --   EncodesGood   bytes that encode a good state are a good table

@@ -1,4 +1,4 @@
--- A good table: document 01's rule, of bytes.
+-- A good table (R6.2), of bytes.
 --
 --   GoodTable   long enough, means a good state, and what is stored beside the state and of the slot lists agrees with it
 --
@@ -9,10 +9,11 @@ use Rattle.rules.specs.Good.{Good}
 use Rattle.table.specs.Layout.{Room, cells}
 use Rattle.table.specs.Means.{Beside, Listed, meant}
 
--- "It is good exactly if it is long enough and encodes: .."
+-- R6.2: `good` has R6.3 to R6.9
 pub record GoodTable (t : List ℕ) : Type 0 where
   pub room : Room t
   pub good : Good (meant t)
+  -- R6.10
   pub beside : Beside (cells t)
-  -- "any stored links and sets agreeing with these"
+  -- R6.11
   pub listed : Listed t

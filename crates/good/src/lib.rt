@@ -1,4 +1,4 @@
-// The good-table test: document 01, "A good table". It asks nothing of the bytes: for every slice it answers true exactly if they are a good table
+// The good-table test (R6.2). It asks nothing of the bytes: for every slice it answers true exactly if they are a good table
 // (`GoodTable`, specs/Table.antt).
 //
 // One pass over the lanes that are in the setup and the records that they hold; lanes that are not in the setup cost nothing, for the word of
@@ -113,7 +113,7 @@ fn live_good(f: Found) -> bool
     f.eligible
 }
 
-// Whether what the pass found makes a good table: a setup, an eligible lane if any holds, and slot lists of the lanes that hold records.
+// Whether what the pass found makes a good table: a setup (R6.3), an eligible lane where one is due (R6.8), and slot lists of the lanes that hold records.
 pub fn found_good(t: &[u8], f: Found) -> bool
     requires { ⌜ Long (now t) ⌝ }
     ensures { λ r. ⌜ Says r ((0 < f .weights) × (f .weights ≤ 1024) × (0 < f .held → f .eligible ≡ true) × Stored (now (t .entry)) (f .held)) ⌝ }

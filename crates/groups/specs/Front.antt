@@ -57,7 +57,7 @@ EarliestNone starts n r = (r ≡ never) × ((i q : ℕ) → 16 ≤ i → i ≤ 3
 abbrev pub Earliest : (ℕ → Option ℕ) → ℕ → ℕ → Type 0
 Earliest starts n r = EarliestNone starts n r ⊎ EarliestAt starts n r
 
--- "if records are held and no lane is eligible, V becomes the least R": r is the clock after v
+-- R3.14, by the groups' starts: r is the clock after v
 pub data Settles (starts : ℕ → Option ℕ) (v r : ℕ) : Type 0 where
   stays : (i q : ℕ) → 16 ≤ i → i ≤ 31 → starts i ≡ some q → q ≤ v → r ≡ v → Settles starts v r
   nothing : ((i : ℕ) → 16 ≤ i → i ≤ 31 → starts i ≡ none) → r ≡ v → Settles starts v r

@@ -12,7 +12,7 @@ use Rattle.fields.specs.Bytes.{byteAt, big}
 use Rattle.rules.proofs.Answer.{the-type}
 use Rattle.units.specs.Plain.{if_then_else_}
 use Rattle.rules.specs.State.{State, anyHolds, setupOf}
-use Rattle.rules.specs.Calls.{put, take, restart, Reply, accepted, taken, seen, words, lagged, restarted, refused, Outcome, no, fresh, doRestart, step}
+use Rattle.rules.specs.Calls.{Call, take, restart, Reply, accepted, taken, seen, words, lagged, restarted, refused, Outcome, no, fresh, doRestart, step}
 use Rattle.rules.specs.Reads.{reads}
 use Rattle.rules.specs.declared.Answer.{Answer}
 use Rattle.rules.specs.declared.Answer.the-variants.{Accepted, Taken, Seen, Sets, Lag, Restarted, Refused}
@@ -28,15 +28,21 @@ use Rattle.engine.specs.Does.{Does, Unchanged}
 use Rattle.answers.specs.Answers.{Made}
 use Rattle.answers.proofs.Made.{made-step, encodes-step}
 use Rattle.good.specs.Table.{GoodTable}
-use Rattle.inner.specs.Works.{CALL, callAt, callsIn, worked, Leads, Works}
+use Rattle.inner.specs.Works.{CALL, putBy, callAt, callsIn, worked, Leads, Works}
 
-pub put-at : {t u : List ℕ} {a : Answer} (calls : List ℕ) (at n : ℕ) → byteAt calls at < 64 → n ≡ big calls (at + 1) 2 → Does (put (byteAt calls at) 7 n) t a u → Does (callAt calls at) t a u
-unfolding callAt
-put-at {t} {u} {a} calls at n h e d = subst (λ (x : Bool). Does (if x then put (byteAt calls at) 7 (big calls (at + 1) 2) else take) t a u) (sym (lt-ltb (byteAt calls at) 64 h)) (subst (λ (x : ℕ). Does (put (byteAt calls at) 7 x) t a u) e d)
+-- the call of three bytes, once it is known which it is
+abbrev byLane : List ℕ → ℕ → Bool → Call
+byLane calls at b = if b then putBy (byteAt calls at) (big calls (at + 1) 2) else take
 
-pub take-at : {t u : List ℕ} {a : Answer} (calls : List ℕ) (at : ℕ) → 64 ≤ byteAt calls at → Does take t a u → Does (callAt calls at) t a u
-unfolding callAt
-take-at {t} {u} {a} calls at h d = subst (λ (x : Bool). Does (if x then put (byteAt calls at) 7 (big calls (at + 1) 2) else take) t a u) (sym (le-ltb (byteAt calls at) 64 h)) d
+module _ {t u : List ℕ} {a : Answer} (calls : List ℕ) (at : ℕ) where
+  pub put-at : (n : ℕ) → byteAt calls at < 64 → n ≡ big calls (at + 1) 2 → Does (putBy (byteAt calls at) n) t a u → Does (callAt calls at) t a u
+  unfolding callAt
+  put-at n h e d =
+      subst (λ (x : Bool). Does (byLane calls at x) t a u) (sym (lt-ltb (byteAt calls at) 64 h)) (subst (λ (x : ℕ). Does (putBy (byteAt calls at) x) t a u) e d)
+
+  pub take-at : 64 ≤ byteAt calls at → Does take t a u → Does (callAt calls at) t a u
+  unfolding callAt
+  take-at h d = subst (λ (x : Bool). Does (byLane calls at x) t a u) (sym (le-ltb (byteAt calls at) 64 h)) d
 
 -- ---- one call more
 
@@ -69,8 +75,8 @@ so-all calls t₀ t i e s = subst (λ (k : ℕ). Leads t₀ t (worked calls (mea
 
 isRestarted : Reply → Bool
 isRestarted (accepted n) = false
-isRestarted (taken j m n) = false
-isRestarted (seen j m n) = false
+isRestarted (taken j k m n) = false
+isRestarted (seen j k m n) = false
 isRestarted (words a b c d) = false
 isRestarted (lagged z) = false
 isRestarted restarted = true

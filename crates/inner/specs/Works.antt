@@ -1,6 +1,7 @@
 -- The calls of a list of bytes, and what they leave.
 --
 --   CALL      the bytes of a call
+--   putBy     the put of a lane and a number
 --   callAt    the call of the bytes from a place on
 --   callsIn   how many calls the bytes are
 --   worked    the state after the first calls
@@ -8,7 +9,7 @@
 --   Works     the promise of the exported call
 --
 -- Assumes nothing.
-use Prim.Native.Nat.{ℕ, zero, suc, _+_, _*_, _/_}
+use Prim.Native.Nat.{ℕ, zero, suc, _+_, _*_, _/_, _%_}
 use mathlib.Core.Path.{_≡_}
 use mathlib.Core.Bool.{true, false}
 use mathlib.Core.List.{List}
@@ -26,9 +27,14 @@ use Rattle.good.specs.Table.{GoodTable}
 abbrev pub CALL : ℕ
 CALL = 3
 
--- A lane and a length, high byte first: a record of that length is put into the lane. From lane 64 on a record is taken, whatever the length says.
+-- a put by a lane and a number of 16 bits
+abbrev pub putBy : ℕ → ℕ → Call
+putBy lane n = put lane (n / 4096) 7 (n % 4096)
+
+-- A lane and a number, high byte first: a record is put into the lane, of the length that the number's lowest 12 bits say and of the train that the others say.
+-- From lane 64 on a record is taken, whatever the number says.
 unfoldable pub callAt : List ℕ → ℕ → Call
-callAt calls at = if ltb (byteAt calls at) 64 then put (byteAt calls at) 7 (big calls (at + 1) 2) else take
+callAt calls at = if ltb (byteAt calls at) 64 then putBy (byteAt calls at) (big calls (at + 1) 2) else take
 
 -- Bytes behind the last whole call mean nothing.
 unfoldable pub callsIn : List ℕ → ℕ

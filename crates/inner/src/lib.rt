@@ -1,9 +1,10 @@
 // The inner calls by themselves: any list of puts and takes, on a table that is tested once. A library of its own, for the benchmark alone
-// (`compare/measure`): the unit has no such call, and document 01 names none.
+// (`compare/measure`): the unit has no such call, and no rule names one.
 //
-// Three bytes make a call: a lane and a length, high byte first. A lane below 64 gets a record of that length; from 64 on a record is taken.
+// Three bytes make a call: a lane, and a number, high byte first, of which the lowest 12 bits are a length and the highest 4 a train. A lane below 64 gets a
+// record of that train and length; from 64 on a record is taken.
 //
-// Like a session it rests on a table that it made by these calls from a fresh one (`answers/specs/Answers.antt`), here the restarted table.
+// Like a session it rests on a table that its own calls led to from a fresh one (`answers/specs/Answers.antt`), here the restarted table.
 ghost use mathlib.Core.Path.{_≡_};
 ghost use Prim.Native.Nat.{_+_, _≤_};
 ghost use lib.ListN.{length};
@@ -20,6 +21,9 @@ use units::Bytes;
 // The bytes of a call.
 const CALL: usize = 3;
 
+// Where the train begins in a call's number, after the length.
+const TRAIN_UNIT: u16 = 4096;
+
 // The call of the bytes from `at` on.
 fn call(t: &mut [u8], calls: &[u8], at: usize) -> Answer
     requires { ⌜ Known (now t) × (at + CALL ≤ length (now calls)) ⌝ }
@@ -27,7 +31,14 @@ fn call(t: &mut [u8], calls: &[u8], at: usize) -> Answer
 {
     let lane = calls[at];
     if lane < 64 {
-        engine::put(t, lane, 7, Bytes(u16_at(calls, at + 1) as u64))
+        let n = u16_at(calls, at + 1);
+        engine::put(
+            t,
+            lane,
+            (n / TRAIN_UNIT) as u8,
+            7,
+            Bytes((n % TRAIN_UNIT) as u64),
+        )
     } else {
         engine::take(t)
     }

@@ -1,6 +1,6 @@
--- What follows for the bytes of a board.
+-- What follows for the bytes of a board; R11.18: nothing is left open.
 --
---   Exact29       29 is answered exactly where no board that calls make is written in the bytes
+--   Exact29       R11.4, R14.28: 29 is answered exactly where no board that calls make is written in the bytes
 --   EachMade      every board that calls make is shown by some bytes, in any slice that has room
 --   OneBoard      bytes show one board at most; bytes that show the same board have the same words
 --   OneAnswer     two outcomes that the promise of record allows for the same field on the same bytes: the same answer and the same bytes
@@ -49,7 +49,7 @@ OneAnswer = (s t : List ℕ) (a a′ : Told) (u u′ : List ℕ) → RecordStep 
 abbrev pub OneClear : Type 0
 OneClear = (c : Call) (t : List ℕ) (a a′ : Told) (u u′ : List ℕ) → Step c t a u → Step c t a′ u′ → (told a ≡ told a′) × (u ≡ u′)
 
--- the bytes t, then the record q and the record r; and r and then q
+-- R11.15: the bytes t, then the record q and the record r; and r and then q
 abbrev pub AnyOrder : Type 0
 AnyOrder =
     (t : List ℕ) (b : Board) (q r : Rec) → Shows t b → (q .train ≡ r .train → ⊥) → place (q .train) b < length b

@@ -4,9 +4,9 @@
 --   Does           the promise of such a call
 --   Chain          a list of them, each on the bytes that the last one left
 --   lastSaid       a train's last accepted record since its last clear, worked from the calls and their answers alone
---   Showing        what line answers then
---   ShowsLast      the claim, for every list from a board that begin left
---   EndsAtLast     .. and that after sequence 4,294,967,295 nothing of that train is accepted until it is cleared
+--   Showing        R11.16: what line answers then
+--   ShowsLast      R11.16: the claim, for every list from a board that begin left
+--   EndsAtLast     .. and R11.17: after sequence 4,294,967,295 nothing of that train is accepted until it is cleared
 --
 -- Assumes nothing.
 use Prim.Native.Nat.{ℕ, _<_}

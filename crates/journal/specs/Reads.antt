@@ -1,6 +1,6 @@
 -- The numbers and places of the answers.
 --
---   listed              a refusal's number, and its place where the list has one
+--   listed              R11.14: a refusal's number, and its place where the list has one
 --   Plain               an answer as the rules give it; fromRules: that of a reply of `desk`
 --   told, shown, begun  an answer of a call, read
 --

@@ -3,7 +3,7 @@
 --   recLine       the record of a line by value
 --   Read          a line by value that holds the numbers of a whole field
 --   Reading       what a field says: a record, or a refusal's number and place
---   readRecord    a field at the start of lent bytes
+--   readRecord    R11.6: a field at the start of lent bytes
 --
 -- Assumes nothing.
 use Prim.Native.Nat.{ℕ}
@@ -24,7 +24,7 @@ use Rattle.desk_line.specs.declared.Line.{Line}
 abbrev pub recLine : Line → Rec
 recLine l = record { train = l .train; cell = l .cell; kind = l .kind; sequence = l .sequence }
 
--- the eleven bytes of the value, behind the three of the header, each number high byte first
+-- R11.6: the eleven bytes of the value, behind the three of the header, each number high byte first
 abbrev pub valuesOf : List ℕ → Rec
 valuesOf s = record { train = big s 3 4; cell = big s 7 2; kind = big s 9 1; sequence = big s 10 4 }
 
@@ -36,7 +36,7 @@ pub data Reading : Type 0 where
   says : Rec → Reading
   faulty : ℕ → Option ℕ → Reading
 
--- 1 (header), 2, 3, 1 (value), as in every field. It stands first, so every place is 0; bytes behind it are not looked at.
+-- R11.7, R14.29: 1 (header), 2, 3, 1 (value), as in every field. It stands first, so every place is 0; bytes behind it are not looked at.
 abbrev pub readHeader : List ℕ → Field → Reading
 readHeader s Nothing = faulty 1 (some 0)
 readHeader s Cut = faulty 1 (some 0)

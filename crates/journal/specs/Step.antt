@@ -1,11 +1,11 @@
 -- The promises of the public calls, whole: for every slice, every argument and every answer, refusals included.
 --
---   stored       the bytes after a call of the rules: one line's two words where it is accepted
---   Kept         what a call leaves of the bytes: all of them where it refuses, and always those past the board
+--   stored       R11.11: the bytes after a call of the rules: one line's two words where it is accepted
+--   Kept         R11.14, R15.1: what a call leaves of the bytes: all of them where it refuses, and always those past the board
 --   Step         a call of the rules: clear, and record with a field that is read
 --   RecordStep   record, by what its field says
---   LineStep     line
---   BeginStep    begin
+--   LineStep     R11.4, R11.13, R14.42: line
+--   BeginStep    R11.5, R14.42: begin
 --
 -- Assumes nothing.
 use Prim.Native.Nat.{ℕ}
@@ -32,7 +32,7 @@ abbrev pub stored : Call → Reply → List ℕ → List ℕ
 stored c (Calls.told k) t = putLine t k (leaves c)
 stored c (Calls.refused n) t = t
 
--- a refusal leaves every byte
+-- R14.43: a refusal leaves every byte
 abbrev pub Stays : Plain → List ℕ → List ℕ → Type 0
 Stays (line k) before after = Unit {0}
 Stays (stands x) before after = Unit {0}
@@ -44,17 +44,17 @@ pub record Kept (a : Plain) (before after : List ℕ) : Type 0 where
   pub rest : drop 1024 after ≡ drop 1024 before
   pub size : length after ≡ length before
 
--- The call c on the bytes `before` answers a and leaves the bytes `after`.
+-- R14.42. The call c on the bytes `before` answers a and leaves the bytes `after`.
 pub record Step (c : Call) (before : List ℕ) (a : Told) (after : List ℕ) : Type 0 where
-  -- the test of 29, before all others
+  -- R11.4: the test of 29, before all others
   pub not-board : NoBoard before → told a ≡ refused 29 none
   pub reply : (b : Board) → Shows before b → told a ≡ fromRules ((step b c) .reply)
   pub board : (b : Board) → Shows before b → Shows after ((step b c) .board)
-  -- an accepted call changes the two words of one line
+  -- R11.11: an accepted call changes the two words of one line
   pub bytes : (b : Board) → Shows before b → after ≡ stored c ((step b c) .reply) before
   pub kept : Kept (told a) before after
 
--- 29 before the numbers of the field, and those before 30 to 33
+-- R11.7, R14.42: 29 before the numbers of the field, and those before 30 to 33
 abbrev pub RecordSays : Reading → List ℕ → Told → List ℕ → Type 0
 RecordSays (says r) before a after = Step (enter r) before a after
 RecordSays (faulty n p) before a after =
@@ -70,7 +70,7 @@ pub record LineStep (k : ℕ) (t : List ℕ) (a : Shown) : Type 0 where
   pub reply : (b : Board) → Shows t b → shown a ≡ stands (lineAt b k)
 
 pub record BeginStep (before : List ℕ) (a : Begun) (after : List ℕ) : Type 0 where
-  -- 7, at place 0
+  -- R14.13: 7, at place 0
   pub short : (Room before → ⊥) → beginning a ≡ refused 7 (some 0)
   pub done : Room before → (beginning a ≡ begun) × Shows after emptyBoard
   pub kept : Kept (beginning a) before after

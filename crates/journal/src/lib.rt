@@ -1,6 +1,6 @@
-// The desk's journal: the public calls on a lent board: begin, record, clear and line (document 02, a).
+// The desk's journal: the public calls on a lent board: begin, record, clear and line (docs/RULES.md, R11).
 //
-// None asks anything of its caller: each tests what it is given, the whole board too, each time, and refuses by number. Nothing is written before the last test.
+// None asks anything of its caller: each tests what it is given, the whole board too, and refuses by number. Nothing is written before the last test.
 // What each promises is in specs/Step.antt. The board is SIZE bytes of the lent slice; bytes past them are never touched.
 ghost use mathlib.Core.Path.{_≡_};
 ghost use Prim.Native.Nat.{_+_, _^_, _<_, _≤_};
@@ -46,25 +46,25 @@ const RECORD_LENGTH: usize = 11;
 const LAST: u32 = 4294967295;
 
 pub enum Refusal {
-    // 1: the field's header or value runs past the end.
+    // 1: the field is cut (R14.29, as 2 and 3).
     Cut(usize),
-    // 2: tag not 0x30.
+    // 2: another tag than 0x30.
     UnknownTag(usize),
-    // 3: length not 11.
+    // 3: another length than 11.
     WrongLength(usize),
-    // 7: lent bytes shorter than a board, on beginning one. Its place is 0.
+    // 7: too few bytes to begin a board in (R14.13). Its place is 0.
     BoardShort,
-    // 29: board not one these rules can make.
+    // 29: no board that calls could have made (R14.28).
     NotABoard,
-    // 30: kind unknown.
+    // 30: neither a join nor a leave (R14.30).
     KindUnknown,
-    // 31: new train and no free line.
+    // 31: no line is left for this train (R14.31).
     NoFreeLine,
-    // 32: sequence out of turn.
+    // 32: not the next sequence (R14.32).
     OutOfTurn,
-    // 33: cell or kind doesn't follow.
+    // 33: the train cannot have done this next (R14.33).
     DoesNotFollow,
-    // 34: train not on the board or still joined.
+    // 34: the train has not left, or has no line (R14.34).
     NotCleared,
 }
 
@@ -251,7 +251,7 @@ fn enter(t: &mut [u8], r: Line) -> Told
     enter_later(t, r, k)
 }
 
-// Enters the handover record of a field. One call reads one field and nothing after it.
+// Enters the handover record of a field, the one in front (R11.6).
 pub fn record(t: &mut [u8], field: &[u8]) -> Told
     ensures { λ r. ⌜ RecordStep (now (field .entry)) (now (t .entry)) r (now (t .exit)) ⌝ }
 {
@@ -264,7 +264,7 @@ pub fn record(t: &mut [u8], field: &[u8]) -> Told
     }
 }
 
-// Clears a train whose last record is a leave.
+// R11.12: frees the line of a train that has left.
 pub fn clear(t: &mut [u8], train: u32) -> Told
     ensures { λ r. ⌜ Step (Calls.clear train) (now (t .entry)) r (now (t .exit)) ⌝ }
 {

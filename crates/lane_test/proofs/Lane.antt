@@ -3,6 +3,7 @@ use mathlib.Core.Path.{_≡_, refl, sym, ap, subst, _∙_}
 use mathlib.Core.Bool.{Bool, true, false}
 use Prim.Native.Nat.{ℕ, zero, suc, _+_, _*_, _/_, _%_, _^_, _≤_, _<_}
 use mathlib.Core.List.{List, [], _∷_}
+use mathlib.Core.Option.{Option, none, some}
 use native.Mathlib.Omega.{arith}
 use borrow.Author.Tests.{eqb-true, eqb-false}
 use lib.Bits.{bitAnd}
@@ -12,20 +13,23 @@ use Rattle.words.specs.Words.{wordAt}
 use Rattle.words.specs.Runs.{tab, tabFrom}
 use Rattle.words.proofs.Runs.{getD-tab}
 use Rattle.units.specs.Numbers.{roundDown}
-use Rattle.waiting.specs.Waiting.{plain, first, head, Lengths, GoodWaiting}
+use Rattle.rounds.specs.Round as round
+use Rattle.waiting.specs.Waiting.{Waiting, first, held, Lengths, GoodWaiting}
+use Rattle.waiting.proofs.Laws.{held-hand, held-none, held-most, good-nothing}
 use Rattle.rules.specs.State.{Rec, Setting, Lane, firstOf, slot, group, laneDepth}
+use Rattle.rules.specs.Calls as rules
 use Rattle.rules.specs.Setup.{margin}
 use Rattle.rules.specs.Good.{Times}
 use Rattle.digits.specs.Digits.{digit}
 use Rattle.digits.specs.Under.{AllUnder, Clear, Gathered}
 use Rattle.digits.proofs.Under.{tops-clear, clear-tops}
 use Rattle.table.specs.Layout.{cells, lengthsCell, lengthCell, placeOf, rowAt, entryAt}
-use Rattle.table.specs.Means.{presentAt, recOf, ringOf, givenOf, timed, RowAgrees, PlacesFit, laneOf}
+use Rattle.table.specs.Means.{presentAt, recOf, ringOf, givenOf, waitingOf, timed, RowAgrees, PlacesFit, Housed, laneOf}
 use Rattle.table.specs.declared.LaneRow.{LaneRow}
 use Rattle.table.proofs.Stores.{cell-is, word-before}
-use Rattle.table.proofs.Rows.{lane-present, length-ring}
+use Rattle.table.proofs.Rows.{lane-present, length-ring, waiting-plain, waiting-none, waiting-shared, waiting-held}
 use Rattle.table.proofs.Timed.{timed-given, timed-waiting}
-use Rattle.lane_test.specs.Says.{Says, TimeGood, LaneFine, LaneGood}
+use Rattle.lane_test.specs.Says.{Says, TimeGood, TrainsGood, LaneFine, LaneGood}
 
 -- ---- lengths
 
@@ -37,7 +41,7 @@ module _ (t : List ℕ) (k : ℕ) (l : LaneRow) (hk : k < 64) where
       cell-is t (lengthsCell + (16 * k + i)) (omega arith) ∙ ap (wordAt t) (word-before (lengthsCell + (16 * k + i)) (omega arith) ∙ at)
 
   -- place i is quarter i % 4 of word i / 4
-  place-length : (i : ℕ) → i < laneDepth → entryAt (cells t) (placeOf k i) .length .0 ≡ digit 16 (i % 4) (wordAt t (lengthsCell + 16 * k + i / 4)) + 1
+  pub place-length : (i : ℕ) → i < laneDepth → entryAt (cells t) (placeOf k i) .length .0 ≡ digit 16 (i % 4) (wordAt t (lengthsCell + 16 * k + i / 4)) + 1
   unfolding entryAt
   place-length i h =
       let which : placeOf k i % 4 ≡ i % 4 = omega arith in
@@ -55,10 +59,10 @@ module _ (t : List ℕ) (k : ℕ) (l : LaneRow) (hk : k < 64) where
   under-places f i h = omega (arith, place-length i h, f (i / 4) (omega arith) (i % 4) (omega arith))
 
 -- then each record's length is within
-pub noRec : Rec
+pub noRec : round.Rec
 noRec = record { mark = 0; len = 0 }
 
-pub lengths-all : (m : ℕ) (q : List Rec) → ((i : ℕ) → i < length q → (1 ≤ getD q i noRec .len) × (getD q i noRec .len ≤ m)) → Lengths m q
+pub lengths-all : (m : ℕ) (q : List round.Rec) → ((i : ℕ) → i < length q → (1 ≤ getD q i noRec .len) × (getD q i noRec .len ≤ m)) → Lengths m q
 lengths-all m [] f = tt
 lengths-all m (r ∷ rs) f = (f 0 (omega arith) .0, f 0 (omega arith) .1, lengths-all m rs (λ i h. f (suc i) (omega arith)))
 
@@ -77,75 +81,98 @@ unfolding slot
 slot-is l a = ap (λ (i : ℕ). 2 ^ i) (a .grouped)
 
 -- the row's clock word is that of the lane, whether it holds records or not
-times-of : (v : ℕ) (l : LaneRow) (q : List Rec) → length q ≡ l .count → RowAgrees l → TimeGood v l → Times v (timed (givenOf l) (l .time .0) q) (head q)
-unfolding timed
-times-of v l [] e a t = omega (arith, t .below, slot-is l a)
-times-of v l (r ∷ rs) e a t =
-    (refl, omega (arith, t .below, slot-is l a), subst (λ (s : ℕ). v < roundDown s (l .time .0) + 2 * s + margin (givenOf l .framing)) (slot-is l a) (t .above (omega arith)))
+module _ (v : ℕ) (l : LaneRow) (w : Waiting) (a : RowAgrees l) where
+  times-of : (o : Option Rec) → ((r : Rec) → o ≡ some r → 0 < l .count) → TimeGood v l → Times v (rules.timed (givenOf l) (l .time .0) w o) o
+  unfolding rules.timed
+  times-of none holds t = omega (arith, t .below, slot-is l a)
+  times-of (some r) holds t =
+      (refl, omega (arith, t .below, slot-is l a), subst (λ (s : ℕ). v < roundDown s (l .time .0) + 2 * s + margin (givenOf l .framing)) (slot-is l a) (t .above (holds r refl)))
 
-time-of : (v : ℕ) (l : LaneRow) (q : List Rec) → length q ≡ l .count → RowAgrees l → Times v (timed (givenOf l) (l .time .0) q) (head q) → TimeGood v l
-unfolding timed
-time-of v l [] e a t = record { below = omega (arith, t, slot-is l a); above = λ h. absurd (omega arith) }
-time-of v l (r ∷ rs) e a t =
-    record {
-      below = omega (arith, t .1, slot-is l a);
-      above = λ h. subst (λ (s : ℕ). v < roundDown s (l .time .0) + 2 * s + margin (givenOf l .framing)) (sym (slot-is l a)) (t .2);
-    }
+  time-of : (o : Option Rec) → (o ≡ none → l .count ≡ 0) → Times v (rules.timed (givenOf l) (l .time .0) w o) o → TimeGood v l
+  unfolding rules.timed
+  time-of none idle t = record { below = omega (arith, t, slot-is l a); above = λ h. absurd (omega (arith, idle refl)) }
+  time-of (some r) idle t =
+      record {
+        below = omega (arith, t .1, slot-is l a);
+        above = λ h. subst (λ (s : ℕ). v < roundDown s (l .time .0) + 2 * s + margin (givenOf l .framing)) (sym (slot-is l a)) (t .2);
+      }
 
--- ---- a lane in the setup, by its row and its queue, however a table keeps them
+-- ---- a lane in the setup, by its row and what waits in it, however a table keeps them
 
-module _ (v : ℕ) (row : LaneRow) (q : List Rec) (l : Lane) (is : l ≡ timed (givenOf row) (row .time .0) q) (size : length q ≡ row .count) where
+module _ (v : ℕ) (row : LaneRow) (w : Waiting) (l : Lane) (is : l ≡ timed (givenOf row) (row .time .0) w) (size : held w ≡ row .count) where
   given-is : l .given ≡ givenOf row
   given-is = ap (λ (l : Lane). l .given) is ∙ timed-given _ _ _
 
-  waiting-is : l .waiting ≡ plain q
+  waiting-is : l .waiting ≡ w
   waiting-is = ap (λ (l : Lane). l .waiting) is ∙ timed-waiting _ _ _
 
-  pub fine-made : RowAgrees row → row .count ≤ laneDepth → TimeGood v row → Lengths (row .longest .0) q → LaneFine v row l
-  unfolding GoodWaiting
-  fine-made a r t f =
+  pub fine-made : RowAgrees row → GoodWaiting (row .longest .0) w → TimeGood v row → LaneFine v row l
+  unfolding timed
+  fine-made a g t =
       record {
         agrees = a;
-        waiting = rw (given-is, waiting-is) (omega (arith, size), f);
-        numbers = subst (λ (l : Lane). Times v l (firstOf l)) (sym is) (subst (Times v (timed (givenOf row) (row .time .0) q)) (sym (ap first (timed-waiting _ _ _))) (times-of v row q size a t));
+        waiting = rw (given-is, waiting-is) g;
+        counted = ap held waiting-is ∙ size;
+        numbers = subst (λ (l : Lane). Times v l (firstOf l)) (sym is)
+            (subst (Times v (timed (givenOf row) (row .time .0) w)) (sym (ap first (timed-waiting _ _ _))) (times-of v row w a (first w) (λ r e. omega (arith, held-hand (row .longest .0) w r g e, size)) t));
       }
 
   module _ (g : LaneFine v row l) where
-    parts : (length q ≤ laneDepth) × Lengths (givenOf row .longest) q
-    unfolding GoodWaiting
-    parts = rw (given-is, waiting-is) at (g .waiting)
+    pub fine-waiting : GoodWaiting (row .longest .0) w
+    fine-waiting = rw (given-is, waiting-is) at (g .waiting)
 
     pub fine-room : row .count ≤ laneDepth
-    fine-room = omega (arith, parts .0, size)
-
-    pub fine-lengths : Lengths (row .longest .0) q
-    fine-lengths = parts .1
+    fine-room = omega (arith, held-most (row .longest .0) w fine-waiting, size)
 
     pub fine-time : TimeGood v row
-    fine-time = time-of v row q size (g .agrees) (subst (Times v (timed (givenOf row) (row .time .0) q)) (ap first (timed-waiting _ _ _)) (subst (λ (l : Lane). Times v l (firstOf l)) is (g .numbers)))
+    unfolding timed
+    fine-time =
+        time-of v row w (g .agrees) (first w) (λ e. sym size ∙ held-none (row .longest .0) w fine-waiting e)
+        (subst (Times v (timed (givenOf row) (row .time .0) w)) (ap first (timed-waiting _ _ _)) (subst (λ (l : Lane). Times v l (firstOf l)) is (g .numbers)))
 
 -- ---- in this layout
+
+module _ (w : List ℕ) (k : ℕ) (l : LaneRow) where
+  within : (n : ℕ) → (0 < n → PlacesFit w k l) → Lengths (l .longest .0) (ringOf w k (l .head) n)
+  unfolding ringOf tab tabFrom
+  within zero f = tt
+  within (suc n) f = ring-lengths w k (l .head) (suc n) l (f (omega arith))
+
+  housed-made : PlacesFit w k l → (l .shared ≡ true → TrainsGood w k l) → Housed w k l
+  housed-made f s = record { places = f; trains = λ e. s e .fit }
+
+  waiting-good : l .count ≤ laneDepth → (0 < l .count → PlacesFit w k l) → (0 < l .count → l .shared ≡ true → TrainsGood w k l) → GoodWaiting (l .longest .0) (waitingOf w k l)
+  unfolding GoodWaiting
+  waiting-good r f s = go (l .shared) (l .count) refl refl
+    where
+      go : (b : Bool) (n : ℕ) → l .shared ≡ b → l .count ≡ n → GoodWaiting (l .longest .0) (waitingOf w k l)
+      go false n e q = rw (waiting-plain w k l e) (omega (arith, length-ring w k (l .head) (l .count)), within (l .count) f)
+      go true zero e q = rw (waiting-none w k l q) (good-nothing (l .longest .0) (l .shared))
+      go true (suc n) e q = rw (waiting-shared w k l e (omega arith)) (s (omega arith) e .lane)
 
 module _ (v : ℕ) (w : List ℕ) (k : ℕ) (p : presentAt w k ≡ true) where
   abbrev row : LaneRow
   row = rowAt w k
 
-  abbrev ring : List Rec
-  ring = ringOf w k (row .head) (row .count)
+  pub lane-made : RowAgrees row → row .count ≤ laneDepth → TimeGood v row → (0 < row .count → PlacesFit w k row) → (0 < row .count → row .shared ≡ true → TrainsGood w k row) → LaneGood v w k
+  lane-made a r t f s =
+      let housed : 0 < row .count → Housed w k row = λ h. housed-made w k row (f h) (s h) in
+      record { fine = fine-made v row (waitingOf w k row) _ (lane-present w k p) (waiting-held w k row housed) a (waiting-good w k row r f s) t; housed = housed }
 
-  within : (n : ℕ) → (0 < n → PlacesFit w k row) → Lengths (row .longest .0) (ringOf w k (row .head) n)
-  unfolding ringOf tab tabFrom
-  within zero f = tt
-  within (suc n) f = ring-lengths w k (row .head) (suc n) row (f (omega arith))
+  module _ (g : LaneGood v w k) where
+    pub lane-room : row .count ≤ laneDepth
+    lane-room = fine-room v row (waitingOf w k row) _ (lane-present w k p) (waiting-held w k row (g .housed)) (g .fine)
 
-  pub lane-made : RowAgrees row → row .count ≤ laneDepth → TimeGood v row → (0 < row .count → PlacesFit w k row) → LaneGood v w k
-  lane-made a r t f = record { fine = fine-made v row ring _ (lane-present w k p) (length-ring w k (row .head) (row .count)) a r t (within (row .count) f); places = f }
+    pub lane-time : TimeGood v row
+    lane-time = fine-time v row (waitingOf w k row) _ (lane-present w k p) (waiting-held w k row (g .housed)) (g .fine)
 
-  pub lane-room : LaneGood v w k → row .count ≤ laneDepth
-  lane-room g = fine-room v row ring _ (lane-present w k p) (length-ring w k (row .head) (row .count)) (g .fine)
-
-  pub lane-time : LaneGood v w k → TimeGood v row
-  lane-time g = fine-time v row ring _ (lane-present w k p) (length-ring w k (row .head) (row .count)) (g .fine)
+    pub lane-trains : 0 < row .count → row .shared ≡ true → TrainsGood w k row
+    unfolding GoodWaiting
+    lane-trains h e =
+        record {
+          lane = subst (GoodWaiting (row .longest .0)) (waiting-shared w k row e h) (fine-waiting v row (waitingOf w k row) _ (lane-present w k p) (waiting-held w k row (g .housed)) (g .fine));
+          fit = g .housed h .trains e;
+        }
 
 -- ---- the test's own answers
 

@@ -1,4 +1,4 @@
-// The good-table test of one lane: document 01, "A good table".
+// The good-table test of one lane (R6.4, R6.6, R6.7, R6.10).
 //
 // Each function answers true exactly if the statement in its contract holds (`Says`). No call divides: c is tested by the two bounds that only it
 // meets, the group by equality with the least power, and R is found by shifting. An idle lane has no record to look at.
@@ -10,13 +10,17 @@ ghost use Rattle.rules.specs.State.{group, laneDepth};
 ghost use Rattle.table.specs.Layout.{Room, cells, rowAt};
 ghost use Rattle.digits.specs.Under.{Clear};
 ghost use Rattle.table.specs.Means.{RowAgrees, PlacesFit, givenOf, presentAt};
-ghost use Rattle.lane_test.specs.Says.{Says, TimeGood, LaneGood};
+ghost use Rattle.lane_test.specs.Says.{Says, TimeGood, TrainsGood, LaneGood};
 use digits::gather;
+use round_test::shared_good;
 use table::DEPTH;
 use table::LENGTH_WORDS;
 use table::LENGTHS;
 use table::LaneRow;
+use table::TRAIN_NUMBERS;
+use table::TRAIN_WORDS;
 use table::charged;
+use table::round;
 use units::Bytes;
 use units::Clock;
 use units::RATE_OF_WEIGHT_ONE;
@@ -56,7 +60,7 @@ fn rate_good(l: LaneRow) -> bool
     true
 }
 
-// Whether the group is the least i with 2^i at least c times what the longest record is charged for.
+// Whether the group is that of R1.10.
 fn group_good(l: LaneRow) -> bool
     requires { ⌜ (64 ≤ l .longest .0) × (l .longest .0 ≤ 1500) × (l .rate .0 ≡ perByte (l .weight)) × (1 ≤ l .weight) × (l .weight ≤ 1024) × (l .framing .0 ≤ 64) ⌝ }
     ensures { λ r. ⌜ Says r (l .group ≡ group (givenOf l)) ⌝ }
@@ -143,6 +147,22 @@ fn places_good(t: &[u8], k: usize, l: LaneRow) -> bool
     no_top(gather(t, LENGTHS + LENGTH_WORDS * k, l.longest.0))
 }
 
+// Whether the trains and the round of lane `k`, a shared one that holds records, are good, and its row counts their records.
+fn trains_good(t: &[u8], k: usize, l: LaneRow) -> bool
+    requires { ⌜ Room (now t) × (k < 64) × (0 < l .longest .0) × (l .longest .0 ≤ 2 ^ 15) × PlacesFit (cells (now t)) k l ⌝ }
+    ensures { λ r. ⌜ Says r (TrainsGood (cells (now (t .entry))) k l) ⌝ }
+{
+    let round = round(t, k);
+    shared_good(
+        t,
+        2 * (TRAIN_NUMBERS + TRAIN_WORDS * k),
+        4 * (LENGTHS + LENGTH_WORDS * k),
+        round,
+        l.longest.0,
+        l.count,
+    )
+}
+
 // Whether lane `k`, which is in the setup and has the row `l`, is good. The line's framing bytes are the whole table's, tested before its lanes.
 pub fn lane_good(t: &[u8], k: usize, l: LaneRow, v: Clock) -> bool
     requires { ⌜ Room (now t) × (k < 64) × (presentAt (cells (now t)) k ≡ true) × (l ≡ rowAt (cells (now t)) k) × (l .head < laneDepth) × (l .rate .0 < 2 ^ 24) × (v .0 < 2 ^ 63) × (l .framing .0 ≤ 64) ⌝ }
@@ -166,5 +186,8 @@ pub fn lane_good(t: &[u8], k: usize, l: LaneRow, v: Clock) -> bool
     if !places {
         return false;
     }
-    true
+    if !l.shared {
+        return true;
+    }
+    trains_good(t, k, l)
 }

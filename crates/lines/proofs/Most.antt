@@ -2,6 +2,7 @@
 use Prim.Native.Nat.{ℕ, _+_, _^_, _≤_, _<_}
 use native.Mathlib.Omega.{arith}
 use mathlib.Core.Path.{_≡_}
+use mathlib.Core.Bool.{Bool, true, false}
 use mathlib.Core.List.{List, [], _∷_}
 use mathlib.Core.Option.{Option, none, some}
 use lib.ListN.{length, length-append}
@@ -10,7 +11,7 @@ use Rattle.text.proofs.Widths.{length-decimal, width-le}
 use Rattle.text.proofs.Signed.{signed-most}
 use Rattle.rules.specs.Calls.{Reply, accepted, taken, seen, words, lagged, restarted, refused}
 use Rattle.lines.proofs.Writing.{line-long}
-use Rattle.lines.specs.Line.{spaced, line, putOk, takeWord, lookWord, setsWord, noWord, noLine, lineOf, Short}
+use Rattle.lines.specs.Line.{spaced, line, putOk, takeWord, lookWord, setsWord, noWord, recordLine, noLine, lineOf, Short}
 
 -- a number below 10 ^ k has at most k digits
 written : (n k : ℕ) → 0 < k → n < 10 ^ k → length (decimal n) ≤ k
@@ -33,10 +34,19 @@ more n ns k h = omega (arith, length-append (32 ∷ decimal n) (spaced ns))
 ended : (word ns : List ℕ) → length (line word ns) ≡ length word + length (spaced ns) + 1
 ended word ns = omega (arith, length-append (spaced ns) (10 ∷ []), line-long word ns)
 
-pub record-most : (word : List ℕ) (l m n : ℕ) → length word ≤ 10 → Short (taken l m n) → length (line word (l ∷ m ∷ n ∷ [])) ≤ 64
+pub record-most : (word : List ℕ) (shared : Bool) (l t m n : ℕ) → length word ≤ 10 → Short (taken l t m n) → length (recordLine word shared l t m n) ≤ 64
 unfolding spaced
-record-most word l m n e h =
-    omega (arith, ended word (l ∷ m ∷ n ∷ []), more l (m ∷ n ∷ []) 3 (byte l (h .0)), more m (n ∷ []) 10 (half m (h .1)), more n [] 20 (full n (h .2)))
+record-most word false l t m n e h =
+    omega (arith, ended word (l ∷ m ∷ n ∷ []), more l (m ∷ n ∷ []) 3 (byte l (h .0)), more m (n ∷ []) 10 (half m (h .2)), more n [] 20 (full n (h .3)))
+record-most word true l t m n e h =
+    omega (
+      arith,
+      ended word (l ∷ m ∷ n ∷ t ∷ []),
+      more l (m ∷ n ∷ t ∷ []) 3 (byte l (h .0)),
+      more m (n ∷ t ∷ []) 10 (half m (h .2)),
+      more n (t ∷ []) 20 (full n (h .3)),
+      more t [] 3 (byte t (h .1)),
+    )
 
 pub one-most : (word : List ℕ) (n : ℕ) → length word ≤ 10 → n < 2 ^ 64 → length (line word (n ∷ [])) ≤ 64
 unfolding spaced
@@ -49,12 +59,12 @@ no-most n (some p) h =
     omega (arith, ended noWord (n ∷ p ∷ []), more n (p ∷ []) 3 (byte n (h .0)), more p [] 20 (full p (h .1)))
 
 -- the line of a reply
-pub line-most : (r : Reply) → Short r → length (lineOf r) ≤ 64
+pub line-most : (shared : Bool) (r : Reply) → Short r → length (lineOf shared r) ≤ 64
 unfolding spaced
-line-most (accepted n) h = one-most putOk n (omega arith) h
-line-most (taken l m n) h = record-most takeWord l m n (omega arith) h
-line-most (seen l m n) h = record-most lookWord l m n (omega arith) h
-line-most (words er ir eb ib) h =
+line-most shared (accepted n) h = one-most putOk n (omega arith) h
+line-most shared (taken l t m n) h = record-most takeWord shared l t m n (omega arith) h
+line-most shared (seen l t m n) h = record-most lookWord shared l t m n (omega arith) h
+line-most shared (words er ir eb ib) h =
     omega (
       arith,
       ended setsWord (er ∷ ir ∷ eb ∷ ib ∷ []),
@@ -63,6 +73,6 @@ line-most (words er ir eb ib) h =
       more eb (ib ∷ []) 10 (half eb (h .2)),
       more ib [] 10 (half ib (h .3)),
     )
-line-most (lagged z) h = omega (arith, length-append (signed z) (10 ∷ []), signed-most z h)
-line-most restarted h = omega arith
-line-most (refused n p) h = no-most n p h
+line-most shared (lagged z) h = omega (arith, length-append (signed z) (10 ∷ []), signed-most z h)
+line-most shared restarted h = omega arith
+line-most shared (refused n p) h = no-most n p h

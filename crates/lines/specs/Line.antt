@@ -1,18 +1,20 @@
--- The answer lines of a session (document 01, "A session in full"), as ASCII bytes. "Output, each line ended by a line feed."
+-- The answer lines of a session (R10.12), as ASCII bytes.
 --
 --   spaced      numbers, each after a space
 --   line        a word, numbers, and the line feed
---   lineOf      the line of a reply
+--   recordLine  a record's line: of a shared lane it ends with the train
+--   lineOf      the line of a reply; the flag says whether the lane of a record is shared
 --   lanesLine   `lanes N`, once the setup is read
 --   endLine     `end N`, the last line
 --   Words32     the four words have 32 bits, as those of a good state do
 --   Short       what a reply's line needs to be within 64 bytes: the types' own bounds, and Words32
 --   Wrote       what a function leaves that writes some text at a place
---   Line        the same of a line, which has at most 64 bytes
+--   Line        R10.14: the same of a line, which has at most 64 bytes
 --
 -- Assumes nothing.
 use Prim.Native.Nat.{ℕ, _+_, _^_, _≤_, _<_}
 use mathlib.Core.Path.{_≡_}
+use mathlib.Core.Bool.{Bool, true, false}
 use mathlib.Core.List.{List, [], _∷_, _++_}
 use mathlib.Core.Option.{Option, none, some}
 use lib.IntN.{ℤ}
@@ -74,30 +76,35 @@ endWord = 101 ∷ 110 ∷ 100 ∷ []
 
 -- ---- the lines
 
--- "no R", "no R PLACE"
+-- R10.12: `no NUMBER`, `no NUMBER PLACE`
 abbrev pub noLine : ℕ → Option ℕ → List ℕ
 noLine n none = line noWord (n ∷ [])
 noLine n (some p) = line noWord (n ∷ p ∷ [])
 
--- "lag N (minus sign below zero)"
+-- R10.12: `lag N`, the one line with a sign
 abbrev pub lagLine : ℤ → List ℕ
 lagLine z = lagWord ++ (signed z ++ (10 ∷ []))
 
--- "put ok N", "take L M N", "look L M N", "sets A B C D", "lag N", "restart ok"
-abbrev pub lineOf : Reply → List ℕ
-lineOf (accepted n) = line putOk (n ∷ [])
-lineOf (taken l m n) = line takeWord (l ∷ m ∷ n ∷ [])
-lineOf (seen l m n) = line lookWord (l ∷ m ∷ n ∷ [])
-lineOf (words er ir eb ib) = line setsWord (er ∷ ir ∷ eb ∷ ib ∷ [])
-lineOf (lagged z) = lagLine z
-lineOf restarted = line restartOk []
-lineOf (refused n p) = noLine n p
+-- a word and a record: lane, mark, length; and the train where the lane is shared
+abbrev pub recordLine : List ℕ → Bool → ℕ → ℕ → ℕ → ℕ → List ℕ
+recordLine word false l t m n = line word (l ∷ m ∷ n ∷ [])
+recordLine word true l t m n = line word (l ∷ m ∷ n ∷ t ∷ [])
 
--- "lanes N"
+-- R10.12: a line for each case of a reply
+abbrev pub lineOf : Bool → Reply → List ℕ
+lineOf shared (accepted n) = line putOk (n ∷ [])
+lineOf shared (taken l t m n) = recordLine takeWord shared l t m n
+lineOf shared (seen l t m n) = recordLine lookWord shared l t m n
+lineOf shared (words er ir eb ib) = line setsWord (er ∷ ir ∷ eb ∷ ib ∷ [])
+lineOf shared (lagged z) = lagLine z
+lineOf shared restarted = line restartOk []
+lineOf shared (refused n p) = noLine n p
+
+-- R10.12: `lanes N`
 abbrev pub lanesLine : ℕ → List ℕ
 lanesLine n = line lanesWord (n ∷ [])
 
--- "end N"
+-- R10.12: `end N`
 abbrev pub endLine : ℕ → List ℕ
 endLine n = line endWord (n ∷ [])
 
@@ -109,8 +116,8 @@ ShortPlace (some p) = p < 2 ^ 64
 
 abbrev pub Words32 : Reply → Type 0
 Words32 (accepted n) = Unit
-Words32 (taken l m n) = Unit
-Words32 (seen l m n) = Unit
+Words32 (taken l t m n) = Unit
+Words32 (seen l t m n) = Unit
 Words32 (words er ir eb ib) = (er < 2 ^ 32) × (ir < 2 ^ 32) × (eb < 2 ^ 32) × (ib < 2 ^ 32)
 Words32 (lagged z) = Unit
 Words32 restarted = Unit
@@ -118,8 +125,8 @@ Words32 (refused n p) = Unit
 
 abbrev pub Short : Reply → Type 0
 Short (accepted n) = n < 2 ^ 64
-Short (taken l m n) = (l < 2 ^ 8) × (m < 2 ^ 32) × (n < 2 ^ 64)
-Short (seen l m n) = (l < 2 ^ 8) × (m < 2 ^ 32) × (n < 2 ^ 64)
+Short (taken l t m n) = (l < 2 ^ 8) × (t < 2 ^ 8) × (m < 2 ^ 32) × (n < 2 ^ 64)
+Short (seen l t m n) = (l < 2 ^ 8) × (t < 2 ^ 8) × (m < 2 ^ 32) × (n < 2 ^ 64)
 Short (words er ir eb ib) = Words32 (words er ir eb ib)
 Short (lagged z) = SFits w64 z
 Short restarted = Unit

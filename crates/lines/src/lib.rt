@@ -1,4 +1,4 @@
-// The answer lines of a session into lent bytes: document 01, "A session in full".
+// The answer lines of a session (R10.12) into lent bytes.
 //
 // specs/Line.antt has each line as a definition, and proofs/Most.antt the law that none is longer than 64 bytes, from which 17's figure follows. Each
 // function writes its line at a place and answers the place behind it. These are inner functions: each requires 64 bytes there.
@@ -9,7 +9,7 @@ ghost use lib.ListN.{length};
 ghost use Rattle.text.specs.Decimal.{decimal};
 ghost use Rattle.rules.specs.Calls.{words};
 ghost use Rattle.rules.specs.Reads.{number, placeOf, reads};
-ghost use Rattle.lines.specs.Line.{placeIs, line, setsWord, lagLine, noLine, lineOf, lanesLine, endLine, Words32, Wrote, Line};
+ghost use Rattle.lines.specs.Line.{placeIs, line, recordLine, setsWord, lagLine, noLine, lineOf, lanesLine, endLine, Words32, Wrote, Line};
 use rules::Answer;
 use rules::Record;
 use rules::Refusal;
@@ -55,12 +55,16 @@ fn put_one(a: &mut [u8], at: usize, word: &[u8], n: u64) -> usize
     put_line(a, at, word, &ns)
 }
 
-// `take L M N` and `look L M N`.
-fn put_record(a: &mut [u8], at: usize, word: &[u8], x: Record) -> usize
+// `take L M N` and `look L M N`, of a shared lane with the train behind.
+fn put_record(a: &mut [u8], at: usize, word: &[u8], x: Record, shared: bool) -> usize
     requires { ⌜ (length (now word) ≤ 10) × (at + 64 ≤ length (now a)) ⌝ }
-    ensures { λ r. ⌜ Line (now (a .entry)) (now (a .exit)) at (line (now (word .entry)) (x .lane ∷ x .mark ∷ x .length .0 ∷ [])) r ⌝ }
+    ensures { λ r. ⌜ Line (now (a .entry)) (now (a .exit)) at (recordLine (now (word .entry)) shared (x .lane) (x .train) (x .mark) (x .length .0)) r ⌝ }
 {
     let n = x.length;
+    if shared {
+        let ns = [x.lane as u64, x.mark as u64, n.0, x.train as u64];
+        return put_line(a, at, word, &ns);
+    }
     let ns = [x.lane as u64, x.mark as u64, n.0];
     put_line(a, at, word, &ns)
 }
@@ -85,7 +89,7 @@ fn put_lag(a: &mut [u8], at: usize, z: i64) -> usize
     p + 1
 }
 
-// A refusal's place, where document 01's list has one.
+// A refusal's place, where R14 has one.
 pub enum Place {
     At(usize),
     Nowhere,
@@ -118,6 +122,8 @@ pub fn number(x: Refusal) -> u64
         Refusal::WrongByte(_) => 80,
         Refusal::SheetCut(_) => 81,
         Refusal::NoSheet => 82,
+        Refusal::NoTrain => 70,
+        Refusal::TrainFull => 71,
     }
 }
 
@@ -147,6 +153,8 @@ pub fn place_of(x: Refusal) -> Place
         Refusal::WrongByte(p) => Place::At(p),
         Refusal::SheetCut(p) => Place::At(p),
         Refusal::NoSheet => Place::Nowhere,
+        Refusal::NoTrain => Place::Nowhere,
+        Refusal::TrainFull => Place::Nowhere,
     }
 }
 
@@ -181,15 +189,15 @@ pub fn put_end(a: &mut [u8], at: usize, n: u64) -> usize
     put_one(a, at, b"end", n)
 }
 
-// The line of an answer.
-pub fn put_answer(a: &mut [u8], at: usize, x: Answer) -> usize
+// The line of an answer; `shared` says whether the lane of a record that was taken or looked at is.
+pub fn put_answer(a: &mut [u8], at: usize, x: Answer, shared: bool) -> usize
     requires { ⌜ Words32 (reads x) × (at + 64 ≤ length (now a)) ⌝ }
-    ensures { λ r. ⌜ Line (now (a .entry)) (now (a .exit)) at (lineOf (reads x)) r ⌝ }
+    ensures { λ r. ⌜ Line (now (a .entry)) (now (a .exit)) at (lineOf shared (reads x)) r ⌝ }
 {
     match x {
         Answer::Accepted(n) => put_one(a, at, b"put ok", n),
-        Answer::Taken(r) => put_record(a, at, b"take", r),
-        Answer::Seen(r) => put_record(a, at, b"look", r),
+        Answer::Taken(r) => put_record(a, at, b"take", r, shared),
+        Answer::Seen(r) => put_record(a, at, b"look", r, shared),
         Answer::Sets(w) => put_sets(a, at, w),
         Answer::Lag(z) => put_lag(a, at, z),
         Answer::Restarted => put_line(a, at, b"restart ok", &[]),

@@ -17,7 +17,7 @@ use Rattle.plan.specs.Examples.{twoLanes}
 use Rattle.table.specs.Means.{meant}
 use Rattle.scheduler.specs.Demands.{callsOf, AsRuled}
 use Rattle.scheduler.proofs.Demands.{as-ruled}
-use Rattle.marked.specs.Marked.{setting, alone, acceptedTo, Given, toThird, toThirdReplies, full, Marked}
+use Rattle.marked.specs.Marked.{setting, sharedSetting, alone, acceptedTo, Given, toThird, toThirdReplies, full, turns, turnsReplies, Marked}
 
 abbrev replies : List Event → List Reply
 replies es = map (λ (e : Event). e .reply) es
@@ -47,18 +47,20 @@ marked =
           (λ rs v ls. (rs ≡ toThirdReplies) × (v ≡ 2560000) × ((getD ls 0 noLane) .finish ≡ 3072000) × ((getD ls 1 noLane) .finish ≡ 4096000))
           (refl, refl, refl, refl);
       m2 =
-          given (twoLanes 512 256 1500) (toThird ++ (put 0 4 100 ∷ lag 0 ∷ []))
+          given (twoLanes 512 256 1500) (toThird ++ (put 0 0 4 100 ∷ lag 0 ∷ []))
           (λ rs v ls. (rs ≡ toThirdReplies ++ (accepted 0 ∷ lagged (subℕ 0 512000) ∷ [])) × (v ≡ 2560000) × ((getD ls 0 noLane) .start ≡ 3072000) × ((getD ls 0 noLane) .finish ≡ 3276800))
           (refl, refl, refl, refl);
       m3 = (refl, refl, refl);
       light = refl;
       m4 = (
-        given (alone (setting 1 64)) (put 0 1 64 ∷ take ∷ []) (λ rs v ls. v ≡ 65536) refl,
-        given (alone (setting 1 64)) (put 0 1 64 ∷ take ∷ put 0 2 64 ∷ []) (λ rs v ls. v ≡ 67108864) refl,
+        given (alone (setting 1 64)) (put 0 0 1 64 ∷ take ∷ []) (λ rs v ls. v ≡ 65536) refl,
+        given (alone (setting 1 64)) (put 0 0 1 64 ∷ take ∷ put 0 0 2 64 ∷ []) (λ rs v ls. v ≡ 67108864) refl,
       );
       m5 = (refl, refl);
       m6 = refl;
       lone = refl;
-      m7 = given (alone (setting 512 1500)) full (λ rs v ls. rs ≡ acceptedTo 64 ++ (refused 13 none ∷ taken 0 7 1000 ∷ accepted 63 ∷ [])) refl;
+      m7 = given (alone (setting 512 1500)) full (λ rs v ls. rs ≡ acceptedTo 64 ++ (refused 13 none ∷ taken 0 0 7 1000 ∷ accepted 63 ∷ [])) refl;
       m8 = (refl, refl);
+      junction = refl;
+      trains = given (alone (sharedSetting 512 100)) turns (λ rs v ls. rs ≡ turnsReplies) refl;
     }

@@ -6,7 +6,7 @@ use native.Mathlib.Omega.{arith}
 use lib.ListN.{length, getD}
 use Rattle.words.proofs.Runs.{getD-tab}
 use Rattle.waiting.specs.Waiting.{Lengths}
-use Rattle.rules.specs.State.{Rec}
+use Rattle.rounds.specs.Round.{Rec}
 use Rattle.table.specs.Means.{recOf}
 use Rattle.lane_test.proofs.Lane.{noRec, lengths-all}
 use Rattle.old_table.specs.Old.{oldEntryAt, oldRing}

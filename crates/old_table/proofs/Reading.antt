@@ -6,7 +6,9 @@ use mathlib.Core.List.{List}
 use lib.ListN.{length, getD}
 use Rattle.words.specs.Runs.{tab}
 use Rattle.words.proofs.Runs.{length-tab}
-use Rattle.rules.specs.State.{Rec, noLane}
+use Rattle.rounds.specs.Round.{Rec}
+use Rattle.waiting.specs.Waiting.{plain, isShared}
+use Rattle.rules.specs.State.{noLane}
 use Rattle.rules.specs.Older.{oldDepth}
 use Rattle.table.specs.Layout.{cells, framingWord, laneWord, rowAt}
 use Rattle.table.specs.Means.{presentAt, recOf, givenOf, timed}
@@ -19,19 +21,14 @@ use Rattle.old_table.specs.Old.{oldRowAt, oldPlace, oldEntryAt, oldRing,
 
 -- ---- a row and a record, as the code takes them apart
 
-pub row-read : (w : List ℕ) (k ring : ℕ) (l : LaneRow) → l ≡ rowAt w k → ring ≡ getD w (laneWord k + 2) 0
-    → record { longest = l .longest; framing = l .framing; weight = l .weight; group = l .group; rate = l .rate; time = l .time; head = ring % oldDepth; count = ring / oldDepth } ≡ oldRowAt w k
+pub row-read : (w : List ℕ) (k setting ring : ℕ) (l : LaneRow) → l ≡ rowAt w k → setting ≡ getD w (laneWord k) 0 → ring ≡ getD w (laneWord k + 2) 0
+    → record { longest = l .longest; framing = l .framing; weight = l .weight; group = l .group; rate = record { 0 = setting / 2 ^ 40 }; shared = false; time = l .time; head = ring % oldDepth; count = ring / oldDepth } ≡ oldRowAt w k
 unfolding oldRowAt
-row-read w k ring l e f = rw (e, f)
+row-read w k setting ring l e s f = rw (e, s, f)
 
 pub entry-read : (w : List ℕ) (k i x : ℕ) → x ≡ getD w (oldPlace k i) 0 → record { mark = x % 2 ^ 32; length = record { 0 = x / 2 ^ 32 } } ≡ oldEntryAt w k i
 unfolding oldEntryAt
 entry-read w k i x e = rw e
-
--- a row's rate is today's
-pub row-rate : (w : List ℕ) (k : ℕ) → oldRowAt w k .rate ≡ rowAt w k .rate
-unfolding oldRowAt
-row-rate w k = refl
 
 pub old-framing : (w : List ℕ) (k : ℕ) → oldRowAt w k .framing .0 ≡ getD w framingWord 0
 unfolding oldRowAt
@@ -43,7 +40,7 @@ pub length-queue : (w : List ℕ) (k h n : ℕ) → length (oldRing w k h n) ≡
 unfolding oldRing
 length-queue w k h n = length-tab n _
 
-pub old-present : (w : List ℕ) (k : ℕ) → presentAt w k ≡ true → oldLane w k ≡ timed (givenOf (oldRowAt w k)) (oldRowAt w k .time .0) (oldQueue w k)
+pub old-present : (w : List ℕ) (k : ℕ) → presentAt w k ≡ true → oldLane w k ≡ timed (givenOf (oldRowAt w k)) (oldRowAt w k .time .0) (plain (oldQueue w k))
 unfolding oldLane
 old-present w k p = rw p
 
@@ -59,15 +56,19 @@ pub old-time : (w : List ℕ) (k : ℕ) → oldRowAt w k .time .0 ≡ rowAt w k 
 unfolding oldRowAt
 old-time w k = refl
 
+pub old-kind : (w : List ℕ) (k : ℕ) → isShared (plain (oldQueue w k)) ≡ oldRowAt w k .shared
+unfolding isShared oldRowAt
+old-kind w k = refl
+
 -- how an old table keeps its lanes
 abbrev pub old : (w : List ℕ) → Kept w
 old w = record {
   row = oldRowAt w;
-  queue = oldQueue w;
+  waiting = λ k. plain (oldQueue w k);
   lane = oldLane w;
   present = old-present w;
   absent = old-absent w;
-  size = λ k. length-queue w k (oldRowAt w k .head) (oldRowAt w k .count);
+  kind = old-kind w;
   framed = old-framing w;
   group = old-group w;
   time = old-time w;

@@ -5,14 +5,14 @@ use Prim.Native.Nat.{ℕ, _≤_, _<_}
 use mathlib.Core.List.{List}
 use native.Mathlib.Omega.{arith}
 use lib.ListN.{length, getD}
-use Rattle.waiting.specs.Waiting.{Lengths, held}
+use Rattle.waiting.specs.Waiting.{Waiting, plain, Lengths, GoodWaiting, held}
 use Rattle.rules.specs.State.{Lane, noLane}
 use Rattle.rules.specs.Older.{oldDepth, oldEdge}
 use Rattle.table.specs.Layout.{cells, clockWord, framingWord}
 use Rattle.table.specs.Means.{presentAt, RowAgrees}
 use Rattle.lists_test.specs.Stored.{Stored}
 use Rattle.lane_test.specs.Says.{TimeGood, LaneFine}
-use Rattle.lane_test.proofs.Lane.{fine-made, fine-lengths, fine-time}
+use Rattle.lane_test.proofs.Lane.{fine-made, fine-waiting, fine-time}
 use Rattle.good.specs.Pass.{FoundSays}
 use Rattle.good.specs.declared.Found.{Found}
 use Rattle.good.proofs.Kept.{waiting-kept}
@@ -24,17 +24,26 @@ use Rattle.old_table.proofs.Reading.{old, old-means, length-queue}
 -- ---- a lane
 
 module _ (v : ℕ) (w : List ℕ) (k : ℕ) (p : presentAt w k ≡ true) where
-  size : length (oldQueue w k) ≡ oldRowAt w k .count
+  abbrev queue : Waiting
+  queue = plain (oldQueue w k)
+
+  size : held queue ≡ oldRowAt w k .count
+  unfolding held
   size = length-queue w k (oldRowAt w k .head) (oldRowAt w k .count)
 
+  queue-good : oldRowAt w k .count ≤ oldDepth → Lengths (oldRowAt w k .longest .0) (oldQueue w k) → GoodWaiting (oldRowAt w k .longest .0) queue
+  unfolding GoodWaiting
+  queue-good r f = (omega (arith, length-queue w k (oldRowAt w k .head) (oldRowAt w k .count)), f)
+
   pub lane-made : RowAgrees (oldRowAt w k) → oldRowAt w k .count ≤ oldDepth → TimeGood v (oldRowAt w k) → Lengths (oldRowAt w k .longest .0) (oldQueue w k) → OldLaneGood v w k
-  lane-made a r t f = record { fine = fine-made v _ _ _ (old w .present k p) size a (omega arith) t f; room = r }
+  lane-made a r t f = record { fine = fine-made v _ queue _ (old w .present k p) size a (queue-good r f) t; room = r }
 
   pub lane-lengths : OldLaneGood v w k → Lengths (oldRowAt w k .longest .0) (oldQueue w k)
-  lane-lengths g = fine-lengths v _ _ _ (old w .present k p) size (g .fine)
+  unfolding GoodWaiting
+  lane-lengths g = fine-waiting v _ queue _ (old w .present k p) size (g .fine) .1
 
   pub lane-time : OldLaneGood v w k → TimeGood v (oldRowAt w k)
-  lane-time g = fine-time v _ _ _ (old w .present k p) size (g .fine)
+  lane-time g = fine-time v _ queue _ (old w .present k p) size (g .fine)
 
 -- ---- the table
 
@@ -52,7 +61,7 @@ held-none = omega arith
 
 module _ (t : List ℕ) where
   told : OldTable t → Told t (oldRowAt (cells t)) (oldMeant t)
-  told g = record { good = g .good .good; rows = g .agrees .rows; solid = g .agrees .solid; agrees = g .agrees .lists }
+  told g = record { good = g .good .good; rows = g .agrees .rows; counted = λ k h p. ap (λ (l : Lane). held (l .waiting)) (lane-of t (old (cells t)) (oldMeant t) (old-means t) k h) ∙ held-is (cells t) k p; solid = g .agrees .solid; agrees = g .agrees .lists }
 
   module _ (v : ℕ) (f : Found) (clock : v ≡ getD (cells t) clockWord 0) (s : FoundSays v (cells t) (oldLane (cells t)) (OldLaneGood v (cells t)) 64 f) where
     pub whole-old : oldSize ≤ length t → v < oldEdge → getD (cells t) framingWord 0 ≤ 64

@@ -1,9 +1,9 @@
 // Tables made while a lane had room for 16 records: how they are read, and their good-table test. Nothing here writes.
 //
-// The layout is that of docs/TABLE.md as it stood before document 02, g: 45,056 bytes. It differs from today's in the rows' ring word, which counts by
-// 16, in the records, one word each, and in that there is no depth number. All else stands where it stands today, and is read and tested by the same
-// functions. The test asks nothing of the bytes: for every slice it answers true exactly if they are a good table of that time (`OldTable`,
-// specs/Old.antt).
+// The layout is that of docs/TABLE.md as it stood then (docs/RULES.md, R7): 45,056 bytes. It differs from today's in the rows' ring word, which counts by
+// 16, in the records, one word each, in that there is no depth number, and in that no lane is shared, so c has the top bit of the setting word too. All
+// else stands where it stands today, and is read and tested by the same functions. The test asks nothing of the bytes: for every slice it answers true
+// exactly if they are a good table of that time (`OldTable`, specs/Old.antt).
 ghost use mathlib.Core.Path.{_≡_};
 ghost use mathlib.Core.Bool.{true};
 ghost use Prim.Native.Nat.{_^_, _<_, _≤_};
@@ -29,11 +29,13 @@ use table::FRAMING;
 use table::LENGTHS;
 use table::LaneRow;
 use table::PRESENT;
+use table::RATE_UNIT;
 use table::ROW_WORDS;
 use table::ROWS;
 use table::cell;
 use units::Bytes;
 use units::Clock;
+use units::Rate;
 use units::not_after;
 
 // The fixed size of such a table, in bytes: 45,056, where the slot lists end.
@@ -61,8 +63,13 @@ pub fn row(t: &[u8], k: usize) -> LaneRow
     requires { ⌜ Front (now t) × (k < 64) ⌝ }
     ensures { λ r. ⌜ (r ≡ oldRowAt (cells (now (t .entry))) k) × (r .head < oldDepth) × (r .rate .0 < 2 ^ 24) ⌝ }
 {
-    let ring = cell(t, ROWS + ROW_WORDS * k + 2);
+    let base = ROWS + ROW_WORDS * k;
+    let setting = cell(t, base);
+    let ring = cell(t, base + 2);
     let mut l = table::row(t, k);
+    let rate = Rate(setting / RATE_UNIT);
+    l.rate = rate;
+    l.shared = false;
     l.head = ring % DEPTH;
     l.count = ring / DEPTH;
     l

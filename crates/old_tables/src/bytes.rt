@@ -1,4 +1,4 @@
-// The tables: document 01's session after its three puts, and changes of it. Lane 0 (weight 512, longest 1,500, c 2,048, group 22) holds records of 1,000
+// The tables: the session of R16.3 after its three puts, and changes of it. Lane 0 (weight 512, longest 1,500, c 2,048, group 22) holds records of 1,000
 // and 500 bytes, lane 1 (weight 256, longest 1,500, c 4,096, group 23) one of 1,000; V and both S are 0, so each lane stands in list 0 of its group.
 use words::set_word;
 

@@ -6,7 +6,6 @@
 mod bytes;
 mod good;
 mod over;
-mod print;
 mod refused;
 
 fn main() {

@@ -1,5 +1,4 @@
 // Converting a case, and the calls on what it became.
-use crate::print;
 use convert::Converting;
 use convert::NEW_SIZE;
 use convert::convert;
@@ -25,25 +24,25 @@ fn stays(new: &[u8], from: usize) -> bool {
 
 fn kept(new: &[u8], from: usize) {
     if stays(new, from) {
-        print::line(b" stays");
+        printed::line(b" stays");
     } else {
-        print::line(b" CHANGED");
+        printed::line(b" CHANGED");
     }
 }
 
 // Converts, and says what was answered and whether the bytes stay that have to.
 pub fn over(name: &[u8], old: &[u8], new: &mut [u8]) {
-    print::word(name);
-    print::word(b": ");
+    printed::word(name);
+    printed::word(b": ");
     let r = convert(old, new);
     match r {
         Converting::Converted => {
-            print::word(b"converted, the rest");
+            printed::word(b"converted, the rest");
             kept(new, NEW_SIZE);
         }
         Converting::Refused(x) => {
-            print::refusal(x);
-            print::word(b", all");
+            printed::refusal(x);
+            printed::word(b", all");
             kept(new, 0);
         }
     }
@@ -56,15 +55,15 @@ pub fn only(name: &[u8], old: &[u8]) {
 }
 
 pub fn put(t: &mut [u8], lane: u8, mark: u32, length: u64) {
-    print::answer(scheduler::put(t, lane, mark, Bytes(length)));
+    printed::answer(scheduler::put(t, lane, 0, mark, Bytes(length)));
 }
 
 pub fn lag(t: &[u8], lane: u8) {
-    print::answer(scheduler::lag(t, lane));
+    printed::answer(scheduler::lag(t, lane));
 }
 
 fn take(t: &mut [u8]) {
-    print::answer(scheduler::take(t));
+    printed::answer(scheduler::take(t));
 }
 
 pub fn takes(t: &mut [u8], n: u32) {

@@ -53,6 +53,11 @@ pub fn rows() {
         bytes::setting(512, 1500, 22, 2047),
     );
     one(
+        b"c with its top bit",
+        bytes::ROWS,
+        bytes::setting(512, 1500, 22, 8390656),
+    );
+    one(
         b"longest 1501",
         bytes::ROWS,
         bytes::setting(512, 1501, 22, 2048),

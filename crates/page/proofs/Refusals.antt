@@ -19,7 +19,7 @@ use Rattle.units.specs.Plain.{if_then_else_}
 use Rattle.rules.specs.State.{Setting}
 use Rattle.rules.specs.Reads.{number}
 use Rattle.rules.specs.declared.Refusal.{Refusal}
-use Rattle.rules.specs.declared.Refusal.the-variants.{Cut, UnknownTag, WrongLength, OutOfOrder, WeightsOver, TableShort, NotGood, NoLane, BadLength, LaneFull, StillHolds, NothingHeld, RunBounds, InputLong, FormatOutside, LaneOutside, WeightOutside, LongestOutside, FramingOutside, WrongByte, SheetCut, NoSheet}
+use Rattle.rules.specs.declared.Refusal.the-variants.{Cut, UnknownTag, WrongLength, OutOfOrder, WeightsOver, TableShort, NotGood, NoLane, BadLength, LaneFull, StillHolds, NothingHeld, RunBounds, InputLong, FormatOutside, LaneOutside, WeightOutside, LongestOutside, FramingOutside, WrongByte, SheetCut, NoSheet, NoTrain, TrainFull}
 use Rattle.rules.proofs.Refusal as refusal
 use Rattle.plan.specs.Read.{Reply, read, refused, readPlan, closed, readSetup}
 use Rattle.plan.specs.Accepted.{refusals, among, Refused}
@@ -57,7 +57,7 @@ module _ (s : List ℕ) (n : ℕ) (q : Option ℕ) where
 
 -- the places in the enum of the refusals that no setup gives
 abbrev pub others : List ℕ
-others = 5 ∷ 6 ∷ 7 ∷ 8 ∷ 9 ∷ 10 ∷ 11 ∷ 12 ∷ 13 ∷ 19 ∷ 20 ∷ 21 ∷ []
+others = 5 ∷ 6 ∷ 7 ∷ 8 ∷ 9 ∷ 10 ∷ 11 ∷ 12 ∷ 13 ∷ 19 ∷ 20 ∷ 21 ∷ 22 ∷ 23 ∷ []
 
 pub other-refusal : {A : Type 0} (x : Refusal) → OneOf others (tagOf refusal.the-type x) → among refusals (number x) ≡ true → A
 other-refusal (Cut p) o h = absurd (miss others 0 tt o)
@@ -82,3 +82,5 @@ other-refusal (FramingOutside p) o h = absurd (miss others 18 tt o)
 other-refusal (WrongByte p) o h = true-false (sym h)
 other-refusal (SheetCut p) o h = true-false (sym h)
 other-refusal NoSheet o h = true-false (sym h)
+other-refusal NoTrain o h = true-false (sym h)
+other-refusal TrainFull o h = true-false (sym h)

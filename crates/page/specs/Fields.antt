@@ -1,4 +1,4 @@
--- One field of a settings page (document 02, k), and the refusals 1 to 3.
+-- One field of a settings page, and the refusals 1 to 3.
 --
 --   Item      a field, taken apart, with the place after it; or a refusal's number and place
 --   known     the tags of a page
@@ -55,7 +55,7 @@ taken s at (Header tag value n) =
 unfoldable pub itemAt : List ℕ → ℕ → Item
 itemAt s at = taken s at (headerAt s at)
 
--- The code's answer, with document 01's number for its refusal.
+-- The code's answer, its refusal by number.
 abbrev pub itemOf : Parsed → Item
 itemOf (Whole f next) = whole f next
 itemOf (Refused x) = bad (number x) (placeOf x)

@@ -1,4 +1,4 @@
--- What reading a settings page answers (document 02, k): the promise of `read_page`.
+-- What reading a settings page answers: the promise of `read_page`.
 --
 --   Reply         what reading answers
 --   pastSkipped   the place behind the fields of 0x80 and above that stand from a place on
@@ -101,13 +101,13 @@ begun s (whole (Settings value n) next) = refused 4 (some 0)
 begun s (whole Skipped next) = refused 4 (some 0)
 begun s (whole End next) = refused 4 (some 0)
 
--- 0x40, 0x41 and 0x7F, in that order and once each; fields of 0x80 and above may stand between two of them.
+-- 0x40, 0x41 and 0x7F, in that order and once each; between two of them any fields of 0x80 and above are passed over.
 unfoldable pub readPage : List ℕ → Reply
 readPage s = begun s (itemAt s 0)
 
 -- ---- the code's answer
 
--- What came of reading, with document 01's number for a refusal. Beside a refusal the plan means nothing.
+-- What came of reading, a refusal by its number. Beside a refusal the plan means nothing.
 abbrev pub came : Plan → Outcome → Reply
 came p (Read edition) = read edition (p .format) (settings p) (p .count)
 came p (Refused x) = refused (number x) (placeOf x)

@@ -1,4 +1,4 @@
-// The reader of settings pages (document 02, k): an edition, a whole setup, and between the page's own fields any that a newer office may have added.
+// The reader of settings pages: an edition, a whole setup, and between the page's own fields any that a newer office may have added.
 //
 //   parse   one field of a page, taken apart: refusals 1 to 3, in the order 1 (header), 2, 3, 1 (value)
 //   lib     the page: 0x40, 0x41, 0x7F, each where it is to stand; the setup inside is read by the one setup reader, `plan::read_setup`

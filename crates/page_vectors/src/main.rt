@@ -5,6 +5,8 @@
 //     no NUMBER PLACE
 //     edition EDITION, format FORMAT, lanes COUNT, LANE/WEIGHT/LONGEST/FRAMING ..
 //
+// with `/shared` at the end of a lane that trains share.
+//
 // vectors.py writes the frames and what is expected of them.
 ghost use Prim.Native.Nat.{_≤_, _<_};
 ghost use lib.ListN.{length};
@@ -42,6 +44,9 @@ fn print_lane(k: usize, l: Lane) {
         print_number(b"/", l.weight);
         print_number(b"/", l.longest.0);
         print_number(b"/", l.framing.0);
+        if l.shared {
+            io::write_all(STDOUT_FILENO, b"/shared");
+        }
     }
 }
 

@@ -1,4 +1,4 @@
--- Where the parts of a table begin (docs/TABLE.md). Each part lies behind the one before it, so a lane's room moves what is behind it and nothing else.
+-- Where the parts of a table begin (R6.1, docs/TABLE.md). Each part lies behind the one before it, so a lane's room moves what is behind it and nothing else.
 --
 --   rowsFrom      the first word of the lanes' rows, behind the single words: four words for a lane
 --   lengthsFrom   the first word of the records' lengths: a quarter of a word for a place
@@ -6,9 +6,11 @@
 --   ringsFrom     the first byte of the slot lists' rings
 --   ringsEnd      the first byte past them: two bytes for each of 512 rings, and 64 places
 --   marksEnd      the first byte past the records' marks, which lie behind the rings: four bytes for a place
+--   trainsEnd     the first byte past the shared lanes' trains, behind the marks: four bytes for each of a lane's 8 trains
 --
 -- Assumes nothing.
 use Prim.Native.Nat.{ℕ, _+_, _*_, _/_}
+use Rattle.rounds.specs.Round.{trainCount}
 use Rattle.waiting.specs.Waiting.{laneDepth}
 
 abbrev pub rowsFrom : ℕ
@@ -32,3 +34,7 @@ ringsEnd = ringsFrom + 2 * 512 + 64 * 512
 -- 61,440
 abbrev pub marksEnd : ℕ
 marksEnd = ringsEnd + 4 * (64 * laneDepth)
+
+-- 63,488
+abbrev pub trainsEnd : ℕ
+trainsEnd = marksEnd + 4 * (64 * trainCount)

@@ -6,6 +6,9 @@ pub const LANES: usize = 64;
 // Each lane holds at most 64 records.
 pub const DEPTH: u64 = 64;
 
+// A shared lane has 8 trains.
+pub const TRAINS: usize = 8;
+
 // Places of a lane.
 pub const PLACES: usize = DEPTH as usize;
 

@@ -6,9 +6,9 @@
 --
 -- Assumes nothing.
 use Prim.Native.Nat.{ℕ, zero, suc, _-_, _≤_}
-use mathlib.Core.Path.{_≡_, refl, sym, ap, _∙_}
+use mathlib.Core.Path.{_≡_, refl, sym, ap, subst, _∙_}
 use mathlib.Core.Bool.{Bool, true, false}
-use mathlib.Core.List.{List, [], _∷_, _++_, map}
+use mathlib.Core.List.{List, [], _∷_, _++_}
 use mathlib.Core.Option.{Option, some, none}
 use native.Mathlib.Omega.{arith}
 use borrow.Author.Tests.{ltb-false}
@@ -20,42 +20,48 @@ use Rattle.rules.proofs.Figures.{framing-bound, framed-by}
 use Rattle.plan.specs.Fields.{Item, whole, bad}
 use Rattle.plan.specs.Judge.{knownFormat, judgedAt, after}
 use Rattle.plan.specs.Read.{Reply, read, refused, nothingSeen, noLanes, placed, next, walk, readPlan, closed, readSetup, settings, came, reads}
-use Rattle.plan.specs.Accepted.{Laid, framed, framedBy, placedAll, PlanWithin}
+use Rattle.plan.specs.Accepted.{Laid, framed, framedBy, placedAll, behind, fieldsOf, PlanWithin}
 use Rattle.plan.specs.declared.judge.Seen.{Seen}
 use Rattle.plan.specs.declared.Reading.{Reading}
 use Rattle.plan.specs.declared.Outcome.the-variants.{Read}
 use Rattle.plan.specs.declared.parse.SetupField.{SetupField}
-use Rattle.plan.specs.declared.parse.SetupField.the-variants.{Format, Lane, Framing, End}
+use Rattle.plan.specs.declared.parse.SetupField.the-variants.{Format, Lane, Framing, Shared, End}
 use Rattle.plan.proofs.Inside.{true-false, format-known, framing-small}
 use Rattle.plan.proofs.Stands.{Taken, is-taken}
 use Rattle.plan.proofs.Sound.{Sound, sound-first, sound-after}
-use Rattle.plan.proofs.Rest.{Rest, rest, rest-lane, refused-read}
+use Rattle.plan.proofs.Rest.{Rest, shares, rest, rest-lane, refused-read}
 
 -- what the fields before the lanes fix
 abbrev opened : ℕ → Bool → ℕ → Seen
-opened v o h = record { begun = true; opening = o; format = v; framing = h; floor = 0; total = 0; count = 0 }
+opened v o h = record { begun = true; opening = o; laned = false; format = v; framing = h; floor = 0; total = 0; count = 0 }
 
 module _ (s : List ℕ) (at v : ℕ) (gs : List Setting) (n p : ℕ) where
   -- the first field is 0x01 with a known format
   module _ (w m : ℕ) (k : Taken nothingSeen s at (Format w) m) where
+    -- no lane was met, so no 0x12 stands here
+    not-shared : (b : Bool) → (b ≡ true → false ≡ true) → b ≡ false
+    not-shared true e = true-false (sym (e refl))
+    not-shared false e = refl
+
     -- then 0x11, or none; then the lanes
     planned : (f : Option ℕ) (o : Bool) (m₁ : ℕ) → framedBy f ≤ 64 → m ≤ m₁ → (r : Rest s (opened w o (framedBy f)) noLanes m₁ v gs n p)
-        → Laid s m (framed f ++ (map Lane (r .lanes) ++ (End ∷ []))) p → PlanWithin s at v gs n p
+        → (Laid s m₁ (fieldsOf (r .lanes) ++ (End ∷ [])) p → Laid s m (framed f ++ (fieldsOf (r .lanes) ++ (End ∷ []))) p) → PlanWithin s at v gs n p
     unfolding Laid
     planned f o m₁ most on r laid =
         let ok = r .sound in
+        let unshared : r .share ≡ false = not-shared (r .share) (λ e. r .shared e .0) in
         record {
           rule = record {
             format = sym (ap knownFormat (r .format)) ∙ format-known w (k .inside);
             framing = f;
             lanes = r .lanes;
-            laid = (m, k .item ∙ ap (λ (x : ℕ). whole (Format x) m) (r .format), laid);
+            laid = (m, k .item ∙ ap (λ (x : ℕ). whole (Format x) m) (r .format), laid (subst (λ (b : Bool). Laid s m₁ (behind b (r .lane) ++ (fieldsOf (r .lanes) ++ (End ∷ []))) p) unshared (r .laid)));
             framing-high = most;
             rising = r .rising;
             each = r .each;
             total = omega (arith, r .weigh, ok .total);
             some-lane = omega (arith, r .number, r .some-lane);
-            given = r .given ∙ ap (λ (x : ℕ). placedAll x (framedBy f) noLanes (r .lanes)) (r .format);
+            given = r .given ∙ ap (λ (b : Bool). placedAll w (framedBy f) (shares b (r .lane) noLanes) (r .lanes)) unshared ∙ ap (λ (x : ℕ). placedAll x (framedBy f) noLanes (r .lanes)) (r .format);
             number = omega (arith, r .number);
           };
           setup = record {
@@ -86,10 +92,11 @@ module _ (s : List ℕ) (at v : ℕ) (gs : List Setting) (n p : ℕ) where
     second-field turns (Lane l) m₁ q h =
         let more = rest turns s (after begun (Lane l)) (placed w 0 noLanes (Lane l)) m₁ v gs n p refl refl (sound-after begun noLanes (Lane l) ok (q .in-place) (q .inside) (q .under)) h in
         let r = rest-lane turns s begun noLanes m v gs n p refl ok l m₁ q more in
-        planned none true m (omega arith) (omega arith) r (r .laid)
+        planned none true m (omega arith) (omega arith) r (λ l. l)
     second-field turns (Framing h) m₁ q e =
         let r = rest turns s (after begun (Framing h)) noLanes m₁ v gs n p refl refl (sound-after begun noLanes (Framing h) ok (q .in-place) (q .inside) (q .under)) e in
-        planned (some h) false m₁ (framing-small h (q .inside)) (omega (arith, q .stand .after)) r (m₁, q .item, r .laid)
+        planned (some h) false m₁ (framing-small h (q .inside)) (omega (arith, q .stand .after)) r (λ l. (m₁, q .item, l))
+    second-field turns (Shared j) m₁ q h = true-false (q .in-place)
     second-field turns End m₁ q h = true-false (q .in-place)
 
     second-item : (turns : ℕ) (i : Item) → judgedAt begun s m ≡ i → next begun noLanes i (walk turns s) ≡ read v gs n p → PlanWithin s at v gs n p
@@ -106,6 +113,7 @@ module _ (s : List ℕ) (at v : ℕ) (gs : List Setting) (n p : ℕ) where
   first-field turns (Format w) m k h = second-turn w m k turns h
   first-field turns (Lane l) m k h = true-false (k .in-place)
   first-field turns (Framing w) m k h = true-false (k .in-place)
+  first-field turns (Shared j) m k h = true-false (k .in-place)
   first-field turns End m k h = true-false (k .in-place)
 
   first-item : (turns : ℕ) (i : Item) → judgedAt nothingSeen s at ≡ i → next nothingSeen noLanes i (walk turns s) ≡ read v gs n p

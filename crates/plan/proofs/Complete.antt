@@ -4,25 +4,26 @@
 --
 -- Assumes nothing.
 use Prim.Native.Nat.{ℕ, zero, suc, _+_, _-_, _≤_}
-use mathlib.Core.Path.{_≡_, refl, sym, ap, _∙_}
-use mathlib.Core.Bool.{true, false}
-use mathlib.Core.List.{List, [], _∷_, _++_, map}
+use mathlib.Core.Path.{_≡_, refl, sym, ap, subst, _∙_}
+use mathlib.Core.Bool.{Bool, true, false}
+use mathlib.Core.List.{List, [], _∷_, _++_}
 use mathlib.Core.Option.{Option, some, none}
 use native.Mathlib.Omega.{arith}
-use borrow.Author.Tests.{le-leb, le-ltb, ne-eqb}
-use lib.ListN.{length}
-use Rattle.rules.specs.State.{Setting}
+use borrow.Author.Tests.{le-leb, le-ltb, eq-eqb, ne-eqb}
+use lib.ListN.{length, set, length-set}
+use lib.Seq.{getD-set-same, set-set}
+use Rattle.rules.specs.State.{Setting, noSetting, settingAt}
 use Rattle.plan.specs.Fields.{Item, whole, itemAt}
-use Rattle.plan.specs.Judge.{longestOf, longestRight, mostFraming, misplaced, Inside, over, judgedAt, after}
-use Rattle.plan.specs.Read.{Reply, read, nothingSeen, noLanes, placed, next, walk, readPlan}
-use Rattle.plan.specs.Accepted.{Laid, Rising, LaneWithin, LanesWithin, weighed, framed, framedBy, placedAll, Accepted}
+use Rattle.plan.specs.Judge.{given, longestOf, longestRight, mostFraming, misplaced, Inside, over, judgedAt, after}
+use Rattle.plan.specs.Read.{Reply, read, nothingSeen, noLanes, asShared, placed, next, walk, readPlan}
+use Rattle.plan.specs.Accepted.{Laid, LaneFields, Rising, LaneWithin, LanesWithin, weighed, givenBy, framed, framedBy, placedAll, behind, fieldsOf, Accepted}
 use Rattle.plan.specs.declared.judge.Fault.the-variants.{NoFault}
 use Rattle.plan.specs.declared.judge.Seen.{Seen}
 use Rattle.plan.specs.declared.parse.Longest.{Longest}
 use Rattle.plan.specs.declared.parse.Longest.the-variants.{Given, Default}
 use Rattle.plan.specs.declared.parse.LaneField.{LaneField}
 use Rattle.plan.specs.declared.parse.SetupField.{SetupField}
-use Rattle.plan.specs.declared.parse.SetupField.the-variants.{Format, Lane, Framing, End}
+use Rattle.plan.specs.declared.parse.SetupField.the-variants.{Format, Lane, Framing, Shared, End}
 use Rattle.plan.proofs.Judged.{outside-none, judged-whole}
 use Rattle.plan.proofs.Stands.{stands}
 
@@ -46,36 +47,76 @@ module _ (s : List ℕ) where
       let st = stands s at f m i in
       ap (λ (x : Item). next seen gs x (walk turns s)) j ∙ go turns (omega (arith, low, st .after, st .fits))
 
-  -- once the format is there: lane fields, and 0x7F
-  lanes-read : (turns : ℕ) (seen : Seen) (gs : List Setting) (at : ℕ) (lanes : List LaneField) (p : ℕ) → seen .begun ≡ true → length s - at ≤ turns
-      → Laid s at (map Lane lanes ++ (End ∷ [])) p → Rising (seen .floor) lanes → LanesWithin lanes
+  -- 0x12 behind the 0x10 of its lane, or none
+  module _ (seen : Seen) (gs : List Setting) (l : LaneField) (size : length gs ≡ 64) (small : l .lane ≤ 63) where
+    abbrev there′ : Seen
+    there′ = after seen (Lane l)
+
+    abbrev g : Setting
+    g = given (seen .format) (seen .framing) l
+
+    abbrev gs₁ : List Setting
+    gs₁ = set gs (l .lane) g
+
+    abbrev whole-lane : Bool → List Setting
+    whole-lane b = set gs (l .lane) (givenBy (seen .format) (seen .framing) (record { lane = l; shared = b }))
+
+    as-shared : set gs₁ (l .lane) (asShared (settingAt gs₁ (l .lane))) ≡ whole-lane true
+    as-shared =
+        ap (λ (x : Setting). set gs₁ (l .lane) (asShared x)) (getD-set-same gs (l .lane) g noSetting (omega arith))
+        ∙ set-set gs (l .lane) g (asShared g)
+
+    -- what follows reads the same whether 0x12 closed the lane or not
+    shared-read : (turns : ℕ) (m : ℕ) (b : Bool) (fs : List SetupField) (p : ℕ) (r : Reply) → length s - m ≤ turns → Laid s m (behind b (l .lane) ++ fs) p
+        → ((less q : ℕ) (seen₁ : Seen) → seen₁ .begun ≡ true → seen₁ .format ≡ seen .format → seen₁ .framing ≡ seen .framing → seen₁ .floor ≡ l .lane + 1
+        → seen₁ .total ≡ seen .total + l .weight → seen₁ .count ≡ seen .count + 1 → length s - q ≤ less → Laid s q fs p → walk less s seen₁ (whole-lane b) q ≡ r)
+        → walk turns s there′ gs₁ m ≡ r
+    unfolding Laid
+    shared-read turns m false fs p r low f go = go turns m there′ refl refl refl refl refl refl low f
+    shared-read turns m true fs p r low f go =
+        let right : misplaced there′ (Shared (l .lane)) ≡ false = simp (eq-eqb (l .lane + 1) (l .lane + 1) refl) in
+        let j = judged-whole there′ s m (Shared (l .lane)) (f .0) (f .1) right refl refl in
+        turn turns there′ gs₁ m (Shared (l .lane)) (f .0) r low (f .1) j (λ less q.
+        ap (λ (x : List Setting). walk less s (after there′ (Shared (l .lane))) x (f .0)) as-shared
+        ∙ go less (f .0) (after there′ (Shared (l .lane))) refl refl refl refl refl refl q (f .2))
+
+  -- once the format is there: the fields of lanes, and 0x7F
+  lanes-read : (turns : ℕ) (seen : Seen) (gs : List Setting) (at : ℕ) (lanes : List LaneFields) (p : ℕ) → length gs ≡ 64 → seen .begun ≡ true → length s - at ≤ turns
+      → Laid s at (fieldsOf lanes ++ (End ∷ [])) p → Rising (seen .floor) lanes → LanesWithin lanes
       → seen .total + weighed lanes ≤ 1024 → 1 ≤ seen .count + length lanes → walk turns s seen gs at ≡ read (seen .format) (placedAll (seen .format) (seen .framing) gs lanes) (seen .count + length lanes) p
   unfolding Laid Rising LanesWithin placedAll
-  lanes-read turns seen gs at [] p b low f r a w c =
+  lanes-read turns seen gs at [] p size b low f r a w c =
       let j = judged-whole seen s at End (f .0) (f .1) (ne-eqb (seen .count) 0 (λ e. omega arith)) refl refl in
       let e : seen .count ≡ seen .count + 0 = omega arith in
       turn turns seen gs at End (f .0) _ low (f .1) j (λ less l. ap (λ (n : ℕ). read (seen .format) gs n (f .0)) e ∙ ap (read (seen .format) gs (seen .count + 0)) (f .2))
-  lanes-read turns seen gs at (l ∷ ls) p b low f r a w c =
+  lanes-read turns seen gs at (x ∷ xs) p size b low f r a w c =
+      let l = x .lane in
       let placed-right : misplaced seen (Lane l) ≡ false = simp (b, le-ltb (l .lane) (seen .floor) (r .0)) in
       let under : over seen (Lane l) ≡ NoFault = rw (le-ltb 1024 (seen .total + l .weight) (omega (arith, w))) in
       let j = judged-whole seen s at (Lane l) (f .0) (f .1) placed-right (inside l (a .0)) under in
-      let e : seen .count + 1 + length ls ≡ seen .count + length (l ∷ ls) = omega arith in
+      let e : seen .count + 1 + length xs ≡ seen .count + length (x ∷ xs) = omega arith in
+      let answer = read (seen .format) (placedAll (seen .format) (seen .framing) (whole-lane seen gs l size (a .0 .number) (x .shared)) xs) (seen .count + length (x ∷ xs)) p in
       turn turns seen gs at (Lane l) (f .0) _ low (f .1) j (λ less q.
-      lanes-read less (after seen (Lane l)) (placed (seen .format) (seen .framing) gs (Lane l)) (f .0) ls p refl q (f .2) (r .1) (a .1) (omega (arith, w)) (omega arith)
-      ∙ ap (λ (n : ℕ). read (seen .format) (placedAll (seen .format) (seen .framing) (placed (seen .format) (seen .framing) gs (Lane l)) ls) n p) e)
+      shared-read seen gs l size (a .0 .number) less (f .0) (x .shared) (fieldsOf xs ++ (End ∷ [])) p answer q (apart (x .shared) (f .2)) (λ less₁ q₁ seen₁ b₁ v₁ h₁ fl t₁ c₁ low₁ f₁.
+      lanes-read less₁ seen₁ (whole-lane seen gs l size (a .0 .number) (x .shared)) q₁ xs p (length-set gs (l .lane) _ ∙ size) b₁ low₁ f₁ (subst (λ (y : ℕ). Rising y xs) (sym fl) (r .1)) (a .1) (omega (arith, w, t₁)) (omega (arith, c₁))
+      ∙ rw (v₁, h₁, c₁) (ap (λ (n : ℕ). read (seen .format) (placedAll (seen .format) (seen .framing) (whole-lane seen gs l size (a .0 .number) (x .shared)) xs) n p) e)))
+    where
+      apart : (b : Bool) → Laid s (f .0) ((behind b (x .lane .lane) ++ fieldsOf xs) ++ (End ∷ [])) p → Laid s (f .0) (behind b (x .lane .lane) ++ (fieldsOf xs ++ (End ∷ []))) p
+      apart true g = g
+      apart false g = g
 
   module _ (at v : ℕ) (gs : List Setting) (n p : ℕ) (k : Accepted s at v gs n p) where
     -- 0x11, where there is one
-    from-second : (f : Option ℕ) (m : ℕ) → framedBy f ≤ 64 → Laid s m (framed f ++ (map Lane (k .lanes) ++ (End ∷ []))) p → (turns : ℕ) → length s - m ≤ turns
+    from-second : (f : Option ℕ) (m : ℕ) → framedBy f ≤ 64 → Laid s m (framed f ++ (fieldsOf (k .lanes) ++ (End ∷ []))) p → (turns : ℕ) → length s - m ≤ turns
         → walk turns s (after nothingSeen (Format v)) noLanes m ≡ read v (placedAll v (framedBy f) noLanes (k .lanes)) (0 + length (k .lanes)) p
     unfolding Laid
     from-second none m most f turns low =
-        lanes-read turns (after nothingSeen (Format v)) noLanes m (k .lanes) p refl low f (k .rising) (k .each) (omega (arith, k .total)) (omega (arith, k .some-lane))
+        lanes-read turns (after nothingSeen (Format v)) noLanes m (k .lanes) p refl refl low f (k .rising) (k .each) (omega (arith, k .total)) (omega (arith, k .some-lane))
     from-second (some h) m most f turns low =
         let begun = after nothingSeen (Format v) in
         let j = judged-whole begun s m (Framing h) (f .0) (f .1) refl (rw (le-ltb mostFraming h most)) refl in
         turn turns begun noLanes m (Framing h) (f .0) _ low (f .1) j (λ less q.
-        lanes-read less (after begun (Framing h)) noLanes (f .0) (k .lanes) p refl q (f .2) (k .rising) (k .each) (omega (arith, k .total)) (omega (arith, k .some-lane)))
+        lanes-read less (after begun (Framing h)) noLanes (f .0) (k .lanes) p refl refl q (f .2) (k .rising) (k .each) (omega (arith, k .total)) (omega (arith, k .some-lane)))
 
     from-first : walk (length s - at) s nothingSeen noLanes at ≡ read v (placedAll v (framedBy (k .framing)) noLanes (k .lanes)) (0 + length (k .lanes)) p
     unfolding Laid

@@ -5,7 +5,7 @@ use mathlib.Core.Path.{_≡_, refl, sym, ap, _∙_}
 use mathlib.Core.Option.{none, some}
 use mathlib.Core.Bool.{Bool, true, false, not, _||_, _&&_}
 use native.Mathlib.Omega.{arith}
-use borrow.Author.Tests.{leb-true, ltb-false}
+use borrow.Author.Tests.{leb-true, ltb-false, eqb-true}
 use lib.Dec.{leb, ltb, eqb}
 use Rattle.units.specs.Plain.{if_then_else_}
 use Rattle.rules.specs.Setup.{InNumbers}
@@ -16,7 +16,7 @@ use Rattle.plan.specs.declared.judge.Seen.{Seen}
 use Rattle.plan.specs.declared.parse.Longest.{Longest}
 use Rattle.plan.specs.declared.parse.Longest.the-variants.{Given, Default}
 use Rattle.plan.specs.declared.parse.LaneField.{LaneField}
-use Rattle.plan.specs.declared.parse.SetupField.the-variants.{Format, Lane, Framing}
+use Rattle.plan.specs.declared.parse.SetupField.the-variants.{Format, Lane, Framing, Shared}
 
 pub true-false : {A : Type 0} → true ≡ false → A
 true-false h = absurd (let z : _≡_ {A = ℕ} 0 1 = cc in omega arith)
@@ -73,6 +73,19 @@ module _ (l : LaneField) (h : laneOutside l ≡ NoFault) where
       let w = within-true 1 1024 (l .weight) (tests .1 .0) in
       let g = longest-true v (l .longest) (tests .1 .1) in
       record { weight-low = w .0; weight-high = w .1; longest-low = g .0; longest-high = g .1 }
+
+-- a lane that 0x12 names has its 0x10 directly before it
+module _ (seen : Seen) (k : ℕ) (h : misplaced seen (Shared k) ≡ false) where
+  tests-shared : (a b : Bool) → (not a || not b) ≡ false → (a ≡ true) × (b ≡ true)
+  tests-shared true true e = (refl, refl)
+  tests-shared true false e = true-false e
+  tests-shared false b e = true-false e
+
+  pub is-laned : seen .laned ≡ true
+  is-laned = tests-shared (seen .laned) (eqb (k + 1) (seen .floor)) h .0
+
+  pub is-last : k + 1 ≡ seen .floor
+  is-last = eqb-true (k + 1) (seen .floor) (tests-shared (seen .laned) (eqb (k + 1) (seen .floor)) h .1)
 
 module _ (seen : Seen) (l : LaneField) where
   pub is-rising : misplaced seen (Lane l) ≡ false → seen .floor ≤ l .lane

@@ -22,7 +22,7 @@ use Rattle.plan.specs.declared.judge.Fault.the-variants.{NoFault, BadFor
 use Rattle.plan.specs.declared.judge.Seen.{Seen}
 use Rattle.plan.specs.declared.parse.Longest.{Longest}
 use Rattle.plan.specs.declared.parse.SetupField.{SetupField}
-use Rattle.plan.specs.declared.parse.SetupField.the-variants.{Format, Lane, Framing, End}
+use Rattle.plan.specs.declared.parse.SetupField.the-variants.{Format, Lane, Framing, Shared, End}
 use Rattle.plan.proofs.Inside.{true-false}
 use Rattle.plan.proofs.Tags.{lane-size, lane-three, longest-short}
 use Rattle.plan.proofs.Stands.{Stands}
@@ -69,23 +69,25 @@ module _ (s : List ℕ) (v n : ℕ) where
       let z = lane-in (leb (byteAt s v) lastLane) (within 1 1024 (big s (v + 1) 2)) (longestRight (longestAt s v n)) in
       omega (arith, e, z)
 
-  abbrev sized : Bool → Bool → Bool → Bool
-  sized a b c = if a then eqb n 2 else (if b then eqb n 3 || eqb n 5 else (if c then eqb n 1 else eqb n 0))
+  abbrev sized : Bool → Bool → Bool → Bool → Bool
+  sized a b c d = if a then eqb n 2 else (if b then eqb n 3 || eqb n 5 else (if c then eqb n 1 else (if d then eqb n 1 else eqb n 0)))
 
-  abbrev valued : Bool → Bool → Bool → SetupField
-  valued a b c = if a then Format (big s v 2) else (if b then Lane (laneAt s v n) else (if c then Framing (byteAt s v) else End))
+  abbrev valued : Bool → Bool → Bool → Bool → SetupField
+  valued a b c d = if a then Format (big s v 2) else (if b then Lane (laneAt s v n) else (if c then Framing (byteAt s v) else (if d then Shared (byteAt s v) else End)))
 
-  own-in : (a b c : Bool) → sized a b c ≡ true → offset (outside (valued a b c)) < 3 + n
-  own-in true b c h = omega (arith, eqb-true n 2 h, format-in (knownFormat (big s v 2)))
-  own-in false true c h = ⊎-elim (λ e. short-in e) (λ e. long-in e) (lane-size n h)
-  own-in false false true h = omega (arith, eqb-true n 1 h, framing-in (ltb mostFraming (byteAt s v)))
-  own-in false false false h = omega arith
+  own-in : (a b c d : Bool) → sized a b c d ≡ true → offset (outside (valued a b c d)) < 3 + n
+  own-in true b c d h = omega (arith, eqb-true n 2 h, format-in (knownFormat (big s v 2)))
+  own-in false true c d h = ⊎-elim (λ e. short-in e) (λ e. long-in e) (lane-size n h)
+  own-in false false true d h = omega (arith, eqb-true n 1 h, framing-in (ltb mostFraming (byteAt s v)))
+  own-in false false false true h = omega arith
+  own-in false false false false h = omega arith
 
-  sum-in : (seen : Seen) (a b c : Bool) → sized a b c ≡ true → offset (over seen (valued a b c)) < 3 + n
-  sum-in seen true b c h = omega arith
-  sum-in seen false true c h = omega (arith, lane-three n h, weights-in (ltb 1024 (seen .total + big s (v + 1) 2)))
-  sum-in seen false false true h = omega arith
-  sum-in seen false false false h = omega arith
+  sum-in : (seen : Seen) (a b c d : Bool) → sized a b c d ≡ true → offset (over seen (valued a b c d)) < 3 + n
+  sum-in seen true b c d h = omega arith
+  sum-in seen false true c d h = omega (arith, lane-three n h, weights-in (ltb 1024 (seen .total + big s (v + 1) 2)))
+  sum-in seen false false true d h = omega arith
+  sum-in seen false false false true h = omega arith
+  sum-in seen false false false false h = omega arith
 
 module _ (s : List ℕ) (at : ℕ) (f : SetupField) (m : ℕ) (k : Stands s at f m) where
   abbrev t : ℕ
@@ -97,14 +99,14 @@ module _ (s : List ℕ) (at : ℕ) (f : SetupField) (m : ℕ) (k : Stands s at f
   pub outside-in : at + offset (outside f) < m
   unfolding fieldOf
   outside-in =
-      let z = own-in s (at + 3) n (eqb t 1) (eqb t 16) (eqb t 17) (k .size) in
+      let z = own-in s (at + 3) n (eqb t 1) (eqb t 16) (eqb t 17) (eqb t 18) (k .size) in
       let e = ap (λ (g : SetupField). offset (outside g)) (k .field) in
       omega (arith, z, e, k .after)
 
   pub over-in : (seen : Seen) → at + offset (over seen f) < m
   unfolding fieldOf
   over-in seen =
-      let z = sum-in s (at + 3) n seen (eqb t 1) (eqb t 16) (eqb t 17) (k .size) in
+      let z = sum-in s (at + 3) n seen (eqb t 1) (eqb t 16) (eqb t 17) (eqb t 18) (k .size) in
       let e = ap (λ (g : SetupField). offset (over seen g)) (k .field) in
       omega (arith, z, e, k .after)
 

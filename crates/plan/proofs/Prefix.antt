@@ -24,7 +24,7 @@ use Rattle.plan.specs.declared.judge.Seen.{Seen}
 use Rattle.plan.specs.declared.parse.Longest.{Longest}
 use Rattle.plan.specs.declared.parse.Longest.the-variants.{Given, Default}
 use Rattle.plan.specs.declared.parse.SetupField.{SetupField}
-use Rattle.plan.specs.declared.parse.SetupField.the-variants.{Format, Lane, Framing, End}
+use Rattle.plan.specs.declared.parse.SetupField.the-variants.{Format, Lane, Framing, Shared, End}
 use Rattle.plan.proofs.Tags.{lane-long, lane-three}
 use Rattle.plan.proofs.Items.{item-whole}
 use Rattle.plan.proofs.Judged.{judged-whole}
@@ -54,20 +54,23 @@ module _ (s t : List ℕ) (v n : ℕ) (same : Same s t v (v + n)) where
       let c : longestAt s v n ≡ longestAt t v n = longest-same (eqb n 3) refl f in
       cc
 
-  field-same : (tag : ℕ) (a b c : Bool) → eqb tag 1 ≡ a → eqb tag 16 ≡ b → eqb tag 17 ≡ c → fitting tag n ≡ true
-      → _≡_ {A = SetupField} (if a then Format (big s v 2) else (if b then Lane (laneAt s v n) else (if c then Framing (byteAt s v) else End))) (if a then Format (big t v 2) else (if b then Lane (laneAt t v n) else (if c then Framing (byteAt t v) else End)))
-  field-same tag true b c p q r f =
+  field-same : (tag : ℕ) (a b c d : Bool) → eqb tag 1 ≡ a → eqb tag 16 ≡ b → eqb tag 17 ≡ c → eqb tag 18 ≡ d → fitting tag n ≡ true
+      → _≡_ {A = SetupField} (if a then Format (big s v 2) else (if b then Lane (laneAt s v n) else (if c then Framing (byteAt s v) else (if d then Shared (byteAt s v) else End)))) (if a then Format (big t v 2) else (if b then Lane (laneAt t v n) else (if c then Framing (byteAt t v) else (if d then Shared (byteAt t v) else End))))
+  field-same tag true b c d p q r z f =
       let two : n ≡ 2 = eqb-true n 2 (subst (λ (k : ℕ). fitting k n ≡ true) (eqb-true tag 1 p) f) in
       ap Format (number-same 2 v (omega arith) (omega arith))
-  field-same tag false true c p q r f = ap Lane (lane-same (subst (λ (k : ℕ). fitting k n ≡ true) (eqb-true tag 16 q) f))
-  field-same tag false false true p q r f =
+  field-same tag false true c d p q r z f = ap Lane (lane-same (subst (λ (k : ℕ). fitting k n ≡ true) (eqb-true tag 16 q) f))
+  field-same tag false false true d p q r z f =
       let one : n ≡ 1 = eqb-true n 1 (subst (λ (k : ℕ). fitting k n ≡ true) (eqb-true tag 17 r) f) in
       ap Framing (same v (omega arith) (omega arith))
-  field-same tag false false false p q r f = refl
+  field-same tag false false false true p q r z f =
+      let one : n ≡ 1 = eqb-true n 1 (subst (λ (k : ℕ). fitting k n ≡ true) (eqb-true tag 18 z) f) in
+      ap Shared (same v (omega arith) (omega arith))
+  field-same tag false false false false p q r z f = refl
 
   pub value-same : (tag : ℕ) → fitting tag n ≡ true → fieldOf s tag v n ≡ fieldOf t tag v n
   unfolding fieldOf
-  value-same tag f = field-same tag (eqb tag 1) (eqb tag 16) (eqb tag 17) refl refl refl f
+  value-same tag f = field-same tag (eqb tag 1) (eqb tag 16) (eqb tag 17) (eqb tag 18) refl refl refl refl f
 
 -- ---- a field
 
@@ -101,6 +104,8 @@ module _ (s : List ℕ) (v : ℕ) (gs′ : List Setting) (n p : ℕ) where
       omega (arith, is-taken seen s at (Lane l) m e .stand .after, more (after seen (Lane l)) (placed (seen .format) (seen .framing) gs (Lane l)) m h)
   past-item turns seen gs at more (whole (Framing l) m) e h =
       omega (arith, is-taken seen s at (Framing l) m e .stand .after, more (after seen (Framing l)) (placed (seen .format) (seen .framing) gs (Framing l)) m h)
+  past-item turns seen gs at more (whole (Shared l) m) e h =
+      omega (arith, is-taken seen s at (Shared l) m e .stand .after, more (after seen (Shared l)) (placed (seen .format) (seen .framing) gs (Shared l)) m h)
   past-item turns seen gs at more (whole End m) e h =
       let q : m ≡ p = cc in
       omega (arith, is-taken seen s at End m e .stand .after)
@@ -136,6 +141,11 @@ module _ (s : List ℕ) (v : ℕ) (gs′ : List Setting) (n p : ℕ) where
         let k = is-taken seen s at (Framing l) m e in
         ap (λ (i : Item). next seen gs i (walk turns₁ t)) (judged-same seen at (Framing l) m e (omega arith))
         ∙ more (after seen (Framing l)) (placed (seen .format) (seen .framing) gs (Framing l)) m (omega (arith, k .stand .after)) h
+    same-turn turns turns₁ seen gs at low more (whole (Shared l) m) e h =
+        let q = past turns (after seen (Shared l)) (placed (seen .format) (seen .framing) gs (Shared l)) m h in
+        let k = is-taken seen s at (Shared l) m e in
+        ap (λ (i : Item). next seen gs i (walk turns₁ t)) (judged-same seen at (Shared l) m e (omega arith))
+        ∙ more (after seen (Shared l)) (placed (seen .format) (seen .framing) gs (Shared l)) m (omega (arith, k .stand .after)) h
     same-turn turns turns₁ seen gs at low more (whole End m) e h =
         let q : m ≡ p = cc in
         ap (λ (i : Item). next seen gs i (walk turns₁ t)) (judged-same seen at End m e (omega arith)) ∙ h

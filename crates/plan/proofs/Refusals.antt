@@ -25,7 +25,7 @@ use Rattle.plan.specs.declared.judge.Fault.{Fault}
 use Rattle.plan.specs.declared.judge.Fault.the-variants.{NoFault, BadFormat, BadLane, BadWeight, BadLongest, BadFraming, TotalOver}
 use Rattle.plan.specs.declared.judge.Seen.{Seen}
 use Rattle.plan.specs.declared.parse.SetupField.{SetupField}
-use Rattle.plan.specs.declared.parse.SetupField.the-variants.{Format, Lane, Framing, End}
+use Rattle.plan.specs.declared.parse.SetupField.the-variants.{Format, Lane, Framing, Shared, End}
 use Rattle.plan.proofs.Stands.{Stands, stands, is-taken}
 use Rattle.plan.proofs.Offsets.{outside-in, over-in}
 use Rattle.plan.proofs.Shown.{Shows, shows, over-shows}
@@ -136,6 +136,9 @@ module _ (s : List ℕ) (n : ℕ) (q : Option ℕ) where
   turn-refused turns seen gs at more (whole (Framing l) m) e h =
       let k = is-taken seen s at (Framing l) m e .stand in
       earlier s at m n q (omega (arith, k .after)) (omega (arith, k .after, k .fits)) (more (after seen (Framing l)) (placed (seen .format) (seen .framing) gs (Framing l)) m h)
+  turn-refused turns seen gs at more (whole (Shared l) m) e h =
+      let k = is-taken seen s at (Shared l) m e .stand in
+      earlier s at m n q (omega (arith, k .after)) (omega (arith, k .after, k .fits)) (more (after seen (Shared l)) (placed (seen .format) (seen .framing) gs (Shared l)) m h)
   turn-refused turns seen gs at more (whole End m) e h = read-refused h
 
   walk-refused : (turns : ℕ) (seen : Seen) (gs : List Setting) (at : ℕ) → walk turns s seen gs at ≡ refused n q → Refused s at n q

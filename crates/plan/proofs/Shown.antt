@@ -22,7 +22,7 @@ use Rattle.plan.specs.declared.judge.Fault.the-variants.{NoFault, BadFor
 use Rattle.plan.specs.declared.judge.Seen.{Seen}
 use Rattle.plan.specs.declared.parse.Longest.{Longest}
 use Rattle.plan.specs.declared.parse.SetupField.{SetupField}
-use Rattle.plan.specs.declared.parse.SetupField.the-variants.{Format, Lane, Framing, End}
+use Rattle.plan.specs.declared.parse.SetupField.the-variants.{Format, Lane, Framing, Shared, End}
 use Rattle.plan.proofs.Inside.{true-false}
 use Rattle.plan.proofs.Offsets.{short-right}
 use Rattle.plan.proofs.Tags.{lane-size, longest-long}
@@ -72,12 +72,13 @@ module _ (s : List ℕ) (at n : ℕ) where
   lanes-shows fits =
       lane-shows fits (leb (byteAt s v) lastLane) (within 1 1024 (big s (v + 1) 2)) (longestRight (longestAt s v n)) refl refl refl
 
-  own-shows : (a b c : Bool) → (if a then eqb n 2 else (if b then eqb n 3 || eqb n 5 else (if c then eqb n 1 else eqb n 0))) ≡ true
-      → Shows s at (outside (if a then Format (big s v 2) else (if b then Lane (laneAt s v n) else (if c then Framing (byteAt s v) else End))))
-  own-shows true b c h = format-shows (knownFormat (big s v 2)) refl
-  own-shows false true c h = lanes-shows h
-  own-shows false false true h = framing-shows (ltb mostFraming (byteAt s v)) refl
-  own-shows false false false h = refl
+  own-shows : (a b c d : Bool) → (if a then eqb n 2 else (if b then eqb n 3 || eqb n 5 else (if c then eqb n 1 else (if d then eqb n 1 else eqb n 0)))) ≡ true
+      → Shows s at (outside (if a then Format (big s v 2) else (if b then Lane (laneAt s v n) else (if c then Framing (byteAt s v) else (if d then Shared (byteAt s v) else End)))))
+  own-shows true b c d h = format-shows (knownFormat (big s v 2)) refl
+  own-shows false true c d h = lanes-shows h
+  own-shows false false true d h = framing-shows (ltb mostFraming (byteAt s v)) refl
+  own-shows false false false true h = refl
+  own-shows false false false false h = refl
 
 module _ (s : List ℕ) (at : ℕ) (f : SetupField) (m : ℕ) (k : Stands s at f m) where
   abbrev t : ℕ
@@ -85,7 +86,7 @@ module _ (s : List ℕ) (at : ℕ) (f : SetupField) (m : ℕ) (k : Stands s at f
 
   pub shows : Shows s at (outside f)
   unfolding fieldOf
-  shows = subst (λ (g : SetupField). Shows s at (outside g)) (k .field) (own-shows s at (big s (at + 1) 2) (eqb t 1) (eqb t 16) (eqb t 17) (k .size))
+  shows = subst (λ (g : SetupField). Shows s at (outside g)) (k .field) (own-shows s at (big s (at + 1) 2) (eqb t 1) (eqb t 16) (eqb t 17) (eqb t 18) (k .size))
 
 -- 6 is of all the weights
 pub over-shows : (s : List ℕ) (at : ℕ) (seen : Seen) (f : SetupField) → Shows s at (over seen f)
@@ -96,4 +97,5 @@ over-shows s at seen (Lane l) = go (ltb 1024 (seen .total + l .weight))
     go true = refl
     go false = refl
 over-shows s at seen (Framing h) = refl
+over-shows s at seen (Shared k) = refl
 over-shows s at seen End = refl

@@ -1,26 +1,27 @@
 -- The fields so far are a setup within the numbers, and each field that is taken keeps it so.
 -- Assumes nothing.
 use Prim.Native.Nat.{ℕ, _+_, _≤_, _<_}
-use mathlib.Core.Path.{_≡_, refl, sym, ap, _∙_}
+use mathlib.Core.Path.{_≡_, refl, sym, ap, subst, _∙_}
 use mathlib.Core.Bool.{true, false}
 use mathlib.Core.List.{List}
 use mathlib.Core.Logic.{_⊎_, inl, inr}
 use native.Mathlib.Omega.{arith}
 use borrow.Author.Tests.{lt-ltb, not-false}
 use lib.ListN.{length, set, length-set}
+use lib.Seq.{getD-set-same}
 use Rattle.units.specs.Plain.{sum}
 use Rattle.rules.specs.State.{Setting, noSetting, settingAt}
 use Rattle.rules.specs.Setup.{InNumbers, weights}
-use Rattle.plan.specs.Judge.{given, misplaced, Inside, over, after}
-use Rattle.plan.specs.Read.{nothingSeen, noLanes, placed}
+use Rattle.plan.specs.Judge.{given, misplaced, Inside, Numbered, over, after}
+use Rattle.plan.specs.Read.{nothingSeen, noLanes, asShared, placed}
 use Rattle.plan.specs.Accepted.{there, present}
 use Rattle.plan.specs.declared.judge.Fault.the-variants.{NoFault}
 use Rattle.plan.specs.declared.judge.Seen.{Seen}
 use Rattle.plan.specs.declared.parse.LaneField.{LaneField}
 use Rattle.plan.specs.declared.parse.SetupField.{SetupField}
-use Rattle.plan.specs.declared.parse.SetupField.the-variants.{Format, Lane, Framing, End}
+use Rattle.plan.specs.declared.parse.SetupField.the-variants.{Format, Lane, Framing, Shared, End}
 use Rattle.plan.proofs.Lists.{sum-set, set-cases, replicate-at}
-use Rattle.plan.proofs.Inside.{true-false, framing-small, lane-number, in-numbers, is-rising, is-under}
+use Rattle.plan.proofs.Inside.{true-false, framing-small, lane-number, in-numbers, is-rising, is-under, is-laned, is-last}
 
 pub record Sound (seen : Seen) (gs : List Setting) : Type 0 where
   pub size : length gs ≡ 64
@@ -37,6 +38,7 @@ pub record Sound (seen : Seen) (gs : List Setting) : Type 0 where
   pub few : seen .count ≤ seen .total
   pub count : seen .count ≤ seen .floor
   pub floor : seen .floor ≤ 64
+  pub last : seen .laned ≡ true → (k : ℕ) → k + 1 ≡ seen .floor → InNumbers (settingAt gs k)
 
 pub sound-first : Sound nothingSeen noLanes
 sound-first = record {
@@ -54,6 +56,7 @@ sound-first = record {
   few = omega arith;
   count = omega arith;
   floor = omega arith;
+  last = λ o. true-false (sym o);
 }
 
 module _ (seen : Seen) (gs : List Setting) (ok : Sound seen gs) (l : LaneField) (m : misplaced seen (Lane l) ≡ false) (o : Inside (Lane l)) (w : over seen (Lane l) ≡ NoFault) where
@@ -92,6 +95,43 @@ module _ (seen : Seen) (gs : List Setting) (ok : Sound seen gs) (l : LaneField) 
     few = omega (arith, ok .few, in-numbers l o v h .weight-low);
     count = omega (arith, ok .count, is-rising seen l m);
     floor = omega (arith, low);
+    last = λ e k q.
+        let is : l .lane ≡ k = omega arith in
+        subst (λ (i : ℕ). InNumbers (settingAt (set gs (l .lane) (given v h l)) i)) is
+        (subst InNumbers (sym (getD-set-same gs (l .lane) (given v h l) noSetting (omega (arith, low, ok .size)))) (in-numbers l o v h));
+  }
+
+module _ (seen : Seen) (gs : List Setting) (ok : Sound seen gs) (k : ℕ) (m : misplaced seen (Shared k) ≡ false) where
+  abbrev was : Setting
+  was = settingAt gs k
+
+  numbers : InNumbers was
+  numbers = ok .last (is-laned seen k m) k (is-last seen k m)
+
+  numbers-shared : InNumbers (asShared was)
+  numbers-shared = record { weight-low = numbers .weight-low; weight-high = numbers .weight-high; longest-low = numbers .longest-low; longest-high = numbers .longest-high }
+
+  -- a figure that does not ask whether a lane is shared stays
+  stays : (f : Setting → ℕ) → f (asShared was) ≡ f was → sum f (set gs k (asShared was)) ≡ sum f gs
+  stays f e = omega (arith, sum-set f gs k (asShared was) noSetting (omega (arith, is-last seen k m, ok .floor, ok .size)), e)
+
+  shared-kept : Sound (after seen (Shared k)) (placed (seen .format) (seen .framing) gs (Shared k))
+  shared-kept = record {
+    size = length-set gs k (asShared was) ∙ ok .size;
+    each = λ i. set-cases (λ (g : Setting). InNumbers g ⊎ (g ≡ noSetting)) gs k i (asShared was) noSetting (λ e. inl numbers-shared) (λ e. ok .each i) (inr refl);
+    framed = λ i. set-cases (λ (g : Setting). 0 < g .weight → g .framing ≡ seen .framing) gs k i (asShared was) noSetting (λ e b. ok .framed k b) (λ e. ok .framed i) (λ b. absurd (omega arith));
+    most = λ i. set-cases (λ (g : Setting). g .framing ≤ seen .framing) gs k i (asShared was) noSetting (λ e. ok .most k) (λ e. ok .most i) (omega arith);
+    bytes = ok .bytes;
+    none-yet = λ e. true-false (sym e);
+    begin = λ e. true-false e;
+    above = λ i b. set-cases (λ (g : Setting). g ≡ noSetting) gs k i (asShared was) noSetting (λ e. absurd (omega (arith, is-last seen k m, e, b))) (λ e. ok .above i b) refl;
+    sum-is = stays (λ (g : Setting). g .weight) refl ∙ ok .sum-is;
+    there-are = stays there refl ∙ ok .there-are;
+    total = ok .total;
+    few = ok .few;
+    count = ok .count;
+    floor = ok .floor;
+    last = λ e. true-false (sym e);
   }
 
 pub sound-after : (seen : Seen) (gs : List Setting) (f : SetupField) → Sound seen gs → misplaced seen f ≡ false → Inside f → over seen f ≡ NoFault
@@ -111,6 +151,7 @@ sound-after seen gs (Format v) ok m o w = record {
   few = ok .few;
   count = ok .count;
   floor = ok .floor;
+  last = λ e. true-false (sym e);
 }
 sound-after seen gs (Lane l) ok m o w = lane-kept seen gs ok l m o w
 sound-after seen gs (Framing v) ok m o w =
@@ -130,5 +171,15 @@ sound-after seen gs (Framing v) ok m o w =
       count = ok .count;
       floor = ok .floor;
       begin = λ e. true-false e;
+      last = λ e. true-false (sym e);
     }
+sound-after seen gs (Shared k) ok m o w = shared-kept seen gs ok k m
 sound-after seen gs End ok m o w = ok
+
+-- a lane that 0x12 names in its place is one of the 64
+pub numbered : (seen : Seen) (gs : List Setting) → Sound seen gs → (f : SetupField) → misplaced seen f ≡ false → Numbered f
+numbered seen gs ok (Format v) m = tt
+numbered seen gs ok (Lane l) m = tt
+numbered seen gs ok (Framing h) m = tt
+numbered seen gs ok (Shared k) m = omega (arith, is-last seen k m, ok .floor)
+numbered seen gs ok End m = tt

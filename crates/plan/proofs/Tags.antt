@@ -12,28 +12,32 @@ use lib.Dec.{eqb}
 use Rattle.fields.specs.Bytes.{byteAt, big}
 use Rattle.plan.specs.Fields.{known, fitting, longestAt, laneAt, fieldOf}
 use Rattle.plan.specs.declared.parse.Longest.the-variants.{Given, Default}
-use Rattle.plan.specs.declared.parse.SetupField.the-variants.{Format, Lane, Framing, End}
+use Rattle.plan.specs.declared.parse.SetupField.the-variants.{Format, Lane, Framing, Shared, End}
 
-pub known-is : (t : ℕ) → (t ≡ 1) ⊎ ((t ≡ 16) ⊎ ((t ≡ 17) ⊎ (t ≡ 127))) → known t ≡ true
-known-is t h = ⊎-elim (λ e. rw e) (λ h. ⊎-elim (λ e. rw e) (λ h. ⊎-elim (λ e. rw e) (λ e. rw e) h) h) h
+pub known-is : (t : ℕ) → (t ≡ 1) ⊎ ((t ≡ 16) ⊎ ((t ≡ 17) ⊎ ((t ≡ 18) ⊎ (t ≡ 127)))) → known t ≡ true
+known-is t h = ⊎-elim (λ e. rw e) (λ h. ⊎-elim (λ e. rw e) (λ h. ⊎-elim (λ e. rw e) (λ h. ⊎-elim (λ e. rw e) (λ e. rw e) h) h) h) h
 
-pub known-not : (t : ℕ) → ((t ≡ 1) ⊎ ((t ≡ 16) ⊎ ((t ≡ 17) ⊎ (t ≡ 127))) → ⊥) → known t ≡ false
+pub known-not : (t : ℕ) → ((t ≡ 1) ⊎ ((t ≡ 16) ⊎ ((t ≡ 17) ⊎ ((t ≡ 18) ⊎ (t ≡ 127)))) → ⊥) → known t ≡ false
 known-not t h =
-    simp (ne-eqb t 1 (λ e. h (inl e)), ne-eqb t 16 (λ e. h (inr (inl e))), ne-eqb t 17 (λ e. h (inr (inr (inl e)))), ne-eqb t 127 (λ e. h (inr (inr (inr e)))))
+    simp (ne-eqb t 1 (λ e. h (inl e)), ne-eqb t 16 (λ e. h (inr (inl e))), ne-eqb t 17 (λ e. h (inr (inr (inl e)))), ne-eqb t 18 (λ e. h (inr (inr (inr (inl e))))), ne-eqb t 127 (λ e. h (inr (inr (inr (inr e))))))
 
--- 0x10 and 0x11 stand side by side
+-- 0x10, 0x11 and 0x12 stand side by side
 pub known-ends : (t : ℕ) → (t ≡ 1) ⊎ (t ≡ 127) → known t ≡ true
 known-ends t h = ⊎-elim (λ e. rw e) (λ e. rw e) h
 
-pub known-between : (t : ℕ) → 16 ≤ t → t < 18 → known t ≡ true
+pub known-between : (t : ℕ) → 16 ≤ t → t < 19 → known t ≡ true
 known-between t low high =
     elim (decLe t 16) [
       | yes q ↦ let e : t ≡ 16 = omega arith in known-is t (inr (inl e))
-      | no q ↦ let e : t ≡ 17 = omega arith in known-is t (inr (inr (inl e)))
+      | no q ↦
+          elim (decLe t 17) [
+            | yes p ↦ let e : t ≡ 17 = omega arith in known-is t (inr (inr (inl e)))
+            | no p ↦ let e : t ≡ 18 = omega arith in known-is t (inr (inr (inr (inl e))))
+          ]
     ]
 
-pub known-out : (t : ℕ) → ((t ≡ 1) ⊎ (t ≡ 127) → ⊥) → (t ≡ 16 → ⊥) → (t ≡ 17 → ⊥) → known t ≡ false
-known-out t n a b = known-not t (λ h. ⊎-elim (λ e. n (inl e)) (λ h. ⊎-elim a (λ h. ⊎-elim b (λ e. n (inr e)) h) h) h)
+pub known-out : (t : ℕ) → ((t ≡ 1) ⊎ (t ≡ 127) → ⊥) → (t ≡ 16 → ⊥) → (t ≡ 17 → ⊥) → (t ≡ 18 → ⊥) → known t ≡ false
+known-out t n a b c = known-not t (λ h. ⊎-elim (λ e. n (inl e)) (λ h. ⊎-elim a (λ h. ⊎-elim b (λ h. ⊎-elim c (λ e. n (inr e)) h) h) h) h)
 
 module _ (t n : ℕ) where
   pub fitting-format : t ≡ 1 → fitting t n ≡ eqb n 2
@@ -48,8 +52,11 @@ module _ (t n : ℕ) where
   pub fitting-framing : t ≡ 17 → fitting t n ≡ eqb n 1
   fitting-framing e = rw e
 
-  pub fitting-end : (t ≡ 1 → ⊥) → (t ≡ 16 → ⊥) → (t ≡ 17 → ⊥) → fitting t n ≡ eqb n 0
-  fitting-end e f g = rw (ne-eqb t 1 e, ne-eqb t 16 f, ne-eqb t 17 g)
+  pub fitting-shared : t ≡ 18 → fitting t n ≡ eqb n 1
+  fitting-shared e = rw e
+
+  pub fitting-end : (t ≡ 1 → ⊥) → (t ≡ 16 → ⊥) → (t ≡ 17 → ⊥) → (t ≡ 18 → ⊥) → fitting t n ≡ eqb n 0
+  fitting-end e f g h = rw (ne-eqb t 1 e, ne-eqb t 16 f, ne-eqb t 17 g, ne-eqb t 18 h)
 
 -- a lane field has 3 bytes, or else 5
 either : (n : ℕ) (b : Bool) → eqb n 3 ≡ b → (b || eqb n 5) ≡ true → (n ≡ 3) ⊎ (n ≡ 5)
@@ -85,6 +92,10 @@ module _ (s : List ℕ) (t at n : ℕ) where
   unfolding fieldOf
   field-framing e = rw e
 
-  pub field-end : (t ≡ 1 → ⊥) → (t ≡ 16 → ⊥) → (t ≡ 17 → ⊥) → fieldOf s t at n ≡ End
+  pub field-shared : t ≡ 18 → fieldOf s t at n ≡ Shared (byteAt s at)
   unfolding fieldOf
-  field-end e f g = rw (ne-eqb t 1 e, ne-eqb t 16 f, ne-eqb t 17 g)
+  field-shared e = rw e
+
+  pub field-end : (t ≡ 1 → ⊥) → (t ≡ 16 → ⊥) → (t ≡ 17 → ⊥) → (t ≡ 18 → ⊥) → fieldOf s t at n ≡ End
+  unfolding fieldOf
+  field-end e f g h = rw (ne-eqb t 1 e, ne-eqb t 16 f, ne-eqb t 17 g, ne-eqb t 18 h)

@@ -1,11 +1,14 @@
 -- What an accepted setup is, and what a refusal of one is, said without the walk. specs/Promises.antt says that exactly these are read and refused.
 --
 --   Laid          fields that stand one after another, from a place to a place
+--   LaneFields    the fields of one lane: 0x10, and whether 0x12 stands behind it
 --   Rising        lane numbers rise, from a least one on
 --   LaneWithin    a lane field within the numbers; LanesWithin: each of some
 --   weighed       the weights of lane fields together
 --   placedAll     the lanes, with those that some fields describe
+--   givenBy       the setting that the fields of a lane give it
 --   framed        field 0x11, where there is one; framedBy: the line's framing bytes
+--   fieldsOf      the fields of some lanes, in order
 --   setupFields   the fields of a setup, in order: what is read, and what is written
 --   Accepted      the rule for a setup that is read
 --   present       how many lanes are there
@@ -18,68 +21,86 @@
 use Prim.Native.Nat.{ℕ, _+_, _≤_, _<_}
 use mathlib.Core.Path.{_≡_}
 use mathlib.Core.Bool.{Bool, true, false, not, _||_}
-use mathlib.Core.List.{List, [], _∷_, _++_, map}
+use mathlib.Core.List.{List, [], _∷_, _++_}
 use mathlib.Core.Option.{Option, some, none}
 use lib.Dec.{leb, ltb, eqb}
-use lib.ListN.{length}
+use lib.ListN.{length, set}
 use Rattle.fields.specs.Bytes.{byteAt, big}
 use Rattle.units.specs.Plain.{if_then_else_, sum}
 use Rattle.rules.specs.State.{Setting}
 use Rattle.rules.specs.Setup.{Setup, InNumbers, weights}
 use Rattle.plan.specs.Fields.{whole, itemAt}
-use Rattle.plan.specs.Judge.{knownFormat, given, lastLane, mostFraming, within}
-use Rattle.plan.specs.Read.{noLanes, placed}
+use Rattle.plan.specs.Judge.{knownFormat, longestOf, given, lastLane, mostFraming, within}
+use Rattle.plan.specs.Read.{noLanes}
 use Rattle.plan.specs.declared.parse.LaneField.{LaneField}
 use Rattle.plan.specs.declared.parse.SetupField.{SetupField}
-use Rattle.plan.specs.declared.parse.SetupField.the-variants.{Format, Lane, Framing, End}
+use Rattle.plan.specs.declared.parse.SetupField.the-variants.{Format, Lane, Framing, Shared, End}
 
 -- Each field stands whole where the one before it ends, the first at `at`, and the last ends at `next`.
 unfoldable pub Laid : List ℕ → ℕ → List SetupField → ℕ → Type 0
 Laid s at [] next = at ≡ next
 Laid s at (f ∷ fs) next = (m : ℕ) × (itemAt s at ≡ whole f m) × Laid s m fs next
 
--- "Rising lane numbers": each is above the one before it; equal is not rising.
-unfoldable pub Rising : ℕ → List LaneField → Type 0
+-- A lane's 0x10, and whether 0x12 with the same lane number stands directly behind it.
+pub record LaneFields : Type 0 where
+  pub lane : LaneField
+  pub shared : Bool
+
+-- R8.10: each lane number is above the one before it; an equal one is not.
+unfoldable pub Rising : ℕ → List LaneFields → Type 0
 Rising low [] = Unit
-Rising low (l ∷ ls) = (low ≤ l .lane) × Rising (l .lane + 1) ls
+Rising low (x ∷ xs) = (low ≤ x .lane .lane) × Rising (x .lane .lane + 1) xs
 
 -- Lanes are numbered 0 to 63; a weight is 1 to 1,024 and a longest 64 to 1,500, given or not, whatever the format and the line's framing.
 pub record LaneWithin (l : LaneField) : Type 0 where
   pub number : l .lane ≤ 63
   pub numbers : (v h : ℕ) → InNumbers (given v h l)
 
-unfoldable pub LanesWithin : List LaneField → Type 0
+unfoldable pub LanesWithin : List LaneFields → Type 0
 LanesWithin [] = Unit
-LanesWithin (l ∷ ls) = LaneWithin l × LanesWithin ls
+LanesWithin (x ∷ xs) = LaneWithin (x .lane) × LanesWithin xs
 
-abbrev pub weighed : List LaneField → ℕ
-weighed ls = sum (λ (l : LaneField). l .weight) ls
+abbrev pub weighed : List LaneFields → ℕ
+weighed xs = sum (λ (x : LaneFields). x .lane .weight) xs
 
--- Each lane field, in order, gives its lane a setting.
-unfoldable pub placedAll : ℕ → ℕ → List Setting → List LaneField → List Setting
+abbrev pub givenBy : ℕ → ℕ → LaneFields → Setting
+givenBy v h x = record { weight = x .lane .weight; longest = longestOf v (x .lane .longest); framing = h; shared = x .shared }
+
+-- The fields of each lane, in order, give it a setting.
+unfoldable pub placedAll : ℕ → ℕ → List Setting → List LaneFields → List Setting
 placedAll v h gs [] = gs
-placedAll v h gs (l ∷ ls) = placedAll v h (placed v h gs (Lane l)) ls
+placedAll v h gs (x ∷ xs) = placedAll v h (set gs (x .lane .lane) (givenBy v h x)) xs
 
 -- 0x11 stands once or not at all ..
 abbrev pub framed : Option ℕ → List SetupField
 framed none = []
 framed (some h) = Framing h ∷ []
 
--- .. and where it does not, the line has no framing bytes.
+-- .. and where it does not, the line has no framing bytes (R8.8).
 abbrev pub framedBy : Option ℕ → ℕ
 framedBy none = 0
 framedBy (some h) = h
 
--- The fields of a setup, in order: 0x01 with the format, 0x11 or none, the lane fields, 0x7F.
-abbrev pub setupFields : ℕ → Option ℕ → List LaneField → List SetupField
-setupFields v framing lanes = Format v ∷ (framed framing ++ (map Lane lanes ++ (End ∷ [])))
+-- 0x12 behind the 0x10 of lane k, or none
+abbrev pub behind : Bool → ℕ → List SetupField
+behind true k = Shared k ∷ []
+behind false k = []
 
--- The fields from `at` to `next` are 0x01 with format 1 or 2, 0x11 with at most 64 or none, one or more lane fields with rising numbers, and 0x7F; each lane
--- field is within the numbers, and the weights sum to at most 1,024. The plan's lanes are those of the fields, each with its field's setting, and n is how many they are.
+abbrev pub fieldsOf : List LaneFields → List SetupField
+fieldsOf [] = []
+fieldsOf (x ∷ xs) = Lane (x .lane) ∷ (behind (x .shared) (x .lane .lane) ++ fieldsOf xs)
+
+-- R8.15. The fields of a setup, in order: 0x01 with the format, 0x11 or none, the lanes' fields, 0x7F.
+abbrev pub setupFields : ℕ → Option ℕ → List LaneFields → List SetupField
+setupFields v framing lanes = Format v ∷ (framed framing ++ (fieldsOf lanes ++ (End ∷ [])))
+
+-- R8.15. The fields from `at` to `next` are 0x01 with format 1 or 2, 0x11 with at most 64 or none, one or more lane fields with rising numbers, each with its
+-- 0x12 behind it or not, and 0x7F; each lane field is within the numbers, and the weights sum to at most 1,024. The plan's lanes are those of the fields, each
+-- with its field's setting, and n is how many they are.
 pub record Accepted (s : List ℕ) (at v : ℕ) (gs : List Setting) (n next : ℕ) : Type 0 where
   pub format : knownFormat v ≡ true
   pub framing : Option ℕ
-  pub lanes : List LaneField
+  pub lanes : List LaneFields
   pub laid : Laid s at (setupFields v framing lanes) next
   pub framing-high : framedBy framing ≤ 64
   pub rising : Rising 0 lanes
@@ -97,8 +118,8 @@ there g = if ltb 0 (g .weight) then 1 else 0
 abbrev pub present : List Setting → ℕ
 present gs = sum there gs
 
--- What follows of the plan: it is a setup of the rules; n is the number of its lanes, 1 to 64; its weights are those of the fields; and the setup has bytes,
--- all of them in the input.
+-- R8.15. What follows of the plan: it is a setup of the rules; n is the number of its lanes, 1 to 64; its weights are those of the fields; and the setup has
+-- bytes, all of them in the input.
 pub record PlanWithin (s : List ℕ) (at v : ℕ) (gs : List Setting) (n next : ℕ) : Type 0 where
   pub rule : Accepted s at v gs n next
   pub setup : Setup gs
@@ -116,7 +137,7 @@ abbrev pub among : List ℕ → ℕ → Bool
 among [] n = false
 among (m ∷ ms) n = eqb m n || among ms n
 
--- The number that begins at a place of 50 to 54 is outside its numbers: a format, a lane number, a weight, a longest, framing bytes. The other refusals
+-- R8.13. The number that begins at a place of 50 to 54 is outside its numbers: a format, a lane number, a weight, a longest, framing bytes. The other refusals
 -- are not about one number.
 abbrev pub wrongAt : List ℕ → ℕ → ℕ → Bool
 wrongAt s n p =

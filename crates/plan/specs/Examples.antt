@@ -1,11 +1,12 @@
--- Inputs of document 01's examples, byte for byte.
+-- Inputs of examples, byte for byte.
 --
---   sessionSetup   the setup of "A session in full"
---   twoWeights     a setup with weights 1,000 and w (M8); its second lane field has no longest
+--   sessionSetup   R16.1: the setup of the first session
+--   twoWeights     R16.10: a setup with weights 1,000 and w; its second lane field has no longest
 --   twoLanes       the settings of lanes 0 and 1, and no other lane
 --
 -- Assumes nothing.
 use Prim.Native.Nat.{ℕ}
+use mathlib.Core.Bool.{false}
 use mathlib.Core.List.{List, [], _∷_, _++_}
 use lib.ListN.{set}
 use Rattle.rules.specs.State.{Setting}
@@ -28,4 +29,4 @@ abbrev pub twoWeights : ℕ → List ℕ
 twoWeights w = formatField ++ (16 ∷ 0 ∷ 5 ∷ 0 ∷ 3 ∷ 232 ∷ 5 ∷ 220 ∷ 16 ∷ 0 ∷ 3 ∷ 1 ∷ 0 ∷ w ∷ []) ++ endField
 
 abbrev pub twoLanes : ℕ → ℕ → ℕ → List Setting
-twoLanes w₀ w₁ longest = set (set noLanes 0 (record { weight = w₀; longest = longest; framing = 0 })) 1 (record { weight = w₁; longest = longest; framing = 0 })
+twoLanes w₀ w₁ longest = set (set noLanes 0 (record { weight = w₀; longest = longest; framing = 0; shared = false })) 1 (record { weight = w₁; longest = longest; framing = 0; shared = false })

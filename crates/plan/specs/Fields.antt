@@ -1,4 +1,4 @@
--- One field of a setup (document 01, "Setup and session fields"), and the refusals 1 to 3.
+-- One field of a setup (docs/RULES.md, R8), and the refusals 1 to 3.
 --
 --   Item      a field, taken apart, with the place after it; or a refusal's number and place
 --   known     the tags of a setup
@@ -25,7 +25,7 @@ use Rattle.plan.specs.declared.parse.Longest.{Longest}
 use Rattle.plan.specs.declared.parse.Longest.the-variants.{Given, Default}
 use Rattle.plan.specs.declared.parse.LaneField.{LaneField}
 use Rattle.plan.specs.declared.parse.SetupField.{SetupField}
-use Rattle.plan.specs.declared.parse.SetupField.the-variants.{Format, Lane, Framing, End}
+use Rattle.plan.specs.declared.parse.SetupField.the-variants.{Format, Lane, Framing, Shared, End}
 use Rattle.plan.specs.declared.parse.Parsed.{Parsed}
 use Rattle.plan.specs.declared.parse.Parsed.the-variants.{Whole, Refused}
 
@@ -34,36 +34,40 @@ pub data Item : Type 0 where
   whole : SetupField → ℕ → Item
   bad : ℕ → Option ℕ → Item
 
--- The tags that this part knows: 0x01, 0x10, 0x11 and 0x7F.
+-- R8.5, R14.3. The tags that this part knows: 0x01, 0x10, 0x11, 0x12 and 0x7F.
 abbrev pub known : ℕ → Bool
-known tag = eqb tag 1 || (eqb tag 16 || (eqb tag 17 || eqb tag 127))
+known tag = eqb tag 1 || (eqb tag 16 || (eqb tag 17 || (eqb tag 18 || eqb tag 127)))
 
--- "0x01 (format, u16 = 1) .. 0x10 (lane u8, weight u16, longest u16) .. 0x7F, empty. A lane field of length 3 has no longest." And 0x11,
--- the line's framing bytes, is one byte.
+-- R8.5, R14.4: a format has two bytes; a lane has five, or three with no longest; the line's framing bytes, and 0x12, a shared lane, are one byte each; 0x7F
+-- has none.
 abbrev pub fitting : ℕ → ℕ → Bool
-fitting tag n = if eqb tag 1 then eqb n 2 else (if eqb tag 16 then eqb n 3 || eqb n 5 else (if eqb tag 17 then eqb n 1 else eqb n 0))
+fitting tag n = if eqb tag 1 then eqb n 2 else (if eqb tag 16 then eqb n 3 || eqb n 5 else (if eqb tag 17 then eqb n 1 else (if eqb tag 18 then eqb n 1 else eqb n 0)))
 
--- "A lane field of length 3 has no longest." Else the longest stands after the lane and the weight.
+-- R8.9: three bytes leave the longest to the format. Else it stands after the lane and the weight.
 abbrev pub longestAt : List ℕ → ℕ → ℕ → Longest
 longestAt s at n = if eqb n 3 then Default else Given (big s (at + 3) 2)
 
--- "0x10 (lane u8, weight u16, longest u16)": the value of n bytes at a place.
+-- R8.9: the value of n bytes at a place.
 abbrev pub laneAt : List ℕ → ℕ → ℕ → LaneField
 laneAt s at n = record { lane = byteAt s at; weight = big s (at + 1) 2; longest = longestAt s at n }
 
--- The value of n bytes at a place, by the tag before it: a format, a lane, the framing bytes, or nothing.
+-- The value of n bytes at a place, by the tag before it: a format, a lane, the framing bytes, a shared lane, or nothing.
 unfoldable pub fieldOf : List ℕ → ℕ → ℕ → ℕ → SetupField
 fieldOf s tag at n =
-    if eqb tag 1 then Format (big s at 2) else (if eqb tag 16 then Lane (laneAt s at n) else (if eqb tag 17 then Framing (byteAt s at) else End))
+    if eqb tag 1 then Format (big s at 2)
+    else (if eqb tag 16 then Lane (laneAt s at n)
+    else (if eqb tag 17 then Framing (byteAt s at)
+    else (if eqb tag 18 then Shared (byteAt s at) else End)))
 
--- 0x7F ends a setup.
+-- R8.12: 0x7F ends a setup.
 abbrev pub ends : SetupField → Bool
 ends (Format v) = false
 ends (Lane l) = false
 ends (Framing h) = false
+ends (Shared k) = false
 ends End = true
 
--- "In a field 1 (header), 2, 3, 1 (value)": a header that was read, judged in this order.
+-- R8.3, R8.4, R8.6, R14.2: what was read of the header decides first, then the tag, its length, and whether the value is whole.
 abbrev pub taken : List ℕ → ℕ → Field → Item
 taken s at Nothing = bad 1 (some (length s))
 taken s at Cut = bad 1 (some at)
@@ -72,11 +76,11 @@ taken s at (Header tag value n) =
     else (if not (fitting tag n) then bad 3 (some at)
     else (if not (leb (value + n) (length s)) then bad 1 (some at) else whole (fieldOf s tag value n) (value + n)))
 
--- "header or value runs past the end, or input ends before 0x7F: field's tag; input length at the end."
+-- R8.4
 unfoldable pub itemAt : List ℕ → ℕ → Item
 itemAt s at = taken s at (headerAt s at)
 
--- The code's answer, with document 01's number for its refusal.
+-- The code's answer, its refusal by number.
 abbrev pub itemOf : Parsed → Item
 itemOf (Whole f next) = whole f next
 itemOf (Refused x) = bad (number x) (placeOf x)

@@ -1,11 +1,12 @@
--- A field of a setup, judged by the fields before it (document 01, "Numbers given back"): the refusals 4, 50 to 54, and 6.
+-- A field of a setup, judged by the fields before it (docs/RULES.md, R8): the refusals 4, 50 to 54, and 6.
 --
 --   knownFormat the formats that are read; defaultOf: what each means by a longest that is left out
---   longestOf   a lane field's longest, given or not; longestRight: whether it is in the numbers
+--   longestOf   R8.9: a lane field's longest, given or not; longestRight: whether it is in the numbers
 --   given       the setting that a lane field gives its lane, in a setup of a format and on a line with h framing bytes
 --   lastLane    the last lane number
 --   misplaced   refusal 4
 --   outside     what is wrong with a field's own numbers: refusals 50 to 54; Inside: nothing
+--   Numbered    a lane that 0x12 names is one of the 64
 --   over        what is wrong with the weights so far: refusal 6
 --   faults      the table: fault, number, place from the field's tag; offset: that place alone
 --   faulted     a fault's refusal, or what the rest decides
@@ -13,7 +14,7 @@
 --   after       what the fields so far fix for the next one, after one more
 --
 -- Assumes nothing.
-use Prim.Native.Nat.{ℕ, _+_}
+use Prim.Native.Nat.{ℕ, _+_, _≤_}
 use mathlib.Core.Bool.{Bool, true, false, not, _||_, _&&_}
 use mathlib.Core.List.{List}
 use mathlib.Core.Path.{_≡_}
@@ -29,13 +30,13 @@ use Rattle.plan.specs.declared.parse.Longest.{Longest}
 use Rattle.plan.specs.declared.parse.Longest.the-variants.{Given, Default}
 use Rattle.plan.specs.declared.parse.LaneField.{LaneField}
 use Rattle.plan.specs.declared.parse.SetupField.{SetupField}
-use Rattle.plan.specs.declared.parse.SetupField.the-variants.{Format, Lane, Framing, End}
+use Rattle.plan.specs.declared.parse.SetupField.the-variants.{Format, Lane, Framing, Shared, End}
 
--- The formats that are read.
+-- R8.7. The formats that are read.
 abbrev pub knownFormat : ℕ → Bool
 knownFormat v = eqb v 1 || eqb v 2
 
--- The longest of a lane field that has none: 1,500 in format 1, 576 in format 2.
+-- R8.9. The longest of a lane field that has none: 1,500 in format 1, 576 in format 2.
 abbrev pub defaultOf : ℕ → ℕ
 defaultOf v = if eqb v 1 then 1500 else 576
 
@@ -43,61 +44,72 @@ abbrev pub longestOf : ℕ → Longest → ℕ
 longestOf v (Given n) = n
 longestOf v Default = defaultOf v
 
--- In a setup of format v a lane field gives its lane a weight and a longest; the framing bytes are the line's.
+-- R8.9. In a setup of format v a lane field gives its lane a weight and a longest; the framing bytes are the line's.
 abbrev pub given : ℕ → ℕ → LaneField → Setting
-given v h l = record { weight = l .weight; longest = longestOf v (l .longest); framing = h }
+given v h l = record { weight = l .weight; longest = longestOf v (l .longest); framing = h; shared = false }
 
--- "4: first field not 0x01, 0x01 again, lane not rising, 0x7F with no lane." (A first 0x7F comes with no lane.) And 0x11 anywhere but directly
--- after 0x01.
+-- R14.5: a second 0x01 (R8.7), 0x11 elsewhere than directly behind it (R8.8), a lane field in front of it or not above the last lane (R8.10), 0x7F with no lane
+-- (R8.12), which a first 0x7F is; and 0x12 elsewhere than directly behind the 0x10 of the lane that it names (R8.17).
 abbrev pub misplaced : Seen → SetupField → Bool
 misplaced seen (Format v) = seen .begun
 misplaced seen (Lane l) = not (seen .begun) || ltb (l .lane) (seen .floor)
 misplaced seen (Framing h) = not (seen .opening)
+misplaced seen (Shared k) = not (seen .laned) || not (eqb (k + 1) (seen .floor))
 misplaced seen End = eqb (seen .count) 0
 
 -- From the least to the most, both among them.
 abbrev pub within : ℕ → ℕ → ℕ → Bool
 within low high n = leb low n && leb n high
 
--- A longest is 64 to 1,500; one that is left out is right in every format.
+-- R8.10. A longest is 64 to 1,500; one that is left out is right in every format.
 abbrev pub longestRight : Longest → Bool
 longestRight (Given n) = within 64 1500 n
 longestRight Default = true
 
--- Lanes are numbered 0 to 63.
+-- R8.10. Lanes are numbered 0 to 63.
 abbrev pub lastLane : ℕ
 lastLane = 63
 
--- "Lanes 1 to 64, numbered 0 to 63. Weight w: 1 to 1,024 .. Longest record of a lane: 64 to 1,500 bytes."
+-- R8.10, R14.8 to R14.10: the first of a lane field's numbers that is outside R1.1 to R1.3
 unfoldable pub laneOutside : LaneField → Fault
 laneOutside l =
     if not (leb (l .lane) lastLane) then BadLane
     else (if not (within 1 1024 (l .weight)) then BadWeight
     else (if not (longestRight (l .longest)) then BadLongest else NoFault))
 
--- The line's framing bytes are 0 to 64.
+-- R8.8. The line's framing bytes are 0 to 64.
 abbrev pub mostFraming : ℕ
 mostFraming = 64
 
--- A format is 1 or 2, framing at most 64; of a lane field's numbers the first one that is outside, in the order of their bytes.
+-- R8.7, R8.8, R14.7, R14.11. A format is 1 or 2, framing at most 64; of a lane field's numbers the first one that is outside, in the order of their bytes.
 abbrev pub outside : SetupField → Fault
 outside (Format v) = if knownFormat v then NoFault else BadFormat
 outside (Lane l) = laneOutside l
 outside (Framing h) = if ltb mostFraming h then BadFraming else NoFault
+outside (Shared k) = NoFault
 outside End = NoFault
 
 -- A field whose numbers are all inside.
 abbrev pub Inside : SetupField → Type 0
 Inside f = outside f ≡ NoFault
 
--- "6: weights so far over 1,024", this field's weight among them.
+-- A lane that is said to be shared is one of the 64: the walk has met its 0x10.
+abbrev pub Numbered : SetupField → Type 0
+Numbered (Format v) = Unit {0}
+Numbered (Lane l) = Unit {0}
+Numbered (Framing h) = Unit {0}
+Numbered (Shared k) = k ≤ lastLane
+Numbered End = Unit {0}
+
+-- R8.11, R14.12: more than 1,024 with this field's weight.
 abbrev pub over : Seen → SetupField → Fault
 over seen (Format v) = NoFault
 over seen (Lane l) = if ltb 1024 (seen .total + l .weight) then TotalOver else NoFault
 over seen (Framing h) = NoFault
+over seen (Shared k) = NoFault
 over seen End = NoFault
 
--- The table of faults: the refusal's number, and its place, counted from the field's tag: the first byte of the number that is wrong.
+-- R8.13, R14.7 to R14.12. The table of faults: the refusal's number, and its place, counted from the field's tag: the first byte of the number that is wrong.
 abbrev pub faults : Fault → Option (ℕ × ℕ)
 faults NoFault = none
 faults BadFormat = some (50, 3)
@@ -112,6 +124,7 @@ abbrev pub placeIn : Option (ℕ × ℕ) → ℕ
 placeIn none = 0
 placeIn (some row) = row .1
 
+-- R8.13
 abbrev pub offset : Fault → ℕ
 offset x = placeIn (faults x)
 
@@ -123,20 +136,21 @@ tabled at (some row) rest = bad (row .0) (some (at + row .1))
 abbrev pub faulted : ℕ → Fault → Item → Item
 faulted at x rest = tabled at (faults x) rest
 
--- In a field 1 (header), 2, 3, 1 (value), 4, then its own numbers, then 6.
+-- R8.3, R14.36. In a field 1 (header), 2, 3, 1 (value), 4, then its own numbers, then 6.
 abbrev pub judged : Seen → ℕ → Item → Item
 judged seen at (bad n p) = bad n p
 judged seen at (whole f next) =
     if misplaced seen f then bad 4 (some at) else faulted at (outside f) (faulted at (over seen f) (whole f next))
 
--- The field at a place, judged by the fields before it.
+-- R8.3. The field at a place, judged by the fields before it.
 unfoldable pub judgedAt : Seen → List ℕ → ℕ → Item
 judgedAt seen s at = judged seen at (itemAt s at)
 
--- A field that is taken: the format begins the setup, and 0x11 may follow; 0x11 gives the line's framing bytes; a lane field raises the least number that
--- may follow, and adds its weight and itself.
+-- A field that is taken: the format begins the setup, and 0x11 may follow; 0x11 gives the line's framing bytes; 0x12 closes its lane; a lane field raises the
+-- least number that may follow, and adds its weight and itself.
 abbrev pub after : Seen → SetupField → Seen
-after seen (Format v) = record { begun = true; opening = true; format = v; framing = seen .framing; floor = seen .floor; total = seen .total; count = seen .count }
-after seen (Lane l) = record { begun = true; opening = false; format = seen .format; framing = seen .framing; floor = l .lane + 1; total = seen .total + l .weight; count = seen .count + 1 }
-after seen (Framing h) = record { begun = true; opening = false; format = seen .format; framing = h; floor = seen .floor; total = seen .total; count = seen .count }
+after seen (Format v) = record { begun = true; opening = true; laned = false; format = v; framing = seen .framing; floor = seen .floor; total = seen .total; count = seen .count }
+after seen (Lane l) = record { begun = true; opening = false; laned = true; format = seen .format; framing = seen .framing; floor = l .lane + 1; total = seen .total + l .weight; count = seen .count + 1 }
+after seen (Framing h) = record { begun = true; opening = false; laned = false; format = seen .format; framing = h; floor = seen .floor; total = seen .total; count = seen .count }
+after seen (Shared k) = record { begun = true; opening = false; laned = false; format = seen .format; framing = seen .framing; floor = seen .floor; total = seen .total; count = seen .count }
 after seen End = seen

@@ -1,10 +1,10 @@
 -- What is promised of reading a setup, of every input and every place. Theorems of these names in small letters are in proofs/Promises.antt.
 --
---   ReadsExactly    the setups that are read are exactly the accepted ones, each as its own plan and as far as the place behind its 0x7F
---   ReadsWhole      the same where the setup is the whole input
---   PlansWithin     the plan of an accepted setup is within the numbers
+--   ReadsExactly    R8.15: the setups that are read are exactly the accepted ones, each as its own plan and as far as the place behind its 0x7F
+--   ReadsWhole      R8.14: the same where the setup is the whole input
+--   PlansWithin     R8.15: the plan of an accepted setup is within the numbers
 --   LooksNoFurther  what is read depends on no byte behind the setup's 0x7F
---   RefusesInside   a refusal has a number of `refusals` and a place in the input, at its length only for 1; at 50 to 54 the wrong number begins there
+--   RefusesInside   R8.13: a refusal has a number of `refusals` and a place in the input, at its length only for 1; at 50 to 54 the wrong number begins there
 --
 -- Assumes nothing.
 use Prim.Native.Nat.{ℕ}
@@ -29,7 +29,7 @@ ReadsWhole =
 unfoldable pub PlansWithin : Type 0
 PlansWithin = (s : List ℕ) (at v : ℕ) (gs : List Setting) (n next : ℕ) → Accepted s at v gs n next → PlanWithin s at v gs n next
 
--- An input t that has the bytes of s as far as the place behind the setup's 0x7F is read alike, whatever stands behind it.
+-- R8.14. An input t that has the bytes of s as far as the place behind the setup's 0x7F is read alike, whatever stands behind it.
 unfoldable pub LooksNoFurther : Type 0
 LooksNoFurther = (s t : List ℕ) (at v : ℕ) (gs : List Setting) (n next : ℕ) → readPlan s at ≡ read v gs n next → take next s ≡ take next t → readPlan t at ≡ read v gs n next
 

@@ -9,7 +9,7 @@ use crate::parse::Parsed;
 use crate::parse::SetupField;
 use rules::Refusal;
 
-// Document 01, "Numbers": lanes are numbered 0 to 63, a weight is 1 to 1,024, a longest 64 to 1,500, and the weights sum to at most 1,024.
+// R1.1 to R1.3: lanes are numbered 0 to 63, a weight is 1 to 1,024, a longest 64 to 1,500, and the weights sum to at most 1,024.
 pub const LAST_LANE: u8 = 63;
 
 pub const LEAST_WEIGHT: u16 = 1;
@@ -51,13 +51,15 @@ pub struct Seen {
     pub begun: bool,
     // The field before was the format: 0x11 may stand here, and nowhere else.
     pub opening: bool,
+    // The field before was a lane's: its 0x12 may stand here, and nowhere else.
+    pub laned: bool,
     // The setup's format.
     pub format: u16,
     // The line's framing bytes.
     pub framing: u8,
     // The least lane number that rises above those before it.
     pub floor: usize,
-    // "weights so far"
+    // The weights of the lane fields so far.
     pub total: u64,
     // Lane fields so far.
     pub count: usize,
@@ -95,7 +97,7 @@ fn default_of(format: u16) -> u16
     }
 }
 
-// "A lane field of length 3 has no longest": the format says what it means.
+// R8.9: where a lane field has no longest, the format says what it means.
 pub fn longest_of(format: u16, longest: Longest) -> u16
     ensures { λ r. ⌜ r ≡ longestOf format longest ⌝ }
 {
@@ -121,7 +123,8 @@ fn longest_right(longest: Longest) -> bool
     within(LEAST_LONGEST, MOST_LONGEST, n)
 }
 
-// Refusal 4: "first field not 0x01, 0x01 again, lane not rising, 0x7F with no lane"; and 0x11 anywhere but directly after 0x01.
+// Refusal 4 (R14.5): 0x01 twice or not in front, a lane that does not rise, 0x7F without a lane; 0x11 elsewhere than directly behind 0x01, 0x12 elsewhere than
+// directly behind the 0x10 of its lane.
 fn misplaced(seen: Seen, field: SetupField) -> bool
     ensures { λ r. ⌜ r ≡ misplaced seen field ⌝ }
 {
@@ -135,6 +138,13 @@ fn misplaced(seen: Seen, field: SetupField) -> bool
             }
         }
         SetupField::Framing(_) => !seen.opening,
+        SetupField::Shared(k) => {
+            if seen.laned {
+                k as usize + 1 != seen.floor
+            } else {
+                true
+            }
+        }
         SetupField::End => seen.count == 0,
     }
 }
@@ -175,11 +185,12 @@ fn outside(field: SetupField) -> Fault
                 Fault::NoFault
             }
         }
+        SetupField::Shared(_) => Fault::NoFault,
         SetupField::End => Fault::NoFault,
     }
 }
 
-// Refusal 6: "weights so far over 1,024", this field's weight among them.
+// Refusal 6 (R14.12): more than 1,024 with this field's weight.
 fn over(seen: Seen, field: SetupField) -> Fault
     requires { ⌜ seen .total ≤ 1024 ⌝ }
     ensures { λ r. ⌜ r ≡ over seen field ⌝ }
@@ -194,6 +205,7 @@ fn over(seen: Seen, field: SetupField) -> Fault
         }
         SetupField::Format(_) => Fault::NoFault,
         SetupField::Framing(_) => Fault::NoFault,
+        SetupField::Shared(_) => Fault::NoFault,
         SetupField::End => Fault::NoFault,
     }
 }
@@ -239,6 +251,7 @@ pub fn after(seen: Seen, field: SetupField) -> Seen
         SetupField::Format(v) => Seen {
             begun: true,
             opening: true,
+            laned: false,
             format: v,
             framing: seen.framing,
             floor: seen.floor,
@@ -248,6 +261,7 @@ pub fn after(seen: Seen, field: SetupField) -> Seen
         SetupField::Lane(l) => Seen {
             begun: true,
             opening: false,
+            laned: true,
             format: seen.format,
             framing: seen.framing,
             floor: l.lane as usize + 1,
@@ -257,8 +271,19 @@ pub fn after(seen: Seen, field: SetupField) -> Seen
         SetupField::Framing(n) => Seen {
             begun: true,
             opening: false,
+            laned: false,
             format: seen.format,
             framing: n,
+            floor: seen.floor,
+            total: seen.total,
+            count: seen.count,
+        },
+        SetupField::Shared(_) => Seen {
+            begun: true,
+            opening: false,
+            laned: false,
+            format: seen.format,
+            framing: seen.framing,
             floor: seen.floor,
             total: seen.total,
             count: seen.count,

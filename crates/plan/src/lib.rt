@@ -1,4 +1,4 @@
-// The setup reader: document 01, "Setup and session fields", with the refusals 1 to 4, 50 to 54 and 6.
+// The setup reader (docs/RULES.md, R8), with the refusals 1 to 4, 50 to 54 and 6.
 //
 //   parse    one field of a setup, taken apart: refusals 1 to 3, in the order 1 (header), 2, 3, 1 (value)
 //   reader   the reader, a struct of the lent bytes and a place: each field is read through it, and it moves on by a field
@@ -11,7 +11,7 @@
 // Units: a place is a number of bytes from the first byte of the input, a length a number of bytes, a longest is in `Bytes`; weights are plain numbers.
 ghost use mathlib.Core.Path.{_≡_};
 ghost use mathlib.Core.List.{map};
-ghost use Rattle.plan.specs.Judge.{given, Inside};
+ghost use Rattle.plan.specs.Judge.{given, Inside, Numbered};
 ghost use Rattle.plan.specs.Read.{noLanes, placed, settingOf, came, reads, readPlan, readSetup};
 
 pub mod judge;
@@ -25,14 +25,15 @@ use parse::SetupField;
 use rules::Refusal;
 use units::Bytes;
 
-// "Lanes 1 to 64, numbered 0 to 63."
+// R1.1: how many lane numbers there are.
 pub const LANES: usize = 64;
 
-// What a setup gives a lane, the line's framing bytes among it. Weight 0: the lane is not in the setup, and has none.
+// What a setup gives a lane, the line's framing bytes among it, and whether trains share it. Weight 0: the lane is not in the setup, and has none.
 pub struct Lane {
     pub weight: u64,
     pub longest: Bytes,
     pub framing: Bytes,
+    pub shared: bool,
 }
 
 // A setup by value: its format, a lane for each number, and how many of them are there.
@@ -63,6 +64,7 @@ fn lane_of(l: LaneField, format: u16, framing: u8) -> Lane
         weight: l.weight as u64,
         longest: Bytes(judge::longest_of(format, longest) as u64),
         framing: Bytes(framing as u64),
+        shared: false,
     }
 }
 
@@ -73,12 +75,13 @@ pub fn no_lanes() -> [Lane; LANES]
         weight: 0,
         longest: Bytes(0),
         framing: Bytes(0),
+        shared: false,
     }; LANES]
 }
 
 // The lanes, with the one that a field describes, in a setup of this format and on a line with so many framing bytes.
 fn placed(mut lanes: [Lane; LANES], format: u16, framing: u8, field: SetupField) -> [Lane; LANES]
-    requires { ⌜ Inside field ⌝ }
+    requires { ⌜ Inside field × Numbered field ⌝ }
     ensures { λ r. ⌜ map settingOf r ≡ placed format framing (map settingOf lanes) field ⌝ }
 {
     match field {
@@ -89,6 +92,13 @@ fn placed(mut lanes: [Lane; LANES], format: u16, framing: u8, field: SetupField)
             lanes
         }
         SetupField::Framing(_) => lanes,
+        SetupField::Shared(l) => {
+            let k = l as usize;
+            let mut lane = lanes[k];
+            lane.shared = true;
+            lanes[k] = lane;
+            lanes
+        }
         SetupField::End => lanes,
     }
 }
@@ -114,6 +124,7 @@ pub fn read_plan(s: &[u8], at: usize) -> Reading
     let mut seen = Seen {
         begun: false,
         opening: false,
+        laned: false,
         format: 0,
         framing: 0,
         floor: 0,

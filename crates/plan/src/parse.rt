@@ -13,6 +13,8 @@ pub const LANE: u8 = 0x10;
 
 pub const FRAMING: u8 = 0x11;
 
+pub const SHARED: u8 = 0x12;
+
 pub const END: u8 = 0x7F;
 
 // The longest of a lane field: given, or left out in a field of length 3.
@@ -32,6 +34,8 @@ pub enum SetupField {
     Lane(LaneField),
     // The line's framing bytes.
     Framing(u8),
+    // The lane that trains share.
+    Shared(u8),
     End,
 }
 
@@ -41,12 +45,12 @@ pub enum Parsed {
     Refused(Refusal),
 }
 
-// "Tag unknown in this part": a setup knows four.
+// R8.5: a setup knows five tags.
 pub fn known(tag: u8) -> bool
     ensures { λ r. ⌜ r ≡ known tag ⌝ }
 {
     match tag {
-        FORMAT | LANE | FRAMING | END => true,
+        FORMAT | LANE | FRAMING | SHARED | END => true,
         _ => false,
     }
 }
@@ -59,6 +63,7 @@ pub fn fitting(tag: u8, n: usize) -> bool
         FORMAT => n == 2,
         LANE => { if n == 3 { true } else { n == 5 } }
         FRAMING => n == 1,
+        SHARED => n == 1,
         _ => n == 0,
     }
 }
@@ -73,7 +78,7 @@ fn longest_at(s: &[u8], at: usize, n: usize) -> Longest
     Longest::Given(fields::u16_at(s, at + 3))
 }
 
-// A lane field's value: "lane u8, weight u16, longest u16".
+// R8.9: a lane field's value, a byte of lane, two of weight and two of longest.
 fn lane_at(s: &[u8], at: usize, n: usize) -> LaneField
     requires { ⌜ (fitting 16 n ≡ true) × (at + n ≤ length (now s)) ⌝ }
     ensures { λ r. ⌜ r ≡ laneAt (now (s .entry)) at n ⌝ }
@@ -93,6 +98,7 @@ fn field_of(s: &[u8], tag: u8, at: usize, n: usize) -> SetupField
         FORMAT => SetupField::Format(fields::u16_at(s, at)),
         LANE => SetupField::Lane(lane_at(s, at, n)),
         FRAMING => SetupField::Framing(s[at]),
+        SHARED => SetupField::Shared(s[at]),
         _ => SetupField::End,
     }
 }
@@ -104,6 +110,7 @@ pub fn ends(field: SetupField) -> bool
         SetupField::Format(_) => false,
         SetupField::Lane(_) => false,
         SetupField::Framing(_) => false,
+        SetupField::Shared(_) => false,
         SetupField::End => true,
     }
 }

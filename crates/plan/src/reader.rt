@@ -1,4 +1,4 @@
-// The reader: document 01, "The reader stands on the lent setup bytes and moves by fields."
+// The reader: it has a place in the lent setup bytes, and goes on from field to field.
 //
 // A small struct of the bytes and a place, and thin functions over it. What stands at a place, and where it ends, is worked out below on a slice and a
 // number, by `parsed_field` of `parse` and by `behind` of `fields`; above, `field_at` and `next_at` take the same two and serve callers that hold no

@@ -4,14 +4,14 @@
 --   area-shows   an area that is a plan within the numbers shows it, so its words are the only ones
 --
 -- Assumes nothing.
-use Prim.Native.Nat.{ℕ, suc, _+_, _/_, _%_, _≤_, _<_}
-use mathlib.Core.Path.{_≡_, sym, ap, subst, _∙_}
+use Prim.Native.Nat.{ℕ, suc, _+_, _-_, _*_, _/_, _%_, _≤_, _<_}
+use mathlib.Core.Path.{_≡_, refl, sym, ap, subst, _∙_}
 use mathlib.Core.Bool.{Bool, true, false}
 use mathlib.Core.Logic.{_⊎_, ⊎-elim}
 use mathlib.Core.List.{List, [], _∷_}
 use native.Mathlib.Decide.{decLe}
 use native.Mathlib.Omega.{arith}
-use borrow.Author.Tests.{ne-eqb}
+use borrow.Author.Tests.{ne-eqb, eq-eqb, eqb-true}
 use lib.Dec.{eqb}
 use lib.ListN.{List·getD-eq-default}
 use lib.Seq.{ext-getD}
@@ -24,27 +24,42 @@ use Rattle.plan.specs.Accepted.{present}
 use Rattle.plan_writer.specs.Write.{Planned, Within, Fitting, size}
 use Rattle.plan_writer.proofs.Framing.{fitting-line}
 use Rattle.plan_writer.proofs.Parts.{format-small}
-use Rattle.plan_area.specs.Area.{Room, formatIn, framingIn, settingIn, laneIn, lanesIn, planIn, laneWord, Shows, AreaWithin}
+use Rattle.plan_area.specs.Area.{Room, formatIn, framingIn, sharedIn, longestIn, settingIn, laneIn, lanesIn, planIn, sharedPart, laneWord, Shows, AreaWithin}
 use Rattle.plan_area.specs.Step.{lanes}
 
 -- ---- an area that shows a plan
+
+-- the parts of a word that is made of them
+parts : (w x y : ℕ) (b : Bool) → x ≤ 1024 → y ≤ 1500 → w ≡ x + 65536 * y + sharedPart b → (w % 65536 ≡ x) × (longestIn w ≡ y) × (sharedIn w ≡ b)
+parts w x y true p q e =
+    let one : eqb (w / 4294967296) 1 ≡ true = eq-eqb (w / 4294967296) 1 (omega arith) in
+    (omega arith, rw one (omega arith), one)
+parts w x y false p q e =
+    let no-one : eqb (w / 4294967296) 1 ≡ false = ne-eqb (w / 4294967296) 1 (λ z. omega arith) in
+    (omega arith, rw no-one (omega arith), no-one)
+
+-- any word is made of its parts
+word-is : (h w : ℕ) → laneWord (settingIn h w) ≡ w
+word-is h w = go (eqb (w / 4294967296) 1) refl
+  where
+    go : (b : Bool) → eqb (w / 4294967296) 1 ≡ b → w % 65536 + 65536 * (if b then w / 65536 - 65536 else w / 65536) + sharedPart b ≡ w
+    go true e = omega (arith, eqb-true (w / 4294967296) 1 e)
+    go false e = omega arith
 
 word-back : (h w : ℕ) (g : Setting) → Fitting h g → w ≡ laneWord g → settingIn h w ≡ g
 word-back h w g f e = ⊎-elim there absent f
   where
     there : InNumbers g × (g .framing ≡ h) → settingIn h w ≡ g
     there n =
-        let weight : w % 65536 ≡ g .weight = omega (arith, e, n .0 .weight-high) in
-        let longest : w / 65536 ≡ g .longest = omega (arith, e, n .0 .weight-high) in
-        let framing : (if eqb (w % 65536) 0 then 0 else h) ≡ g .framing = rw (ne-eqb (w % 65536) 0 (λ z. omega (arith, z, weight, n .0 .weight-low))) (sym (n .1)) in
-        ap (λ (x : ℕ). record { weight = x; longest = w / 65536; framing = if eqb (w % 65536) 0 then 0 else h }) weight
-        ∙ ap (λ (x : ℕ). record { weight = g .weight; longest = x; framing = if eqb (w % 65536) 0 then 0 else h }) longest
-        ∙ ap (λ (x : ℕ). record { weight = g .weight; longest = g .longest; framing = x }) framing
+        let p = parts w (g .weight) (g .longest) (g .shared) (n .0 .weight-high) (n .0 .longest-high) e in
+        let framing : (if eqb (w % 65536) 0 then 0 else h) ≡ g .framing = rw (ne-eqb (w % 65536) 0 (λ z. omega (arith, z, p .0, n .0 .weight-low))) (sym (n .1)) in
+        ap (λ (x : ℕ). record { weight = x; longest = longestIn w; framing = if eqb (w % 65536) 0 then 0 else h; shared = sharedIn w }) (p .0)
+        ∙ ap (λ (x : ℕ). record { weight = g .weight; longest = x; framing = if eqb (w % 65536) 0 then 0 else h; shared = sharedIn w }) (p .1)
+        ∙ ap (λ (x : ℕ). record { weight = g .weight; longest = g .longest; framing = x; shared = sharedIn w }) framing
+        ∙ ap (λ (x : Bool). record { weight = g .weight; longest = g .longest; framing = g .framing; shared = x }) (p .2)
 
     absent : g ≡ noSetting → settingIn h w ≡ g
-    absent q =
-        let zero-word : w ≡ 0 = omega (arith, e, ap (λ (x : Setting). x .weight) q, ap (λ (x : Setting). x .longest) q) in
-        ap (settingIn h) zero-word ∙ sym q
+    absent q = ap (settingIn h) (e ∙ ap laneWord q) ∙ sym q
 
 module _ (p : Planned) (a : List ℕ) (w : Within p) (s : Shows p a) where
   framing-back : framingIn a ≡ framingOf (p .lanes)
@@ -120,5 +135,5 @@ module _ (a : List ℕ) (w : AreaWithin a) where
     head = omega (arith, line);
     lane = λ k b.
         let is : settingAt gs k ≡ laneIn a k = getD-tab 64 k (laneIn a) noSetting b in
-        omega (arith, ap (λ (g : Setting). g .weight) is, ap (λ (g : Setting). g .longest) is);
+        sym (ap laneWord is ∙ word-is (framingIn a) (wordAt a (k + 1)));
   }

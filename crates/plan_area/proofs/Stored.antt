@@ -5,6 +5,7 @@
 --
 -- Assumes nothing.
 use Prim.Native.Nat.{ℕ, suc, _+_, _*_, _≤_, _<_}
+use mathlib.Core.Bool.{Bool, true, false}
 use mathlib.Core.Path.{_≡_, refl, ap, subst, _∙_}
 use mathlib.Core.Logic.{_⊎_, ⊎-elim}
 use mathlib.Core.List.{List, map}
@@ -19,9 +20,13 @@ use Rattle.plan.specs.Read.{settingOf}
 use Rattle.plan.specs.declared.Lane as plan
 use Rattle.plan_writer.specs.Write.{numbered, Either}
 use Rattle.plan_writer.proofs.Numbered.{numbered-all, none}
-use Rattle.plan_area.specs.Area.{Room, laneWord, Shows}
+use Rattle.plan_area.specs.Area.{Room, sharedPart, laneWord, Shows}
 
 -- a lane's word fits
+pub shared-most : (b : Bool) → sharedPart b ≤ 4294967296
+shared-most true = omega arith
+shared-most false = omega arith
+
 pub word-small : (g : Setting) → Either g → (g .weight ≤ 1024) × (g .longest ≤ 1500)
 word-small g e =
     ⊎-elim
@@ -67,7 +72,7 @@ module _ (v : ℕ) (gs : List Setting) (a₀ a : List ℕ) (k : ℕ) (so : Store
       let w = laneWord (settingAt gs k) in
       let fits = word-small (settingAt gs k) ok in
       let other : (j : ℕ) → (j ≡ k + 1 → ⊥) → wordAt b j ≡ wordAt a j = λ j ne. ap (λ (x : List ℕ). wordAt x j) e ∙ wordAt-putWord-other a (k + 1) j w ne in
-      let here : wordAt b (k + 1) ≡ w = ap (λ (x : List ℕ). wordAt x (k + 1)) e ∙ wordAt-putWord-same a (k + 1) w (omega (arith, so .size, room, l)) (omega (arith, fits .0, fits .1)) in
+      let here : wordAt b (k + 1) ≡ w = ap (λ (x : List ℕ). wordAt x (k + 1)) e ∙ wordAt-putWord-same a (k + 1) w (omega (arith, so .size, room, l)) (omega (arith, fits .0, fits .1, shared-most (settingAt gs k .shared))) in
       record {
         low = omega arith;
         size = ap length e ∙ length-putWord a (k + 1) w ∙ so .size;

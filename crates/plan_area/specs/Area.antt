@@ -1,4 +1,4 @@
--- A plan in lent bytes: 65 words, low byte first.
+-- A plan in lent bytes (R9.7): 65 words, low byte first.
 --
 --   Room        long enough
 --   formatIn, framingIn, laneIn   the numbers of an area; settingIn: those of a lane's word
@@ -7,8 +7,9 @@
 --   AreaWithin  an area that is a plan within the numbers
 --
 -- Assumes nothing.
-use Prim.Native.Nat.{ℕ, _+_, _*_, _/_, _%_, _≤_, _<_}
+use Prim.Native.Nat.{ℕ, _+_, _-_, _*_, _/_, _%_, _≤_, _<_}
 use mathlib.Core.Path.{_≡_}
+use mathlib.Core.Bool.{Bool}
 use mathlib.Core.List.{List}
 use lib.Dec.{eqb}
 use lib.ListN.{length}
@@ -33,10 +34,16 @@ formatIn a = wordAt a 0 % 65536
 abbrev pub framingIn : List ℕ → ℕ
 framingIn a = wordAt a 0 / 65536
 
--- A lane's word: weight + 2^16 longest. All that stands above the weight is the longest, so a bit that no plan has is a longest outside its numbers. A lane
--- that is there has the line's framing bytes.
+-- A lane's word: weight + 2^16 longest, and 2^32 where trains share the lane. But for that all that stands above the weight is the longest, so a bit that no
+-- plan has is a longest outside its numbers. A lane that is there has the line's framing bytes.
+abbrev pub sharedIn : ℕ → Bool
+sharedIn w = eqb (w / 4294967296) 1
+
+abbrev pub longestIn : ℕ → ℕ
+longestIn w = if sharedIn w then w / 65536 - 65536 else w / 65536
+
 abbrev pub settingIn : ℕ → ℕ → Setting
-settingIn h w = record { weight = w % 65536; longest = w / 65536; framing = if eqb (w % 65536) 0 then 0 else h }
+settingIn h w = record { weight = w % 65536; longest = longestIn w; framing = if eqb (w % 65536) 0 then 0 else h; shared = sharedIn w }
 
 -- Word k + 1 is that of lane k.
 abbrev pub laneIn : List ℕ → ℕ → Setting
@@ -50,14 +57,17 @@ planIn a = record { format = formatIn a; lanes = lanesIn a; count = present (lan
 
 -- ---- the words of a plan
 
+abbrev pub sharedPart : Bool → ℕ
+sharedPart b = if b then 4294967296 else 0
+
 abbrev pub laneWord : Setting → ℕ
-laneWord g = g .weight + 65536 * g .longest
+laneWord g = g .weight + 65536 * g .longest + sharedPart (g .shared)
 
 pub record Shows (p : Planned) (a : List ℕ) : Type 0 where
   pub head : wordAt a 0 ≡ p .format + 65536 * framingOf (p .lanes)
   pub lane : (k : ℕ) → k < 64 → wordAt a (k + 1) ≡ laneWord (settingAt (p .lanes) k)
 
--- Long enough, and within the numbers.
+-- R9.9. Long enough, and within the numbers.
 pub record AreaWithin (a : List ℕ) : Type 0 where
   pub room : Room a
   pub plan : Within (planIn a)

@@ -1,9 +1,9 @@
--- The promises of the two calls on a plan area, whole: for all bytes and every length.
+-- The promises of the two calls on a plan area (R9.8, R9.9), whole: for all bytes and every length.
 --
 --   Reply       what reading answers: the number of lanes, or a refusal's number and its place
 --   ReadStep    the promise of `read_setup`
 --   WriteStep   the promise of `write_setup`
---   WritesBack  a setup that is read into an area, and is in the form, is written back as the same bytes
+--   WritesBack  a setup that is read into an area, and is in the form, comes back as its own bytes
 --   ReadsBack   what was written from an area is read, into any area, as the same words
 --
 -- The theorems of the last two are `writes-back-area` and `reads-back-area` in proofs/Back.antt. Assumes nothing.
@@ -33,12 +33,12 @@ abbrev pub got : Got → Reply
 got (Lanes n) = lanes n
 got (Refused x) = refused (number x) (placeOf x)
 
--- Long enough, the setup decides: the plan is in the area, and the bytes past it stay; or a refusal, and the area stays.
+-- R14.43. Long enough, the setup decides: the plan is in the area, and the bytes past it stay; or a refusal, and the area stays.
 abbrev pub Follows : plan.Reply → List ℕ → Got → List ℕ → Type 0
 Follows (plan.refused n p) before a after = (got a ≡ refused n p) × (after ≡ before)
 Follows (plan.read v gs n at) before a after = (got a ≡ lanes n) × Shows (record { format = v; lanes = gs; count = n }) after × (drop (65 * 8) after ≡ drop (65 * 8) before)
 
--- 7 where the area is too short, first and at place 0.
+-- R14.13, R14.37: 7 where the area is too short, first and at place 0.
 pub record ReadStep (setup before : List ℕ) (a : Got) (after : List ℕ) : Type 0 where
   pub short : length before < 65 * 8 → (got a ≡ refused 7 (some 0)) × (after ≡ before)
   pub follows : Room before → Follows (readSetup setup) before a after

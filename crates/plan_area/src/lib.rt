@@ -1,7 +1,7 @@
 // A plan in lent bytes, for a host that edits one: the depot tool's side of the setup reader and writer.
 //
-// A plan area is 65 words of 64 bits, low byte first, 520 bytes. Word 0 is format + 2^16 framing bytes; word k + 1 is lane k's weight + 2^16 longest, and 0
-// where there is no such lane. Any words may be lent: those that are no plan within the numbers are refused by 55 when they are written as a setup.
+// A plan area is 65 words of 64 bits, low byte first, 520 bytes. Word 0 is format + 2^16 framing bytes; word k + 1 is lane k's weight + 2^16 longest, with 2^32
+// where trains share it, and 0 where there is no such lane. Any words may be lent: those that are no plan within the numbers are refused by 55 when they are written as a setup.
 //
 //   read_setup    a setup read into an area
 //   write_setup   the plan of an area written as a setup
@@ -15,7 +15,7 @@ ghost use lib.ListN.{length, drop};
 ghost use Rattle.rules.specs.Setup.{Setup};
 ghost use Rattle.plan.specs.Read.{settingOf, settings};
 ghost use Rattle.plan_writer.specs.Write.{planned, Either};
-ghost use Rattle.plan_area.specs.Area.{Room, formatIn, settingIn, planIn, laneWord, Shows};
+ghost use Rattle.plan_area.specs.Area.{Room, formatIn, longestIn, settingIn, planIn, sharedPart, laneWord, Shows};
 ghost use Rattle.plan_area.specs.Step.{ReadStep, WriteStep};
 use plan::LANES;
 use plan::Lane;
@@ -31,8 +31,10 @@ use words::word;
 // The fixed size of a plan area, in bytes.
 pub const SIZE: usize = 520;
 
-// The place of a word's second number.
+// The places of a word's second number, and of the mark of a shared lane.
 const UNIT: u64 = 65536;
+
+const SHARED_UNIT: u64 = 4294967296;
 
 // What came of reading a setup into an area.
 pub enum Got {
@@ -41,23 +43,35 @@ pub enum Got {
     Refused(Refusal),
 }
 
+fn longest_in(w: u64) -> u64
+    ensures { λ r. ⌜ r ≡ longestIn w ⌝ }
+{
+    if w / SHARED_UNIT == 1 {
+        return w / UNIT - UNIT;
+    }
+    w / UNIT
+}
+
 // The lane of a word, on a line with `h` framing bytes.
 fn lane_in(w: u64, h: u64) -> Lane
     ensures { λ r. ⌜ settingOf r ≡ settingIn h w ⌝ }
 {
     let weight = w % UNIT;
-    let longest = w / UNIT;
+    let longest = longest_in(w);
+    let shared = w / SHARED_UNIT == 1;
     if weight == 0 {
         return Lane {
             weight: weight,
             longest: Bytes(longest),
             framing: Bytes(0),
+            shared: shared,
         };
     }
     Lane {
         weight: weight,
         longest: Bytes(longest),
         framing: Bytes(h),
+        shared: shared,
     }
 }
 
@@ -93,11 +107,17 @@ pub fn plan_in(area: &[u8]) -> Plan
     }
 }
 
+fn shared_part(shared: bool) -> u64
+    ensures { λ r. ⌜ r ≡ sharedPart shared ⌝ }
+{
+    if shared { SHARED_UNIT } else { 0 }
+}
+
 fn lane_word(l: Lane) -> u64
     requires { ⌜ Either (settingOf l) ⌝ }
     ensures { λ r. ⌜ r ≡ laneWord (settingOf l) ⌝ }
 {
-    l.weight + UNIT * l.longest.0
+    l.weight + UNIT * l.longest.0 + shared_part(l.shared)
 }
 
 // Stores a plan that was read.

@@ -7,6 +7,8 @@
 //     no NUMBER PLACE
 //     format FORMAT, lanes COUNT to PLACE, LANE/WEIGHT/LONGEST/FRAMING ..
 //
+// with `/shared` at the end of a lane that trains share.
+//
 // vectors.py writes the vectors and the expected lines.
 ghost use Prim.Native.Nat.{_<_, _≤_};
 ghost use lib.ListN.{length};
@@ -17,6 +19,9 @@ use plan::Outcome;
 use plan::Plan;
 use plan::Reading;
 use rules::Refusal;
+
+// Room for all vectors.
+const TEXT: usize = 131072;
 
 // A line as far as it is read: bytes found, a digit that waits for its second, whether a comment has begun, and where reading is to begin.
 struct Line {
@@ -161,6 +166,9 @@ fn print_lane(k: usize, l: Lane) {
         print_number(b"/", l.weight);
         print_number(b"/", l.longest.0);
         print_number(b"/", l.framing.0);
+        if l.shared {
+            io::write_all(STDOUT_FILENO, b"/shared");
+        }
     }
 }
 
@@ -219,7 +227,7 @@ fn run(text: &[u8]) {
 }
 
 fn main() {
-    let mut text = io::large_buffer();
+    let mut text = [0u8; TEXT];
     let n = io::read_full(libc::STDIN_FILENO, &mut text);
     run(&text[..n]);
 }

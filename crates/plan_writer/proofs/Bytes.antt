@@ -21,9 +21,9 @@ use Rattle.plan.specs.declared.parse.Longest.{Longest}
 use Rattle.plan.specs.declared.parse.Longest.the-variants.{Given, Default}
 use Rattle.plan.specs.declared.parse.LaneField.{LaneField}
 use Rattle.plan.specs.declared.parse.SetupField.{SetupField}
-use Rattle.plan.specs.declared.parse.SetupField.the-variants.{Format, Lane, Framing, End}
+use Rattle.plan.specs.declared.parse.SetupField.the-variants.{Format, Lane, Framing, Shared, End}
 use Rattle.plan.proofs.Items.{item-whole}
-use Rattle.plan.proofs.Tags.{known-is, field-format, field-lane, field-framing, field-end}
+use Rattle.plan.proofs.Tags.{known-is, field-format, field-lane, field-framing, field-shared, field-end}
 use Rattle.plan_writer.specs.Format.{fieldBytes}
 
 abbrev pub LongFits : Longest → Type 0
@@ -34,6 +34,7 @@ abbrev pub Fits : SetupField → Type 0
 Fits (Format v) = v < 65536
 Fits (Lane l) = (l .lane < 256) × (l .weight < 65536) × LongFits (l .longest)
 Fits (Framing h) = h < 256
+Fits (Shared k) = k < 256
 Fits End = Unit
 
 module _ (s xs : List ℕ) (at : ℕ) (h : drop at s ≡ xs) where
@@ -85,12 +86,19 @@ module _ (s : List ℕ) (at : ℕ) (rest : List ℕ) where
       (omega (arith, long-from s xs at e (omega arith)))
       (field-framing s 17 (at + 3) 1 refl ∙ ap Framing (byte-from s xs at e 3 (at + 3) refl))
 
+  shared-item : (k : ℕ) → drop at s ≡ fieldBytes (Shared k) ++ rest → itemAt s at ≡ whole (Shared k) (at + 4)
+  shared-item k e =
+      let xs = fieldBytes (Shared k) ++ rest in
+      item-from s at 18 1 (at + 4) (Shared k) (omega arith) (byte-from s xs at e 0 at (omega arith)) (two-from s xs at e 1 (at + 1) refl) (known-is 18 (inr (inr (inr (inl refl))))) refl
+      (omega (arith, long-from s xs at e (omega arith)))
+      (field-shared s 18 (at + 3) 1 refl ∙ ap Shared (byte-from s xs at e 3 (at + 3) refl))
+
   end-item : drop at s ≡ fieldBytes End ++ rest → itemAt s at ≡ whole End (at + 3)
   end-item h =
       let xs = fieldBytes End ++ rest in
-      item-from s at 127 0 (at + 3) End (omega arith) (byte-from s xs at h 0 at (omega arith)) (two-from s xs at h 1 (at + 1) refl) (known-is 127 (inr (inr (inr refl)))) refl
+      item-from s at 127 0 (at + 3) End (omega arith) (byte-from s xs at h 0 at (omega arith)) (two-from s xs at h 1 (at + 1) refl) (known-is 127 (inr (inr (inr (inr refl))))) refl
       (omega (arith, long-from s xs at h (omega arith)))
-      (field-end s 127 (at + 3) 0 (λ e. omega (arith, e)) (λ e. omega (arith, e)) (λ e. omega (arith, e)))
+      (field-end s 127 (at + 3) 0 (λ e. omega (arith, e)) (λ e. omega (arith, e)) (λ e. omega (arith, e)) (λ e. omega (arith, e)))
 
 pub item-bytes : (s : List ℕ) (at : ℕ) (rest : List ℕ) (f : SetupField) → Fits f → drop at s ≡ fieldBytes f ++ rest → itemAt s at ≡ whole f (at + length (fieldBytes f))
 item-bytes s at rest (Format v) b h = format-item s at rest v b h
@@ -103,4 +111,5 @@ item-bytes s at rest (Lane l) b h = by-longest (l .longest) refl (b .2)
         let i = lane-item s at rest (l .lane) (l .weight) n (b .0) (b .1) q (subst (λ (y : LaneField). drop at s ≡ fieldBytes (Lane y) ++ rest) (sym l-is) h) in
         subst (λ (y : LaneField). itemAt s at ≡ whole (Lane y) (at + length (fieldBytes (Lane y)))) l-is i
 item-bytes s at rest (Framing n) b h = framing-item s at rest n h
+item-bytes s at rest (Shared n) b h = shared-item s at rest n h
 item-bytes s at rest End b h = end-item s at rest h

@@ -35,7 +35,11 @@ fit-or-not h g =
     ⊎-elim
     (λ (w : g .weight ≡ 0).
     ⊎-elim
-    (λ (l : g .longest ≡ 0). told _ (absent-lane h g w l))
+    (λ (l : g .longest ≡ 0).
+    ⊎-elim
+    (λ (f : g .framing ≡ 0). told _ (absent-lane h g w l f))
+    (λ (f : g .framing ≡ 0 → ⊥). inr (λ p. f (ap (λ (x : Setting). x .framing) (is-absent h g w p))))
+    (same-or-not (g .framing) 0))
     (λ (l : g .longest ≡ 0 → ⊥). inr (λ p. l (ap (λ (x : Setting). x .longest) (is-absent h g w p))))
     (same-or-not (g .longest) 0))
     (λ (w : g .weight ≡ 0 → ⊥).

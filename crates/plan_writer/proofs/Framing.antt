@@ -19,10 +19,8 @@ use lib.ListN.{length, set, length-set}
 use Rattle.units.specs.Plain.{if_then_else_}
 use Rattle.rules.specs.State.{Setting, noSetting, settingAt}
 use Rattle.rules.specs.Setup.{InNumbers, Setup, framingOf}
-use Rattle.plan.specs.Judge.{given}
 use Rattle.plan.specs.Read.{noLanes}
-use Rattle.plan.specs.Accepted.{LanesWithin, placedAll, framed, framedBy}
-use Rattle.plan.specs.declared.parse.LaneField.{LaneField}
+use Rattle.plan.specs.Accepted.{LaneFields, LanesWithin, givenBy, placedAll, framed, framedBy}
 use Rattle.plan.specs.declared.parse.SetupField.the-variants.{Framing}
 use Rattle.plan_writer.specs.Format.{fieldBytes, bytesOf, allFormed}
 use Rattle.plan_writer.specs.Write.{Either, Fitting, unlessZero, framingSize, framingBytes}
@@ -101,19 +99,19 @@ set-least (x ∷ gs) zero g b = omega arith
 set-least (x ∷ gs) (suc k) g b = omega (arith, set-least gs k g (omega arith))
 
 module _ (v h : ℕ) where
-  placed-most : (gs : List Setting) (ls : List LaneField) → framingOf gs ≤ h → framingOf (placedAll v h gs ls) ≤ h
+  placed-most : (gs : List Setting) (ls : List LaneFields) → framingOf gs ≤ h → framingOf (placedAll v h gs ls) ≤ h
   unfolding placedAll
   placed-most gs [] b = b
-  placed-most gs (l ∷ ls) b = placed-most (set gs (l .lane) (given v h l)) ls (set-most gs (l .lane) h (given v h l) (omega arith) b)
+  placed-most gs (l ∷ ls) b = placed-most (set gs (l .lane .lane) (givenBy v h l)) ls (set-most gs (l .lane .lane) h (givenBy v h l) (omega arith) b)
 
-  placed-least : (gs : List Setting) (ls : List LaneField) → length gs ≡ 64 → LanesWithin ls → 1 ≤ length ls → h ≤ framingOf (placedAll v h gs ls)
+  placed-least : (gs : List Setting) (ls : List LaneFields) → length gs ≡ 64 → LanesWithin ls → 1 ≤ length ls → h ≤ framingOf (placedAll v h gs ls)
   unfolding placedAll LanesWithin
   placed-least gs [] size w many = absurd (omega arith)
-  placed-least gs (l ∷ []) size w many = set-least gs (l .lane) (given v h l) (omega (arith, w .0 .number))
+  placed-least gs (l ∷ []) size w many = set-least gs (l .lane .lane) (givenBy v h l) (omega (arith, w .0 .number))
   placed-least gs (l ∷ (m ∷ ls)) size w many =
-      placed-least (set gs (l .lane) (given v h l)) (m ∷ ls) (omega (arith, length-set gs (l .lane) (given v h l))) (w .1) (omega arith)
+      placed-least (set gs (l .lane .lane) (givenBy v h l)) (m ∷ ls) (omega (arith, length-set gs (l .lane .lane) (givenBy v h l))) (w .1) (omega arith)
 
-  pub placed-line : (ls : List LaneField) → LanesWithin ls → 1 ≤ length ls → framingOf (placedAll v h noLanes ls) ≡ h
+  pub placed-line : (ls : List LaneFields) → LanesWithin ls → 1 ≤ length ls → framingOf (placedAll v h noLanes ls) ≡ h
   unfolding framingOf
   placed-line ls w many = omega (arith, placed-most noLanes ls (omega arith), placed-least noLanes ls refl w many)
 

@@ -7,20 +7,21 @@
 -- Assumes nothing.
 use Prim.Native.Nat.{ℕ, _+_, _≤_, _<_, max}
 use mathlib.Core.Path.{_≡_, sym, ap, _∙_}
-use mathlib.Core.Bool.{true, false}
+use mathlib.Core.Bool.{Bool, true, false, not}
 use mathlib.Core.Logic.{_⊎_, inl, inr, ⊎-elim}
 use mathlib.Core.List.{List, map}
 use native.Mathlib.Numerals.{add-one}
 use native.Mathlib.Omega.{arith}
-use borrow.Author.Tests.{eqb-true, eqb-false}
+use borrow.Author.Tests.{eqb-true, eqb-false, not-true, not-false}
 use lib.Dec.{eqb}
 use lib.ListN.{drop, getD, drop-of-length-le}
+use Rattle.units.specs.Plain.{if_then_else_}
 use Rattle.rules.specs.State.{Setting, noSetting}
 use Rattle.rules.specs.Setup.{InNumbers, framingOf}
 use Rattle.plan.specs.Read.{settingOf}
 use Rattle.plan.specs.Accepted.{there}
 use Rattle.plan.specs.declared.Lane as plan
-use Rattle.plan_writer.specs.Write.{numbered, Either, Fitting, Tells}
+use Rattle.plan_writer.specs.Write.{numbered, Either, Fitting, Tells, shareds}
 use Rattle.plan_writer.proofs.Framing.{fitting-each, fitting-framed}
 use Rattle.plan_writer.proofs.Numbered.{numbered-size, none, lane-next}
 
@@ -46,15 +47,16 @@ module _ (h : ℕ) (g : Setting) where
   pub is-there : (g .weight ≡ 0 → ⊥) → Fitting h g → InNumbers g × (g .framing ≡ h)
   is-there w p = (there-either g w (fitting-each h g p), fitting-framed h g p (omega (arith, w)))
 
-  pub absent-lane : g .weight ≡ 0 → g .longest ≡ 0 → Tells (eqb (g .framing) 0) (Fitting h g)
-  absent-lane w l = record {
+  pub absent-lane : g .weight ≡ 0 → g .longest ≡ 0 → g .framing ≡ 0 → Tells (not (g .shared)) (Fitting h g)
+  absent-lane w l f = record {
     yes = λ e.
         let all-zero : g ≡ noSetting =
-        ap (λ (x : ℕ). record { weight = x; longest = g .longest; framing = g .framing }) w
-        ∙ ap (λ (x : ℕ). record { weight = 0; longest = x; framing = g .framing }) l
-        ∙ ap (λ (x : ℕ). record { weight = 0; longest = 0; framing = x }) (eqb-true (g .framing) 0 e) in
+        ap (λ (x : ℕ). record { weight = x; longest = g .longest; framing = g .framing; shared = g .shared }) w
+        ∙ ap (λ (x : ℕ). record { weight = 0; longest = x; framing = g .framing; shared = g .shared }) l
+        ∙ ap (λ (x : ℕ). record { weight = 0; longest = 0; framing = x; shared = g .shared }) f
+        ∙ ap (λ (b : Bool). record { weight = 0; longest = 0; framing = 0; shared = b }) (not-true (g .shared) e) in
         inr all-zero;
-    no = λ e p. eqb-false (g .framing) 0 e (ap (λ (x : Setting). x .framing) (is-absent w p));
+    no = λ e p. false-true (sym (ap (λ (x : Setting). x .shared) (is-absent w p)) ∙ not-false (g .shared) e);
   }
 
   pub last-test : (g .weight ≡ 0 → ⊥) → g .weight ≤ 1024 → 64 ≤ g .longest → g .longest ≤ 1500 → Tells (eqb (g .framing) h) (Fitting h g)
@@ -93,3 +95,30 @@ module _ (lanes : List plan.Lane) (k h : ℕ) (so : Line lanes k h) where
   pub line-all : 64 ≤ k → h ≡ framingOf (lanesOf lanes)
   unfolding framingOf
   line-all done = omega (arith, so .most, ap framingOf (drop-of-length-le (lanesOf lanes) {i = k} (omega (arith, numbered-size (map settingOf lanes), done))))
+
+-- ---- how many lanes are shared
+
+pub record Shares (lanes : List plan.Lane) (k n : ℕ) : Type 0 where
+  pub low : k ≤ 64
+  pub few : n ≤ k
+  pub all : n + shareds (drop k (lanesOf lanes)) ≡ shareds (lanesOf lanes)
+
+pub shares-none : (lanes : List plan.Lane) → Shares lanes 0 0
+shares-none lanes = record { low = omega arith; few = omega arith; all = omega arith }
+
+module _ (lanes : List plan.Lane) (k n : ℕ) (so : Shares lanes k n) where
+  module _ (l : k < 64) where
+    abbrev own : Bool → ℕ
+    own b = if b then 1 else 0
+
+    shares-next : shareds (drop k (lanesOf lanes)) ≡ own (getD lanes k none .shared) + shareds (drop (k + 1) (lanesOf lanes))
+    shares-next = ap shareds (lane-next lanes k l) ∙ ap (λ (i : ℕ). own (getD lanes k none .shared) + shareds (drop i (lanesOf lanes))) (sym (add-one k))
+
+    pub shares-more : getD lanes k none .shared ≡ true → Shares lanes (k + 1) (n + 1)
+    shares-more e = record { low = omega arith; few = omega (arith, so .few); all = omega (arith, shares-next, ap own e, so .all) }
+
+    pub shares-same : getD lanes k none .shared ≡ false → Shares lanes (k + 1) n
+    shares-same e = record { low = omega arith; few = omega (arith, so .few); all = omega (arith, shares-next, ap own e, so .all) }
+
+  pub shares-all : 64 ≤ k → (n ≡ shareds (lanesOf lanes)) × (n ≤ 64)
+  shares-all done = (omega (arith, so .all, ap shareds (drop-of-length-le (lanesOf lanes) {i = k} (omega (arith, numbered-size (map settingOf lanes), done)))), omega (arith, so .few, so .low))

@@ -9,7 +9,7 @@ use Prim.Native.Nat.{ℕ, suc, _+_, _-_, _*_, _≤_, _<_}
 use mathlib.Core.Path.{_≡_, refl, sym, subst}
 use mathlib.Core.Bool.{Bool, true, false}
 use mathlib.Core.Logic.{_⊎_, ⊎-elim}
-use mathlib.Core.List.{List, [], _∷_, _++_, map}
+use mathlib.Core.List.{List, [], _∷_, _++_}
 use native.Mathlib.Omega.{arith}
 use borrow.Author.Tests.{lt-ltb}
 use lib.Dec.{ltb}
@@ -17,17 +17,15 @@ use lib.ListN.{length}
 use Rattle.units.specs.Plain.{if_then_else_}
 use Rattle.rules.specs.State.{Setting, noSetting, settingAt}
 use Rattle.rules.specs.Setup.{InNumbers, weights}
-use Rattle.plan.specs.Accepted.{Rising, LanesWithin, weighed, there, present}
-use Rattle.plan.specs.declared.parse.LaneField.{LaneField}
+use Rattle.plan.specs.Accepted.{LaneFields, Rising, LanesWithin, weighed, behind, fieldsOf, there, present}
 use Rattle.plan.specs.declared.parse.SetupField.{SetupField}
-use Rattle.plan.specs.declared.parse.SetupField.the-variants.{Lane}
 use Rattle.plan_writer.specs.Format.{bytesOf, allFormed}
-use Rattle.plan_writer.specs.Write.{laneField, laneFields, lanesBytes, Fitting}
+use Rattle.plan_writer.specs.Write.{laneOf, laneFields, lanesBytes, shareds, Fitting}
 use Rattle.plan_writer.proofs.Laid.{AllFit}
 
 -- ---- the first lane, there or not
 
-pub fields-there : (k : ℕ) (g : Setting) (gs : List Setting) → 0 < g .weight → laneFields k (g ∷ gs) ≡ laneField k g ∷ laneFields (suc k) gs
+pub fields-there : (k : ℕ) (g : Setting) (gs : List Setting) → 0 < g .weight → laneFields k (g ∷ gs) ≡ laneOf k g ∷ laneFields (suc k) gs
 unfolding laneFields
 fields-there k g gs h = simp (lt-ltb 0 (g .weight) h)
 
@@ -36,8 +34,8 @@ unfolding laneFields
 fields-skip k g gs h = rw h
 
 -- a property of the fields, by the lanes that are there, on a line with h framing bytes
-module _ (h : ℕ) (P : ℕ → List Setting → List LaneField → Type 0) (none : (k : ℕ) → P k [] [])
-    (more : (k : ℕ) (g : Setting) (gs : List Setting) → InNumbers g → g .framing ≡ h → P (suc k) gs (laneFields (suc k) gs) → P k (g ∷ gs) (laneField k g ∷ laneFields (suc k) gs))
+module _ (h : ℕ) (P : ℕ → List Setting → List LaneFields → Type 0) (none : (k : ℕ) → P k [] [])
+    (more : (k : ℕ) (g : Setting) (gs : List Setting) → InNumbers g → g .framing ≡ h → P (suc k) gs (laneFields (suc k) gs) → P k (g ∷ gs) (laneOf k g ∷ laneFields (suc k) gs))
     (skip : (k : ℕ) (gs : List Setting) → P (suc k) gs (laneFields (suc k) gs) → P k (noSetting ∷ gs) (laneFields (suc k) gs)) where
   pub by-lanes : (k : ℕ) (gs : List Setting) → ((j : ℕ) → Fitting h (settingAt gs j)) → P k gs (laneFields k gs)
   unfolding laneFields
@@ -45,8 +43,8 @@ module _ (h : ℕ) (P : ℕ → List Setting → List LaneField → Type 0) (non
   by-lanes k (g ∷ gs) f =
       let rest = by-lanes (suc k) gs (λ j. f (suc j)) in
       ⊎-elim
-      (λ (n : InNumbers g × (g .framing ≡ h)). subst (λ (ls : List LaneField). P k (g ∷ gs) ls) (sym (fields-there k g gs (n .0 .weight-low))) (more k g gs (n .0) (n .1) rest))
-      (λ (e : g ≡ noSetting). subst (λ (x : Setting). P k (x ∷ gs) (laneFields k (x ∷ gs))) (sym e) (subst (λ (ls : List LaneField). P k (noSetting ∷ gs) ls) (sym (fields-skip k noSetting gs refl)) (skip k gs rest)))
+      (λ (n : InNumbers g × (g .framing ≡ h)). subst (λ (ls : List LaneFields). P k (g ∷ gs) ls) (sym (fields-there k g gs (n .0 .weight-low))) (more k g gs (n .0) (n .1) rest))
+      (λ (e : g ≡ noSetting). subst (λ (x : Setting). P k (x ∷ gs) (laneFields k (x ∷ gs))) (sym e) (subst (λ (ls : List LaneFields). P k (noSetting ∷ gs) ls) (sym (fields-skip k noSetting gs refl)) (skip k gs rest)))
       (f 0)
 
 pub present-most : (gs : List Setting) → present gs ≤ length gs
@@ -54,6 +52,14 @@ present-most [] = omega arith
 present-most (g ∷ gs) = go (ltb 0 (g .weight)) (present-most gs)
   where
     go : (b : Bool) → present gs ≤ length gs → (if b then 1 else 0) + present gs ≤ length (g ∷ gs)
+    go true h = omega arith
+    go false h = omega arith
+
+pub shareds-most : (gs : List Setting) → shareds gs ≤ length gs
+shareds-most [] = omega arith
+shareds-most (g ∷ gs) = go (g .shared) (shareds-most gs)
+  where
+    go : (b : Bool) → shareds gs ≤ length gs → (if b then 1 else 0) + shareds gs ≤ length (g ∷ gs)
     go true h = omega arith
     go false h = omega arith
 
@@ -89,19 +95,31 @@ module _ (line : ℕ) (gs : List Setting) (f : (j : ℕ) → Fitting line (setti
       by-lanes line (λ k gs ls. k + length gs ≤ 64 → LanesWithin ls) (λ k h. tt)
       (λ k g gs n _ r h. (record { number = omega arith; numbers = λ v h. record { weight-low = n .weight-low; weight-high = n .weight-high; longest-low = n .longest-low; longest-high = n .longest-high } }, r (omega arith))) (λ k gs r h. r (omega arith)) k gs f h
 
-  pub fields-fit : (rest : List SetupField) → AllFit rest → (k : ℕ) → k + length gs ≤ 64 → AllFit (map Lane (laneFields k gs) ++ rest)
+  pub fields-fit : (rest : List SetupField) → AllFit rest → (k : ℕ) → k + length gs ≤ 64 → AllFit (fieldsOf (laneFields k gs) ++ rest)
   unfolding AllFit
   fields-fit rest a k h =
-      by-lanes line (λ k gs ls. k + length gs ≤ 64 → AllFit (map Lane ls ++ rest)) (λ k h. a)
-      (λ k g gs n _ r h. ((omega arith, omega (arith, n .weight-high), omega (arith, n .longest-high)), r (omega arith))) (λ k gs r h. r (omega arith)) k gs f h
+      by-lanes line (λ k gs ls. k + length gs ≤ 64 → AllFit (fieldsOf ls ++ rest)) (λ k h. a)
+      (λ k g gs n _ r h. ((omega arith, omega (arith, n .weight-high), omega (arith, n .longest-high)), behind-fit (g .shared) k (fieldsOf (laneFields (suc k) gs)) (omega arith) (r (omega arith)))) (λ k gs r h. r (omega arith)) k gs f h
+    where
+      behind-fit : (b : Bool) (k : ℕ) (fs : List SetupField) → k < 256 → AllFit (fs ++ rest) → AllFit ((behind b k ++ fs) ++ rest)
+      behind-fit true k fs h a = (h, a)
+      behind-fit false k fs h a = a
 
-  pub fields-formed : (rest : List SetupField) → allFormed rest ≡ true → (k : ℕ) → allFormed (map Lane (laneFields k gs) ++ rest) ≡ true
+  pub fields-formed : (rest : List SetupField) → allFormed rest ≡ true → (k : ℕ) → allFormed (fieldsOf (laneFields k gs) ++ rest) ≡ true
   fields-formed rest a k =
-      by-lanes line (λ k gs ls. allFormed (map Lane ls ++ rest) ≡ true) (λ k. a) (λ k g gs n _ r. r) (λ k gs r. r) k gs f
+      by-lanes line (λ k gs ls. allFormed (fieldsOf ls ++ rest) ≡ true) (λ k. a) (λ k g gs n _ r. behind-formed (g .shared) k (fieldsOf (laneFields (suc k) gs)) r) (λ k gs r. r) k gs f
+    where
+      behind-formed : (b : Bool) (k : ℕ) (fs : List SetupField) → allFormed (fs ++ rest) ≡ true → allFormed ((behind b k ++ fs) ++ rest) ≡ true
+      behind-formed true k fs h = h
+      behind-formed false k fs h = h
 
-  -- eight bytes for each
-  pub fields-size : (k : ℕ) → length (lanesBytes k gs) ≡ 8 * present gs
+  -- eight bytes for each, and four for 0x12
+  pub fields-size : (k : ℕ) → length (lanesBytes k gs) ≡ 8 * present gs + 4 * shareds gs
   unfolding bytesOf
   fields-size k =
-      by-lanes line (λ k gs ls. length (bytesOf (map Lane ls)) ≡ 8 * present gs) (λ k. refl)
-      (λ k g gs n _ h. omega (arith, one g n, h)) (λ k gs h. omega (arith, h)) k gs f
+      by-lanes line (λ k gs ls. length (bytesOf (fieldsOf ls)) ≡ 8 * present gs + 4 * shareds gs) (λ k. refl)
+      (λ k g gs n _ h. omega (arith, one g n, h, behind-size (g .shared) k (fieldsOf (laneFields (suc k) gs)))) (λ k gs h. omega (arith, h)) k gs f
+    where
+      behind-size : (b : Bool) (k : ℕ) (fs : List SetupField) → length (bytesOf (behind b k ++ fs)) ≡ 4 * (if b then 1 else 0) + length (bytesOf fs)
+      behind-size true k fs = omega arith
+      behind-size false k fs = omega arith

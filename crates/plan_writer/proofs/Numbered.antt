@@ -7,6 +7,7 @@
 -- Assumes nothing.
 use Prim.Native.Nat.{ℕ, zero, suc, _+_, _<_}
 use mathlib.Core.Path.{_≡_, refl, sym, ap, _∙_}
+use mathlib.Core.Bool.{false}
 use mathlib.Core.List.{List, _∷_, map}
 use native.Mathlib.Omega.{arith}
 use lib.ListN.{length, drop, getD, List·getD-map}
@@ -38,7 +39,7 @@ numbered-all gs e = ext-getD noSetting (numbered gs) gs (numbered-size gs ∙ sy
 
 -- an absent lane, as the code's struct has it
 abbrev pub none : plan.Lane
-none = record { weight = 0; longest = record { 0 = 0 }; framing = record { 0 = 0 } }
+none = record { weight = 0; longest = record { 0 = 0 }; framing = record { 0 = 0 }; shared = false }
 
 module _ (lanes : List plan.Lane) (k : ℕ) (h : k < 64) where
   pub lane-at : settingAt (numbered (map settingOf lanes)) k ≡ settingOf (getD lanes k none)

@@ -8,20 +8,20 @@
 use Prim.Native.Nat.{ℕ, _+_, _≤_}
 use mathlib.Core.Path.{_≡_, refl, sym, ap, _∙_}
 use mathlib.Core.Bool.{Bool, true, false, _||_}
-use mathlib.Core.List.{List, [], _∷_, _++_, map, append-assoc}
+use mathlib.Core.List.{List, [], _∷_, _++_, append-assoc}
 use native.Mathlib.Omega.{arith}
 use borrow.Author.Tests.{eqb-true}
 use lib.Dec.{eqb}
 use Rattle.rules.specs.State.{Setting}
 use Rattle.plan.specs.Judge.{knownFormat}
-use Rattle.plan.specs.Accepted.{setupFields, framed}
+use Rattle.plan.specs.Accepted.{setupFields, framed, fieldsOf}
 use Rattle.plan.specs.declared.parse.SetupField.{SetupField}
-use Rattle.plan.specs.declared.parse.SetupField.the-variants.{Format, Lane, End}
+use Rattle.plan.specs.declared.parse.SetupField.the-variants.{Format, End}
 use Rattle.plan_writer.specs.Format.{fieldBytes, bytesOf, formed, allFormed}
 use Rattle.plan_writer.specs.Write.{laneFields, unlessZero, lanesBytes, framingBytes}
 use Rattle.plan_writer.proofs.Laid.{AllFit, and-true, true-and}
 
-bytes-append : (fs gs : List SetupField) → bytesOf (fs ++ gs) ≡ bytesOf fs ++ bytesOf gs
+pub bytes-append : (fs gs : List SetupField) → bytesOf (fs ++ gs) ≡ bytesOf fs ++ bytesOf gs
 unfolding bytesOf
 bytes-append [] gs = refl
 bytes-append (f ∷ fs) gs = ap (λ (l : List ℕ). fieldBytes f ++ l) (bytes-append fs gs) ∙ sym (append-assoc (fieldBytes f) (bytesOf fs) (bytesOf gs))
@@ -31,8 +31,8 @@ pub setup-parts : (v h : ℕ) (gs : List Setting) → bytesOf (setupFields v (un
 unfolding framingBytes bytesOf
 setup-parts v h gs =
     ap (λ (l : List ℕ). fieldBytes (Format v) ++ l)
-    (bytes-append (framed (unlessZero h)) (map Lane (laneFields 0 gs) ++ (End ∷ []))
-    ∙ ap (λ (l : List ℕ). bytesOf (framed (unlessZero h)) ++ l) (bytes-append (map Lane (laneFields 0 gs)) (End ∷ [])))
+    (bytes-append (framed (unlessZero h)) (fieldsOf (laneFields 0 gs) ++ (End ∷ []))
+    ∙ ap (λ (l : List ℕ). bytesOf (framed (unlessZero h)) ++ l) (bytes-append (fieldsOf (laneFields 0 gs)) (End ∷ [])))
 
 pub fit-append : (fs gs : List SetupField) → AllFit fs → AllFit gs → AllFit (fs ++ gs)
 unfolding AllFit

@@ -1,8 +1,8 @@
 -- Writing and reading go back and forth.
 --
---   size-is       the bytes of a plan are as many as `sizeOf` says; size-most: at most 524
---   reads-back    reading what was written gives the same plan
---   writes-back   a setup that is read and in the form is written back as the same bytes; only-form: and no other is
+--   size-is       the bytes of a plan are as many as `sizeOf` says; size-most: at most 780
+--   reads-back    R9.5: a plan comes back from its bytes
+--   writes-back   R9.6: a setup that is read and in the form comes back as its own bytes; only-form: and no other does
 --   read-within   a plan that was read is within the numbers
 --   written-read  of the call's own buffer: what stands there is read as the plan; written-at: also with what is behind it
 --
@@ -10,7 +10,7 @@
 use Prim.Native.Nat.{ℕ, _+_, _≤_}
 use mathlib.Core.Path.{_≡_, refl, sym, ap, subst, _∙_}
 use mathlib.Core.Bool.{Bool, true, false}
-use mathlib.Core.List.{List, [], _∷_, _++_, map, append-nil}
+use mathlib.Core.List.{List, [], _∷_, _++_, append-nil}
 use mathlib.Core.Option.{Option, some}
 use native.Mathlib.Omega.{arith}
 use lib.Dec.{ltb}
@@ -21,9 +21,8 @@ use Rattle.rules.specs.State.{Setting, noSetting, settingAt}
 use Rattle.rules.specs.Setup.{framingOf}
 use Rattle.plan.specs.Read as r
 use Rattle.plan.specs.Read.{read, noLanes, readPlan, closed, readSetup}
-use Rattle.plan.specs.Accepted.{Laid, setupFields, framed, framedBy, placedAll, Accepted}
-use Rattle.plan.specs.declared.parse.LaneField.{LaneField}
-use Rattle.plan.specs.declared.parse.SetupField.the-variants.{Lane, End}
+use Rattle.plan.specs.Accepted.{Laid, LaneFields, fieldsOf, setupFields, framed, framedBy, placedAll, Accepted}
+use Rattle.plan.specs.declared.parse.SetupField.the-variants.{End}
 use Rattle.plan.proofs.Rest.{refused-read}
 use Rattle.plan.proofs.Closed.{setup-whole}
 use Rattle.plan.proofs.Accepted.{accepted-whole}
@@ -34,7 +33,7 @@ use Rattle.plan_writer.specs.declared.Written.{Written}
 use Rattle.plan_writer.specs.Write.{Planned, Within, Fitting, laneFields, unlessZero, planFields, setupBytes, lanesBytes, framingBytes, sizeOf, Writes}
 use Rattle.plan_writer.specs.RoundTrip.{Bytes, readAs}
 use Rattle.plan_writer.proofs.Laid.{one-layout, AllFit, laid-bytes, bytes-laid}
-use Rattle.plan_writer.proofs.Lanes.{present-most, fields-number, fields-weigh, lanes-some, fields-rise, fields-within, fields-fit, fields-formed, fields-size}
+use Rattle.plan_writer.proofs.Lanes.{present-most, shareds-most, fields-number, fields-weigh, lanes-some, fields-rise, fields-within, fields-fit, fields-formed, fields-size}
 use Rattle.plan_writer.proofs.Placed.{placed-back, fields-back}
 use Rattle.plan_writer.proofs.Framing.{unless-by, framing-size, framing-few, framing-fits, framing-formed, unless-back, placed-line, fitting-line}
 use Rattle.plan_writer.proofs.Parts.{setup-parts, fit-append, formed-append, formed-split, format-small}
@@ -60,8 +59,8 @@ module _ (p : Planned) (w : Within p) where
       ap length (setup-parts (p .format) h gs)
       ∙ omega (arith, length-append (framingBytes h) (lanesBytes 0 gs ++ fieldBytes End), length-append (lanesBytes 0 gs) (fieldBytes End), fields-size h gs each 0, framing-size h)
 
-  pub size-most : sizeOf p ≤ 524
-  size-most = omega (arith, present-most gs, w .setup .size, framing-few h)
+  pub size-most : sizeOf p ≤ 780
+  size-most = omega (arith, present-most gs, shareds-most gs, w .setup .size, framing-few h)
 
   laid-plan : Laid s 0 (planFields p) (length s)
   unfolding setupBytes AllFit
@@ -130,19 +129,19 @@ module _ (s : List ℕ) (p : Planned) (q : ℕ) (e : readSetup s ≡ readAs p q)
       let fs = setupFields (p .format) (a .framing) (a .lanes) in
       let laid : Laid s 0 fs (length s) = subst (Laid s 0 fs) (acc .1) (a .laid) in
       let formed-all : allFormed fs ≡ true = ap allFormed (one-layout s 0 fs (form .fields) (length s) laid (form .laid)) ∙ form .all in
-      let formed-parts = formed-split (framed (a .framing)) (map Lane (a .lanes) ++ (End ∷ [])) formed-all in
+      let formed-parts = formed-split (framed (a .framing)) (fieldsOf (a .lanes) ++ (End ∷ [])) formed-all in
       let line : framingOf (p .lanes) ≡ framedBy (a .framing) = ap framingOf (a .given) ∙ placed-line (p .format) (framedBy (a .framing)) (a .lanes) (a .each) (a .some-lane) in
       let framing-is : unlessZero (framingOf (p .lanes)) ≡ a .framing = ap unlessZero line ∙ unless-back (a .framing) (formed-parts .0) in
       let lanes-are : laneFields 0 (p .lanes) ≡ a .lanes =
       ap (laneFields 0) (a .given) ∙ fields-back (p .format) (framedBy (a .framing)) (a .lanes) [] 64 refl (a .rising) (a .each) (formed-parts .1) in
       let there : s ≡ bytesOf fs ++ drop (length s) s = bytes-laid s bytes 0 fs (length s) formed-all laid in
       ap (λ (f : Option ℕ). bytesOf (setupFields (p .format) f (laneFields 0 (p .lanes)))) framing-is
-      ∙ ap (λ (ls : List LaneField). bytesOf (setupFields (p .format) (a .framing) ls)) lanes-are
+      ∙ ap (λ (ls : List LaneFields). bytesOf (setupFields (p .format) (a .framing) ls)) lanes-are
       ∙ sym (append-nil (bytesOf fs))
       ∙ ap (λ (l : List ℕ). bytesOf fs ++ l) (sym (drop-length s))
       ∙ sym there
 
-  -- no other setup is written back as the same bytes
+  -- R9.6: no other setup comes back as its own bytes
   pub only-form : setupBytes p ≡ s → InForm s
   only-form same = subst InForm same (in-form p read-within)
 

@@ -18,9 +18,9 @@ use Rattle.fields.specs.Bytes.{byteAt, big}
 use Rattle.fields.proofs.Numbers.{big-two}
 use Rattle.plan.specs.Fields.{known, fitting, laneAt, fieldOf}
 use Rattle.plan.specs.declared.parse.SetupField.{SetupField}
-use Rattle.plan.specs.declared.parse.SetupField.the-variants.{Format, Lane, Framing, End}
+use Rattle.plan.specs.declared.parse.SetupField.the-variants.{Format, Lane, Framing, Shared, End}
 use Rattle.plan.proofs.Inside.{true-false}
-use Rattle.plan.proofs.Tags.{fitting-format, fitting-framing, fitting-end, lane-size, field-format, field-lane, field-framing, field-end}
+use Rattle.plan.proofs.Tags.{fitting-format, fitting-framing, fitting-shared, fitting-end, lane-size, field-format, field-lane, field-framing, field-shared, field-end}
 use Rattle.plan.proofs.Stands.{Stands}
 use Rattle.plan_writer.specs.Format.{fieldBytes, formed}
 
@@ -84,21 +84,28 @@ module _ (s : List ℕ) (bytes : (i : ℕ) → byteAt s i < 256) (at : ℕ) wher
       let size = number 1 (at + 1) refl in
       cons (omega (arith, first)) (cons (omega (arith, size)) (cons (omega (arith, size)) (cons refl refl)))
 
+  shared-run : byteAt s at ≡ 18 → big s (at + 1) 2 ≡ 1 → run s at 0 4 ≡ fieldBytes (Shared (byteAt s (at + 3)))
+  unfolding run
+  shared-run t n =
+      let size = number 1 (at + 1) refl in
+      cons (omega (arith, first)) (cons (omega (arith, size)) (cons (omega (arith, size)) (cons refl refl)))
+
   end-run : byteAt s at ≡ 127 → big s (at + 1) 2 ≡ 0 → run s at 0 3 ≡ fieldBytes End
   unfolding run
   end-run t n =
       let size = number 1 (at + 1) refl in
       cons (omega (arith, first)) (cons (omega (arith, size)) (cons (omega (arith, size)) refl))
 
-  tags : (t : ℕ) → known t ≡ true → (t ≡ 1) ⊎ ((t ≡ 16) ⊎ ((t ≡ 17) ⊎ (t ≡ 127)))
-  tags t h = go (eqb t 1) (eqb t 16) (eqb t 17) (eqb t 127) refl refl refl refl h
+  tags : (t : ℕ) → known t ≡ true → (t ≡ 1) ⊎ ((t ≡ 16) ⊎ ((t ≡ 17) ⊎ ((t ≡ 18) ⊎ (t ≡ 127))))
+  tags t h = go (eqb t 1) (eqb t 16) (eqb t 17) (eqb t 18) (eqb t 127) refl refl refl refl refl h
     where
-      go : (a b c d : Bool) → eqb t 1 ≡ a → eqb t 16 ≡ b → eqb t 17 ≡ c → eqb t 127 ≡ d → (a || (b || (c || d))) ≡ true → (t ≡ 1) ⊎ ((t ≡ 16) ⊎ ((t ≡ 17) ⊎ (t ≡ 127)))
-      go true b c d p q r u h = inl (eqb-true t 1 p)
-      go false true c d p q r u h = inr (inl (eqb-true t 16 q))
-      go false false true d p q r u h = inr (inr (inl (eqb-true t 17 r)))
-      go false false false true p q r u h = inr (inr (inr (eqb-true t 127 u)))
-      go false false false false p q r u h = true-false (sym h)
+      go : (a b c e d : Bool) → eqb t 1 ≡ a → eqb t 16 ≡ b → eqb t 17 ≡ c → eqb t 18 ≡ e → eqb t 127 ≡ d → (a || (b || (c || (e || d)))) ≡ true → (t ≡ 1) ⊎ ((t ≡ 16) ⊎ ((t ≡ 17) ⊎ ((t ≡ 18) ⊎ (t ≡ 127))))
+      go true b c e d p q r v u h = inl (eqb-true t 1 p)
+      go false true c e d p q r v u h = inr (inl (eqb-true t 16 q))
+      go false false true e d p q r v u h = inr (inr (inl (eqb-true t 17 r)))
+      go false false false true d p q r v u h = inr (inr (inr (inl (eqb-true t 18 v))))
+      go false false false false true p q r v u h = inr (inr (inr (inr (eqb-true t 127 u))))
+      go false false false false false p q r v u h = true-false (sym h)
 
   module _ (f : SetupField) (m : ℕ) (st : Stands s at f m) (form : formed f ≡ true) where
     abbrev t : ℕ
@@ -121,7 +128,7 @@ module _ (s : List ℕ) (bytes : (i : ℕ) → byteAt s i < 256) (at : ℕ) wher
         true-false (sym form ∙ sym (ap formed f-is))
     by-size e (inr five) = whole-run 5 (Lane (laneAt s (at + 3) 5)) five (field-lane s t (at + 3) 5 e) (lane-run e five)
 
-    by-tag : (t ≡ 1) ⊎ ((t ≡ 16) ⊎ ((t ≡ 17) ⊎ (t ≡ 127))) → drop at s ≡ fieldBytes f ++ drop m s
+    by-tag : (t ≡ 1) ⊎ ((t ≡ 16) ⊎ ((t ≡ 17) ⊎ ((t ≡ 18) ⊎ (t ≡ 127)))) → drop at s ≡ fieldBytes f ++ drop m s
     by-tag (inl e) =
         let two : n ≡ 2 = eqb-true n 2 (sym (fitting-format t n e) ∙ st .size) in
         whole-run 2 (Format (big s (at + 3) 2)) two (field-format s t (at + 3) 2 e) (format-run e two)
@@ -129,12 +136,16 @@ module _ (s : List ℕ) (bytes : (i : ℕ) → byteAt s i < 256) (at : ℕ) wher
     by-tag (inr (inr (inl e))) =
         let one : n ≡ 1 = eqb-true n 1 (sym (fitting-framing t n e) ∙ st .size) in
         whole-run 1 (Framing (byteAt s (at + 3))) one (field-framing s t (at + 3) 1 e) (framing-run e one)
-    by-tag (inr (inr (inr e))) =
+    by-tag (inr (inr (inr (inl e)))) =
+        let one : n ≡ 1 = eqb-true n 1 (sym (fitting-shared t n e) ∙ st .size) in
+        whole-run 1 (Shared (byteAt s (at + 3))) one (field-shared s t (at + 3) 1 e) (shared-run e one)
+    by-tag (inr (inr (inr (inr e)))) =
         let not-format : t ≡ 1 → ⊥ = λ q. omega (arith, e, q) in
         let not-lane : t ≡ 16 → ⊥ = λ q. omega (arith, e, q) in
         let not-framing : t ≡ 17 → ⊥ = λ q. omega (arith, e, q) in
-        let none : n ≡ 0 = eqb-true n 0 (sym (fitting-end t n not-format not-lane not-framing) ∙ st .size) in
-        whole-run 0 End none (field-end s t (at + 3) 0 not-format not-lane not-framing) (end-run e none)
+        let not-shared : t ≡ 18 → ⊥ = λ q. omega (arith, e, q) in
+        let none : n ≡ 0 = eqb-true n 0 (sym (fitting-end t n not-format not-lane not-framing not-shared) ∙ st .size) in
+        whole-run 0 End none (field-end s t (at + 3) 0 not-format not-lane not-framing not-shared) (end-run e none)
 
     pub stand-bytes : drop at s ≡ fieldBytes f ++ drop m s
     stand-bytes = by-tag (tags t (st .tag))

@@ -8,28 +8,29 @@
 -- Assumes nothing.
 use Prim.Native.Nat.{ℕ, suc, _+_, _≤_, _<_}
 use mathlib.Core.Path.{_≡_, refl, sym, ap, subst, _∙_}
-use mathlib.Core.List.{List, [], _++_, map}
+use mathlib.Core.Bool.{Bool, true, false}
+use mathlib.Core.List.{List, [], _++_, map, append-assoc}
 use native.Mathlib.Numerals.{add-one}
 use native.Mathlib.Omega.{arith}
 use lib.ListN.{length, drop, getD, length-append, drop-of-length-le}
 use lib.Seq.{sets, sets-eq}
 use Rattle.text.proofs.Stores.{sets-append}
+use Rattle.units.specs.Plain.{if_then_else_}
 use Rattle.rules.specs.State.{Setting, noSetting, settingAt}
 use Rattle.rules.specs.Setup.{InNumbers, framingOf}
 use Rattle.plan.specs.Read.{settingOf}
 use Rattle.plan.specs.declared.Lane as plan
-use Rattle.plan.specs.declared.parse.LaneField.{LaneField}
-use Rattle.plan.specs.Accepted.{setupFields}
-use Rattle.plan.specs.declared.parse.SetupField.the-variants.{Format, Lane, End}
+use Rattle.plan.specs.Accepted.{LaneFields, behind, fieldsOf, setupFields}
+use Rattle.plan.specs.declared.parse.SetupField.the-variants.{Format, Lane, Shared, End}
 use Rattle.plan_writer.specs.Format.{fieldBytes, bytesOf}
-use Rattle.plan_writer.specs.Write.{laneBytes, laneFields, lanesBytes, framingBytes, framingSize, unlessZero, Planned, Within, Either, setupBytes, sizeOf, size, Writes}
+use Rattle.plan_writer.specs.Write.{laneField, ownBytes, laneBytes, laneSize, laneFields, lanesBytes, framingBytes, framingSize, unlessZero, Planned, Within, Either, setupBytes, sizeOf, size, Writes}
 use Rattle.plan_writer.specs.declared.Written.the-variants.{Size}
 use Rattle.plan_writer.proofs.Numbered.{numbered-size, none, lane-at, lane-next}
 use Rattle.plan_writer.proofs.Lane.{there-either, absent-either, lanesOf}
 use Rattle.plan_writer.proofs.Framing.{framing-size}
 use Rattle.plan_writer.proofs.Lanes.{fields-there, fields-skip}
 use Rattle.plan_writer.proofs.Round.{size-is}
-use Rattle.plan_writer.proofs.Parts.{setup-parts}
+use Rattle.plan_writer.proofs.Parts.{setup-parts, bytes-append}
 
 -- ---- the bytes from lane k on
 
@@ -41,14 +42,43 @@ module _ (lanes : List plan.Lane) (k : ℕ) (h : k < 64) where
   unfolding bytesOf
   lanes-more n =
       ap (lanesBytes k) (lane-next lanes k h)
-      ∙ ap (λ (ls : List LaneField). bytesOf (map Lane ls)) (fields-there k g (drop (suc k) (lanesOf lanes)) (n .weight-low))
+      ∙ ap (λ (ls : List LaneFields). bytesOf (fieldsOf ls)) (fields-there k g (drop (suc k) (lanesOf lanes)) (n .weight-low))
+      ∙ ap (λ (l : List ℕ). fieldBytes (Lane (laneField k g)) ++ l) (bytes-append (behind (g .shared) k) (fieldsOf (laneFields (suc k) (drop (suc k) (lanesOf lanes)))))
+      ∙ sym (append-assoc (fieldBytes (Lane (laneField k g))) (bytesOf (behind (g .shared) k)) (lanesBytes (suc k) (drop (suc k) (lanesOf lanes))))
       ∙ ap (λ (i : ℕ). laneBytes k g ++ lanesBytes i (drop i (lanesOf lanes))) (sym (add-one k))
 
   lanes-skip : g ≡ noSetting → lanesBytes k (drop k (lanesOf lanes)) ≡ lanesBytes (k + 1) (drop (k + 1) (lanesOf lanes))
   lanes-skip e =
       ap (lanesBytes k) (lane-next lanes k h)
-      ∙ ap (λ (ls : List LaneField). bytesOf (map Lane ls)) (fields-skip k g (drop (suc k) (lanesOf lanes)) e)
+      ∙ ap (λ (ls : List LaneFields). bytesOf (fieldsOf ls)) (fields-skip k g (drop (suc k) (lanesOf lanes)) e)
       ∙ ap (λ (i : ℕ). lanesBytes i (drop i (lanesOf lanes))) (sym (add-one k))
+
+-- the bytes of a lane's fields
+pub lane-size : (k : ℕ) (g : Setting) → length (laneBytes k g) ≡ laneSize g
+unfolding bytesOf
+lane-size k g = go (g .shared)
+  where
+    go : (b : Bool) → length (fieldBytes (Lane (laneField k g)) ++ bytesOf (behind b k)) ≡ (if b then 12 else 8)
+    go true = refl
+    go false = refl
+
+pub lane-least : (g : Setting) → 8 ≤ laneSize g
+lane-least g = go (g .shared)
+  where
+    go : (b : Bool) → 8 ≤ (if b then 12 else 8)
+    go true = omega arith
+    go false = omega arith
+
+-- a lane's 0x10 stored, and its 0x12 or none behind it
+module _ (a : List ℕ) (at k : ℕ) (g : Setting) where
+  pub both-stored : g .shared ≡ true → (sets (sets a at (ownBytes k g)) (at + 8) (fieldBytes (Shared k)) ≡ sets a at (laneBytes k g)) × (laneSize g ≡ 12)
+  unfolding bytesOf
+  both-stored e =
+      (sets-append a at (ownBytes k g) (fieldBytes (Shared k)) ∙ ap (λ (b : Bool). sets a at (ownBytes k g ++ bytesOf (behind b k))) (sym e), ap (λ (b : Bool). if b then 12 else 8) e)
+
+  pub own-stored : g .shared ≡ false → (sets a at (ownBytes k g) ≡ sets a at (laneBytes k g)) × (laneSize g ≡ 8)
+  unfolding bytesOf
+  own-stored e = (ap (λ (b : Bool). sets a at (ownBytes k g ++ bytesOf (behind b k))) (sym e), ap (λ (b : Bool). if b then 12 else 8) e)
 
 lanes-none : (lanes : List plan.Lane) (k : ℕ) → 64 ≤ k → lanesBytes k (drop k (lanesOf lanes)) ≡ []
 unfolding laneFields bytesOf
@@ -73,19 +103,20 @@ module _ (a₀ : List ℕ) (at : ℕ) (lanes : List plan.Lane) (a : List ℕ) (p
   pub lay-numbers : (getD lanes k none .weight ≡ 0 → ⊥) → InNumbers (settingOf (getD lanes k none))
   lay-numbers w = there-either (settingOf (getD lanes k none)) w here
 
-  eight : (getD lanes k none .weight ≡ 0 → ⊥) → length (lanesBytes k (drop k (lanesOf lanes))) ≡ 8 + length (lanesBytes (k + 1) (drop (k + 1) (lanesOf lanes)))
-  eight w = ap length (lanes-more lanes k h (lay-numbers w)) ∙ omega (arith, length-append (laneBytes k (settingOf (getD lanes k none))) (lanesBytes (k + 1) (drop (k + 1) (lanesOf lanes))))
+  sized : (getD lanes k none .weight ≡ 0 → ⊥) → length (lanesBytes k (drop k (lanesOf lanes))) ≡ laneSize (settingOf (getD lanes k none)) + length (lanesBytes (k + 1) (drop (k + 1) (lanesOf lanes)))
+  sized w = ap length (lanes-more lanes k h (lay-numbers w)) ∙ omega (arith, length-append (laneBytes k (settingOf (getD lanes k none))) (lanesBytes (k + 1) (drop (k + 1) (lanesOf lanes))), lane-size k (settingOf (getD lanes k none)))
 
-  pub lay-room : at + length (lanesBytes 0 (lanesOf lanes)) ≤ length a₀ → (getD lanes k none .weight ≡ 0 → ⊥) → p + 8 ≤ length a
-  lay-room room w = omega (arith, eight w, l .left, l .size, room)
+  pub lay-room : at + length (lanesBytes 0 (lanesOf lanes)) ≤ length a₀ → (getD lanes k none .weight ≡ 0 → ⊥) → p + laneSize (settingOf (getD lanes k none)) ≤ length a
+  lay-room room w = omega (arith, sized w, l .left, l .size, room)
 
-  pub lay-more : (getD lanes k none .weight ≡ 0 → ⊥) → (b : List ℕ) → length b ≡ length a → b ≡ sets a p (laneBytes k (settingOf (getD lanes k none))) → Laying a₀ at lanes b (p + 8) (k + 1)
+  pub lay-more : (getD lanes k none .weight ≡ 0 → ⊥) → (b : List ℕ) → length b ≡ length a → b ≡ sets a p (laneBytes k (settingOf (getD lanes k none))) → Laying a₀ at lanes b (p + laneSize (settingOf (getD lanes k none))) (k + 1)
   lay-more w b long e = record {
     low = omega arith;
     size = long ∙ l .size;
-    left = omega (arith, eight w, l .left);
+    left = omega (arith, sized w, l .left);
     same =
-        ap (λ (x : List ℕ). sets x (p + 8) (lanesBytes (k + 1) (drop (k + 1) (lanesOf lanes)))) e
+        ap (λ (x : List ℕ). sets x (p + laneSize (settingOf (getD lanes k none))) (lanesBytes (k + 1) (drop (k + 1) (lanesOf lanes)))) e
+        ∙ ap (λ (i : ℕ). sets (sets a p (laneBytes k (settingOf (getD lanes k none)))) (p + i) (lanesBytes (k + 1) (drop (k + 1) (lanesOf lanes)))) (sym (lane-size k (settingOf (getD lanes k none))))
         ∙ sets-append a p (laneBytes k (settingOf (getD lanes k none))) (lanesBytes (k + 1) (drop (k + 1) (lanesOf lanes)))
         ∙ ap (sets a p) (sym (lanes-more lanes k h (lay-numbers w)))
         ∙ l .same;

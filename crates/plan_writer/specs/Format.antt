@@ -1,4 +1,4 @@
--- The bytes of a setup's fields, and the form in which setups are written. What a field's bytes are read as is `itemAt` of the reader (crate `plan`,
+-- The bytes of a setup's fields, and the form in which setups are written (R9.6). What a field's bytes are read as is `itemAt` of the reader (crate `plan`,
 -- specs/Fields.antt); the fields themselves, and which of them make a setup (`setupFields`), are the reader's own.
 --
 --   two          a number of two bytes, high byte first
@@ -18,7 +18,7 @@ use Rattle.plan.specs.Accepted.{Laid}
 use Rattle.plan.specs.declared.parse.Longest.{Longest}
 use Rattle.plan.specs.declared.parse.Longest.the-variants.{Given, Default}
 use Rattle.plan.specs.declared.parse.SetupField.{SetupField}
-use Rattle.plan.specs.declared.parse.SetupField.the-variants.{Format, Lane, Framing, End}
+use Rattle.plan.specs.declared.parse.SetupField.the-variants.{Format, Lane, Framing, Shared, End}
 
 -- ---- bytes
 
@@ -29,17 +29,20 @@ abbrev pub tagOf : SetupField → ℕ
 tagOf (Format v) = 1
 tagOf (Lane l) = 16
 tagOf (Framing h) = 17
+tagOf (Shared k) = 18
 tagOf End = 127
 
 abbrev pub longestBytes : Longest → List ℕ
 longestBytes (Given n) = two n
 longestBytes Default = []
 
--- A format has two bytes; a lane field has the lane, the weight and, where it is given, the longest; the framing bytes are one byte; 0x7F has none.
+-- A format has two bytes; a lane field has the lane, the weight and, where it is given, the longest; the framing bytes are one byte, and so is a shared lane;
+-- 0x7F has none.
 abbrev pub valueOf : SetupField → List ℕ
 valueOf (Format v) = two v
 valueOf (Lane l) = l .lane ∷ (two (l .weight) ++ longestBytes (l .longest))
 valueOf (Framing h) = h ∷ []
+valueOf (Shared k) = k ∷ []
 valueOf End = []
 
 -- One byte of tag, two of length, the value.
@@ -61,6 +64,7 @@ abbrev pub formed : SetupField → Bool
 formed (Format v) = true
 formed (Lane l) = written-out (l .longest)
 formed (Framing h) = not (eqb h 0)
+formed (Shared k) = true
 formed End = true
 
 abbrev pub allFormed : List SetupField → Bool

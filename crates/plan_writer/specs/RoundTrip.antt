@@ -1,11 +1,12 @@
 -- Writing and reading go back and forth: the promises, of the two calls' own answers. (`Writes` is what `write_setup` ensures, and `reads r ≡ readSetup s`
 -- what `read_setup` does.) proofs/Calls.antt has the theorem of each: `reads-back-calls` and so on.
 --
---   ReadsBack     what was written is read as the same plan, also where other bytes stand behind it
---   WritesBack    a setup read in the form is written back as the same bytes
---   Rewritten     any setup that is read is within the numbers; it is written in the form, and read again as the same plan; the bytes are its own only if it is in the form
---   OnlyOutside   55 is given exactly for plans outside the numbers; OnlyShort: 56 exactly for buffers that are too short for a plan within them
---   SizeMost      no plan within the numbers has more than 524 bytes
+--   ReadsBack     R9.5: what was written is read as the same plan, also where other bytes stand behind it
+--   WritesBack    R9.6: a setup read in the form comes back as its own bytes
+--   Rewritten     R9.6: any setup that is read is within the numbers; it is written in the form, and read again as the same plan; the bytes are its own only if
+--                 it is in the form
+--   OnlyOutside   R9.3: 55 is given exactly for plans outside the numbers; OnlyShort: 56 exactly for buffers that are too short for a plan within them
+--   SizeMost      R9.2: no plan within the numbers has more than 780 bytes
 --
 -- Assumes nothing.
 use Prim.Native.Nat.{ℕ, _≤_, _<_}
@@ -57,4 +58,4 @@ OnlyShort =
     → (Within p → length before < sizeOf p → wrote a ≡ refused 56) × (wrote a ≡ refused 56 → Within p × (length before < sizeOf p))
 
 unfoldable pub SizeMost : Type 0
-SizeMost = (p : Planned) → Within p → sizeOf p ≤ 524
+SizeMost = (p : Planned) → Within p → sizeOf p ≤ 780

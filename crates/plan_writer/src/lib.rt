@@ -1,13 +1,14 @@
-// The setup writer: document 02, f. A plan within the numbers is written to a lent buffer as the bytes of a setup: 0x01 with its format, 0x11 where the line has
-// framing bytes, a field of five bytes for each lane, 0x7F.
+// The setup writer (R9.2 to R9.4). A plan within the numbers is written to a lent buffer as the bytes of a setup: 0x01 with its format, 0x11 where the line has
+// framing bytes, a field of five bytes for each lane, with 0x12 behind it where trains share the lane, 0x7F.
 //
 // `write_setup` takes any plan and any buffer. It tests the plan (55), then the room (56), and only then stores: so the buffer stays for a refusal. What it
-// answers and leaves is `Writes` of specs/Write.antt; specs/RoundTrip.antt says that reading what was written gives the same plan, and that a setup in
-// that form is written back as the same bytes. Tags, lanes and numbers are those of the reader, crate `plan`.
+// answers and leaves is `Writes` of specs/Write.antt; specs/RoundTrip.antt says that a plan comes back from its bytes (R9.5), and a setup in that form
+// as its own bytes (R9.6). Tags, lanes and numbers are those of the reader, crate `plan`.
 //
 // Units: a place is a number of bytes from the first byte of the buffer, a size a number of bytes. The inner functions' `requires` says that the plan
 // was tested and that there is room.
 ghost use mathlib.Core.Path.{_≡_};
+ghost use mathlib.Core.Bool.{false};
 ghost use mathlib.Core.List.{map};
 ghost use Prim.Native.Nat.{ℕ, _+_, _*_, _<_, _≤_};
 ghost use lib.ListN.{length};
@@ -16,9 +17,9 @@ ghost use Rattle.rules.specs.State.{settingAt};
 ghost use Rattle.rules.specs.Setup.{framingOf};
 ghost use Rattle.plan.specs.Read.{settingOf};
 ghost use Rattle.plan.specs.Accepted.{setupFields, present};
-ghost use Rattle.plan.specs.declared.parse.SetupField.the-variants.{Format, Framing, End};
+ghost use Rattle.plan.specs.declared.parse.SetupField.the-variants.{Format, Framing, Shared, End};
 ghost use Rattle.plan_writer.specs.Format.{fieldBytes, bytesOf};
-ghost use Rattle.plan_writer.specs.Write.{planned, numbered, Within, Either, Fitting, Tells, unlessZero, laneFields, laneBytes, lanesBytes, framingBytes, framingSize, Writes};
+ghost use Rattle.plan_writer.specs.Write.{planned, numbered, Within, Either, Fitting, Tells, unlessZero, laneFields, ownBytes, laneBytes, laneSize, lanesBytes, shareds, framingBytes, framingSize, Writes};
 use plan::LANES;
 use plan::Lane;
 use plan::Plan;
@@ -28,6 +29,7 @@ use plan::parse::END;
 use plan::parse::FORMAT;
 use plan::parse::FRAMING;
 use plan::parse::LANE;
+use plan::parse::SHARED;
 
 // The reader's numbers, as wide as a plan's.
 const MOST_WEIGHT: u64 = plan::judge::MOST_WEIGHT as u64;
@@ -41,12 +43,14 @@ const MOST_FRAMING: u64 = plan::judge::MOST_FRAMING as u64;
 // Of no framing bytes 0x11 is left out.
 const NO_FRAMING: u64 = 0;
 
-// The bytes of 0x01 and of 0x7F together, of 0x11, and of a lane's field.
+// The bytes of 0x01 and of 0x7F together, of 0x11, of a lane's field, and of 0x12.
 const ENDS_SIZE: usize = 8;
 
 const FRAMING_SIZE: usize = 4;
 
 const LANE_SIZE: usize = 8;
+
+const SHARED_SIZE: usize = 4;
 
 // Why nothing was written. These two have no place.
 pub enum Unwritten {
@@ -79,6 +83,22 @@ pub fn line_framing(lanes: [Lane; LANES]) -> u64
     h
 }
 
+// How many lanes trains share.
+pub fn shared_lanes(lanes: [Lane; LANES]) -> usize
+    ensures { λ r. ⌜ (r ≡ shareds (numbered (map settingOf lanes))) × (r ≤ 64) ⌝ }
+{
+    let mut n = 0usize;
+    let mut k = 0usize;
+    while k < LANES {
+        let l = lanes[k];
+        if l.shared {
+            n += 1;
+        }
+        k += 1;
+    }
+    n
+}
+
 // A lane that is in the numbers, on a line with `h` framing bytes, or not there.
 fn lane_within(l: Lane, h: u64) -> bool
     ensures { λ r. ⌜ Tells r (Fitting h (settingOf l)) ⌝ }
@@ -90,7 +110,10 @@ fn lane_within(l: Lane, h: u64) -> bool
         if longest != 0 {
             return false;
         }
-        return framing == 0;
+        if framing != 0 {
+            return false;
+        }
+        return !l.shared;
     }
     if MOST_WEIGHT < weight {
         return false;
@@ -174,10 +197,10 @@ fn put_framing(a: &mut [u8], at: usize, h: u64) -> usize
     at + FRAMING_SIZE
 }
 
-// Writes the field of lane `k`, its longest written out.
+// Writes 0x10 of lane `k`, its longest written out.
 fn put_lane(a: &mut [u8], at: usize, k: usize, weight: u64, longest: u64)
     requires { ⌜ (at + 8 ≤ length (now a)) × (k < 64) × (weight ≤ 1024) × (longest ≤ 1500) ⌝ }
-    ensures { λ _. ⌜ now (a .exit) ≡ sets (now (a .entry)) at (laneBytes k (record { weight = weight; longest = longest; framing = 0 })) ⌝ }
+    ensures { λ _. ⌜ now (a .exit) ≡ sets (now (a .entry)) at (ownBytes k (record { weight = weight; longest = longest; framing = 0; shared = false })) ⌝ }
 {
     a[at] = LANE;
     a[at + 1] = 0;
@@ -187,6 +210,30 @@ fn put_lane(a: &mut [u8], at: usize, k: usize, weight: u64, longest: u64)
     a[at + 5] = (weight % 256) as u8;
     a[at + 6] = (longest / 256) as u8;
     a[at + 7] = (longest % 256) as u8;
+}
+
+// Writes 0x12 of lane `k`.
+fn put_shared(a: &mut [u8], at: usize, k: usize)
+    requires { ⌜ (at + 4 ≤ length (now a)) × (k < 64) ⌝ }
+    ensures { λ _. ⌜ now (a .exit) ≡ sets (now (a .entry)) at (fieldBytes (Shared k)) ⌝ }
+{
+    a[at] = SHARED;
+    a[at + 1] = 0;
+    a[at + 2] = 1;
+    a[at + 3] = k as u8;
+}
+
+// Writes the fields of lane `k`, and answers the place behind them.
+fn put_fields(a: &mut [u8], at: usize, k: usize, l: Lane) -> usize
+    requires { ⌜ (at + laneSize (settingOf l) ≤ length (now a)) × (k < 64) × (l .weight ≤ 1024) × (l .longest .0 ≤ 1500) ⌝ }
+    ensures { λ r. ⌜ (now (a .exit) ≡ sets (now (a .entry)) at (laneBytes k (settingOf l))) × (r ≡ at + laneSize (settingOf l)) ⌝ }
+{
+    put_lane(a, at, k, l.weight, l.longest.0);
+    if l.shared {
+        put_shared(a, at + LANE_SIZE, k);
+        return at + LANE_SIZE + SHARED_SIZE;
+    }
+    at + LANE_SIZE
 }
 
 // Writes the fields of the lanes that are there, in order, and answers the place behind them.
@@ -199,8 +246,7 @@ fn put_lanes(a: &mut [u8], at: usize, lanes: [Lane; LANES]) -> usize
     while k < LANES {
         let l = lanes[k];
         if l.weight != 0 {
-            put_lane(a, p, k, l.weight, l.longest.0);
-            p += LANE_SIZE;
+            p = put_fields(a, p, k, l);
         }
         k += 1;
     }
@@ -219,7 +265,7 @@ fn put_end(a: &mut [u8], at: usize)
 
 // Writes the setup of a plan's lanes in a format, on a line with `h` framing bytes.
 fn put_setup(a: &mut [u8], format: u16, h: u64, lanes: [Lane; LANES])
-    requires { ⌜ ((k : ℕ) → Fitting h (settingAt (numbered (map settingOf lanes)) k)) × (h ≤ 64) × (8 + framingSize h + 8 * present (numbered (map settingOf lanes)) ≤ length (now a)) ⌝ }
+    requires { ⌜ ((k : ℕ) → Fitting h (settingAt (numbered (map settingOf lanes)) k)) × (h ≤ 64) × (8 + framingSize h + 8 * present (numbered (map settingOf lanes)) + 4 * shareds (numbered (map settingOf lanes)) ≤ length (now a)) ⌝ }
     ensures { λ _. ⌜ now (a .exit) ≡ sets (now (a .entry)) 0 (bytesOf (setupFields format (unlessZero h) (laneFields 0 (numbered (map settingOf lanes))))) ⌝ }
 {
     put_format(a, format);
@@ -243,7 +289,10 @@ pub fn write_setup(plan: Plan, buf: &mut [u8]) -> Written
     }
     let lanes = plan.lanes;
     let h = line_framing(lanes);
-    let size = ENDS_SIZE + framing_size(h) + LANE_SIZE * plan.count;
+    let size = ENDS_SIZE
+        + framing_size(h)
+        + LANE_SIZE * plan.count
+        + SHARED_SIZE * shared_lanes(lanes);
     if buf.len() < size {
         return Written::Refused(Unwritten::Short);
     }

@@ -1,31 +1,101 @@
--- What the first record of a queue is, and what taking it leaves.
+-- What the first record of a lane is, what a record more and one less make of what waits, and of the words that it is kept in.
 --
---   waiting   a record as the rules have it
---   Fitting   a record that the lane takes
+--   waiting   a record as the rules have it; bare: without its train
 --   First     e is the lane's first record
 --   Takes     e was the first record of lane k, and the lane is served
+--   Ready     a shared lane's numbers take a record of the train more
+--   Joins     both numbers tell of it
+--   Moved     lane k's places, trains or round changed, and no other word
+--   Entered   one record more in lane k's words; Cleared: none is left
+--   Fronts    which place the lane's first record stands at, and its train
+--   Chosen    a shared lane whose first record has this length; Turned: it is handed out
 --
 -- Assumes nothing.
 use mathlib.Core.Path.{_≡_}
-use Prim.Native.Nat.{ℕ, _≤_, _<_}
-use mathlib.Core.List.{List}
+use mathlib.Core.Bool.{true, false}
+use Prim.Native.Nat.{ℕ, _+_, _<_}
+use mathlib.Core.List.{List, [], _∷_, _++_}
 use mathlib.Core.Option.{some}
+use lib.ListN.{set}
+use Rattle.rounds.specs.Round as round
+use Rattle.rounds.specs.Round.{empty, put, handOut}
+use Rattle.rounds.specs.Good.{Good}
+use Rattle.turns.specs.Turns.{headOf, countOf, namedOf, turnOf, Ordered, Light, Puts}
+use Rattle.turns.specs.Turns as turns
+use Rattle.turns.specs.declared.Change.{Change}
+use Rattle.waiting.specs.Waiting.{withTrain}
 use Rattle.rules.specs.State.{Rec, Lane, firstOf, laneAt}
 use Rattle.rules.specs.Calls.{served}
-use Rattle.table.specs.Means.{meant, Leaves, withLane}
-use Rattle.table.specs.declared.Entry.{Entry}
+use Rattle.table.specs.Layout.{Now, Behind, cells, placeOf, entryAt, roundWord, roundAt, trainNumber, putTrain}
+use Rattle.table.specs.Means.{recAt, ringOf, sharedAt, waitingOf, meant, PlacesFit, Leaves, withLane}
+use Rattle.table.specs.declared.LaneRow.{LaneRow}
+use Rattle.table.proofs.Footprint.{Outside}
+use Rattle.table.proofs.Rows.{SameRows}
+use Rattle.waiting.specs.Waiting as waits
+use Rattle.queue.specs.declared.Item.{Item}
+use Rattle.queue.specs.declared.FirstPlace.{FirstPlace}
 
-abbrev pub waiting : Entry → Rec
-waiting e = record { mark = e .mark; len = e .length .0 }
+abbrev pub waiting : Item → Rec
+waiting e = record { train = e .train; mark = e .mark; len = e .length .0 }
 
--- a length of 1 to the lane's longest
-abbrev pub Fitting : Lane → Entry → Type 0
-Fitting l e = (0 < e .length .0) × (e .length .0 ≤ l .given .longest)
+abbrev pub bare : Item → round.Rec
+bare e = record { mark = e .mark; len = e .length .0 }
 
-abbrev pub First : Lane → Entry → Type 0
+abbrev pub First : Lane → Item → Type 0
 First l e = firstOf l ≡ some (waiting e)
 
--- "Hand out its first record .. If the lane holds more, S = F ..; else it is idle and keeps F."
-pub record Takes (before after : List ℕ) (k : ℕ) (e : Entry) : Type 0 where
+-- R3.11, R3.13: the first record is out, and the lane has the S and F of the next, or is idle.
+pub record Takes (before after : List ℕ) (k : ℕ) (e : Item) : Type 0 where
   pub first : First (laneAt (meant before) k) e
   pub leaves : Leaves before after (withLane (meant before) k (served (laneAt (meant before) k)))
+
+-- ---- the words of a lane
+
+pub record Ready (w : List ℕ) (k j : ℕ) : Type 0 where
+  pub train : j < 8
+  pub light : Light (trainNumber w k j)
+  pub room : countOf (trainNumber w k j) < 8
+  pub ordered : Ordered (roundAt w k)
+  pub starts : countOf (trainNumber w k j) ≡ 0 → namedOf (roundAt w k) < 8
+
+-- p is the place for the record
+pub record Joins (before after : List ℕ) (k j L p : ℕ) : Type 0 where
+  pub change : Change
+  pub now : Now before after (set (putTrain (cells before) k j (change .train)) (roundWord k) (change .round))
+  pub puts : Puts L (trainNumber (cells before) k j) (roundAt (cells before) k) j change
+  pub place : p ≡ turns.placeOf j (headOf (trainNumber (cells before) k j) + countOf (trainNumber (cells before) k j))
+
+pub record Moved (before after : List ℕ) (k : ℕ) : Type 0 where
+  pub outside : Outside (cells before) (cells after) k
+  pub rows : SameRows (cells before) (cells after) k
+  pub behind : Behind before after
+
+pub record Entered (before after : List ℕ) (k : ℕ) (l : LaneRow) (e : Item) : Type 0 where
+  pub moved : Moved before after k
+  pub fits : PlacesFit (cells before) k l → PlacesFit (cells after) k l
+  pub plain : l .shared ≡ false → ringOf (cells after) k (l .head) (l .count + 1) ≡ ringOf (cells before) k (l .head) (l .count) ++ (bare e ∷ [])
+  pub shared : l .shared ≡ true → sharedAt (cells after) k ≡ put (l .longest .0) (sharedAt (cells before) k) (e .train) (bare e)
+  pub ordered : l .shared ≡ true → Ordered (roundAt (cells after) k)
+
+pub record Cleared (before after : List ℕ) (k : ℕ) (l : LaneRow) : Type 0 where
+  pub moved : Moved before after k
+  pub fits : PlacesFit (cells after) k l
+  pub shared : l .shared ≡ true → sharedAt (cells after) k ≡ empty
+  pub ready : l .shared ≡ true → (j : ℕ) → j < 8 → Ready (cells after) k j
+
+-- where the first record of what waits stands
+pub record Fronts (w : List ℕ) (k : ℕ) (l : LaneRow) (f : FirstPlace) : Type 0 where
+  pub first : waits.first (waitingOf w k l) ≡ some (withTrain (f .train) (recAt w k (f .place)))
+
+-- the first record of a shared lane has this length
+pub record Chosen (w : List ℕ) (k L n : ℕ) : Type 0 where
+  pub good : Good L (sharedAt w k)
+  pub ordered : Ordered (roundAt w k)
+  pub named : 0 < namedOf (roundAt w k)
+  pub length : recAt w k (turns.placeOf (turnOf (roundAt w k)) (headOf (trainNumber w k (turnOf (roundAt w k))))) .len ≡ n
+
+pub record Turned (before after : List ℕ) (k L : ℕ) : Type 0 where
+  pub moved : Moved before after k
+  pub places : (i : ℕ) → entryAt (cells after) (placeOf k i) ≡ entryAt (cells before) (placeOf k i)
+  pub shared : sharedAt (cells after) k ≡ handOut L (sharedAt (cells before) k)
+  pub ordered : Ordered (roundAt (cells after) k)

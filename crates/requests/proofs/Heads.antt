@@ -54,12 +54,13 @@ pick-most : (b : Bool) (n : ℕ) (x y : Option ℕ) → Most n x → Most n y �
 pick-most true n x y p q = p
 pick-most false n x y p q = q
 
--- a value has at most 7 bytes
-size-most : (t : ℕ) → Most 7 (sizeOf t)
+-- a value has at most 8 bytes
+size-most : (t : ℕ) → Most 8 (sizeOf t)
 size-most t =
-    pick-most (eqb t 32) 7 _ _ (omega arith)
-    (pick-most (eqb t 36) 7 _ _ (omega arith)
-    (pick-most (eqb t 33 || (eqb t 34 || (eqb t 35 || (eqb t 37 || eqb t 127)))) 7 _ _ (omega arith) tt))
+    pick-most (eqb t 32) 8 _ _ (omega arith)
+    (pick-most (eqb t 38) 8 _ _ (omega arith)
+    (pick-most (eqb t 36) 8 _ _ (omega arith)
+    (pick-most (eqb t 33 || (eqb t 34 || (eqb t 35 || (eqb t 37 || eqb t 127)))) 8 _ _ (omega arith) tt)))
 
 never : {A : Type 0} (n : ℕ) (p : Option ℕ) (t k : ℕ) (x : Heading) → x ≡ wrong n p → x ≡ right t k → A
 never n p t k x e f = let z : _≡_ {A = ℕ} 0 1 = cc in absurd (omega arith)
@@ -92,8 +93,8 @@ unfolding headAt
 head-size s at tag n e = known-size at (byteAt s at) (big s (at + 1) 2) (sizeOf (byteAt s at)) refl tag n (sym (ap (headed s at) (header-whole s at (head-whole s at tag n e))) ∙ e)
 
 -- .. and short
-pub head-short : (s : List ℕ) (at tag n : ℕ) → headAt s at ≡ right tag n → n ≤ 7
-head-short s at tag n e = subst (Most 7) (head-size s at tag n e) (size-most tag)
+pub head-short : (s : List ℕ) (at tag n : ℕ) → headAt s at ≡ right tag n → n ≤ 8
+head-short s at tag n e = subst (Most 8) (head-size s at tag n e) (size-most tag)
 
 -- ---- a field
 

@@ -12,6 +12,9 @@ module _ (t : ℕ) where
   pub size-put : t ≡ 32 → sizeOf t ≡ some 7
   size-put e = rw e
 
+  pub size-put-train : t ≡ 38 → sizeOf t ≡ some 8
+  size-put-train e = rw e
+
   pub size-lag : t ≡ 36 → sizeOf t ≡ some 1
   size-lag e = rw e
 
@@ -29,7 +32,7 @@ module _ (t : ℕ) where
         ]
       ]
 
-  pub size-none : ((t ≡ 37) ⊎ (t ≡ 127) → ⊥) → ((t < 32) ⊎ (37 ≤ t)) → sizeOf t ≡ none
-  size-none f h =
+  pub size-none : ((t ≡ 37) ⊎ (t ≡ 127) → ⊥) → (t ≡ 38 → ⊥) → ((t < 32) ⊎ (37 ≤ t)) → sizeOf t ≡ none
+  size-none f g h =
       let no : (k : ℕ) → 32 ≤ k → k ≤ 36 → t ≡ k → ⊥ = λ k l m e. ⊎-elim (λ a. omega arith) (λ a. omega arith) h in
-      simp (ne-eqb t 32 (no 32 (omega arith) (omega arith)), ne-eqb t 36 (no 36 (omega arith) (omega arith)), ne-eqb t 33 (no 33 (omega arith) (omega arith)), ne-eqb t 34 (no 34 (omega arith) (omega arith)), ne-eqb t 35 (no 35 (omega arith) (omega arith)), ne-eqb t 37 (λ e. f (inl e)), ne-eqb t 127 (λ e. f (inr e)))
+      simp (ne-eqb t 32 (no 32 (omega arith) (omega arith)), ne-eqb t 38 g, ne-eqb t 36 (no 36 (omega arith) (omega arith)), ne-eqb t 33 (no 33 (omega arith) (omega arith)), ne-eqb t 34 (no 34 (omega arith) (omega arith)), ne-eqb t 35 (no 35 (omega arith) (omega arith)), ne-eqb t 37 (λ e. f (inl e)), ne-eqb t 127 (λ e. f (inr e)))

@@ -33,6 +33,18 @@ seven s at =
     let f : at + 1 + 1 + 1 + 1 + 1 + 1 ≡ at + 5 + 1 = omega arith in
     omega (arith, ap (byteAt s) e, ap (byteAt s) f)
 
+-- a put's value with a train: 1, 1, 4 and 2 bytes
+eight : (s : List ℕ) (at : ℕ) → big s at 8 ≡ byteAt s at * 256 ^ 7 + byteAt s (at + 1) * 256 ^ 6 + big s (at + 2) 4 * 256 ^ 2 + big s (at + 6) 2
+unfolding big
+eight s at =
+    let e : at + 1 + 1 ≡ at + 2 = omega arith in
+    let f : at + 1 + 1 + 1 + 1 + 1 + 1 ≡ at + 6 = omega arith in
+    let g : at + 1 + 1 + 1 + 1 + 1 + 1 + 1 ≡ at + 6 + 1 = omega arith in
+    let h : at + 1 + 1 + 1 ≡ at + 2 + 1 = omega arith in
+    let i : at + 1 + 1 + 1 + 1 ≡ at + 2 + 1 + 1 = omega arith in
+    let j : at + 1 + 1 + 1 + 1 + 1 ≡ at + 2 + 1 + 1 + 1 = omega arith in
+    omega (arith, ap (byteAt s) e, ap (byteAt s) f, ap (byteAt s) g, ap (byteAt s) h, ap (byteAt s) i, ap (byteAt s) j)
+
 some-inj : (m n : ℕ) → _≡_ {A = Option ℕ} (some m) (some n) → m ≡ n
 some-inj m n e = cc
 
@@ -53,6 +65,16 @@ module _ (s : List ℕ) (small : (i : ℕ) → byteAt s i < 256) where
       let n : x % 2 ^ 16 ≡ big s (at + 5) 2 = omega (arith, seven s at, small at, big-most 4 (at + 1), big-most 2 (at + 5)) in
       rw (j, m, n)
 
+  put-train-is : (at : ℕ) → numbered 38 (big s at 8) ≡ callOf s 38 at
+  unfolding numbered callOf
+  put-train-is at =
+      let x : ℕ = big s at 8 in
+      let j : x / 2 ^ 56 % 2 ^ 8 ≡ byteAt s at = omega (arith, eight s at, small at, small (at + 1), big-most 4 (at + 2), big-most 2 (at + 6)) in
+      let t : x / 2 ^ 48 % 2 ^ 8 ≡ byteAt s (at + 1) = omega (arith, eight s at, small at, small (at + 1), big-most 4 (at + 2), big-most 2 (at + 6)) in
+      let m : x / 2 ^ 16 % 2 ^ 32 ≡ big s (at + 2) 4 = omega (arith, eight s at, small at, small (at + 1), big-most 4 (at + 2), big-most 2 (at + 6)) in
+      let n : x % 2 ^ 16 ≡ big s (at + 6) 2 = omega (arith, eight s at, small at, small (at + 1), big-most 4 (at + 2), big-most 2 (at + 6)) in
+      rw (j, t, m, n)
+
   lag-is : (at : ℕ) → numbered 36 (big s at 1) ≡ callOf s 36 at
   unfolding numbered callOf big
   lag-is at = let j : (byteAt s at * 256 ^ 0 + 0) % 2 ^ 8 ≡ byteAt s at = omega (arith, small at) in ap lag j
@@ -62,16 +84,23 @@ module _ (s : List ℕ) (small : (i : ℕ) → byteAt s i < 256) where
   unfolding numbered callOf
   value-is tag at n e = first (eqb tag 32) refl
     where
-      second : (b : Bool) → eqb tag 32 ≡ false → eqb tag 36 ≡ b → numbered tag (big s at n) ≡ callOf s tag at
-      second true p q =
+      third : (b : Bool) → eqb tag 32 ≡ false → eqb tag 38 ≡ false → eqb tag 36 ≡ b → numbered tag (big s at n) ≡ callOf s tag at
+      third true p o q =
           let t : tag ≡ 36 = eqb-true tag 36 q in
           let k : n ≡ 1 = some-inj n 1 (sym e ∙ rw t) in
           rw (t, k) (lag-is at)
-      second false p q = rw (p, q)
+      third false p o q = rw (p, o, q)
+
+      second : (b : Bool) → eqb tag 32 ≡ false → eqb tag 38 ≡ b → numbered tag (big s at n) ≡ callOf s tag at
+      second true p q =
+          let t : tag ≡ 38 = eqb-true tag 38 q in
+          let k : n ≡ 8 = some-inj n 8 (sym e ∙ rw t) in
+          rw (t, k) (put-train-is at)
+      second false p q = third (eqb tag 36) p q refl
 
       first : (b : Bool) → eqb tag 32 ≡ b → numbered tag (big s at n) ≡ callOf s tag at
       first true p =
           let t : tag ≡ 32 = eqb-true tag 32 p in
           let k : n ≡ 7 = some-inj n 7 (sym e ∙ rw t) in
           rw (t, k) (put-is at)
-      first false p = second (eqb tag 36) p refl
+      first false p = second (eqb tag 38) p refl

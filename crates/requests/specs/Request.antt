@@ -1,4 +1,4 @@
--- The fields behind a session's setup (document 01, "Setup and session fields"), and the refusals 1 to 3 with their places.
+-- The fields behind a session's setup (docs/RULES.md, R10), and the refusals 1 to 3 with their places.
 --
 --   sizeOf     how long the value of a known tag is
 --   headAt     the header at a place, judged
@@ -24,25 +24,25 @@ use Rattle.requests.specs.declared.Size as Size
 use Rattle.requests.specs.declared.Head as Head
 use Rattle.requests.specs.declared.Request as Request
 
--- "0x20 put (lane u8, mark u32, length u16), 0x21 take, 0x22 look, 0x23 sets, 0x24 lag (lane u8), 0x25 restart", and 0x7F: the tags that this part
--- knows, each with the one length that is right for it.
+-- R10.1: the tags that this part knows, each with the one length that is right for it; 0x26 is a put with a train.
 abbrev pub sizeOf : ℕ → Option ℕ
 sizeOf t =
     if eqb t 32 then some 7
+    else (if eqb t 38 then some 8
     else (if eqb t 36 then some 1
-    else (if eqb t 33 || (eqb t 34 || (eqb t 35 || (eqb t 37 || eqb t 127))) then some 0 else none))
+    else (if eqb t 33 || (eqb t 34 || (eqb t 35 || (eqb t 37 || eqb t 127))) then some 0 else none)))
 
 -- A tag and the length of its value, or a refusal's number and its place.
 pub data Heading : Type 0 where
   right : ℕ → ℕ → Heading
   wrong : ℕ → Option ℕ → Heading
 
--- "2: tag unknown in this part", then "3: length wrong for the tag".
+-- R10.2: R14.3, then R14.4
 abbrev pub sized : ℕ → ℕ → ℕ → Option ℕ → Heading
 sized at tag n none = wrong 2 (some at)
 sized at tag n (some k) = if eqb n k then right tag n else wrong 3 (some at)
 
--- "1: header .. runs past the end, or input ends before 0x7F. Place: field's tag; input length at the end."
+-- R10.2, R14.2 of a header
 abbrev pub headed : List ℕ → ℕ → Field → Heading
 headed s at Nothing = wrong 1 (some (length s))
 headed s at Cut = wrong 1 (some at)
@@ -57,22 +57,24 @@ pub data Item : Type 0 where
   last : ℕ → Item
   bad : ℕ → Option ℕ → Item
 
--- "put (lane u8, mark u32, length u16) .. lag (lane u8)", of a value that stands at a place
+-- R10.1, R10.3: no number is judged here, for the call does that. 0x26 is a put with its train behind the lane, 0x20 one of train 0.
 unfoldable pub callOf : List ℕ → ℕ → ℕ → Call
 callOf s tag at =
-    if eqb tag 32 then put (byteAt s at) (big s (at + 1) 4) (big s (at + 5) 2)
+    if eqb tag 32 then put (byteAt s at) 0 (big s (at + 1) 4) (big s (at + 5) 2)
+    else (if eqb tag 38 then put (byteAt s at) (byteAt s (at + 1)) (big s (at + 2) 4) (big s (at + 6) 2)
     else (if eqb tag 33 then take
     else (if eqb tag 34 then look
     else (if eqb tag 35 then sets
-    else (if eqb tag 36 then lag (byteAt s at) else restart))))
+    else (if eqb tag 36 then lag (byteAt s at) else restart)))))
 
--- "In a field 1 (header), 2, 3, 1 (value)."
+-- R10.2, R14.2 of a value, after all that is wrong with the header
 abbrev pub valued : List ℕ → ℕ → Heading → Item
 valued s at (wrong n p) = bad n p
 valued s at (right tag n) =
     if leb (at + 3 + n) (length s) then (if eqb tag 127 then last (at + 3 + n) else request (callOf s tag (at + 3)) (at + 3 + n))
     else bad 1 (some at)
 
+-- R10.2, R14.36
 unfoldable pub itemAt : List ℕ → ℕ → Item
 itemAt s at = valued s at (headAt s at)
 
@@ -87,7 +89,7 @@ headIs (Head.the-variants.Right tag n) = right tag n
 headIs (Head.the-variants.Refused x) = wrong (number x) (placeOf x)
 
 abbrev pub callIs : Request.Request → Call
-callIs (Request.the-variants.Put j m n) = put j m (n .0)
+callIs (Request.the-variants.Put j t m n) = put j t m (n .0)
 callIs Request.the-variants.Take = take
 callIs Request.the-variants.Look = look
 callIs Request.the-variants.Sets = sets
@@ -97,8 +99,9 @@ callIs Request.the-variants.Restart = restart
 -- the value as one number, high byte first: proofs/Values.antt shows that this is `callOf`
 unfoldable pub numbered : ℕ → ℕ → Call
 numbered tag x =
-    if eqb tag 32 then put (x / 2 ^ 48 % 2 ^ 8) (x / 2 ^ 16 % 2 ^ 32) (x % 2 ^ 16)
+    if eqb tag 32 then put (x / 2 ^ 48 % 2 ^ 8) 0 (x / 2 ^ 16 % 2 ^ 32) (x % 2 ^ 16)
+    else (if eqb tag 38 then put (x / 2 ^ 56 % 2 ^ 8) (x / 2 ^ 48 % 2 ^ 8) (x / 2 ^ 16 % 2 ^ 32) (x % 2 ^ 16)
     else (if eqb tag 33 then take
     else (if eqb tag 34 then look
     else (if eqb tag 35 then sets
-    else (if eqb tag 36 then lag (x % 2 ^ 8) else restart))))
+    else (if eqb tag 36 then lag (x % 2 ^ 8) else restart)))))

@@ -1,4 +1,4 @@
-// The fields behind a session's setup: document 01, "Setup and session fields", with the refusals 1 to 3 of "Numbers given back".
+// The fields behind a session's setup (R10.1, R10.2), with the refusals 1 to 3.
 //
 // A field is read in two steps, for the order in a field is 1 (header), 2, 3, 1 (value): `head_at` judges the header; the caller then reads the value, as
 // one number, and `request_of` takes that apart. Each request's shape stands in `size_of` and `request_of` alone.
@@ -22,10 +22,18 @@ pub const LAG: u8 = 0x24;
 
 pub const RESTART: u8 = 0x25;
 
+pub const PUT_TRAIN: u8 = 0x26;
+
 pub const END: u8 = 0x7F;
 
 pub enum Request {
-    Put { lane: u8, mark: u32, length: Bytes },
+    // A put of a train; without one it is train 0.
+    Put {
+        lane: u8,
+        train: u8,
+        mark: u32,
+        length: Bytes,
+    },
     Take,
     Look,
     Sets,
@@ -45,12 +53,13 @@ pub enum Head {
     Refused(Refusal),
 }
 
-// "put (lane u8, mark u32, length u16) .. lag (lane u8)"; the others have no value.
+// R10.1, and 0x26, a put with its train behind the lane. A lag names its lane; the others have no value.
 pub fn size_of(tag: u8) -> Size
     ensures { λ r. ⌜ sizeIs r ≡ sizeOf tag ⌝ }
 {
     match tag {
         PUT => Size::Of(7),
+        PUT_TRAIN => Size::Of(8),
         LAG => Size::Of(1),
         TAKE | LOOK | SETS | RESTART | END => Size::Of(0),
         _ => Size::Unknown,
@@ -88,6 +97,13 @@ pub fn request_of(tag: u8, x: u64) -> Request
     match tag {
         PUT => Request::Put {
             lane: (x / 281474976710656 % 256) as u8,
+            train: 0,
+            mark: (x / 65536 % 4294967296) as u32,
+            length: Bytes(x % 65536),
+        },
+        PUT_TRAIN => Request::Put {
+            lane: (x / 72057594037927936 % 256) as u8,
+            train: (x / 281474976710656 % 256) as u8,
             mark: (x / 65536 % 4294967296) as u32,
             length: Bytes(x % 65536),
         },

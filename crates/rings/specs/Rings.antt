@@ -1,4 +1,4 @@
--- 512 rings of numbers in bytes: where they lie, and what stands in one.
+-- 512 rings of numbers in bytes (R6.1): where they lie, and what stands in one.
 --
 --   Long                  bytes that are long enough for them
 --   headByte, countByte   a ring's first place, and how many stand in it

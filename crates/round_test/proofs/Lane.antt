@@ -120,7 +120,7 @@ held-tab at ts (suc n) =
     ∙ sum-append (tab n (λ k. trainOf at k (ts k))) (trainOf at n (ts n) ∷ [])
     ∙ omega (arith, held-tab at ts n, length-ring at n (headOf (ts n)) (countOf (ts n)))
 
-held-is : (at : ℕ → Rec) (ts : ℕ → ℕ) (r : ℕ) → held (sharedOf at ts r) ≡ heldBelow ts 8
+pub held-is : (at : ℕ → Rec) (ts : ℕ → ℕ) (r : ℕ) → held (sharedOf at ts r) ≡ heldBelow ts 8
 unfolding sharedOf trainsOf
 held-is at ts r = held-tab at ts 8
 

@@ -1,4 +1,4 @@
-// The good-table test of one shared lane: document 02, l, by the numbers that the lane is kept in (crate `turns`).
+// The good-table test of one shared lane, by the numbers that the lane is kept in (crate `turns`).
 //
 // The round is read once, into a word of the trains that it names; then each train's number is held to it and to the length of its first record. Every
 // place of the lane holds a length within the numbers: that is tested before, for all 64 at once.

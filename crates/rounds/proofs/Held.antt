@@ -9,9 +9,10 @@ use mathlib.Core.List.{List, [], _∷_, _++_}
 use lib.Dec.{leb}
 use lib.ListN.{length, getD, set, replicate, length-append}
 use lib.Seq.{getD-set-same}
+use borrow.Author.Tests.{eq-eqb}
 use Rattle.units.specs.Plain.{if_then_else_, sum, times}
 use Rattle.rounds.specs.Round.{Rec, Train, Shared, trainCount, trainDepth, noTrain, some?, trainAt, holds, empty, heldIn, held, Moving, firstOf, firstIn, first, raised, begin, added, join, put, handOf, handIn, handOut}
-use Rattle.rounds.specs.Good.{GoodTrain, Good}
+use Rattle.rounds.specs.Good.{Deficit, GoodTrain, Good}
 use Rattle.rounds.proofs.Lists.{if-ind}
 use Rattle.rounds.proofs.KeepHand.{held-inside, turn-holds}
 use Rattle.rounds.proofs.Order.{begin-queue}
@@ -133,3 +134,37 @@ empty-train k = getD-replicate k trainCount
 pub empty-good : (L : ℕ) → Good L empty
 unfolding empty
 empty-good L = record { size = refl; each = λ k. subst (GoodTrain L false 0) (sym (empty-train k)) (record { room = omega arith; lengths = tt; deficit = refl; named-once = refl }) }
+
+-- a good lane that holds no record is that one
+module _ (L : ℕ) (s : Shared) (g : Good L s) (none-held : held s ≡ 0) where
+  sum-none : (xs : List Train) → sum heldIn xs ≡ 0 → (k : ℕ) → heldIn (getD xs k noTrain) ≡ 0
+  sum-none [] e k = refl
+  sum-none (x ∷ xs) e zero = omega arith
+  sum-none (x ∷ xs) e (suc k) = sum-none xs (omega arith) k
+
+  no-records : (q : List Rec) → length q ≡ 0 → q ≡ []
+  no-records [] e = refl
+  no-records (r ∷ rs) e = absurd (omega arith)
+
+  bare-train : (turn : Bool) (n : ℕ) (t : Train) → GoodTrain L turn n t → t .queue ≡ [] → t ≡ noTrain
+  bare-train turn n t h e = ap (λ (d : ℕ). record { deficit = d; queue = t .queue }) (subst (Deficit L turn (t .deficit)) e (h .deficit)) ∙ ap (λ (q : List Rec). record { deficit = 0; queue = q }) e
+
+  no-train : (k : ℕ) → trainAt s k ≡ noTrain
+  no-train k = bare-train _ _ (trainAt s k) (g .each k) (no-records (trainAt s k .queue) (sum-none (s .trains) none-held k))
+
+  all-bare : (n : ℕ) (ts : List Train) → length ts ≡ n → ((k : ℕ) → getD ts k noTrain ≡ noTrain) → ts ≡ replicate n noTrain
+  all-bare zero [] e h = refl
+  all-bare zero (t ∷ ts) e h = absurd (omega arith)
+  all-bare (suc n) [] e h = absurd (omega arith)
+  all-bare (suc n) (t ∷ ts) e h = ap (λ (x : Train). x ∷ ts) (h 0) ∙ ap (λ (xs : List Train). noTrain ∷ xs) (all-bare n ts (omega arith) (λ k. h (suc k)))
+
+  no-round : (js : List ℕ) → ((k : ℕ) → times k js ≡ 0) → js ≡ []
+  no-round [] h = refl
+  no-round (j ∷ js) h = absurd (omega (arith, simp (eq-eqb j j refl) at (h j)))
+
+  pub none-empty : s ≡ empty
+  unfolding empty
+  none-empty =
+      let rounds : s .round ≡ [] = no-round (s .round) (λ k. g .each k .named-once ∙ ap (λ (t : Train). if some? (t .queue) then 1 else 0) (no-train k)) in
+      let trains : s .trains ≡ replicate trainCount noTrain = all-bare trainCount (s .trains) (g .size) no-train in
+      ap (λ (ts : List Train). record { trains = ts; round = s .round }) trains ∙ ap (λ (js : List ℕ). record { trains = replicate trainCount noTrain; round = js }) rounds

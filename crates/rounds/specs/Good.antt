@@ -13,20 +13,21 @@ abbrev pub Lengths : ℕ → List Rec → Type 0
 Lengths L [] = Unit {0}
 Lengths L (r ∷ rs) = (1 ≤ r .len) × (r .len ≤ L) × Lengths L rs
 
--- The deficit of a train that holds nothing is 0; that of the train in turn covers its first record, and is below twice the longest; that of any other does not
--- cover its first record.
+-- R18.8: the deficit of a train that holds nothing is 0; that of the train in turn covers its first record, and is below twice the longest; that of any other
+-- does not cover its first record.
 abbrev pub Deficit : ℕ → Bool → ℕ → List Rec → Type 0
 Deficit L turn d [] = d ≡ 0
 Deficit L true d (r ∷ rs) = (r .len ≤ d) × (d < 2 * L)
 Deficit L false d (r ∷ rs) = d < r .len
 
--- The train k, in turn or not, named so often in the round.
+-- R18.8: a train, in turn or not, named so often in the round.
 pub record GoodTrain (L : ℕ) (turn : Bool) (named : ℕ) (t : Train) : Type 0 where
   pub room : length (t .queue) ≤ trainDepth
   pub lengths : Lengths L (t .queue)
   pub deficit : Deficit L turn (t .deficit) (t .queue)
   pub named-once : named ≡ (if some? (t .queue) then 1 else 0)
 
+-- R18.8
 pub record Good (L : ℕ) (s : Shared) : Type 0 where
   pub size : length (s .trains) ≡ trainCount
   pub each : (k : ℕ) → GoodTrain L (inTurn k (s .round)) (times k (s .round)) (trainAt s k)

@@ -1,4 +1,4 @@
--- One lane that up to 8 trains share, by deficit round robin (document 02, l).
+-- One lane that up to 8 trains share, by deficit round robin (docs/RULES.md, R18).
 --
 --   Rec           a waiting record: its mark and its length
 --   Train         a train's deficit and its queue, first record first
@@ -26,19 +26,21 @@ pub record Rec : Type 0 where
   pub mark : ℕ
   pub len : ℕ
 
--- a deficit counts bare bytes, without framing
+-- R18.2: a deficit counts bare bytes, without framing
 pub record Train : Type 0 where
   pub deficit : ℕ
   pub queue : List Rec
 
+-- R18.2
 pub record Shared : Type 0 where
   pub trains : List Train
   pub round : List ℕ
 
--- the trains are numbered 0 to 7, and each has a queue of its own
+-- R18.2: the trains are numbered 0 to 7, and each has a queue of its own
 abbrev pub trainCount : ℕ
 trainCount = 8
 
+-- R18.2
 abbrev pub trainDepth : ℕ
 trainDepth = 8
 
@@ -55,6 +57,7 @@ trainAt s k = getD (s .trains) k noTrain
 abbrev pub holds : Shared → ℕ → Bool
 holds s k = some? (trainAt s k .queue)
 
+-- R18.2
 abbrev pub inTurn : ℕ → List ℕ → Bool
 inTurn k [] = false
 inTurn k (j ∷ js) = eqb j k
@@ -83,21 +86,22 @@ unfoldable pub firstOf : ℕ → List Rec → Option Moving
 firstOf k [] = none
 firstOf k (r ∷ rs) = some (record { train = k; item = r })
 
+-- R18.4
 unfoldable pub firstIn : List Train → List ℕ → Option Moving
 firstIn ts [] = none
 firstIn ts (k ∷ ks) = firstOf k (getD ts k noTrain .queue)
 
--- the chosen record is the first of the train in turn: no put changes which train that is
+-- R18.4: the chosen record is the first of the train in turn: no put changes which train that is
 unfoldable pub first : Shared → Option Moving
 first s = firstIn (s .trains) (s .round)
 
 -- ---- turns
 
--- what a turn gives a train: the lane's longest
+-- R18.6: what a turn gives a train: the lane's longest
 unfoldable pub raised : ℕ → Train → Train
 raised L t = record { deficit = t .deficit + L; queue = t .queue }
 
--- the turn of the round's first train begins
+-- R18.6: the turn of the round's first train begins
 unfoldable pub begin : ℕ → List Train → List ℕ → Shared
 begin L ts [] = record { trains = ts; round = [] }
 begin L ts (k ∷ ks) = record { trains = set ts k (raised L (getD ts k noTrain)); round = k ∷ ks }
@@ -107,11 +111,12 @@ begin L ts (k ∷ ks) = record { trains = set ts k (raised L (getD ts k noTrain)
 unfoldable pub added : Train → Rec → Train
 added t r = record { deficit = t .deficit; queue = t .queue ++ (r ∷ []) }
 
--- a train that held nothing goes behind the others; in an empty lane its turn begins at once
+-- R18.5: a train that held nothing goes behind the others; in an empty lane its turn begins at once
 unfoldable pub join : ℕ → List Train → List ℕ → ℕ → Shared
 join L ts [] k = begin L ts (k ∷ [])
 join L ts (j ∷ js) k = record { trains = ts; round = j ∷ js ++ (k ∷ []) }
 
+-- R18.5
 unfoldable pub put : ℕ → Shared → ℕ → Rec → Shared
 put L s k r =
     let ts = set (s .trains) k (added (trainAt s k) r) in
@@ -119,9 +124,9 @@ put L s k r =
 
 -- ---- hand out
 
--- The train in turn, k, with the deficit d, hands out the first of its records, and its deficit drops by that record's length; ks is the round behind it. Left
--- with no record it leaves the round, and its deficit is gone. While what is left covers its next record it stays in turn; else it goes behind the others with
--- the rest, and the next turn begins. (Alone in the round it is the next in turn again.)
+-- R18.7: the train in turn, k, with the deficit d, hands out the first of its records, and its deficit drops by that record's length; ks is the round behind
+-- it. Left with no record it leaves the round, and its deficit is gone. While what is left covers its next record it stays in turn; else it goes behind the
+-- others with the rest, and the next turn begins. (Alone in the round it is the next in turn again.)
 unfoldable pub handOf : ℕ → List Train → ℕ → List ℕ → ℕ → List Rec → Shared
 handOf L ts k ks d [] = record { trains = ts; round = k ∷ ks }
 handOf L ts k ks d (r ∷ []) = begin L (set ts k noTrain) ks
@@ -129,9 +134,11 @@ handOf L ts k ks d (r ∷ r′ ∷ rs) =
     let ts′ = set ts k (record { deficit = d - r .len; queue = r′ ∷ rs }) in
     if leb (r′ .len) (d - r .len) then record { trains = ts′; round = k ∷ ks } else begin L ts′ (ks ++ (k ∷ []))
 
+-- R18.7
 unfoldable pub handIn : ℕ → List Train → List ℕ → Shared
 handIn L ts [] = record { trains = ts; round = [] }
 handIn L ts (k ∷ ks) = handOf L ts k ks (getD ts k noTrain .deficit) (getD ts k noTrain .queue)
 
+-- R18.7
 unfoldable pub handOut : ℕ → Shared → Shared
 handOut L s = handIn L (s .trains) (s .round)

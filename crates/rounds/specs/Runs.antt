@@ -71,7 +71,8 @@ abbrev pub Both : Shared → ℕ → ℕ → Type 0
 Both s a b = (holds s a ≡ true) × (holds s b ≡ true)
 
 -- For any list of operations from a good state, any stretch of it (what comes before, and the stretch) and any two trains that both hold a record before it and
--- after each operation in it: the bytes sent of the one are at most those of the other and three times the longest, less 2.
+-- after each operation in it: the bytes sent of the one are at most those of the other and three times the longest, less 2. Less than
+-- that would not hold (`Reached` of the rules' examples).
 unfoldable pub Even : ℕ → Type 0
 Even L = (s : Shared) → Good L s → (past stretch : List Op) (a b : ℕ) → (a ≡ b → ⊥)
     → ((p q : List Op) → p ++ q ≡ stretch → Both (after L s (past ++ p)) a b)

@@ -1,4 +1,4 @@
-// One lane that several trains share: deficit round robin (source document 003), document 02, request l).
+// One lane that several trains share, by deficit round robin.
 //
 // There is no code here. The rules are definitions in specs/, over plain numbers and lists; they know nothing of clocks, lanes, tables or sets. The
 // theorems are in proofs/: a good lane stays good (proofs/Keep.antt), each train's records are handed out once and in order (proofs/Order.antt), and

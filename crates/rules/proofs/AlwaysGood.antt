@@ -1,4 +1,4 @@
--- No state that calls make from a fresh one is ever found not good, and each stands beside one of the endless rules. `Twins` is what every call keeps and a fresh
+-- R6.13: all states that calls make from a fresh one are good, and each stands beside one of the endless rules. `Twins` is what every call keeps and a fresh
 -- state has; it gives `Good`, and is stronger: not every call on every good state leaves a good one. Assumes nothing.
 use Prim.Native.Nat.{ℕ, _+_, _*_, _^_, _≤_, _<_}
 use native.Mathlib.Omega.{arith}
@@ -22,6 +22,7 @@ use Rattle.rules.proofs.Figures.{longest-most, framing-most, setup-ok}
 use Rattle.rules.proofs.Range.{fresh-range, step-range}
 use Rattle.rules.proofs.RangeTake.{Range, LanesOk}
 use Rattle.rules.proofs.Live.{Live, fresh-live, step-live}
+use Rattle.rules.proofs.Kind.{AllKind, fresh-kind, step-kind}
 use Rattle.rules.proofs.Ties.{Tied, fresh-tied, step-tied}
 use Rattle.rules.proofs.Beside.{same-beside}
 use Rattle.rules.proofs.BesideCalls.{shifted-beside, step-beside}
@@ -32,6 +33,7 @@ pub record Twins (n : ℕ) (s t : State) : Type 0 where
   pub setup : Setup (setupOf s)
   pub range : Range s
   pub tied : Tied s
+  pub kind : AllKind s
   pub beside : Beside n s t
   pub kept : Kept (margin (framingOf (setupOf s))) t
   pub live : Live t
@@ -76,6 +78,7 @@ twins-good n s t r =
     record {
       setup = r .setup;
       waiting = λ k. ok k .waiting;
+      kind = r .kind;
       clock = omega (arith, r .range .clock);
       numbers = λ k. numbers M (s .clock) (laneAt s k) (firstOf (laneAt s k)) refl (ok k)
           (λ h. ap margin (sym (subst (λ (g : Setting). 0 < g .weight → g .framing ≡ framingOf (setupOf s)) (setting-lane s k) (r .setup .framed k) h)))
@@ -112,6 +115,7 @@ step-twins n s t c r =
         setup = subst Setup (sym (same-setup s c)) (r .setup);
         range = step-range M (omega (arith, r .setup .framing-high)) s c (lanes-ok M n s t (r .beside) (r .kept)) (lanes-ok M (u .0) (shifted s) t (u .1) (r .kept)) (r .range);
         tied = step-tied s c (good .waiting) (r .tied);
+        kind = step-kind s c (r .kind);
         beside = x .beside;
         kept = subst (λ (x : List Setting). Kept (margin (framingOf x)) ((endless t c) .state)) (sym (same-setup s c)) (step-kept M t c (r .kept));
         live = step-live t c (λ k. r .kept .ok k .waiting) (r .live);
@@ -124,6 +128,7 @@ fresh-twins gs s = record {
   setup = subst Setup (sym (fresh-setup gs)) s;
   range = fresh-range gs (omega (arith, s .size)) (λ k. slot-most (settingAt gs k) (longest-most gs s k) (framing-most gs s k));
   tied = fresh-tied gs;
+  kind = fresh-kind gs;
   beside = same-beside (fresh gs);
   kept = subst (λ (x : List Setting). Inv (margin (framingOf x)) 0 (map idle gs)) (sym (fresh-setup gs)) (fresh-inv (margin (framingOf gs)) gs (setup-ok gs s));
   live = fresh-live gs;

@@ -79,7 +79,7 @@ module _ (n : ℕ) (s : State) (ms : List Lane) (z : length ms ≡ length (s .la
 
     -- ---- put
 
-    pub refusal-same : (j x : ℕ) → putRefusal t j x ≡ putRefusal s j x
+    pub refusal-same : (j : ℕ) (x : Rec) → putRefusal t j x ≡ putRefusal s j x
     unfolding putRefusal
     refusal-same j x = rw (lane j .given, lane j .waiting)
 

@@ -74,26 +74,26 @@ module _ (n : ℕ) (s t : State) (b : Beside n s t) (small : Small s) where
 module _ (n : ℕ) (s t : State) (b : Beside n s t) (small : Small s) (above : clockFar ≤ s .clock → Above s) (sound : AllSound s) where
   put-beside : (j : ℕ) (r : Rec) → Same (doPut s j r) (endlessPut t j r)
   unfolding doPut endlessPut putOf endlessPutOf
-  put-beside j r = rw refusal (go (putRefusal s j (r .len)) (put-ok s j (r .len)))
+  put-beside j r = rw refusal (go (putRefusal s j r) (put-ok s j r))
     where
-      refusal : putRefusal t j (r .len) ≡ putRefusal s j (r .len)
+      refusal : putRefusal t j r ≡ putRefusal s j r
       refusal =
-          subst (λ (x : State). putRefusal x j (r .len) ≡ putRefusal s j (r .len)) (sym (made-of n s t b)) (refusal-same n s (t .lanes) (b .size) (b .lane) small j (r .len))
+          subst (λ (x : State). putRefusal x j r ≡ putRefusal s j r) (sym (made-of n s t b)) (refusal-same n s (t .lanes) (b .size) (b .lane) small j r)
 
-      go : (o : Option ℕ) → PutOk s j (r .len) o → Same (putOf s j r o) (endlessPutOf t j r o)
+      go : (o : Option ℕ) → PutOk s j r o → Same (putOf s j r o) (endlessPutOf t j r o)
       go (some x) a = record { reply = refl; by = n; beside = b }
       go none a =
           let u = shifted-beside n s t b above in
           record {
-            reply = ap (λ (w : Waiting). accepted (length (queueOf w 0))) (sym (b .lane j .waiting));
+            reply = ap (λ (w : Waiting). accepted (length (queueOf w (r .train)))) (sym (b .lane j .waiting));
             by = u .0;
-            beside = accept-beside (u .0) (shifted s) t (u .1) (small-shifted s small) j r (shifted-sound s sound j) (allowed-enters (shifted s) j r (shifted-allowed s j (r .len) a));
+            beside = accept-beside (u .0) (shifted s) t (u .1) (small-shifted s small) j r (shifted-sound s sound j) (allowed-enters (shifted s) j r (shifted-allowed s j r a));
           }
 
   -- every call on two states beside each other
   pub step-beside : (c : Call) → Same (step s c) (endless t c)
   unfolding step endless
-  step-beside (put j m x) = put-beside j (record { mark = m; len = x })
+  step-beside (put j k m x) = put-beside j (record { train = k; mark = m; len = x })
   step-beside take = subst (λ (x : State). Same (doTake s) (doTake x)) (sym (made-of n s t b)) (take-built n s (t .lanes) (b .size) (b .lane) small)
   step-beside look = subst (λ (x : State). Same (doLook s) (doLook x)) (sym (made-of n s t b)) (look-built n s (t .lanes) (b .size) (b .lane) small)
   step-beside sets = subst (λ (x : State). Same (doSets s) (doSets x)) (sym (made-of n s t b)) (sets-built n s (t .lanes) (b .size) (b .lane) small)

@@ -1,16 +1,16 @@
--- A fresh table has the invariant, and the invariant gives the two bounds of demand 3: S < V + 2s and V < R + 2s + M for a holding lane. Assumes nothing.
+-- A fresh table has the invariant, and the invariant gives the two bounds behind R15.8: S < V + 2s and V < R + 2s + M for a holding lane. Assumes nothing.
 use Prim.Native.Nat.{ℕ, _+_, _-_, _*_, _≤_, _<_}
 use native.Mathlib.Omega.{arith}
 use native.Mathlib.Nat.{le-refl, mul-le-mul-right}
-use mathlib.Core.Path.{_≡_, refl, ap, subst}
-use mathlib.Core.Bool.{Bool, true, false≢true}
+use mathlib.Core.Path.{_≡_, refl, sym, ap, subst, _∙_}
+use mathlib.Core.Bool.{Bool, true, false, false≢true}
 use mathlib.Core.List.{List, [], _∷_, map}
 use mathlib.Core.Option.{Option, none, some}
 use lib.ListN.{getD}
 use Rattle.units.proofs.Round.{lt-round-slot}
 use Rattle.units.specs.Plain.{if_then_else_, sum}
 use Rattle.rules.specs.State.{Rec, Setting, noSetting, Lane, charge, slot, finishR, some?, firstOf, holds, noLane}
-use Rattle.waiting.proofs.Laws.{good-nothing}
+use Rattle.waiting.proofs.Laws.{first-nothing, good-nothing}
 use Rattle.rules.specs.Calls.{idle}
 use Rattle.rules.proofs.Lists.{le-sum, getD-map}
 use Rattle.rules.proofs.Lane.{slot-pos}
@@ -28,13 +28,20 @@ unfolding idle
 fresh-weights [] = refl
 fresh-weights (g ∷ gs) = omega (arith, fresh-weights gs)
 
+pub idle-free : (g : Setting) → holds (idle g) ≡ false
+unfolding idle
+idle-free g = ap some? (first-nothing (g .shared))
+
 idle-lane : (M : ℕ) (g : Setting) → 1024 * charge g (g .longest) ≤ M → (holds (idle g) ≡ true → ⊥) × LaneOk M 0 (idle g)
 unfolding idle
-idle-lane M g h = (false≢true, record { queued = tt; waiting = good-nothing (g .longest); below = omega (arith, slot-pos g); short = h })
+idle-lane M g h = (λ t. false≢true (sym (idle-free g) ∙ t), record { queued = rw (first-nothing (g .shared)) tt; waiting = good-nothing (g .longest) (g .shared); below = rw (first-nothing (g .shared)) (omega (arith, slot-pos g)); short = h })
 
 pub idle-at : (gs : List Setting) (k : ℕ) → getD (map idle gs) k noLane ≡ idle (getD gs k noSetting)
 unfolding idle
 idle-at gs k = getD-map idle gs k noSetting noLane refl
+
+pub fresh-free : (gs : List Setting) (k : ℕ) → holds (getD (map idle gs) k noLane) ≡ false
+fresh-free gs k = ap holds (idle-at gs k) ∙ idle-free (getD gs k noSetting)
 
 pub fresh-inv : (M : ℕ) (gs : List Setting) → SetupOk M gs → Inv M 0 (map idle gs)
 fresh-inv M gs s = record {

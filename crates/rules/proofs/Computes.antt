@@ -5,9 +5,10 @@ use Rattle.units.specs.Plain.{place, without, anyBelow, wordOf}
 use Rattle.rules.specs.Choice.{before, best, chooseFrom, choose, leastOf}
 use Rattle.rules.specs.Sets.{inGroup, groupStart, heldStart, reached, finishFrom, groupHolds, groupEligible, groupFinish, blocks, blocked, ready, ineligibleReady, eligibleBlocked, ineligibleBlocked}
 use Rattle.rules.specs.Calls.{putRefusal, appended, woken, accept, putOf, doPut, served, settledAt, settled, serve, timed, pickFirst, pickOf, picked, takeOf, doTake, lookOf, doLook, doSets, lagOf, doLag, idle, fresh, doRestart, step, takenOff, lowered, lowerAll, shifted}
-use Rattle.waiting.specs.Waiting.{tail, enter, handOut, queueOf, full}
+use Rattle.waiting.specs.Waiting.{tail, enter, handOut, queueOf, full, known}
+use Rattle.rounds.specs.Round as round
 use Rattle.rules.specs.Runs.{after, trace}
 
 unfoldable pub rules : Unit {0}
-unfolding perByte powerFrom leastPower roundDown charge group slot eligible anyHolds place before best chooseFrom choose leastOf inGroup groupStart heldStart reached finishFrom groupHolds groupEligible groupFinish anyBelow wordOf blocks blocked ready ineligibleReady eligibleBlocked ineligibleBlocked putRefusal takenOff lowered lowerAll shifted appended woken accept putOf doPut served settledAt settled without serve timed pickFirst tail enter handOut queueOf full pickOf picked takeOf doTake lookOf doLook doSets lagOf doLag idle fresh doRestart step after trace
+unfolding perByte powerFrom leastPower roundDown charge group slot eligible anyHolds place before best chooseFrom choose leastOf inGroup groupStart heldStart reached finishFrom groupHolds groupEligible groupFinish anyBelow wordOf blocks blocked ready ineligibleReady eligibleBlocked ineligibleBlocked putRefusal takenOff lowered lowerAll shifted appended woken accept putOf doPut served settledAt settled without serve timed pickFirst tail enter handOut queueOf full known round.empty round.firstOf round.firstIn round.first round.raised round.begin round.added round.join round.put round.handOf round.handIn round.handOut pickOf picked takeOf doTake lookOf doLook doSets lagOf doLag idle fresh doRestart step after trace
 rules = tt

@@ -1,5 +1,5 @@
--- "Take is never refused for 14, so a spent unit can be drained and restarted": from any state that calls make from a fresh one, as many takes as records are
--- held hand each out, whatever the clock, and restart is accepted then. Assumes nothing.
+-- No take is refused for the clock (R3.15), so a line can be emptied and begun anew: from any state that calls make from a fresh one, as many takes as records
+-- are held hand each out, and restart is accepted then. Assumes nothing.
 use Prim.Native.Nat.{ℕ, zero, suc, _<_}
 use native.Mathlib.Omega.{arith}
 use mathlib.Core.Path.{_≡_, refl, sym, ap}
@@ -36,14 +36,15 @@ none-held : (s : State) → AllSound s → ((k : ℕ) → holds (laneAt s k) ≡
 none-held s w h = sum-zero heldIn (s .lanes) noLane (λ k. held-none (laneAt s k .given .longest) (laneAt s k .waiting) (w k) (idle-first (firstOf (laneAt s k)) (h k)))
 
 -- a take while records are held hands one out
-pub take-one : (s : State) (n : ℕ) → AllSound s → Live s → heldBy s ≡ suc n → (j m l : ℕ) × ((step s take) .reply ≡ taken j m l) × (heldBy ((step s take) .state) ≡ n)
+pub take-one : (s : State) (n : ℕ) → AllSound s → Live s → heldBy s ≡ suc n → (j k m l : ℕ) × ((step s take) .reply ≡ taken j k m l) × (heldBy ((step s take) .state) ≡ n)
 unfolding step doTake takeOf serve
 take-one s n w live e = go (picked s) (pick-is s)
   where
-    go : (o : Option Pick) → PickIs s o → (j m l : ℕ) × ((takeOf s o) .reply ≡ taken j m l) × (heldBy ((takeOf s o) .state) ≡ n)
+    go : (o : Option Pick) → PickIs s o → (j k m l : ℕ) × ((takeOf s o) .reply ≡ taken j k m l) × (heldBy ((takeOf s o) .state) ≡ n)
     go none h = absurd (omega (arith, none-held s w (nothing-held s live h)))
     go (some p) h = (
       p .lane,
+      p .first .train,
       p .first .mark,
       p .first .len,
       refl,
@@ -59,9 +60,9 @@ take-one s n w live e = go (picked s) (pick-is s)
 pub drained : (s : State) (n : ℕ) → Reached s → heldBy s ≡ n → anyHolds (after s (replicate n take) .lanes) ≡ false
 unfolding after
 drained s zero r e = not-passed (anyHolds (s .lanes)) (λ h. let i = some-holds (s .lanes) h in omega (arith, held-some s (reached-good s r .waiting) (i .0) (i .1)))
-drained s (suc n) r e = drained ((step s take) .state) n (step-reached s take r) (take-one s n (reached-good s r .waiting) (reached-live s r) e .4)
+drained s (suc n) r e = drained ((step s take) .state) n (step-reached s take r) (take-one s n (reached-good s r .waiting) (reached-live s r) e .5)
 
--- and then restart gives the fresh table of the same setup
+-- and then a restart is done (R3.19)
 pub restarts : (s : State) → Reached s
     → ((step (after s (replicate (heldBy s) take)) restart) .reply ≡ restarted)
     × ((step (after s (replicate (heldBy s) take)) restart) .state ≡ fresh (setupOf s))

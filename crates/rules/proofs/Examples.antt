@@ -1,8 +1,9 @@
--- Document 01's session, computed, and its sentence on the waiting lane 0. Assumes nothing.
+-- The first session (R16.3), computed, and the figures of R16.11. Assumes nothing.
 use Prim.Native.Nat.{ℕ, zero, suc, _*_, _≤_, _<_}
 use native.Mathlib.Omega.{arith}
 use mathlib.Core.Path.{_≡_, refl, ap}
 use mathlib.Core.Logic.{_⊎_, inl, inr}
+use mathlib.Core.Bool.{false}
 use lib.Dec.{lit≤}
 use lib.ListN.{replicate}
 use Rattle.rules.specs.State.{Setting, noSetting, settingAt, rate, slot}
@@ -26,7 +27,7 @@ pub two-lanes : Setup twoLanes
 unfolding framingOf
 two-lanes = record { size = refl; each = each; some-lane = lit≤ tt; total = lit≤ tt; framing-high = lit≤ tt; framed = framed }
   where
-    within : (w : ℕ) → 1 ≤ w → w ≤ 1024 → InNumbers (record { weight = w; longest = 1500; framing = 0 })
+    within : (w : ℕ) → 1 ≤ w → w ≤ 1024 → InNumbers (record { weight = w; longest = 1500; framing = 0; shared = false })
     within w lo hi = record { weight-low = lo; weight-high = hi; longest-low = lit≤ tt; longest-high = lit≤ tt }
 
     framed : (k : ℕ) → 0 < (settingAt twoLanes k) .weight → (settingAt twoLanes k) .framing ≡ framingOf twoLanes

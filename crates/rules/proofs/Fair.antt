@@ -1,14 +1,14 @@
--- Demand 3, proved: for any M that no record's charge exceeds; so with 1,024 times the setup's greatest charge, and with 1,024 (1,500 + h).
--- Over a stretch the endless clock moves by 1,024 T or more and the lane's S by c O. S is below V + 2s where the stretch begins, and V below S + 2s + M where it ends.
--- Assumes nothing.
+-- The fair share (R15.8), proved: for any M that no record's charge exceeds; so with 1,024 times the setup's greatest charge, and with 1,024 (1,500 + h).
+-- Over a stretch the endless clock moves by 1,024 T or more and the lane's S by c O. S is below V + 2s where the stretch begins, and V below S + 2s + M where
+-- it ends. Assumes nothing.
 use Prim.Native.Nat.{ℕ, _+_, _*_, _≤_, _<_}
 use native.Mathlib.Omega.{arith}
 use mathlib.Core.Path.{_≡_, refl, sym, ap, subst, _∙_}
 use mathlib.Core.Bool.{true}
 use mathlib.Core.List.{List, [], _∷_, _++_, append-nil}
 use mathlib.Core.Option.{Option, none, some}
-use Rattle.waiting.specs.Waiting.{Waiting, first, queueOf}
-use Rattle.waiting.proofs.Laws.{queue-none}
+use Rattle.waiting.specs.Waiting.{Waiting, first}
+use Rattle.waiting.proofs.Laws.{held-none}
 use lib.ListN.{length, length-append}
 use Rattle.units.proofs.Round.{round-le}
 use Rattle.rules.specs.State.{Rec, Setting, settingAt, State, rate, slot, some?, firstOf, Lane, holds, laneAt, setupOf}
@@ -23,8 +23,7 @@ use Rattle.rules.proofs.Keep.{Kept, kept, step-kept}
 use Rattle.rules.proofs.SameSetup.{setting-lane, same-setup, setup-kept, fresh-setup}
 use Rattle.rules.proofs.Moves.{Sound}
 use Rattle.rules.proofs.Sound.{fresh-sound, sound-run}
-use Rattle.rules.proofs.Queues.{queueAt}
-use Rattle.rules.proofs.Order.{in-order}
+use Rattle.rules.proofs.Order.{held-run, fresh-held}
 use Rattle.rules.proofs.GoodShift.{small-lanes, setup-beside}
 use Rattle.rules.proofs.AlwaysGood.{Twins, fresh-twins, step-twins, run-twins}
 use Rattle.rules.proofs.Track.{step-moved}
@@ -56,19 +55,16 @@ module _ (M k : ℕ) (gs : List Setting) where
 
 -- ---- from a fresh table
 
-held-by-order : (l : Lane) → Sound l → 0 < length (queueOf (l .waiting) 0) → holds l ≡ true
-held-by-order l w h = go (firstOf l) refl
-  where
-    go : (o : Option Rec) → firstOf l ≡ o → holds l ≡ true
-    go none e = absurd (omega (arith, ap length (queue-none (l .given .longest) (l .waiting) w e 0)))
-    go (some r) e = ap some? e
-
 -- a lane that holds a record by the events' count holds one in the state
 pub holds-of : (gs : List Setting) (k : ℕ) (cs : List Call) → Holding k (trace (fresh gs) cs) → holds (laneAt (after (fresh gs) cs) k) ≡ true
-unfolding InOrder
-holds-of gs k cs h =
-    held-by-order (laneAt (after (fresh gs) cs) k) (sound-run (fresh gs) cs (fresh-sound gs) k)
-    (omega (arith, ap length (in-order gs cs k), length-append (sentOf k (trace (fresh gs) cs)) (queueAt (after (fresh gs) cs) k)))
+holds-of gs k cs h = go (firstOf l) refl
+  where
+    l : Lane
+    l = laneAt (after (fresh gs) cs) k
+
+    go : (o : Option Rec) → firstOf l ≡ o → holds l ≡ true
+    go none e = absurd (omega (arith, held-run k (fresh gs) cs (fresh-sound gs), fresh-held gs k, held-none (l .given .longest) (l .waiting) (sound-run (fresh gs) cs (fresh-sound gs) k) e))
+    go (some r) e = ap some? e
 
 module _ (M : ℕ) (gs : List Setting) (setup : Setup gs) (ok : SetupOk M gs) (k : ℕ) where
   -- Over a stretch in which lane k holds records, c O and the move of the endless clock differ by less than 4 slots and M, both ways.
@@ -155,7 +151,7 @@ compared M gs setup ok calls past stretch rest e a b holdsA holdsB =
 
 -- ---- the figures
 
--- demand 3 with the setup's own greatest charge
+-- R15.9: with the setup's own greatest charge
 pub fair-tight : (gs : List Setting) → Setup gs → Fair (1024 * longestCharge gs) gs
 fair-tight gs s = fair (1024 * longestCharge gs) gs s (tight-ok gs s)
 

@@ -4,13 +4,13 @@ use native.Mathlib.Omega.{arith}
 use native.Mathlib.Nat.{le-of-suc-le-suc, not-suc-le-zero}
 use native.Mathlib.Decide.{decLt}
 use mathlib.Core.Path.{_≡_, refl, ap, _∙_}
-use mathlib.Core.Bool.{Bool, true, false, not, _||_, false≢true, or-true}
+use mathlib.Core.Bool.{Bool, true, false, not, _&&_, _||_, false≢true, or-true}
 use mathlib.Core.List.{List, [], _∷_}
 use lib.Dec.{leb, ltb}
 use lib.ListN.{length, getD, length-map}
 use borrow.Author.Tests.{leb-true, le-leb, ltb-true, lt-ltb, eqb-true, eq-eqb, ne-eqb}
 use Rattle.units.specs.Plain.{if_then_else_, times}
-use Rattle.waiting.specs.Waiting.{nothing, waitingTest}
+use Rattle.waiting.specs.Waiting.{nothing, isShared, waitingTest}
 use Rattle.waiting.proofs.Laws as waiting
 use Rattle.rules.specs.State.{clockEdge, noSetting, Lane, noLane, State, slot, firstOf, holds, eligible, laneAt, setupOf, anyHolds}
 use Rattle.rules.specs.Setup.{Setup}
@@ -18,11 +18,16 @@ use Rattle.rules.specs.Good.{Good}
 use Rattle.rules.proofs.Bools.{and-parts, or-right}
 use Rattle.rules.proofs.Lane.{slot-pos}
 use Rattle.rules.proofs.Live.{some-holds, holds-some}
-use Rattle.rules.proofs.GoodTest.{every, everyBelow, setupTest, timesTest, laneTest, anyEligible, namedOnce, goodTest, every-at, at-every, below-at, at-below, setup-true, true-setup, times-true, true-times}
+use Rattle.rules.proofs.GoodTest.{kindTest, kind-true, true-kind, every, everyBelow, setupTest, timesTest, laneTest, anyEligible, namedOnce, goodTest, every-at, at-every, below-at, at-below, setup-true, true-setup, times-true, true-times}
 
 idle-true : (v : ℕ) → laneTest v noLane ≡ true
 unfolding laneTest every timesTest
-idle-true v = simp (waiting.good-test 0 nothing (waiting.good-nothing 0)) (lt-ltb 0 (v + 2 * slot noSetting) (omega (arith, slot-pos noSetting)))
+idle-true v =
+    simp (
+      waiting.good-test 0 (nothing false) (waiting.good-nothing 0 false),
+      lt-ltb 0 (v + 2 * slot noSetting) (omega (arith, slot-pos noSetting)),
+      true-kind (isShared (nothing false)) false (waiting.shared-nothing false),
+    )
 
 eligible-some : (v : ℕ) (ls : List Lane) → anyEligible v ls ≡ true → (k : ℕ) × (eligible v (getD ls k noLane) ≡ true)
 unfolding anyEligible
@@ -80,12 +85,15 @@ module _ (s : State) where
       let d = and-parts (not (anyHolds (s .lanes)) || anyEligible (s .clock) (s .lanes)) _ (c .1) in
       let f = and-parts (every (λ (j : ℕ). ltb j 64) (s .order)) (everyBelow (namedOnce s) 64) (d .1) in
       let lane : (k : ℕ) → laneTest (s .clock) (laneAt s k) ≡ true = every-at (laneTest (s .clock)) noLane (idle-true (s .clock)) (s .lanes) (c .0) in
+      let rest : (k : ℕ) → (timesTest (s .clock) (laneAt s k) (firstOf (laneAt s k)) && kindTest (isShared ((laneAt s k) .waiting)) ((laneAt s k) .given .shared)) ≡ true
+      = λ k. and-parts (waitingTest ((laneAt s k) .given .longest) ((laneAt s k) .waiting)) _ (lane k) .1 in
       let setup = setup-true (setupOf s) (a .0) in
       record {
         setup = setup;
         waiting = λ k. waiting.test-good ((laneAt s k) .given .longest) ((laneAt s k) .waiting) (and-parts (waitingTest ((laneAt s k) .given .longest) ((laneAt s k) .waiting)) _ (lane k) .0);
-        clock = ltb-true (s .clock) (clockEdge) (b .0);
-        numbers = λ k. times-true (s .clock) (laneAt s k) (firstOf (laneAt s k)) (and-parts (waitingTest ((laneAt s k) .given .longest) ((laneAt s k) .waiting)) _ (lane k) .1);
+        clock = ltb-true (s .clock) clockEdge (b .0);
+        kind = λ k. kind-true (isShared ((laneAt s k) .waiting)) ((laneAt s k) .given .shared) (and-parts (timesTest (s .clock) (laneAt s k) (firstOf (laneAt s k))) _ (rest k) .1);
+        numbers = λ k. times-true (s .clock) (laneAt s k) (firstOf (laneAt s k)) (and-parts (timesTest (s .clock) (laneAt s k) (firstOf (laneAt s k))) _ (rest k) .0);
         live = λ k h. eligible-some (s .clock) (s .lanes) (or-right (not (anyHolds (s .lanes))) (anyEligible (s .clock) (s .lanes)) (d .0) (ap not (holds-some (s .lanes) k h)));
         order = order-true setup (f .0) (f .1);
       }
@@ -103,7 +111,7 @@ module _ (s : State) where
       )
     where
       lane : (k : ℕ) → laneTest (s .clock) (laneAt s k) ≡ true
-      lane k = simp (waiting.good-test ((laneAt s k) .given .longest) ((laneAt s k) .waiting) (g .waiting k), true-times (s .clock) (laneAt s k) (firstOf (laneAt s k)) (g .numbers k))
+      lane k = simp (waiting.good-test ((laneAt s k) .given .longest) ((laneAt s k) .waiting) (g .waiting k), true-times (s .clock) (laneAt s k) (firstOf (laneAt s k)) (g .numbers k), true-kind (isShared ((laneAt s k) .waiting)) ((laneAt s k) .given .shared) (g .kind k))
 
       live : (b : Bool) → anyHolds (s .lanes) ≡ b → (not b || anyEligible (s .clock) (s .lanes)) ≡ true
       live false e = refl

@@ -98,6 +98,7 @@ module _ (n : ℕ) (s t : State) (b : Beside n s t) (small : Small s) where
   good-beside g edge = record {
     setup = subst Setup setup-beside (g .setup);
     waiting = λ k. rw (← b .lane k .given, ← b .lane k .waiting) (g .waiting k);
+    kind = λ k. rw (← b .lane k .given, ← b .lane k .waiting) (g .kind k);
     clock = edge;
     numbers = λ k. times-beside k (firstOf (laneAt s k)) refl (subst (λ (w : Waiting). Times (t .clock) (laneAt t k) (first w)) (b .lane k .waiting) (g .numbers k));
     live = live-beside (g .live);

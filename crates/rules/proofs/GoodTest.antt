@@ -2,15 +2,15 @@
 use Prim.Native.Nat.{ℕ, zero, suc, _+_, _*_, _^_, _<_}
 use native.Mathlib.Omega.{arith}
 use native.Mathlib.Nat.{eq-or-lt-of-le, le-of-suc-le-suc, not-suc-le-zero}
-use mathlib.Core.Path.{_≡_, refl, ap, _∙_}
+use mathlib.Core.Path.{_≡_, refl, ap, _∙_, sym}
 use mathlib.Core.Bool.{Bool, true, false, not, _&&_, _||_}
 use mathlib.Core.Logic.{_⊎_, inl, inr}
 use mathlib.Core.List.{List, [], _∷_}
 use mathlib.Core.Option.{Option, none, some}
-use Rattle.waiting.specs.Waiting.{waitingTest}
+use Rattle.waiting.specs.Waiting.{isShared, waitingTest}
 use lib.Dec.{leb, ltb, eqb}
 use lib.ListN.{length, getD}
-use borrow.Author.Tests.{leb-true, le-leb, ltb-true, lt-ltb, eqb-true, eqb-false, eq-eqb, ne-eqb}
+use borrow.Author.Tests.{leb-true, le-leb, ltb-true, lt-ltb, eqb-true, eqb-false, eq-eqb, ne-eqb, not-true}
 use Rattle.units.specs.Plain.{if_then_else_, times}
 use Rattle.rules.specs.State.{clockEdge, Rec, Setting, noSetting, settingAt, Lane, State, charge, rate, slot, startR, firstOf, holds, eligible, laneAt, setupOf, anyHolds}
 use Rattle.rules.specs.Setup.{InNumbers, weights, Setup, margin, framingOf}
@@ -31,7 +31,7 @@ unfoldable pub inNumbers : Setting → Bool
 inNumbers g = leb 1 (g .weight) && (leb (g .weight) 1024 && (leb 64 (g .longest) && leb (g .longest) 1500))
 
 unfoldable pub absent : Setting → Bool
-absent g = eqb (g .weight) 0 && (eqb (g .longest) 0 && eqb (g .framing) 0)
+absent g = not (g .shared) && (eqb (g .weight) 0 && (eqb (g .longest) 0 && eqb (g .framing) 0))
 
 abbrev pub settingTest : Setting → Bool
 settingTest g = inNumbers g || absent g
@@ -49,8 +49,12 @@ timesTest v l (some r) =
     eqb (l .finish) (l .start + charge (l .given) (r .len) * rate (l .given))
     && (ltb (l .start) (v + 2 * slot (l .given)) && ltb v (startR l + 2 * slot (l .given) + margin (l .given .framing)))
 
+unfoldable pub kindTest : Bool → Bool → Bool
+kindTest true b = b
+kindTest false b = not b
+
 unfoldable pub laneTest : ℕ → Lane → Bool
-laneTest v l = waitingTest (l .given .longest) (l .waiting) && timesTest v l (firstOf l)
+laneTest v l = waitingTest (l .given .longest) (l .waiting) && (timesTest v l (firstOf l) && kindTest (isShared (l .waiting)) (l .given .shared))
 
 unfoldable pub anyEligible : ℕ → List Lane → Bool
 anyEligible v [] = false
@@ -68,6 +72,16 @@ goodTest s =
     && (every (λ (k : ℕ). ltb k 64) (s .order) && everyBelow (namedOnce s) 64))))
 
 -- ---- laws of its parts
+
+pub kind-true : (a b : Bool) → kindTest a b ≡ true → a ≡ b
+unfolding kindTest
+kind-true true b e = sym e
+kind-true false b e = sym (not-true b e)
+
+pub true-kind : (a b : Bool) → a ≡ b → kindTest a b ≡ true
+unfolding kindTest
+true-kind true b e = sym e
+true-kind false b e = ap not (sym e)
 
 module _ {A : Type 0} (p : A → Bool) (d : A) (pd : p d ≡ true) where
   pub every-at : (xs : List A) → every p xs ≡ true → (k : ℕ) → p (getD xs k d) ≡ true
@@ -111,13 +125,16 @@ setting-true g e = go (inNumbers g) refl e
           longest-high = leb-true (g .longest) 1500 (c .1);
         })
     go false q t =
-        let a = and-parts (eqb (g .weight) 0) _ t in
+        let u = and-parts (not (g .shared)) _ t in
+        let a = and-parts (eqb (g .weight) 0) _ (u .1) in
         let b = and-parts (eqb (g .longest) 0) (eqb (g .framing) 0) (a .1) in
         let w : g .weight ≡ 0 = eqb-true (g .weight) 0 (a .0) in
         let l : g .longest ≡ 0 = eqb-true (g .longest) 0 (b .0) in
         let f : g .framing ≡ 0 = eqb-true (g .framing) 0 (b .1) in
-        inr (ap (λ (x : ℕ). record { weight = x; longest = g .longest; framing = g .framing }) w
-        ∙ ap (λ (x : ℕ). record { weight = 0; longest = x; framing = g .framing }) l ∙ ap (λ (x : ℕ). record { weight = 0; longest = 0; framing = x }) f)
+        inr (ap (λ (x : ℕ). record { weight = x; longest = g .longest; framing = g .framing; shared = g .shared }) w
+        ∙ ap (λ (x : ℕ). record { weight = 0; longest = x; framing = g .framing; shared = g .shared }) l
+        ∙ ap (λ (x : ℕ). record { weight = 0; longest = 0; framing = x; shared = g .shared }) f
+        ∙ ap (λ (x : Bool). record { weight = 0; longest = 0; framing = 0; shared = x }) (not-true (g .shared) (u .0)))
 
 true-setting : (g : Setting) → InNumbers g ⊎ (g ≡ noSetting) → settingTest g ≡ true
 unfolding inNumbers absent

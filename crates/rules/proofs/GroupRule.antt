@@ -1,5 +1,5 @@
--- The group rule, once over the index: the chosen lane's group is the first of the eligible groups that are not blocked, finishes never fall along these,
--- and the four tests part the groups that hold records. Assumes nothing.
+-- The group rule, once over the index: the chosen lane's group is the first of the eligible groups that are not blocked (R4.7), along these the finishes stay
+-- or rise (R4.8), and a group that holds records passes just one of the four tests, any other none (R4.6). Assumes nothing.
 use Prim.Native.Nat.{ℕ, zero, suc, _+_, _^_, _≤_, _<_}
 use native.Mathlib.Omega.{arith}
 use native.Mathlib.Nat.{eq-or-lt-of-le, le-of-suc-le-suc, not-suc-le-zero, le-antisymm}
@@ -137,11 +137,11 @@ module _ (v : ℕ) (ls : List Lane) where
         let le : groupFinish ls i ≤ c .finish = omega (arith, free-order i (c .group) (not-true (blocked v ls i) (b .1)) (own .0) lt small, own .1) in
         omega (arith, h .least (m .at) (m .is) .grp (omega (arith, m .fin)), m .of))
 
-    -- the first set bit of the eligible-ready word is the chosen lane's group
+    -- R4.7
     pub first-bit-group : c .group < groups → trailingZeros 64 (wordOf (ready v ls) groups) ≡ c .group
     first-bit-group small = first-bit 64 (ready v ls) groups (c .group) chosen-ready (chosen-first small) small (omega arith)
 
--- the four tests part the groups that hold records
+-- R4.6
 pub parted : (v : ℕ) (ls : List Lane) (i : ℕ)
     → count (ready v ls i) + count (ineligibleReady v ls i) + count (eligibleBlocked v ls i) + count (ineligibleBlocked v ls i) ≡ count (groupHolds ls i)
 unfolding ready ineligibleReady eligibleBlocked ineligibleBlocked groupHolds groupEligible heldStart reached

@@ -9,10 +9,9 @@ use mathlib.Core.Option.{Option, none, some}
 use mathlib.Core.List.{List, [], _∷_, map}
 use lib.Dec.{leb, ltb}
 use lib.ListN.{set}
-use borrow.Author.Tests.{le-leb, leb-true, leb-false, ltb-true, ltb-false, not-true}
+use borrow.Author.Tests.{le-leb, leb-true, leb-false, ltb-true, ltb-false, not-true, not-false}
 use Rattle.units.specs.Plain.{sum}
-use Rattle.waiting.specs.Waiting.{full}
-use Rattle.waiting.proofs.Laws.{known-zero}
+use Rattle.waiting.specs.Waiting.{full, known}
 use Rattle.rules.specs.State.{Setting, noSetting, setupOf, Lane, Rec, State, charge, startR, finishR, firstOf, holds, some?, eligible, noLane, laneAt, anyHolds}
 use Rattle.rules.specs.Choice.{Candidate, choose, chooseFrom, leastOf}
 use Rattle.rules.specs.Calls.{Pick, Call, Outcome, put, take, look, sets, lag, restart, served, woken, settled, settledAt, serve, pickFirst, pickOf, takeOf, lookOf, picked, doTake, putRefusal, accept, doLook, doLag, doSets, doRestart, fresh}
@@ -104,35 +103,39 @@ take-kept M s (some p) inv h = served-kept M s p inv h
 
 -- ---- put
 
--- what an accepted put has: a lane of the setup with room, and a length that fits
-pub record Allowed (s : State) (j n : ℕ) : Type 0 where
+-- what an accepted put has: a lane of the setup with room for a record of the train, and a length that fits
+pub record Allowed (s : State) (j : ℕ) (r : Rec) : Type 0 where
   pub has : 0 < weightOf (laneAt s j)
-  pub some-bytes : 0 < n
-  pub fits : n ≤ (laneAt s j) .given .longest
-  pub room : full ((laneAt s j) .waiting) 0 ≡ false
+  pub train : known ((laneAt s j) .waiting) (r .train) ≡ true
+  pub some-bytes : 0 < r .len
+  pub fits : r .len ≤ (laneAt s j) .given .longest
+  pub room : full ((laneAt s j) .waiting) (r .train) ≡ false
 
-pub allowed-enters : (s : State) (j : ℕ) (r : Rec) → Allowed s j (r .len) → MayEnter (laneAt s j) r
-allowed-enters s j r a = record { train = known-zero ((laneAt s j) .waiting); some-bytes = a .some-bytes; fits = a .fits; room = a .room }
+pub allowed-enters : (s : State) (j : ℕ) (r : Rec) → Allowed s j r → MayEnter (laneAt s j) r
+allowed-enters s j r a = record { train = a .train; some-bytes = a .some-bytes; fits = a .fits; room = a .room }
 
-abbrev pub PutOk : State → ℕ → ℕ → Option ℕ → Type 0
-PutOk s j n none = Allowed s j n
-PutOk s j n (some c) = Unit {0}
+abbrev pub PutOk : State → ℕ → Rec → Option ℕ → Type 0
+PutOk s j r none = Allowed s j r
+PutOk s j r (some c) = Unit {0}
 
-pub put-ok : (s : State) (j n : ℕ) → PutOk s j n (putRefusal s j n)
+pub put-ok : (s : State) (j : ℕ) (r : Rec) → PutOk s j r (putRefusal s j r)
 unfolding putRefusal
-put-ok s j n =
-    if-ind (PutOk s j n) (ltb (weightOf (laneAt s j)) 1) _ _ (λ e. tt) λ e₁.
-    if-ind (PutOk s j n) (ltb n 1 || ltb ((laneAt s j) .given .longest) n) _ _ (λ e. tt) λ e₂.
-    if-ind (PutOk s j n) (full ((laneAt s j) .waiting) 0) _ _ (λ e. tt) λ e₃.
+put-ok s j r =
+    let n = r .len in
+    if-ind (PutOk s j r) (ltb (weightOf (laneAt s j)) 1) _ _ (λ e. tt) λ e₁.
+    if-ind (PutOk s j r) (not (known ((laneAt s j) .waiting) (r .train))) _ _ (λ e. tt) λ e₀.
+    if-ind (PutOk s j r) (ltb n 1 || ltb ((laneAt s j) .given .longest) n) _ _ (λ e. tt) λ e₂.
+    if-ind (PutOk s j r) (full ((laneAt s j) .waiting) (r .train)) _ _ (λ e. tt) λ e₃.
     let b = or-parts (ltb n 1) (ltb ((laneAt s j) .given .longest) n) e₂ in
     record {
       has = ltb-false (weightOf (laneAt s j)) 1 e₁;
+      train = not-false (known ((laneAt s j) .waiting) (r .train)) e₀;
       some-bytes = ltb-false n 1 (b .0);
       fits = ltb-false ((laneAt s j) .given .longest) n (b .1);
       room = e₃;
     }
 
-accept-kept : (M : ℕ) (s : State) (j : ℕ) (r : Rec) → Kept M s → Allowed s j (r .len) → Kept M (accept s j r)
+accept-kept : (M : ℕ) (s : State) (j : ℕ) (r : Rec) → Kept M s → Allowed s j r → Kept M (accept s j r)
 unfolding accept
 accept-kept M s j r inv a =
     if-ind (Kept M) (holds (laneAt s j)) _ _
@@ -149,7 +152,7 @@ accept-kept M s j r inv a =
     (λ k h. absurd (false≢true (sym (none-holds (s .lanes) (not-true (anyHolds (s .lanes)) (p .0)) k) ∙ h)))))
     (λ b. w))
 
-put-kept : (M : ℕ) (s : State) (j : ℕ) (r : Rec) (o : Option ℕ) → Kept M s → PutOk s j (r .len) o → Kept M ((endlessPutOf s j r o) .state)
+put-kept : (M : ℕ) (s : State) (j : ℕ) (r : Rec) (o : Option ℕ) → Kept M s → PutOk s j r o → Kept M ((endlessPutOf s j r o) .state)
 unfolding endlessPutOf
 put-kept M s j r none inv a = accept-kept M s j r inv a
 put-kept M s j r (some c) inv a = inv
@@ -184,7 +187,7 @@ restart-kept M s inv =
 
 pub step-kept : (M : ℕ) (s : State) (c : Call) → Kept M s → Kept M ((endless s c) .state)
 unfolding endless endlessPut doTake doLook doSets
-step-kept M s (put j m n) inv = put-kept M s j (record { mark = m; len = n }) (putRefusal s j n) inv (put-ok s j n)
+step-kept M s (put j k m n) inv = put-kept M s j (record { train = k; mark = m; len = n }) (putRefusal s j (record { train = k; mark = m; len = n })) inv (put-ok s j (record { train = k; mark = m; len = n }))
 step-kept M s take inv = take-kept M s (picked s) inv (pick-is s)
 step-kept M s look inv = subst (Kept M) (sym (look-same s (picked s))) inv
 step-kept M s sets inv = inv

@@ -10,6 +10,7 @@ pub mod Chosen
 pub mod Keep
 pub mod Shift
 pub mod Sound
+pub mod Kind
 pub mod Further
 pub mod FurtherSets
 pub mod LaneBeside
@@ -37,9 +38,13 @@ pub mod GoodTest
 pub mod GoodAgrees
 pub mod Computes
 pub mod Examples
+pub mod TrainExamples
 pub mod NotTen
 pub mod Local
 pub mod Drain
 pub mod Refused
 pub mod Ranges
 pub mod Kept
+pub mod Carry
+pub mod Others
+pub mod EvenTrains

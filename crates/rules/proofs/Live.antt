@@ -19,7 +19,7 @@ use Rattle.rules.proofs.Bools.{if-ind, or-right}
 use Rattle.rules.proofs.Lists.{set-cases}
 use Rattle.rules.proofs.Claim.{in-range}
 use Rattle.rules.proofs.Moves.{appended-holds, woken-holds}
-use Rattle.rules.proofs.Bounds.{idle-at}
+use Rattle.rules.proofs.Bounds.{fresh-free}
 use Rattle.rules.proofs.Lowest.{Low, lowest}
 use Rattle.rules.proofs.Keep.{eligible-is, is-eligible, PickIs, AllSound, Allowed, allowed-enters, PutOk, put-ok, look-same, lag-same}
 
@@ -61,7 +61,7 @@ holds-some [] k e = absurd (false≢true e)
 holds-some (l ∷ ls) zero e = simp e
 holds-some (l ∷ ls) (suc k) e = simp (holds-some ls k e, or-true (holds l))
 
-module _ (s : State) (j : ℕ) (r : Rec) (w : AllSound s) (a : Allowed s j (r .len)) (live : (k : ℕ) → holds (laneAt s k) ≡ true → (i : ℕ) × (eligible (s .clock) (laneAt s i) ≡ true)) where
+module _ (s : State) (j : ℕ) (r : Rec) (w : AllSound s) (a : Allowed s j r) (live : (k : ℕ) → holds (laneAt s k) ≡ true → (i : ℕ) × (eligible (s .clock) (laneAt s i) ≡ true)) where
   inside : j < length (s .lanes)
   inside = in-range (s .lanes) j (a .has)
 
@@ -104,14 +104,14 @@ module _ (s : State) (j : ℕ) (r : Rec) (w : AllSound s) (a : Allowed s j (r .l
   accept-live =
       if-ind Live (holds (laneAt s j)) _ _ append-live (λ e. wake-live (anyHolds (s .lanes)) refl e)
 
-put-live : (s : State) (j : ℕ) (r : Rec) (o : Option ℕ) → AllSound s → PutOk s j (r .len) o → Live s → Live ((endlessPutOf s j r o) .state)
+put-live : (s : State) (j : ℕ) (r : Rec) (o : Option ℕ) → AllSound s → PutOk s j r o → Live s → Live ((endlessPutOf s j r o) .state)
 unfolding endlessPutOf Live
 put-live s j r none w a live = accept-live s j r w a live
 put-live s j r (some c) w a live = live
 
 pub fresh-live : (gs : List Setting) → Live (fresh gs)
 unfolding fresh idle Live
-fresh-live gs k e = absurd (false≢true (rw idle-at at e))
+fresh-live gs k e = absurd (false≢true (sym (fresh-free gs k) ∙ e))
 
 restart-live : (s : State) → Live s → Live ((doRestart s) .state)
 unfolding doRestart
@@ -119,7 +119,7 @@ restart-live s live = if-ind (λ (o : Outcome). Live (o .state)) (anyHolds (s .l
 
 pub step-live : (s : State) (c : Call) → AllSound s → Live s → Live ((endless s c) .state)
 unfolding endless endlessPut doTake doLook doSets
-step-live s (put j m n) w live = put-live s j (record { mark = m; len = n }) (putRefusal s j n) w (put-ok s j n) live
+step-live s (put j k m n) w live = put-live s j (record { train = k; mark = m; len = n }) (putRefusal s j (record { train = k; mark = m; len = n })) w (put-ok s j (record { train = k; mark = m; len = n })) live
 step-live s take w live = take-live s (picked s) live
 step-live s look w live = subst Live (sym (look-same s (picked s))) live
 step-live s sets w live = live

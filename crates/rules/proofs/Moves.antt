@@ -57,11 +57,11 @@ abbrev pub Sound : Lane → Type 0
 Sound l = GoodWaiting (l .given .longest) (l .waiting)
 
 abbrev pub MayEnter : Lane → Rec → Type 0
-MayEnter l r = Enters (l .given .longest) (l .waiting) 0 r
+MayEnter l r = Enters (l .given .longest) (l .waiting) r
 
 pub woken-first : (v : ℕ) (l : Lane) (r : Rec) → Sound l → MayEnter l r → holds l ≡ false → firstOf (woken v l r) ≡ some r
 unfolding woken
-woken-first v l r g a e = first-enter (l .given .longest) (l .waiting) 0 r g a (idle-first (firstOf l) e)
+woken-first v l r g a e = first-enter (l .given .longest) (l .waiting) r g a (idle-first (firstOf l) e)
 
 pub woken-holds : (v : ℕ) (l : Lane) (r : Rec) → Sound l → MayEnter l r → holds l ≡ false → holds (woken v l r) ≡ true
 woken-holds v l r g a e = ap some? (woken-first v l r g a e)
@@ -97,7 +97,7 @@ module _ (M v : ℕ) (ls : List Lane) (inv : Inv M v ls) (j : ℕ) (r : Rec)
     unfolding woken
     woken-ok = record {
       queued = rw (woken-first v wl r (inv .ok j .waiting) enters idle) (has, refl, enters .fits);
-      waiting = good-enter (wl .given .longest) (wl .waiting) 0 r (inv .ok j .waiting) enters;
+      waiting = good-enter (wl .given .longest) (wl .waiting) r (inv .ok j .waiting) enters;
       below = rw (woken-first v wl r (inv .ok j .waiting) enters idle) (omega (arith, slot-pos (wl .given), subst (λ (b : Bool). (if b then wl .start else wl .finish) < v + 2 * slot (wl .given)) idle (inv .ok j .below)));
       short = inv .ok j .short;
     }
@@ -160,7 +160,7 @@ module _ (M v : ℕ) (ls : List Lane) (inv : Inv M v ls) (j : ℕ) (r : Rec)
 pub appended-first : (l : Lane) (r : Rec) → Sound l → MayEnter l r → holds l ≡ true → firstOf (appended l r) ≡ firstOf l
 unfolding appended
 appended-first l r g a e =
-    let x = busy-first (firstOf l) e in first-stays (l .given .longest) (l .waiting) 0 r (x .0) g a (x .1) ∙ sym (x .1)
+    let x = busy-first (firstOf l) e in first-stays (l .given .longest) (l .waiting) r (x .0) g a (x .1) ∙ sym (x .1)
 
 pub appended-holds : (l : Lane) (r : Rec) → Sound l → MayEnter l r → holds l ≡ true → holds (appended l r) ≡ true
 appended-holds l r g a e = ap some? (appended-first l r g a e) ∙ e
@@ -184,7 +184,7 @@ module _ (M v : ℕ) (ls : List Lane) (inv : Inv M v ls) (j : ℕ) (r : Rec)
     unfolding appended
     appended-ok = record {
       queued = rw (appended-first al r (inv .ok j .waiting) enters busy) (inv .ok j .queued);
-      waiting = good-enter (al .given .longest) (al .waiting) 0 r (inv .ok j .waiting) enters;
+      waiting = good-enter (al .given .longest) (al .waiting) r (inv .ok j .waiting) enters;
       below = rw (appended-holds al r (inv .ok j .waiting) enters busy) (subst (λ (b : Bool). (if b then al .start else al .finish) < v + 2 * slot (al .given)) busy (inv .ok j .below));
       short = inv .ok j .short;
     }

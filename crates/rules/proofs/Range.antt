@@ -30,7 +30,7 @@ use Rattle.rules.proofs.RangeTake.{take-range}
 -- ---- put
 
 -- a put on a state whose clock is below 2 ^ 61
-module _ (M : ℕ) (s : State) (j : ℕ) (x : Rec) (ok : LanesOk M s) (a : Allowed s j (x .len)) (early : s .clock < clockFar) (each : (k : ℕ) → LaneRange (laneAt s k)) (most : length (s .lanes) ≤ 64) where
+module _ (M : ℕ) (s : State) (j : ℕ) (x : Rec) (ok : LanesOk M s) (a : Allowed s j x) (early : s .clock < clockFar) (each : (k : ℕ) → LaneRange (laneAt s k)) (most : length (s .lanes) ≤ 64) where
   put-inside : j < length (s .lanes)
   put-inside = in-range (s .lanes) j (a .has)
 
@@ -38,10 +38,10 @@ module _ (M : ℕ) (s : State) (j : ℕ) (x : Rec) (ok : LanesOk M s) (a : Allow
   enters = allowed-enters s j x a
 
   entered-held : held (entered (laneAt s j) x) ≡ suc (heldIn (laneAt s j))
-  entered-held = held-enter ((laneAt s j) .given .longest) ((laneAt s j) .waiting) 0 x (ok j .waiting) enters
+  entered-held = held-enter ((laneAt s j) .given .longest) ((laneAt s j) .waiting) x (ok j .waiting) enters
 
   entered-room : held (entered (laneAt s j) x) ≤ laneDepth
-  entered-room = held-most ((laneAt s j) .given .longest) (entered (laneAt s j) x) (good-enter ((laneAt s j) .given .longest) ((laneAt s j) .waiting) 0 x (ok j .waiting) enters)
+  entered-room = held-most ((laneAt s j) .given .longest) (entered (laneAt s j) x) (good-enter ((laneAt s j) .given .longest) ((laneAt s j) .waiting) x (ok j .waiting) enters)
 
   room : (l : Lane) → l .given ≡ (laneAt s j) .given → heldIn l ≡ suc (heldIn (laneAt s j)) → heldIn l ≤ laneDepth
   room l g n = omega (arith, entered-held, entered-room)
@@ -121,10 +121,10 @@ unfolding shifted lowerAll
 shifted-early s =
     if-ind (λ (x : State). x .clock < clockFar) (leb clockFar (s .clock)) _ _ (λ e. omega (arith, takenOff-most (s .clock))) (λ e. leb-false clockFar (s .clock) e)
 
-put-range : (M : ℕ) (s : State) (j : ℕ) (x : Rec) (o : Option ℕ) → LanesOk M (shifted s) → PutOk s j (x .len) o → Range s → Range ((putOf s j x o) .state)
+put-range : (M : ℕ) (s : State) (j : ℕ) (x : Rec) (o : Option ℕ) → LanesOk M (shifted s) → PutOk s j x o → Range s → Range ((putOf s j x o) .state)
 unfolding putOf
 put-range M s j x none ok a r =
-    accept-range M (shifted s) j x ok (shifted-allowed s j (x .len) a) (shifted-early s)
+    accept-range M (shifted s) j x ok (shifted-allowed s j x a) (shifted-early s)
     (λ k. record { slot = rw (shifted-given s k) (r .lane k .slot); room = rw (shifted-waiting s k) (r .lane k .room) })
     (omega (arith, shifted-size s, r .few))
 put-range M s j x (some c) ok a r = r
@@ -139,9 +139,9 @@ take-of-range M small s (some p) ok h r = take-range M small s p ok h r
 pub fresh-range : (gs : List Setting) → length gs ≤ 64 → ((k : ℕ) → slot (getD gs k noSetting) ≤ 2 ^ 31) → Range (fresh gs)
 unfolding fresh idle
 fresh-range gs few h = record {
-  lane = λ k. subst LaneRange (sym (idle-at gs k)) (record { slot = h k; room = omega (arith, held-nothing) });
+  lane = λ k. subst LaneRange (sym (idle-at gs k)) (record { slot = h k; room = omega (arith, held-nothing ((getD gs k noSetting) .shared)) });
   few = omega (arith, length-map gs idle);
-  clock = omega (arith, sum-zero heldIn (map idle gs) noLane (λ k. ap heldIn (idle-at gs k) ∙ held-nothing));
+  clock = omega (arith, sum-zero heldIn (map idle gs) noLane (λ k. ap heldIn (idle-at gs k) ∙ held-nothing ((getD gs k noSetting) .shared)));
 }
 
 restart-range : (s : State) → Range s → Range ((doRestart s) .state)
@@ -155,7 +155,7 @@ restart-range s r =
 
 pub step-range : (M : ℕ) → M < 2 ^ 32 → (s : State) (c : Call) → LanesOk M s → LanesOk M (shifted s) → Range s → Range ((step s c) .state)
 unfolding step doPut doTake doLook doSets
-step-range M small s (put j m n) ok ok′ r = put-range M s j (record { mark = m; len = n }) (putRefusal s j n) ok′ (put-ok s j n) r
+step-range M small s (put j k m n) ok ok′ r = put-range M s j (record { train = k; mark = m; len = n }) (putRefusal s j (record { train = k; mark = m; len = n })) ok′ (put-ok s j (record { train = k; mark = m; len = n })) r
 step-range M small s take ok ok′ r = take-of-range M small s (picked s) ok (pick-is s) r
 step-range M small s look ok ok′ r = subst Range (sym (look-same s (picked s))) r
 step-range M small s sets ok ok′ r = r

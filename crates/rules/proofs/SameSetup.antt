@@ -34,7 +34,7 @@ restart-size s =
 
 pub step-size : (s : State) (c : Call) → length ((step s c) .state .lanes) ≡ length (s .lanes)
 unfolding step doPut doTake doLook doSets
-step-size s (put j m n) = put-size s j (record { mark = m; len = n }) (putRefusal s j n)
+step-size s (put j k m n) = put-size s j (record { train = k; mark = m; len = n }) (putRefusal s j (record { train = k; mark = m; len = n }))
 step-size s take = take-size s (picked s)
 step-size s look = ap (λ (x : State). length (x .lanes)) (look-same s (picked s))
 step-size s sets = refl

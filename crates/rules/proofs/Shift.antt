@@ -7,7 +7,7 @@ use mathlib.Core.List.{List}
 use lib.Dec.{leb}
 use lib.ListN.{length, getD, length-map}
 use Rattle.units.proofs.Round.{round-le, lt-round-slot, round-div}
-use Rattle.waiting.specs.Waiting.{Waiting, full}
+use Rattle.waiting.specs.Waiting.{Waiting, known, full}
 use Rattle.rules.specs.State.{clockFar, clockStep, clockKept, Rec, Setting, Lane, noLane, State, holds, laneAt}
 use Rattle.rules.specs.Calls.{takenOff, lowered, lowerAll, shifted, putRefusal}
 use Rattle.rules.proofs.Bools.{if-ind}
@@ -50,12 +50,13 @@ module _ (s : State) where
   shifted-sound w k = rw (shifted-given k, shifted-waiting k) (w k)
 
   -- a put is allowed after the shift if it was before
-  pub shifted-allowed : (j n : ℕ) → Allowed s j n → Allowed (shifted s) j n
-  shifted-allowed j n a = record {
+  pub shifted-allowed : (j : ℕ) (r : Rec) → Allowed s j r → Allowed (shifted s) j r
+  shifted-allowed j r a = record {
     has = omega (arith, a .has, ap (λ (g : Setting). g .weight) (shifted-given j));
+    train = ap (λ (w : Waiting). known w (r .train)) (shifted-waiting j) ∙ a .train;
     some-bytes = a .some-bytes;
     fits = omega (arith, a .fits, ap (λ (g : Setting). g .longest) (shifted-given j));
-    room = ap (λ (w : Waiting). full w 0) (shifted-waiting j) ∙ a .room;
+    room = ap (λ (w : Waiting). full w (r .train)) (shifted-waiting j) ∙ a .room;
   }
 
 -- ---- K

@@ -5,9 +5,9 @@ use mathlib.Core.Bool.{not, _&&_}
 use mathlib.Core.Option.{Option, none, some}
 use mathlib.Core.List.{List, [], _∷_}
 use lib.Dec.{ltb}
-use lib.ListN.{set}
+use lib.ListN.{getD, set}
 use Rattle.waiting.proofs.Laws.{good-nothing, good-enter, good-hand}
-use Rattle.rules.specs.State.{Rec, Setting, setupOf, Lane, noLane, State, startR, holds, laneAt, anyHolds}
+use Rattle.rules.specs.State.{Rec, Setting, setupOf, Lane, noLane, State, startR, holds, laneAt, anyHolds, noSetting}
 use Rattle.rules.specs.Calls.{Pick, Call, Outcome, put, take, look, sets, lag, restart, putRefusal, shifted, appended, woken, accept, putOf, doPut, served, serve, picked, takeOf, doTake, doLook, doSets, idle, fresh, doRestart, step}
 use Rattle.rules.specs.Runs.{after}
 use Rattle.rules.proofs.Bools.{if-ind}
@@ -26,25 +26,25 @@ take-sound s (some p) w =
     let g = good-hand (l .given .longest) (l .waiting) (w (p .lane)) in
     set-all Sound (s .lanes) (p .lane) (served l) noLane (served-ind Sound l (λ e. g) (λ r e. g)) w
 
-accept-sound : (s : State) (j : ℕ) (r : Rec) → Allowed s j (r .len) → AllSound s → AllSound (accept s j r)
+accept-sound : (s : State) (j : ℕ) (r : Rec) → Allowed s j r → AllSound s → AllSound (accept s j r)
 unfolding accept appended woken
 accept-sound s j r a w =
     let l = laneAt s j in
-    let g = good-enter (l .given .longest) (l .waiting) 0 r (w j) (allowed-enters s j r a) in
+    let g = good-enter (l .given .longest) (l .waiting) r (w j) (allowed-enters s j r a) in
     if-ind AllSound (holds l) _ _ (λ e. set-all Sound (s .lanes) j (appended l r) noLane g w) (λ e. set-all Sound (s .lanes) j (woken (s .clock) l r) noLane g w)
 
-put-sound : (s : State) (j : ℕ) (r : Rec) (o : Option ℕ) → PutOk s j (r .len) o → AllSound s → AllSound ((putOf s j r o) .state)
+put-sound : (s : State) (j : ℕ) (r : Rec) (o : Option ℕ) → PutOk s j r o → AllSound s → AllSound ((putOf s j r o) .state)
 unfolding putOf
-put-sound s j r none a w = accept-sound (shifted s) j r (shifted-allowed s j (r .len) a) (shifted-sound s w)
+put-sound s j r none a w = accept-sound (shifted s) j r (shifted-allowed s j r a) (shifted-sound s w)
 put-sound s j r (some n) a w = w
 
 pub fresh-sound : (gs : List Setting) → AllSound (fresh gs)
 unfolding fresh idle
-fresh-sound gs k = subst Sound (sym (idle-at gs k)) (good-nothing _)
+fresh-sound gs k = subst Sound (sym (idle-at gs k)) (good-nothing _ ((getD gs k noSetting) .shared))
 
 pub step-sound : (s : State) (c : Call) → AllSound s → AllSound ((step s c) .state)
 unfolding step doPut doTake doLook doSets doRestart
-step-sound s (put j m n) w = put-sound s j (record { mark = m; len = n }) (putRefusal s j n) (put-ok s j n) w
+step-sound s (put j k m n) w = put-sound s j (record { train = k; mark = m; len = n }) (putRefusal s j (record { train = k; mark = m; len = n })) (put-ok s j (record { train = k; mark = m; len = n })) w
 step-sound s take w = take-sound s (picked s) w
 step-sound s look w = subst AllSound (sym (look-same s (picked s))) w
 step-sound s sets w = w

@@ -16,7 +16,7 @@ use Rattle.rules.proofs.Bools.{if-ind}
 use Rattle.rules.proofs.Lists.{set-cases}
 use Rattle.rules.proofs.Claim.{in-range}
 use Rattle.rules.proofs.Moves.{appended-holds, woken-holds}
-use Rattle.rules.proofs.Bounds.{idle-at}
+use Rattle.rules.proofs.Bounds.{fresh-free}
 use Rattle.rules.proofs.Keep.{PickIs, pick-is, AllSound, Allowed, allowed-enters, PutOk, put-ok, look-same, lag-same}
 use Rattle.rules.proofs.Queues.{held-inside}
 use Rattle.rules.proofs.Shift.{shifted-waiting, shifted-sound, shifted-order, shifted-allowed}
@@ -75,7 +75,7 @@ take-tied s (some p) h t k =
 
 -- ---- put
 
-accept-tied : (s : State) (j : ℕ) (r : Rec) → AllSound s → Allowed s j (r .len) → Tied s → Tied (accept s j r)
+accept-tied : (s : State) (j : ℕ) (r : Rec) → AllSound s → Allowed s j r → Tied s → Tied (accept s j r)
 unfolding accept Tied appended woken
 accept-tied s j r w a t =
     if-ind Tied (holds (laneAt s j)) _ _
@@ -90,14 +90,14 @@ shifted-tied : (s : State) → Tied s → Tied (shifted s)
 unfolding Tied
 shifted-tied s t k = ap (times k) (shifted-order s) ∙ t k ∙ ap (λ (w : Waiting). if some? (first w) then 1 else 0) (sym (shifted-waiting s k))
 
-put-tied : (s : State) (j : ℕ) (r : Rec) (o : Option ℕ) → AllSound s → PutOk s j (r .len) o → Tied s → Tied ((putOf s j r o) .state)
+put-tied : (s : State) (j : ℕ) (r : Rec) (o : Option ℕ) → AllSound s → PutOk s j r o → Tied s → Tied ((putOf s j r o) .state)
 unfolding putOf
-put-tied s j r none w a t = accept-tied (shifted s) j r (shifted-sound s w) (shifted-allowed s j (r .len) a) (shifted-tied s t)
+put-tied s j r none w a t = accept-tied (shifted s) j r (shifted-sound s w) (shifted-allowed s j r a) (shifted-tied s t)
 put-tied s j r (some c) w a t = t
 
 pub fresh-tied : (gs : List Setting) → Tied (fresh gs)
 unfolding fresh Tied idle
-fresh-tied gs k = simp idle-at
+fresh-tied gs k = rw (fresh-free gs k)
 
 restart-tied : (s : State) → Tied s → Tied ((doRestart s) .state)
 unfolding doRestart
@@ -105,7 +105,7 @@ restart-tied s t = if-ind (λ (o : Outcome). Tied (o .state)) (anyHolds (s .lane
 
 pub step-tied : (s : State) (c : Call) → AllSound s → Tied s → Tied ((step s c) .state)
 unfolding step doPut doTake doLook doSets
-step-tied s (put j m n) w t = put-tied s j (record { mark = m; len = n }) (putRefusal s j n) w (put-ok s j n) t
+step-tied s (put j k m n) w t = put-tied s j (record { train = k; mark = m; len = n }) (putRefusal s j (record { train = k; mark = m; len = n })) w (put-ok s j (record { train = k; mark = m; len = n })) t
 step-tied s take w t = take-tied s (picked s) (pick-is s) t
 step-tied s look w t = subst Tied (sym (look-same s (picked s))) t
 step-tied s sets w t = t

@@ -1,4 +1,4 @@
--- What one call of the endless rules does to the clock and to one lane's start: the numbers that demand 3 counts. Assumes nothing.
+-- What one call of the endless rules does to the clock and to one lane's start: the numbers that R15.8 counts. Assumes nothing.
 use Prim.Native.Nat.{ℕ, _+_, _*_, _≤_}
 use native.Mathlib.Omega.{arith}
 use native.Mathlib.Nat.{le-refl}
@@ -72,10 +72,10 @@ take-moved M k s (some p) inv h =
 
 -- ---- put
 
-module _ (k : ℕ) (s : State) (j : ℕ) (r : Rec) (a : Allowed s j (r .len)) where
+module _ (k : ℕ) (s : State) (j : ℕ) (r : Rec) (a : Allowed s j r) where
   -- lane j is replaced by one that has the old start if it held records, and the clock does not fall
   replaced : (l : Lane) (v : ℕ) (order : List ℕ) → s .clock ≤ v → (holds (laneAt s j) ≡ true → l .start ≡ (laneAt s j) .start)
-      → Moved k s (record { reply = accepted (ahead s j); state = record { clock = v; lanes = set (s .lanes) j l; order = order } })
+      → Moved k s (record { reply = accepted (ahead s j (r .train)); state = record { clock = v; lanes = set (s .lanes) j l; order = order } })
   unfolding sentIn charged chargedTo
   replaced l v order up same = record {
     clock = λ _. omega arith;
@@ -89,14 +89,14 @@ module _ (k : ℕ) (s : State) (j : ℕ) (r : Rec) (a : Allowed s j (r .len)) wh
       if-ind (λ (v : ℕ). s .clock ≤ v) (b && ltb (s .clock) u) u (s .clock)
       (λ e. omega (arith, ltb-true (s .clock) u (and-parts b (ltb (s .clock) u) e .1))) (λ e. le-refl (s .clock))
 
-  accept-moved : Moved k s (record { reply = accepted (ahead s j); state = accept s j r })
+  accept-moved : Moved k s (record { reply = accepted (ahead s j (r .train)); state = accept s j r })
   unfolding accept appended
   accept-moved =
-      if-ind (λ (x : State). Moved k s (record { reply = accepted (ahead s j); state = x })) (holds (laneAt s j)) _ _
+      if-ind (λ (x : State). Moved k s (record { reply = accepted (ahead s j (r .train)); state = x })) (holds (laneAt s j)) _ _
       (λ e. replaced (appended (laneAt s j) r) _ _ (le-refl (s .clock)) (λ t. refl))
       (λ e. replaced (woken (s .clock) (laneAt s j) r) _ _ (jump-up (not (anyHolds (s .lanes))) (startR (woken (s .clock) (laneAt s j) r))) (λ t. absurd (false≢true (sym e ∙ t))))
 
-put-moved : (k : ℕ) (s : State) (j : ℕ) (r : Rec) (o : Option ℕ) → PutOk s j (r .len) o → Moved k s (endlessPutOf s j r o)
+put-moved : (k : ℕ) (s : State) (j : ℕ) (r : Rec) (o : Option ℕ) → PutOk s j r o → Moved k s (endlessPutOf s j r o)
 unfolding endlessPutOf
 put-moved k s j r none a = accept-moved k s j r a
 put-moved k s j r (some n) a = refused-moved k n s
@@ -106,7 +106,7 @@ put-moved k s j r (some n) a = refused-moved k n s
 look-moved : (k : ℕ) (s : State) (o : Option Pick) → Moved k s (lookOf s o)
 unfolding lookOf sentIn
 look-moved k s none = refused-moved k 16 s
-look-moved k s (some p) = unmoved k s (seen (p .lane) (p .first .mark) (p .first .len)) refl
+look-moved k s (some p) = unmoved k s (seen (p .lane) (p .first .train) (p .first .mark) (p .first .len)) refl
 
 lag-moved : (k : ℕ) (s : State) (j : ℕ) → Moved k s (doLag s j)
 unfolding doLag sentIn
@@ -124,7 +124,7 @@ restart-moved k s =
 
 pub step-moved : (M k : ℕ) (s : State) (c : Call) → Kept M s → Moved k s (endless s c)
 unfolding endless endlessPut doTake doLook doSets sentIn
-step-moved M k s (put j m n) inv = put-moved k s j (record { mark = m; len = n }) (putRefusal s j n) (put-ok s j n)
+step-moved M k s (put j i m n) inv = put-moved k s j (record { train = i; mark = m; len = n }) (putRefusal s j (record { train = i; mark = m; len = n })) (put-ok s j (record { train = i; mark = m; len = n }))
 step-moved M k s take inv = take-moved M k s (picked s) inv (pick-is s)
 step-moved M k s look inv = look-moved k s (picked s)
 step-moved M k s sets inv = unmoved k s _ refl

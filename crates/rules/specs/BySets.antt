@@ -5,7 +5,7 @@
 --   laneOfGroup    the lane of group i with this rounded start that stands first in the tie order
 --   chooseBySets   that of the first set bit's group, at the group's start
 --   laneOf         the lane that is chosen, if one is
---   SameChoice     on every good state both choose the same lane
+--   SameChoice     R4.7: on every good state both choose the same lane
 --
 -- Assumes nothing.
 use Prim.Native.Nat.{ℕ}

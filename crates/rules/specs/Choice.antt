@@ -1,6 +1,6 @@
 -- Which lane take serves, worked plainly over all lanes.
 --
---   choose     the eligible lane of least rounded finish; ties to the lowest group, then to the lane that got its present S earliest
+--   choose     the best of the eligible lanes
 --   leastOf    the least R of the lanes that pass a test
 --
 -- Assumes nothing.
@@ -19,7 +19,7 @@ pub record Candidate : Type 0 where
   pub group : ℕ
   pub turn : ℕ
 
--- "the least rounded finish; ties go to the lowest group, then to the lane that got its present S earliest"
+-- R3.10: by the rounded finish, then by the group, then by the place in the tie order
 unfoldable pub before : Candidate → Candidate → Bool
 before a b =
     ltb (a .finish) (b .finish)
@@ -36,6 +36,7 @@ chooseFrom v order j (l ∷ ls) =
     let rest = chooseFrom v order (suc j) ls in
     if eligible v l then best (record { lane = j; finish = finishR l; group = group (l .given); turn = place j order }) rest else rest
 
+-- R3.10
 unfoldable pub choose : State → Option Candidate
 choose s = chooseFrom (s .clock) (s .order) 0 (s .lanes)
 
@@ -45,6 +46,7 @@ abbrev pub least : ℕ → Option ℕ → Option ℕ
 least a none = some a
 least a (some b) = some (if leb a b then a else b)
 
+-- R3.14
 unfoldable pub leastOf : (Lane → Bool) → List Lane → Option ℕ
 leastOf p [] = none
 leastOf p (l ∷ ls) = if p l then least (startR l) (leastOf p ls) else leastOf p ls

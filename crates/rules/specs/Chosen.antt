@@ -1,4 +1,4 @@
--- What the plain choice is, as a property: document 01's "choose among eligible lanes the least rounded finish".
+-- What the plain choice is, as a property (R3.10).
 --
 --   Ahead        finish first, then group, then turn: the first three numbers come before the other three, or are the same
 --   Chosen       a candidate is an eligible lane of the list, and no eligible lane is ahead of it

@@ -1,4 +1,4 @@
--- The rules with an endless clock (document 02, h): V has no upper edge, and no put takes it back.
+-- The rules with an endless clock (R5.4): V has no upper edge, and no put takes it back.
 --
 --   Rules, afterBy, traceBy      rules for the six calls; the state after a list of calls by them, and the calls with their answers
 --   endless                      the endless rules: put is accept on the state as it stands; every other call is the same
@@ -34,13 +34,13 @@ traceBy go s (c ∷ cs) = record { call = c; reply = (go s c) .reply } ∷ trace
 
 unfoldable pub endlessPutOf : State → ℕ → Rec → Option ℕ → Outcome
 endlessPutOf s j r (some n) = no n s
-endlessPutOf s j r none = record { reply = accepted (ahead s j); state = accept s j r }
+endlessPutOf s j r none = record { reply = accepted (ahead s j (r .train)); state = accept s j r }
 
 unfoldable pub endlessPut : State → ℕ → Rec → Outcome
-endlessPut s j r = endlessPutOf s j r (putRefusal s j (r .len))
+endlessPut s j r = endlessPutOf s j r (putRefusal s j r)
 
 unfoldable pub endless : State → Call → Outcome
-endless s (put j m n) = endlessPut s j (record { mark = m; len = n })
+endless s (put j k m n) = endlessPut s j (record { train = k; mark = m; len = n })
 endless s take = doTake s
 endless s look = doLook s
 endless s sets = doSets s
@@ -79,6 +79,6 @@ EndlessClock =
     → (trace (fresh gs) calls ≡ endlessTrace (fresh gs) calls)
     × ((n : ℕ) × Beside n (after (fresh gs) calls) (endlessAfter (fresh gs) calls))
 
--- 2^44 is what the records held may still move the clock by: 2^32 for each of 64 lanes of 64.
+-- R5.5: 2^44 is what the records held may still move the clock by: 2^32 for each of 64 lanes of 64.
 unfoldable pub ClockStays : Type 0
 ClockStays = (gs : List Setting) → Setup gs → (calls : List Call) → (after (fresh gs) calls) .clock < clockFar + 2 ^ 44

@@ -1,4 +1,4 @@
--- Document 01's session over the rules, and what demand 3 says of its lane 0.
+-- The first session (R16.3) over the rules, and figures for its two lanes.
 --
 --   twoLanes   the session's setup: lane 0 of weight 512, lane 1 of weight 256, longest 1,500
 --   Session    its eight requests and the rules' replies to them
@@ -9,6 +9,7 @@
 -- Assumes nothing.
 use Prim.Native.Nat.{ℕ, _+_, _*_, _<_}
 use mathlib.Core.Path.{_≡_}
+use mathlib.Core.Bool.{false}
 use mathlib.Core.List.{List, [], _∷_, _++_, map}
 use mathlib.Core.Option.{none}
 use lib.ListN.{replicate}
@@ -19,18 +20,18 @@ use Rattle.rules.specs.Runs.{Event, trace}
 use Rattle.rules.specs.Fair.{bytesSent, bytesSentOf, Holding}
 
 abbrev pub twoLanes : List Setting
-twoLanes = record { weight = 512; longest = 1500; framing = 0 } ∷ record { weight = 256; longest = 1500; framing = 0 } ∷ replicate 62 noSetting
+twoLanes = record { weight = 512; longest = 1500; framing = 0; shared = false } ∷ record { weight = 256; longest = 1500; framing = 0; shared = false } ∷ replicate 62 noSetting
 
 abbrev pub replies : List Event → List Reply
 replies es = map (λ (e : Event). e .reply) es
 
--- "A session in full": put 0/1/1000, put 1/2/1000, put 0/3/500, sets, four takes
+-- R16.3: put 0/1/1000, put 1/2/1000, put 0/3/500, sets, four takes
 unfoldable pub Session : Type 0
 Session =
-    replies (trace (fresh twoLanes) (put 0 1 1000 ∷ put 1 2 1000 ∷ put 0 3 500 ∷ sets ∷ take ∷ take ∷ take ∷ take ∷ []))
-    ≡ accepted 0 ∷ accepted 0 ∷ accepted 1 ∷ words 12582912 0 0 0 ∷ taken 0 1 1000 ∷ taken 0 3 500 ∷ taken 1 2 1000 ∷ refused 16 none ∷ []
+    replies (trace (fresh twoLanes) (put 0 0 1 1000 ∷ put 1 0 2 1000 ∷ put 0 0 3 500 ∷ sets ∷ take ∷ take ∷ take ∷ take ∷ []))
+    ≡ accepted 0 ∷ accepted 0 ∷ accepted 1 ∷ words 12582912 0 0 0 ∷ taken 0 0 1 1000 ∷ taken 0 0 3 500 ∷ taken 1 0 2 1000 ∷ refused 16 none ∷ []
 
--- "By demand 3 a waiting lane 0 above, with O = 0, sees fewer than 17,884 bytes sent."
+-- R16.11, by R15.8 with O = 0: 4 slots of 2^22 and 1,536,000 make 18,313,216, which is 1,024 times 17,884
 unfoldable pub Waits : Type 0
 Waits = (calls : List Call) (past stretch rest : List Event)
     → trace (fresh twoLanes) calls ≡ past ++ stretch ++ rest
@@ -38,7 +39,7 @@ Waits = (calls : List Call) (past stretch rest : List Event)
     → bytesSentOf twoLanes 0 stretch ≡ 0
     → bytesSent twoLanes stretch < 17884
 
--- c is 2,048 and 4,096, the slots 2^22 and 2^23: 4 slots of each and twice 1,536,000 make 53,403,648, which is 2,048 times 26,076
+-- R16.11, by R15.10: c is 2,048 and 4,096, the slots 2^22 and 2^23: 4 slots of each and twice 1,536,000 make 53,403,648, which is 2,048 times 26,076
 unfoldable pub SideBySide : Type 0
 SideBySide = (calls : List Call) (past stretch rest : List Event)
     → trace (fresh twoLanes) calls ≡ past ++ stretch ++ rest
@@ -59,10 +60,10 @@ late = record {
   order = 0 ∷ [];
 }
 
--- after it V is 2^33 + 12,345, lane 0 waits since 1,000 before that, and lane 1 begins at V
+-- R16.12: after it V is 2^33 + 12,345, lane 0 waits since 1,000 before that, and lane 1 begins at V
 unfoldable pub TakenBack : Type 0
 TakenBack =
-    ((step late (put 1 2 1000)) .state .clock ≡ 8589946937)
-    × (laneAt ((step late (put 1 2 1000)) .state) 0 ∷ laneAt ((step late (put 1 2 1000)) .state) 1 ∷ []
+    ((step late (put 1 0 2 1000)) .state .clock ≡ 8589946937)
+    × (laneAt ((step late (put 1 0 2 1000)) .state) 0 ∷ laneAt ((step late (put 1 0 2 1000)) .state) 1 ∷ []
     ≡ record { given = settingAt twoLanes 0; start = 8589945937; finish = 8591993937; waiting = plain (record { mark = 1; len = 1000 } ∷ []) }
     ∷ record { given = settingAt twoLanes 1; start = 8589946937; finish = 8594042937; waiting = plain (record { mark = 2; len = 1000 } ∷ []) } ∷ [])

@@ -1,8 +1,8 @@
--- Demand 3: a lane that holds records gets its share of the line.
+-- The fair share (R15.8) and two busy lanes compared (R15.10).
 --
 --   bytesSent, bytesSentOf   T and O of a stretch
 --   Holding                  a lane holds a record after these events
---   Fair M gs                the claim for every list of calls from a fresh table of the setup gs, with M for 1,536,000
+--   Fair M gs                the claim for every list of calls from a fresh table of the setup gs, with M for what a record may cost the line
 --   Demand3                  the claim as asked
 --   Compared M gs            two busy lanes compared, with M for what a record may cost the line
 --   TwoLanes, ComparedTight  the claim as asked; with the setup's own greatest charge
@@ -30,34 +30,34 @@ unfoldable pub chargedTo : List Setting → ℕ → Option Moving → ℕ
 chargedTo gs k none = 0
 chargedTo gs k (some x) = if eqb (x .lane) k then charge (settingAt gs k) (x .item .len) else 0
 
--- "T is the sum of the lengths of the records that the stretch's takes handed out, O the sum over those whose answer names this lane." "T and O count charged
--- bytes" (document 02, d).
+-- R15.7: T adds up what all that a stretch handed out is charged for, O what came from lane k alone.
 abbrev pub bytesSent : List Setting → List Event → ℕ
 bytesSent gs es = sum (λ (e : Event). charged gs (sentIn (e .reply))) es
 
+-- R15.7
 abbrev pub bytesSentOf : List Setting → ℕ → List Event → ℕ
 bytesSentOf gs k es = sum (λ (e : Event). chargedTo gs k (sentIn (e .reply))) es
 
--- "A lane holds a record at a point of the list if, up to there, more puts to it were accepted than records of it handed out by take."
+-- R15.6: told from the answers alone, the lane took in more records than it gave out.
 abbrev pub Holding : ℕ → List Event → Type 0
 Holding k es = length (sentOf k es) < length (acceptedOf k es)
 
--- For any list of calls from a fresh table of the setup gs, any stretch of it (what comes before, the stretch, what follows) and any lane k that holds a
--- record before the stretch and after each call in it: 1,024 T < c O + 4 slots + M.
+-- R15.6, R15.8: any list of calls from a fresh table of the setup gs, any stretch of it (what comes before, the stretch, what follows) and any lane k that
+-- holds a record before the stretch and after each call in it: 1,024 T < c O + 4 slots + M.
 unfoldable pub Fair : ℕ → List Setting → Type 0
 Fair M gs =
     (calls : List Call) (past stretch rest : List Event) → trace (fresh gs) calls ≡ past ++ stretch ++ rest
     → (k : ℕ) → ((p q : List Event) → p ++ q ≡ stretch → Holding k (past ++ p))
     → lineRate * bytesSent gs stretch < rate (settingAt gs k) * bytesSentOf gs k stretch + 4 * slot (settingAt gs k) + M
 
--- 1,024 T < c O + 4 slots + 1,024 (1,500 + h), from a fresh table of any setup
+-- R15.8: 1,024 T < c O + 4 slots + 1,024 (1,500 + h), from a fresh table of any setup
 unfoldable pub Demand3 : Type 0
 Demand3 = (gs : List Setting) → Setup gs → Fair (margin (framingOf gs)) gs
 
 -- ---- two busy lanes compared
 
--- The same lists and stretches, and two lanes a and b that both hold a record before the stretch and after each call in it: c of a times a's bytes, less c of b
--- times b's, is below four slots of a, four slots of b and 2 M. Whole numbers are compared as sums; bytes are those charged, as in `Fair`.
+-- R15.10: the same lists and stretches, and lanes a and b that are both busy in the stretch: c(a) A < c(b) B + 4 s(a) + 4 s(b) + 2 M. Bytes are those charged,
+-- as in `Fair`.
 unfoldable pub Compared : ℕ → List Setting → Type 0
 Compared M gs =
     (calls : List Call) (past stretch rest : List Event) → trace (fresh gs) calls ≡ past ++ stretch ++ rest
@@ -65,10 +65,10 @@ Compared M gs =
     → rate (settingAt gs a) * bytesSentOf gs a stretch
     < rate (settingAt gs b) * bytesSentOf gs b stretch + 4 * slot (settingAt gs a) + 4 * slot (settingAt gs b) + 2 * M
 
--- from a fresh table of any setup, M being what a record of 1,500 bytes costs the line
+-- R15.10: from a fresh table of any setup, M being what a record of 1,500 bytes costs the line
 unfoldable pub TwoLanes : Type 0
 TwoLanes = (gs : List Setting) → Setup gs → Compared (margin (framingOf gs)) gs
 
--- and with the setup's own greatest charge
+-- R15.10, R15.9: and with the setup's own greatest charge
 unfoldable pub ComparedTight : Type 0
 ComparedTight = (gs : List Setting) → Setup gs → Compared (lineRate * longestCharge gs) gs

@@ -1,4 +1,4 @@
--- A good state: document 01's rule for a good table, field by field, of the state that the table encodes.
+-- A good state: what a good table (docs/RULES.md, R6) asks of the state that it encodes, field by field.
 --
 -- proofs/GoodTest.antt computes it, and shows that the two agree. Assumes nothing.
 use Prim.Native.Nat.{ℕ, _+_, _*_, _^_, _≤_, _<_}
@@ -6,12 +6,11 @@ use mathlib.Core.Path.{_≡_}
 use mathlib.Core.Bool.{true}
 use mathlib.Core.Option.{Option, none, some}
 use Rattle.units.specs.Plain.{if_then_else_, times}
-use Rattle.waiting.specs.Waiting.{GoodWaiting}
+use Rattle.waiting.specs.Waiting.{isShared, GoodWaiting}
 use Rattle.rules.specs.State.{Rec, Lane, State, clockEdge, charge, rate, slot, startR, firstOf, holds, eligible, laneAt, setupOf}
 use Rattle.rules.specs.Setup.{Setup, margin}
 
--- "for a holding lane F = S + its first record's length times c, S below V + 2s, R above V - 2s - 1,024 (1,500 + h); for an idle lane F below V + 2s". Whole
--- numbers are compared as sums.
+-- R6.6 of a lane with its first record, R6.7 of an idle one. Whole numbers are compared as sums.
 abbrev pub Times : ℕ → Lane → Option Rec → Type 0
 Times v l none = l .finish < v + 2 * slot (l .given)
 Times v l (some r) =
@@ -20,14 +19,17 @@ Times v l (some r) =
     × (v < startR l + 2 * slot (l .given) + margin (l .given .framing))
 
 pub record Good (s : State) : Type 0 where
-  -- "a setup within the numbers above"
+  -- R6.3
   pub setup : Setup (setupOf s)
-  -- no more records than the lane has room for, each of length 1 to the lane's longest
+  -- R6.4: no more records than there is room for, each of length 1 to the lane's longest; in a shared lane deficits and a round that its rule can make
   pub waiting : (k : ℕ) → GoodWaiting ((laneAt s k) .given .longest) ((laneAt s k) .waiting)
-  -- V below 2^62 + 2^44 (document 02, g)
+  -- R6.4: a lane that the setup makes shared keeps its records by trains, and no other does
+  pub kind : (k : ℕ) → isShared ((laneAt s k) .waiting) ≡ (laneAt s k) .given .shared
+  -- R6.5
   pub clock : s .clock < clockEdge
+  -- R6.6, R6.7
   pub numbers : (k : ℕ) → Times (s .clock) (laneAt s k) (firstOf (laneAt s k))
-  -- "an eligible lane if any holds"
+  -- R6.8
   pub live : (k : ℕ) → holds (laneAt s k) ≡ true → (i : ℕ) × (eligible (s .clock) (laneAt s i) ≡ true)
-  -- "a tie order": it names each lane that holds records once, and no other
+  -- R2.7, R6.9: the tie order has each lane that holds records once, and no other
   pub order : (k : ℕ) → times k (s .order) ≡ (if holds (laneAt s k) then 1 else 0)

@@ -1,8 +1,8 @@
--- What every list of the rules' calls keeps, and demand 3 with the setup's own figure.
+-- What every list of the rules' calls keeps, and the fair share with the setup's own figure.
 --
---   AlwaysGood     every state that calls make from a fresh one is good
---   SettingsKept   no call changes a lane's setting
---   FairTight      demand 3 with 1,024 times the charge of the setup's own longest record in place of 1,536,000
+--   AlwaysGood     R6.13: every state that calls make from a fresh one is good
+--   SettingsKept   R15.14: no call changes a lane's setting
+--   FairTight      R15.9: the fair share with 1,024 times the charge of the setup's own longest record in place of M
 --
 -- Assumes nothing.
 use Prim.Native.Nat.{_*_}

@@ -15,5 +15,7 @@ pub mod Lowest
 pub mod Refusals
 pub mod Ranges
 pub mod Examples
+pub mod TrainExamples
 pub mod BySets
 pub mod Kept
+pub mod Even

@@ -1,4 +1,4 @@
--- What the least R of the lanes that pass a test is, as a property.
+-- What the least R of the lanes that pass a test is, as a property (R3.14).
 --
 --   LowestOf     r is the R of a lane that passes, and no lane that passes has a smaller one
 --   LowOf        what an answer says: nothing, no lane passes; a number, it is the lowest

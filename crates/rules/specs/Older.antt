@@ -1,4 +1,4 @@
--- The rule for a table made while a lane had room for 16 records (before document 02, g).
+-- The rule for a table made while a lane had room for 16 records (R7.3).
 --
 --   oldDepth, oldEdge   the room of a lane then, and the clock's edge
 --   GoodOld             that rule, of the state that the table encodes

@@ -1,7 +1,7 @@
 -- Which numbers a group and a set word can be.
 --
---   GroupRange   a group within the numbers, with up to 64 framing bytes, lies in 16 to 31
---   WordRule     bit i of the word of a test is the test at i, and the word of n tests is below 2 ^ n
+--   GroupRange   R1.11, R4.5: a group within the numbers, with up to 64 framing bytes, lies in 16 to 31
+--   WordRule     R4.5: bit i of the word of a test is the test at i, and the word of n tests is below 2 ^ n
 --
 -- Assumes nothing.
 use Prim.Native.Nat.{ℕ, _/_, _%_, _^_, _≤_, _<_}

@@ -1,8 +1,8 @@
 -- When the rules refuse by 10 and by 16.
 --
 --   NotTen        a reply other than 10
---   RulesNotTen   no reply of the rules is 10: they know no bytes, and 10 is said of bytes alone
---   NothingHeld   on a good state take and look are refused, by 16, only where no lane holds a record
+--   RulesNotTen   R14.22: no reply of the rules is 10: they know no bytes, and 10 is said of bytes alone
+--   NothingHeld   R3.15: on a good state take and look are refused, by 16, only where no lane holds a record
 --
 -- Assumes nothing.
 use Prim.Native.Nat.{ℕ}
@@ -16,8 +16,8 @@ use Rattle.rules.specs.Good.{Good}
 
 abbrev pub NotTen : Reply → Type 0
 NotTen (accepted n) = Unit {0}
-NotTen (taken j m n) = Unit {0}
-NotTen (seen j m n) = Unit {0}
+NotTen (taken j t m n) = Unit {0}
+NotTen (seen j t m n) = Unit {0}
 NotTen (words a b c d) = Unit {0}
 NotTen (lagged z) = Unit {0}
 NotTen restarted = Unit {0}

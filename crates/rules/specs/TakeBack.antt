@@ -1,4 +1,4 @@
--- What a put takes off where it finds the clock far on (document 02, h), of any good state, whatever table it came from.
+-- What a put takes off where it finds the clock far on (R5.1 to R5.3), of any good state, whatever table it came from.
 --
 --   TakenOff K s u   u is s with K taken off, and K is the number that the rule names
 --   TakeBackExact    what `shifted` does to a good state whose clock is far on is that, so that no number goes below 0 but where the rule says 0

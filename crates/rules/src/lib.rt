@@ -1,15 +1,16 @@
-// The rules of the line scheduler (document 01, "The plain rules"), and all that is true of every list of calls.
+// The rules of the line scheduler (docs/RULES.md, R1 to R6), and all that is true of every list of calls.
 //
 // There is no code here but the types that the promises speak of. The rules are definitions in specs/, over plain numbers and lists; they know
-// nothing of bytes and tables. The theorems are in proofs/: demand 3 (proofs/Fair.antt), never found not good (proofs/AlwaysGood.antt), each
+// nothing of bytes and tables. The theorems are in proofs/: the fair share (proofs/Fair.antt), never found not good (proofs/AlwaysGood.antt), each
 // accepted record handed out once and in order (proofs/Order.antt), and what the four sets mean (proofs/GroupRule.antt, proofs/BySets.antt).
 //
 // A lane is what the field calls a flow, the clock V is the system's virtual time, and a record is a packet.
 use units::Bytes;
 
-// A record that was taken or looked at: the lane that it waited in, the host's mark, and its length.
+// A record that was taken or looked at: the lane that it waited in, its train (0 in a lane that is not shared), the host's mark, and its length.
 pub struct Record {
     pub lane: u8,
+    pub train: u8,
     pub mark: u32,
     pub length: Bytes,
 }
@@ -22,37 +23,37 @@ pub struct SetWords {
     pub ib: u64,
 }
 
-// Why something is refused: document 01, "Numbers given back". A case holds its place where the list gives one that is not always 0.
+// Why something is refused (docs/RULES.md, R14). A case holds its place where R14 has one that is not always 0.
 pub enum Refusal {
-    // 1: a header or a value runs past the end, or the input ends before 0x7F.
+    // 1: a field is cut, or missing where one is wanted (R14.2).
     Cut(usize),
-    // 2: tag unknown in this part.
+    // 2: a tag that has no meaning here (R14.3).
     UnknownTag(usize),
-    // 3: length wrong for the tag.
+    // 3: a length that its tag does not have (R14.4).
     WrongLength(usize),
-    // 4: first field not 0x01, 0x01 again, lane not rising, 0x7F with no lane; a byte after the last 0x7F.
+    // 4: a field that may not stand there (R14.5), or a byte behind the end (R14.6).
     OutOfOrder(usize),
-    // 6: weights so far over 1,024, at the weight that went over.
+    // 6: the weights up to this one sum to too much, told at its first byte (R14.12).
     WeightsOver(usize),
-    // 7: lent table shorter than the fixed size, on making one. Its place is 0.
+    // 7: too few bytes for what is to be made there (R14.13). Its place is 0.
     TableShort,
-    // 10: table not good.
+    // 10: no good table (R14.22).
     NotGood,
-    // 11: lane not in the setup.
+    // 11: the setup has no such lane (R14.23).
     NoLane,
-    // 12: length 0 or over the lane's longest.
+    // 12: a length that the lane does not take (R14.24).
     BadLength,
-    // 13: lane holds 64.
+    // 13: no room in the lane (R14.25).
     LaneFull,
-    // 15: restart while a record is held.
+    // 15: no restart, for a lane holds (R14.26).
     StillHolds,
-    // 16: take or look with nothing held.
+    // 16: no record to hand out or to show (R14.27).
     NothingHeld,
-    // 17: a run's limit over 1,000, or its answer area under 64 x (limit + 2) bytes.
+    // 17: a limit that is too high, or an answer area that is too short for it (R14.14).
     RunBounds,
-    // 18: the program's input over 32,768 bytes.
+    // 18: more input than a program reads (R14.15).
     InputLong,
-    // 50 to 54: a number of a setup outside its numbers, at its first byte: a format that is neither 1 nor 2 ..
+    // 50 to 54: a number of a setup outside its numbers, at its first byte (R14.7 to R14.11): a format that is neither 1 nor 2 ..
     FormatOutside(usize),
     // .. a lane over 63 ..
     LaneOutside(usize),
@@ -62,17 +63,21 @@ pub enum Refusal {
     LongestOutside(usize),
     // .. framing over 64.
     FramingOutside(usize),
-    // 80: a byte with which no sheet of the form goes on.
+    // 80: a byte with which no sheet of the form goes on (R14.18).
     WrongByte(usize),
-    // 81: a sheet that is empty or ends in a line, at its length.
+    // 81: a sheet that is empty or ends in a line, at its length (R14.19).
     SheetCut(usize),
-    // 82: a plan that a sheet cannot say.
+    // 82: a plan that a sheet cannot say (R14.21).
     NoSheet,
+    // 70: a train that the lane does not know.
+    NoTrain,
+    // 71: the train's queue is full, in a shared lane.
+    TrainFull,
 }
 
-// What a call answers. specs/Reads.antt gives document 01's number and values for each case.
+// R3.23: what a call answers. specs/Reads.antt gives the number and the values of each case.
 pub enum Answer {
-    // How many records the lane held before.
+    // How many records of its train the lane held before.
     Accepted(u64),
     Taken(Record),
     Seen(Record),

@@ -10,7 +10,7 @@ use lib.ListN.{getD}
 use Rattle.waiting.specs.Waiting.{queueOf}
 use Rattle.rules.specs.State.{Setting, Lane, noLane, State, laneAt, anyHolds}
 use Rattle.rules.specs.Calls.{Call, take, restart, Reply, restarted, refused, Pick, picked, takeOf, doTake, fresh, doRestart, step}
-use Rattle.rules.specs.Runs.{Event, after, trace, acceptedOf, sentOf, InOrder}
+use Rattle.rules.specs.Runs.{Event, after, trace, acceptedOf, sentOf, ofTrain, InOrder}
 use Rattle.rules.specs.Fair.{Holding, Fair, Demand3}
 use Rattle.rules.proofs.Runs.{split}
 use Rattle.rules.proofs.Bools.{not-passed}
@@ -29,6 +29,7 @@ use Rattle.scheduler.proofs.Chains.{led-good, led-on}
 use Rattle.scheduler.proofs.Begins.{by-make, by-restart}
 use Rattle.scheduler.proofs.Ahead.{ahead-told}
 use Rattle.scheduler.proofs.Compared.{compared-calls, compared-tight-calls, fair-tight-calls}
+use Rattle.scheduler.proofs.Even.{even-calls, even-tight-calls, others-tight-calls}
 use Rattle.scheduler.proofs.Drained.{drained-table}
 use Rattle.scheduler.proofs.Endless.{endless-calls, clock-early}
 
@@ -65,7 +66,7 @@ take-is s = go (picked s)
   where
     go : (o : Option Pick) → HandsOut ((takeOf s o) .reply) ⊎ ((takeOf s o) .reply ≡ refused 16 none)
     go none = inr refl
-    go (some p) = inl (record { lane = p .lane; mark = p .first .mark; len = p .first .len; is = refl })
+    go (some p) = inl (record { lane = p .lane; train = p .first .train; mark = p .first .mark; len = p .first .len; is = refl })
 
 -- and after a 16 a restart is accepted
 restart-yes : (s : State) → Live s → (step s take) .reply ≡ refused 16 none → (step ((step s take) .state) restart) .reply ≡ restarted
@@ -114,10 +115,11 @@ module _ (gs : List Setting) (es : List Event) (u : List ℕ) (l : Led gs es u) 
 
   order-kept : OrderKept es u
   unfolding OrderKept InOrder
-  order-kept s e k =
+  order-kept s e k t =
       let lanes = same-lanes u (after (fresh gs) (callsOf es)) s (l .table) e in
-      subst (λ (xs : List Event). acceptedOf k xs ≡ sentOf k xs ++ queueOf (laneAt s k .waiting) 0) (l .answers)
-      (in-order gs (callsOf es) k ∙ ap (λ (ls : List Lane). sentOf k (trace (fresh gs) (callsOf es)) ++ queueOf ((getD ls k noLane) .waiting) 0) lanes)
+      subst (λ (xs : List Event). ofTrain t (acceptedOf k xs) ≡ ofTrain t (sentOf k xs) ++ queueOf (laneAt s k .waiting) t) (l .answers)
+      (in-order gs (callsOf es) k t
+      ∙ ap (λ (ls : List Lane). ofTrain t (sentOf k (trace (fresh gs) (callsOf es))) ++ queueOf ((getD ls k noLane) .waiting) t) lanes)
 
   setup-kept-calls : SetupKept gs es u
   unfolding SetupKept
@@ -146,6 +148,9 @@ module _ (gs : List Setting) (es : List Event) (u : List ℕ) (l : Led gs es u) 
     fair-tight = fair-tight-calls gs es u l;
     compared = compared-calls gs es u l;
     compared-tight = compared-tight-calls gs es u l;
+    even = even-calls gs es u l;
+    even-tight = even-tight-calls gs es u l;
+    others-tight = others-tight-calls gs es u l;
     endless = endless-calls gs es u l;
     clock-early = clock-early gs es u l;
     never-ten = never-ten;

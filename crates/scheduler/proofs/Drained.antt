@@ -28,9 +28,9 @@ takes-hand-out zero s r h (x ∷ past) rest e q = let z : _≡_ {A = ℕ} 0 1 = 
 takes-hand-out (suc n) s r h [] rest e q =
     let one = take-one s n (reached-good s r .waiting) (reached-live s r) h in
     let same : record { call = take; reply = (step s take) .reply } ≡ e = cc in
-    record { lane = one .0; mark = one .1; len = one .2; is = sym (ap (λ (y : Event). y .reply) same) ∙ one .3 }
+    record { lane = one .0; train = one .1; mark = one .2; len = one .3; is = sym (ap (λ (y : Event). y .reply) same) ∙ one .4 }
 takes-hand-out (suc n) s r h (x ∷ past) rest e q =
-    takes-hand-out n ((step s take) .state) (step-reached s take r) (take-one s n (reached-good s r .waiting) (reached-live s r) h .4) past rest e (cc)
+    takes-hand-out n ((step s take) .state) (step-reached s take r) (take-one s n (reached-good s r .waiting) (reached-live s r) h .5) past rest e (cc)
 
 -- with nothing held a take gives 16 and leaves the state as it is; a restart is accepted
 take-none : (s : State) → anyHolds (s .lanes) ≡ false → ((step s take) .reply ≡ refused 16 none) × ((step s take) .state ≡ s)

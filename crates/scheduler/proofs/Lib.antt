@@ -4,6 +4,7 @@ pub mod Chains
 pub mod Begins
 pub mod Ahead
 pub mod Compared
+pub mod Even
 pub mod Endless
 pub mod Drained
 pub mod Demands

@@ -1,7 +1,7 @@
--- 12 and 13 depend on the lane's own setup and queue only. Assumes nothing.
+-- R14.44: 12, 13, 70 and 71 go by what the lane has and holds. Assumes nothing.
 use Prim.Native.Nat.{ℕ}
 use native.Mathlib.Omega.{arith}
-use mathlib.Core.Path.{_≡_, sym, ap, _∙_}
+use mathlib.Core.Path.{_≡_, refl, sym, ap, _∙_}
 use mathlib.Core.Option.{Option, none, some}
 use Rattle.rules.specs.State.{Rec, State}
 use Rattle.rules.specs.Calls.{put, refused, putRefusal, putOf, doPut, step}
@@ -15,10 +15,18 @@ unfolding putOf
 refused-by s j r x none e = let z : _≡_ {A = ℕ} 0 1 = cc in absurd (omega arith)
 refused-by s j r x (some n) e = cc
 
+-- the mark decides nothing
+any-mark : (s : State) (j k m m′ n : ℕ) → putRefusal s j (record { train = k; mark = m; len = n }) ≡ putRefusal s j (record { train = k; mark = m′; len = n })
+unfolding putRefusal
+any-mark s j k m m′ n = refl
+
 pub put-local-calls : PutLocal
 unfolding PutLocal step doPut putOf
-put-local-calls t t′ u u′ a a′ j m m′ n r g g′ given waiting p p′ h e =
+put-local-calls t t′ u u′ a a′ j k m m′ n r g g′ given waiting p p′ h e =
     let s = meant t in
     let s′ = meant t′ in
-    let is = refused-by s j r (record { mark = m; len = n }) (putRefusal s j n) (sym (p .reply g s (good-encodes t g)) ∙ e) in
-    p′ .reply g′ s′ (good-encodes t′ g′) ∙ ap (λ (o : Option ℕ). (putOf s′ j (record { mark = m′; len = n }) o) .reply) (sym (put-local s s′ j n given waiting) ∙ is)
+    let x : Rec = record { train = k; mark = m; len = n } in
+    let x′ : Rec = record { train = k; mark = m′; len = n } in
+    let is = refused-by s j r x (putRefusal s j x) (sym (p .reply g s (good-encodes t g)) ∙ e) in
+    p′ .reply g′ s′ (good-encodes t′ g′)
+    ∙ ap (λ (o : Option ℕ). (putOf s′ j x′ o) .reply) (any-mark s′ j k m′ m n ∙ sym (put-local s s′ j x given waiting) ∙ is)

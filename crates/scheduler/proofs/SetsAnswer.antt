@@ -24,15 +24,15 @@ record Names (s : State) (j : ℕ) : Type 0 where
   is : choose s ≡ some chosen
   lane : chosen .lane ≡ j
 
-look-names : (s : State) (j m n : ℕ) → (step s look) .reply ≡ seen j m n → Names s j
+look-names : (s : State) (j k m n : ℕ) → (step s look) .reply ≡ seen j k m n → Names s j
 unfolding step doLook picked pickOf pickFirst lookOf
-look-names s j m n h = go (choose s) refl h
+look-names s j k m n h = go (choose s) refl h
   where
-    queued : (c : Candidate) (o : Option Rec) → (lookOf s (pickFirst (c .lane) o)) .reply ≡ seen j m n → c .lane ≡ j
+    queued : (c : Candidate) (o : Option Rec) → (lookOf s (pickFirst (c .lane) o)) .reply ≡ seen j k m n → c .lane ≡ j
     queued c none e = let z : _≡_ {A = ℕ} 0 1 = cc in absurd (omega arith)
     queued c (some r) e = cc
 
-    go : (o : Option Candidate) → choose s ≡ o → (lookOf s (pickOf s o)) .reply ≡ seen j m n → Names s j
+    go : (o : Option Candidate) → choose s ≡ o → (lookOf s (pickOf s o)) .reply ≡ seen j k m n → Names s j
     go none q e = let z : _≡_ {A = ℕ} 0 1 = cc in absurd (omega arith)
     go (some c) q e = record { chosen = c; is = q; lane = queued c (firstOf (laneAt s (c .lane))) e }
 
@@ -48,8 +48,8 @@ module _ (s : State) (good : Good s) where
   words-say = record {
     parted = λ i h. omega (arith, sets-rule s good .parted i, bits ready i h, bits ineligibleReady i h, bits eligibleBlocked i h, bits ineligibleBlocked i h);
     small = (word-lt _ groups, word-lt _ groups, word-lt _ groups, word-lt _ groups);
-    first = λ j m n h.
-        let c = look-names s j m n h in
+    first = λ j k m n h.
+        let c = look-names s j k m n h in
         sets-rule s good .first (c .chosen) (c .is) ∙ ap (λ (k : ℕ). group (laneAt s k .given)) (c .lane);
     rising = λ i k h h′ e e′.
         sets-rule s good .rising i k h h′

@@ -14,13 +14,17 @@ use Rattle.table.specs.Means.{meant}
 use Rattle.good.proofs.Encodes.{good-encodes}
 use Rattle.scheduler.specs.TakeAnswer.{Served, TakeCall, LookTakes}
 
-module _ (s : State) (j m n : ℕ) where
+module _ (s : State) (j k m n : ℕ) where
+  rec-is : (r : Rec) → r .train ≡ k → r .mark ≡ m → r .len ≡ n → some r ≡ some (record { train = k; mark = m; len = n })
+  rec-is r e f g = rw (sym e, sym f, sym g) refl
+
   served-by : (c : Candidate) → Chosen (s .clock) (s .order) 0 (s .lanes) c → (o : Option Rec) → firstOf (laneAt s (c .lane)) ≡ o
-      → (takeOf s (pickFirst (c .lane) o)) .reply ≡ taken j m n → Served s j m n
+      → (takeOf s (pickFirst (c .lane) o)) .reply ≡ taken j k m n → Served s j k m n
   unfolding takeOf pickFirst
   served-by c h none p e = let z : _≡_ {A = ℕ} 0 1 = cc in absurd (omega arith)
   served-by c h (some r) p e =
       let l : c .lane ≡ j = cc in
+      let tr : r .train ≡ k = cc in
       let mk : r .mark ≡ m = cc in
       let ln : r .len ≡ n = cc in
       let at : h .at ≡ j = omega (arith, h .num) in
@@ -29,31 +33,32 @@ module _ (s : State) (j m n : ℕ) where
       let grp : c .group ≡ group (laneAt s j .given) = h .grp ∙ ap (λ (x : ℕ). group (laneAt s x .given)) at in
       record {
         may = subst (λ (x : ℕ). eligible (s .clock) (laneAt s x) ≡ true) at (h .is);
-        first = subst (λ (x : ℕ). firstOf (laneAt s x) ≡ some r) l p ∙ ap (λ (x : ℕ). some (record { mark = x; len = r .len })) mk ∙ ap (λ (x : ℕ). some (record { mark = m; len = x })) ln;
-        least = λ k t. omega (arith, h .least k t .fin, fin);
-        lowest = λ k t f. omega (arith, h .least k t .grp (omega (arith, fin)), grp);
-        earliest = λ k t f g.
-            let here : place (0 + k) (s .order) ≡ place k (s .order) = ap (λ (x : ℕ). place x (s .order)) (let e₀ : 0 + k ≡ k = omega arith in e₀) in
-            omega (arith, h .least k t .trn (omega (arith, fin)) (omega (arith, grp)), turn, here);
+        first = subst (λ (x : ℕ). firstOf (laneAt s x) ≡ some r) l p ∙ rec-is r tr mk ln;
+        least = λ i t. omega (arith, h .least i t .fin, fin);
+        lowest = λ i t f. omega (arith, h .least i t .grp (omega (arith, fin)), grp);
+        earliest = λ i t f g.
+            let here : place (0 + i) (s .order) ≡ place i (s .order) = ap (λ (x : ℕ). place x (s .order)) (let e₀ : 0 + i ≡ i = omega arith in e₀) in
+            omega (arith, h .least i t .trn (omega (arith, fin)) (omega (arith, grp)), turn, here);
       }
 
-  take-served : (step s take) .reply ≡ taken j m n → Served s j m n
+  take-served : (step s take) .reply ≡ taken j k m n → Served s j k m n
   unfolding step doTake picked pickOf choose takeOf
   take-served e = go (chooseFrom (s .clock) (s .order) 0 (s .lanes)) (chosen (s .clock) (s .order) 0 (s .lanes)) e
     where
-      go : (o : Option Candidate) → Choice (s .clock) (s .order) 0 (s .lanes) o → (takeOf s (pickOf s o)) .reply ≡ taken j m n → Served s j m n
+      go : (o : Option Candidate) → Choice (s .clock) (s .order) 0 (s .lanes) o → (takeOf s (pickOf s o)) .reply ≡ taken j k m n → Served s j k m n
       go none h e = let z : _≡_ {A = ℕ} 0 1 = cc in absurd (omega arith)
       go (some c) h e = served-by c h (firstOf (laneAt s (c .lane))) refl e
 
 pub take-call : TakeCall
 unfolding TakeCall
-take-call t u a j m n g p e = take-served (meant t) j m n (sym (p .reply g (meant t) (good-encodes t g)) ∙ e)
+take-call t u a j k m n g p e = take-served (meant t) j k m n (sym (p .reply g (meant t) (good-encodes t g)) ∙ e)
 
-look-of : (s : State) (o : Option Pick) (j m n : ℕ) → (takeOf s o) .reply ≡ taken j m n → (lookOf s o) .reply ≡ seen j m n
+look-of : (s : State) (o : Option Pick) (j k m n : ℕ) → (takeOf s o) .reply ≡ taken j k m n → (lookOf s o) .reply ≡ seen j k m n
 unfolding takeOf lookOf
-look-of s none j m n e = let z : _≡_ {A = ℕ} 0 1 = cc in absurd (omega arith)
-look-of s (some p) j m n e =
+look-of s none j k m n e = let z : _≡_ {A = ℕ} 0 1 = cc in absurd (omega arith)
+look-of s (some p) j k m n e =
     let l : p .lane ≡ j = cc in
+    let tr : p .first .train ≡ k = cc in
     let mk : p .first .mark ≡ m = cc in
     let ln : p .first .len ≡ n = cc in
     cc
@@ -68,6 +73,6 @@ unfolding LookTakes step doTake doLook
 look-takes t u a b g p q =
     let s = meant t in
     let e = good-encodes t g in (
-      λ j m n h. q .reply g s e ∙ look-of s (picked s) j m n (sym (p .reply g s e) ∙ h),
+      λ j k m n h. q .reply g s e ∙ look-of s (picked s) j k m n (sym (p .reply g s e) ∙ h),
       λ h. q .reply g s e ∙ look-none s (picked s) (sym (p .reply g s e) ∙ h),
     )

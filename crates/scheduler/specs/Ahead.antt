@@ -1,29 +1,36 @@
--- What an accepted put answers: how many records its lane held before it.
+-- What an accepted put answers: how many records of its train its lane held before it. In a lane that is not shared these are all, of train 0.
 --
---   AheadTold   of a list: counted from the list's own calls and answers, and below the lane's room
---   PutAhead    of one call on any good table
+--   AheadTold   R15.13, of a list: counted from the list's own calls and answers, and below the room of the lane, or of the train's queue in a shared one
+--   PutAhead    R3.9, of one call on any good table
 --
 -- Assumes nothing.
 use Prim.Native.Nat.{ℕ, _+_, _<_}
 use mathlib.Core.Path.{_≡_}
 use mathlib.Core.List.{List, _∷_, _++_}
 use lib.ListN.{length}
-use Rattle.rules.specs.State.{laneDepth}
+use Rattle.units.specs.Plain.{if_then_else_}
+use Rattle.rounds.specs.Round.{trainDepth}
+use Rattle.rules.specs.State.{Setting, settingAt, laneAt, laneDepth}
 use Rattle.rules.specs.Calls.{put, accepted, ahead}
 use Rattle.rules.specs.Reads.{reads}
-use Rattle.rules.specs.Runs.{Event, acceptedOf, sentOf}
+use Rattle.rules.specs.Runs.{Event, acceptedOf, sentOf, ofTrain}
 use Rattle.rules.specs.declared.Answer.{Answer}
 use Rattle.table.specs.Means.{meant}
 use Rattle.good.specs.Table.{GoodTable}
 use Rattle.scheduler.specs.Step.{Step}
+use Rattle.scheduler.specs.Chain.{inForce}
 
--- of the records that the lane accepted before, those not yet handed out
-unfoldable pub AheadTold : List Event → Type 0
-AheadTold es =
-    (past rest : List Event) (j m l n : ℕ) → es ≡ past ++ record { call = put j m l; reply = accepted n } ∷ rest
-    → (length (acceptedOf j past) ≡ length (sentOf j past) + n) × (n < laneDepth)
+-- how many records the queue of a lane of this setting has room for, or each of its trains' queues
+abbrev pub roomOf : Setting → ℕ
+roomOf g = if g .shared then trainDepth else laneDepth
+
+-- of the records of the put's train that the lane accepted before, those not yet handed out
+unfoldable pub AheadTold : List Setting → List Event → Type 0
+AheadTold gs es =
+    (past rest : List Event) (j t m l n : ℕ) → es ≡ past ++ record { call = put j t m l; reply = accepted n } ∷ rest
+    → (length (ofTrain t (acceptedOf j past)) ≡ length (ofTrain t (sentOf j past)) + n) × (n < roomOf (settingAt (inForce gs past) j))
 
 unfoldable pub PutAhead : Type 0
 PutAhead =
-    (t u : List ℕ) (a : Answer) (j m l n : ℕ) → GoodTable t → Step (put j m l) t a u → reads a ≡ accepted n
-    → (n ≡ ahead (meant t) j) × (n < laneDepth)
+    (b u : List ℕ) (a : Answer) (j t m l n : ℕ) → GoodTable b → Step (put j t m l) b a u → reads a ≡ accepted n
+    → (n ≡ ahead (meant b) j t) × (n < roomOf (laneAt (meant b) j .given))

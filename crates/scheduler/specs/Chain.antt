@@ -24,6 +24,7 @@ use Rattle.scheduler.specs.Step.{Step}
 use Rattle.scheduler.specs.Make.{MakeStep}
 use Rattle.scheduler.specs.declared.Making.{Making}
 
+-- R3.22: no call of a list makes a table anew
 pub data Chain : List ℕ → List Event → List ℕ → Type 0 where
   done : {t : List ℕ} → Chain t [] t
   then : {t u v : List ℕ} {c : Call} {a : Answer} {es : List Event} → Step c t a u → Chain u es v → Chain t (record { call = c; reply = reads a } ∷ es) v
@@ -31,7 +32,7 @@ pub data Chain : List ℕ → List Event → List ℕ → Type 0 where
 abbrev pub callsOf : List Event → List Call
 callsOf es = map (λ (e : Event). e .call) es
 
--- `make` was called with a setup whose settings are gs, and left the bytes t
+-- R3.22: `make` was called with a setup whose settings are gs, and left the bytes t
 pub record Begins (gs : List Setting) (t : List ℕ) : Type 0 where
   pub setup : List ℕ
   pub before : List ℕ
@@ -43,13 +44,14 @@ pub record Begins (gs : List Setting) (t : List ℕ) : Type 0 where
   pub room : SIZE ≤ length before
   pub makes : MakeStep setup before answer t
 
--- The bytes t are a table that the list es led to, from the fresh table of the setup gs: the rules' own run of its calls from the fresh state gives its answers, and t
--- encodes the state that this run leaves. `make`, an accepted restart and a session's run begin such a list, and public calls go on with it (Demands.antt).
+-- R15.4: the bytes t are a table that the list es led to, from the fresh table of the setup gs: the rules' own run of its calls from the fresh state gives its
+-- answers, and t encodes the state that this run leaves. `make`, an accepted restart and a session's run begin such a list, and public calls go on with it
+-- (Demands.antt).
 pub record Led (gs : List Setting) (es : List Event) (t : List ℕ) : Type 0 where
   pub setup : Setup gs
   pub answers : trace (fresh gs) (callsOf es) ≡ es
   pub table : Encodes t (after (fresh gs) (callsOf es))
 
--- The setup in force after the list es that began with the setup gs. No call changes it.
+-- R15.5: the setup in force after the list es that began with the setup gs. No call changes it.
 abbrev pub inForce : List Setting → List Event → List Setting
 inForce gs es = gs

@@ -1,9 +1,9 @@
 -- Two busy lanes compared, of a list from the fresh table of the setup gs.
 --
 --   ComparedBy           for any stretch and any two lanes that both hold a record before it and after each call in it, with a figure M of the setup
---   ComparedCalls        M as demand 3 has it
---   ComparedTight        M by the setup's own greatest charge
---   FairTight            demand 3 by the setup's own greatest charge
+--   ComparedCalls        R15.10: M as R15.8 has it
+--   ComparedTight        R15.10: M by the setup's own greatest charge
+--   FairTight            R15.9: R15.8 by the setup's own greatest charge
 --
 -- Assumes nothing.
 use Prim.Native.Nat.{ℕ, _+_, _*_, _<_}
@@ -16,7 +16,7 @@ use Rattle.rules.specs.Runs.{Event}
 use Rattle.rules.specs.Fair.{bytesSent, bytesSentOf, Holding}
 use Rattle.scheduler.specs.Chain.{inForce}
 
--- c of a times a's bytes, less c of b times b's, is below four slots of a, four slots of b and twice M, by the setup in force. Whole numbers are compared as sums.
+-- R15.10 with any figure M, by the setup in force: neither lane's bytes, each times c, run ahead by 4 s(a) + 4 s(b) + 2 M. Whole numbers are compared as sums.
 unfoldable pub ComparedBy : (List Setting → ℕ) → List Setting → List Event → Type 0
 ComparedBy M gs es =
     (past stretch rest : List Event) → es ≡ past ++ stretch ++ rest
@@ -29,7 +29,7 @@ ComparedBy M gs es =
 abbrev pub ComparedCalls : List Setting → List Event → Type 0
 ComparedCalls = ComparedBy (λ (gs : List Setting). margin (framingOf gs))
 
--- what the costliest record of the setup costs the line
+-- R15.9: what the costliest record of the setup costs the line
 abbrev pub tightest : List Setting → ℕ
 tightest gs = lineRate * longestCharge gs
 

@@ -1,16 +1,16 @@
 -- What holds of every list of public calls from the fresh table of a setup: the demands, of the calls' own answers. Each is said once, of a list that led to a
 -- table; a list begins with `make`, with an accepted restart, or with a session's run (zenfrosta/specs/AfterRun.antt).
 --
---   FairCalls      demand 3
---   NeverTen       "No table made by these calls from a fresh one is ever found not good."
---   OrderKept      "Each accepted record is handed out once, in its lane's order, or is still held."
---   SetupKept      the table's setup is the one in force
---   RestartHeld    "A restart in such a stretch is always refused, by 15."
---   Drains         a unit can always be drained and restarted; Drained: how many takes that needs
---   Demands        all of them, and demand 2
---   EveryList      the claim: a list of public calls on a table that a list led to
+--   FairCalls      R15.8 (demand 3): a busy lane's share
+--   NeverTen       R6.13, R15.11: no call is answered by 10, and the table after the list is good
+--   OrderKept      R15.12: each accepted record is handed out once, in its train's order, or is still held; a lane that is not shared has the train 0 alone
+--   SetupKept      R15.14: the table's setup is the one in force
+--   RestartHeld    R15.14: while a lane holds, a restart gives 15
+--   Drains         R15.15: a unit can always be drained and restarted; Drained: how many takes that needs
+--   Demands        R15.4: all of them, and R15.2 (demand 2)
+--   EveryList      R15.4, the claim: a list of public calls on a table that a list led to
 --   AfterMake      .. that `make` left; AfterRestart: that an accepted restart left
---   AsRuled        demand 2 alone, after `make`
+--   AsRuled        R15.2 alone, after `make`
 --
 -- Assumes nothing.
 use Prim.Native.Nat.{ℕ, _+_, _*_, _<_}
@@ -24,7 +24,7 @@ use Rattle.rules.specs.State.{Setting, settingAt, State, rate, slot, laneAt, se
 use Rattle.rules.specs.Setup.{framingOf, margin}
 use Rattle.rules.specs.Calls.{take, restart, restarted, refused, fresh}
 use Rattle.rules.specs.Reads.{reads}
-use Rattle.rules.specs.Runs.{Event, after, trace, acceptedOf, sentOf}
+use Rattle.rules.specs.Runs.{Event, after, trace, acceptedOf, sentOf, ofTrain}
 use Rattle.rules.specs.Fair.{bytesSent, bytesSentOf, Holding}
 use Rattle.rules.specs.declared.Answer.{Answer}
 use Rattle.table.specs.Means.{meant}
@@ -34,14 +34,16 @@ use Rattle.scheduler.specs.Step.{Step}
 use Rattle.scheduler.specs.Chain.{Chain, Begins, Led, inForce}
 use Rattle.scheduler.specs.Ahead.{AheadTold}
 use Rattle.scheduler.specs.Compared.{ComparedCalls, ComparedTight, FairTight}
+use Rattle.scheduler.specs.Even.{EvenCalls, EvenTightCalls, OthersTightCalls}
 use Rattle.scheduler.specs.Drained.{HandsOut, Drained}
 use Rattle.scheduler.specs.Endless.{EndlessCalls, ClockEarly}
 pub use Rattle.scheduler.specs.Chain.{callsOf}
 
 -- ---- of a list es from the fresh table of the setup gs, which led to the bytes u
 
--- For any lane and any stretch of the list (what comes before it, the stretch, what follows) in which the lane holds a record before the stretch and after each call
--- in it, with T the bytes sent in the stretch and O those of this lane: 1,024 T < c O + 4 slots + 1,024 (1,500 + h), by the setup in force. Refused calls are in the list.
+-- R15.8: for any lane and any stretch of the list (what comes before it, the stretch, what follows) in which the lane holds a record before the stretch and
+-- after each call in it, with T the bytes sent in the stretch and O those of this lane: 1,024 T < c O + 4 slots + 1,024 (1,500 + h), by the setup in force.
+-- Refused calls are in the list.
 unfoldable pub FairCalls : List Setting → List Event → Type 0
 FairCalls gs es =
     (past stretch rest : List Event) → es ≡ past ++ stretch ++ rest
@@ -53,12 +55,13 @@ unfoldable pub NeverTen : List Event → List ℕ → Type 0
 NeverTen es u = GoodTable u × ((past rest : List Event) (e : Event) (p : Option ℕ) → es ≡ past ++ e ∷ rest → e .reply ≡ refused 10 p → ⊥)
 
 unfoldable pub OrderKept : List Event → List ℕ → Type 0
-OrderKept es u = (s : State) → Encodes u s → (k : ℕ) → acceptedOf k es ≡ sentOf k es ++ queueOf (laneAt s k .waiting) 0
+OrderKept es u = (s : State) → Encodes u s → (k t : ℕ) → ofTrain t (acceptedOf k es) ≡ ofTrain t (sentOf k es) ++ queueOf (laneAt s k .waiting) t
 
 unfoldable pub SetupKept : List Setting → List Event → List ℕ → Type 0
 SetupKept gs es u = (s : State) → Encodes u s → setupOf s ≡ inForce gs es
 
--- Wherever a lane holds a record by the list's own count, as before a stretch of demand 3 and after each call in it, the next call, if it is a restart, gives 15.
+-- R15.14: wherever a lane holds a record by the list's own count, as before a stretch of R15.8 and after each call in it, the next call, if it is a restart,
+-- gives 15.
 unfoldable pub RestartHeld : List Event → Type 0
 RestartHeld es =
     (past rest : List Event) (e : Event) → es ≡ past ++ e ∷ rest
@@ -72,12 +75,15 @@ Drains es =
     × ((f : Event) (more : List Event) → rest ≡ f ∷ more → e .reply ≡ refused 16 none → f .call ≡ restart → f .reply ≡ restarted)
 
 pub record Demands (gs : List Setting) (es : List Event) (u : List ℕ) : Type 0 where
-  -- demand 2: every answer, and the table after the list, is what the rules give; so the list may go on
+  -- R15.2: every answer, and the table after the list, is what the rules give; so the list may go on
   pub led : Led gs es u
   pub fair : FairCalls gs es
   pub fair-tight : FairTight gs es
   pub compared : ComparedCalls gs es
   pub compared-tight : ComparedTight gs es
+  pub even : EvenCalls gs es
+  pub even-tight : EvenTightCalls gs es
+  pub others-tight : OthersTightCalls gs es
   pub endless : EndlessCalls gs es u
   pub clock-early : ClockEarly u
   pub never-ten : NeverTen es u
@@ -85,7 +91,7 @@ pub record Demands (gs : List Setting) (es : List Event) (u : List ℕ) : Type 0
   pub setup-kept : SetupKept gs es u
   pub restart-held : RestartHeld es
   pub drains : Drains es
-  pub ahead : AheadTold es
+  pub ahead : AheadTold gs es
   pub drained : Drained u
 
 -- ---- the claim, and how a list begins

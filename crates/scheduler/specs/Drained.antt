@@ -1,4 +1,4 @@
--- A unit can be drained and restarted: of the public calls' own answers, on a table that a list of calls led to.
+-- R15.15: a unit can be drained and restarted, of the public calls' own answers, on a table that a list of calls led to.
 --
 --   HandsOut   a reply hands a record out
 --   heldIn     how many records a table holds
@@ -21,9 +21,10 @@ use Rattle.scheduler.specs.Chain.{Chain, callsOf}
 
 pub record HandsOut (r : Reply) : Type 0 where
   pub lane : ℕ
+  pub train : ℕ
   pub mark : ℕ
   pub len : ℕ
-  pub is : r ≡ taken lane mark len
+  pub is : r ≡ taken lane train mark len
 
 abbrev pub heldIn : List ℕ → ℕ
 heldIn t = sum (λ (l : Lane). held (l .waiting)) (meant t .lanes)

@@ -1,4 +1,4 @@
--- What lag answers on any good table, of the call's own answer: the lag of the rules, within the ends of its range. Assumes nothing.
+-- R15.17: what lag answers on any good table, of the call's own answer: the lag of the rules, within the ends of its range. Assumes nothing.
 use Prim.Native.Nat.{ℕ}
 use mathlib.Core.Path.{_≡_}
 use mathlib.Core.List.{List}

@@ -3,6 +3,7 @@ pub mod Make
 pub mod Chain
 pub mod Ahead
 pub mod Compared
+pub mod Even
 pub mod Endless
 pub mod Drained
 pub mod Demands

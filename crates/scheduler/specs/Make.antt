@@ -27,13 +27,16 @@ abbrev pub reads : Making → Reply
 reads (Made n) = made n
 reads (Refused x) = notMade (number x) (placeOf x)
 
--- Long enough, the setup decides: "Making: 7 first, then fields in order". "The fresh table of an accepted setup", or nothing is written.
+-- R3.20, R3.21: where there is room the setup decides: its fresh table is made, or nothing is written. R8.16: the format plays no part.
 abbrev pub Follows : plan.Reply → List ℕ → Making → List ℕ → Type 0
 Follows (refused n p) before a after = (reads a ≡ notMade n p) × (after ≡ before)
 Follows (read v gs n at) before a after = (reads a ≡ made n) × Encodes after (fresh gs) × (drop SIZE after ≡ drop SIZE before)
 
+-- R14.37, R15.1: 7 comes before what is wrong with the setup
 pub record MakeStep (setup before : List ℕ) (a : Making) (after : List ℕ) : Type 0 where
-  -- "7: lent table shorter than the fixed size, on making one. Place 0."
+  -- R3.20, R14.13: 7 at place 0 where there is no room
   pub short : length before < SIZE → (reads a ≡ notMade 7 (some 0)) × (after ≡ before)
+  -- R3.21
   pub follows : SIZE ≤ length before → Follows (readSetup setup) before a after
+  -- R3.21
   pub size : length after ≡ length before

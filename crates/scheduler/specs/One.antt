@@ -1,4 +1,5 @@
--- What the promises leave open: nothing of an answer, and of a table only what no call tells apart. So a program that meets them gives the same answers as this one, for every input.
+-- R15.3: what the promises leave open: nothing of an answer, and of a table only what no call tells apart. So a program that meets them gives the same answers
+-- as this one, for every input.
 --
 --   OneAnswer   two outcomes that `Step` allows for the same call on the same bytes
 --   OneMaking   two outcomes that `MakeStep` allows for the same setup on the same bytes

@@ -1,4 +1,5 @@
--- "On a good table 12 and 13 depend on the lane's own setup and queue only", of the put's own answer: whatever the clock, S, F, the other lanes and the mark are.
+-- R14.44, of the put's own answer: its lane's setting and what waits there decide whether a train and a length get 12, 13, 70 or 71, whatever the clock, S, F,
+-- the other lanes and the mark are.
 -- Assumes nothing.
 use Prim.Native.Nat.{ℕ}
 use mathlib.Core.Path.{_≡_}
@@ -15,7 +16,7 @@ use Rattle.scheduler.specs.Step.{Step}
 
 unfoldable pub PutLocal : Type 0
 PutLocal =
-    (t t′ u u′ : List ℕ) (a a′ : Answer) (j m m′ n r : ℕ) → GoodTable t → GoodTable t′
+    (t t′ u u′ : List ℕ) (a a′ : Answer) (j k m m′ n r : ℕ) → GoodTable t → GoodTable t′
     → laneAt (meant t) j .given ≡ laneAt (meant t′) j .given → laneAt (meant t) j .waiting ≡ laneAt (meant t′) j .waiting
-    → Step (put j m n) t a u → Step (put j m′ n) t′ a′ u′
-    → (r ≡ 12) ⊎ (r ≡ 13) → reads a ≡ refused r none → reads a′ ≡ refused r none
+    → Step (put j k m n) t a u → Step (put j k m′ n) t′ a′ u′
+    → (r ≡ 12) ⊎ ((r ≡ 13) ⊎ ((r ≡ 70) ⊎ (r ≡ 71))) → reads a ≡ refused r none → reads a′ ≡ refused r none

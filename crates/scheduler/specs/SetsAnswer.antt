@@ -1,7 +1,7 @@
--- The four words that `sets` answers (document 01, "Sets"), as the host gets them: what their bits say of the table.
+-- The four words that `sets` answers (docs/RULES.md, R4), as the host gets them: what their bits say of the table.
 --
 --   bit           bit i of a word (crate words)
---   SetsAnswer    document 01's sentences on the four words
+--   SetsAnswer    what the rules say of the four words
 --   SetsCall      the claim, of the call's own answer on any good table
 --
 -- Assumes nothing.
@@ -21,15 +21,16 @@ use Rattle.good.specs.Table.{GoodTable}
 use Rattle.scheduler.specs.Step.{Step}
 
 pub record SetsAnswer (s : State) (er ir eb ib : ℕ) : Type 0 where
-  -- "The four words .. part the groups that hold records": of a group's four bits one is set if the group holds records, and none else
+  -- R4.6: of a group's four bits one is set if the group holds records, and none else
   pub parted : (i : ℕ) → i < groups → bit i er + bit i ir + bit i eb + bit i ib ≡ count (groupHolds (s .lanes) i)
-  -- group indices are below 32
+  -- R4.5: group indices are below 32
   pub small : (er < 2 ^ 32) × (ir < 2 ^ 32) × (eb < 2 ^ 32) × (ib < 2 ^ 32)
-  -- "The first set bit of the eligible-ready word is the chosen lane's group": that of the lane which look names, and take serves
-  pub first : (j m n : ℕ) → (step s look) .reply ≡ seen j m n → trailingZeros 64 er ≡ group (laneAt s j .given)
-  -- "and finishes never fall along that word"
+  -- R4.7: the lowest bit of ER is the group of the lane that look names, and take serves
+  pub first : (j k m n : ℕ) → (step s look) .reply ≡ seen j k m n → trailingZeros 64 er ≡ group (laneAt s j .given)
+  -- R4.8: up the bits of ER the groups' finishes stay equal or rise
   pub rising : (i k : ℕ) → i < k → k < groups → bit i er ≡ 1 → bit k er ≡ 1 → groupFinish (s .lanes) i ≤ groupFinish (s .lanes) k
 
+-- R4.5 to R4.8
 unfoldable pub SetsCall : Type 0
 SetsCall =
     (t u : List ℕ) (a : Answer) (er ir eb ib : ℕ) → GoodTable t → Step sets t a u → reads a ≡ words er ir eb ib

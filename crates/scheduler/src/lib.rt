@@ -1,9 +1,10 @@
 // The public calls on a lent table: make, put, take, look, sets, lag and restart.
 //
-// None asks anything of its caller: each tests what it is given, the whole table too, each time, and refuses by number as document 01's list says. Nothing
-// is written before the last test. What each promises is `Step` (specs/Step.antt), and `MakeStep` (specs/Make.antt) for making, whole. specs/Demands.antt
-// has what follows for every list of these calls: demand 3, never 10, the records' order and the setup kept, how a unit is drained and restarted. specs/One.antt
-// says that nothing of an answer is left open; TakeAnswer, LagAnswer, SetsAnswer and PutLocal say what one answer means, OrderFrom what any good table keeps.
+// None asks anything of its caller: each tests what it is given, the whole table too, each time, and refuses by number (docs/RULES.md, R14). Nothing is
+// written before the last test. What each promises is `Step` (specs/Step.antt), and `MakeStep` (specs/Make.antt) for making, whole. specs/Demands.antt has what
+// follows for every list of these calls (R15): a busy lane's share, the trains of a lane kept even, never 10, the records' order and the setup kept, how a unit
+// is drained and restarted. specs/One.antt says that nothing of an answer is left open; TakeAnswer, LagAnswer, SetsAnswer and PutLocal say what one answer
+// means, OrderFrom what any good table keeps.
 //
 // The table is SIZE bytes of the lent slice; bytes past them are never touched. `look`, `sets` and `lag` take it by `&`.
 ghost use Rattle.rules.specs.Calls as Calls;
@@ -45,14 +46,14 @@ pub fn make(setup: &[u8], t: &mut [u8]) -> Making
     }
 }
 
-// Puts a record into a lane.
-pub fn put(t: &mut [u8], lane: u8, mark: u32, length: Bytes) -> Answer
-    ensures { λ r. ⌜ Step (Calls.put lane mark (length .0)) (now (t .entry)) r (now (t .exit)) ⌝ }
+// Puts a record of a train into a lane; in a lane that is not shared the train is 0.
+pub fn put(t: &mut [u8], lane: u8, train: u8, mark: u32, length: Bytes) -> Answer
+    ensures { λ r. ⌜ Step (Calls.put lane train mark (length .0)) (now (t .entry)) r (now (t .exit)) ⌝ }
 {
     if !good(t) {
         return Answer::Refused(Refusal::NotGood);
     }
-    engine::put(t, lane, mark, length)
+    engine::put(t, lane, train, mark, length)
 }
 
 // Takes the next record.
@@ -95,7 +96,7 @@ pub fn lag(t: &[u8], lane: u8) -> Answer
     engine::lag(t, lane)
 }
 
-// Gives the fresh table of the same setup, once no record is held.
+// Begins anew with the table's own setup (R3.19), once no record is held.
 pub fn restart(t: &mut [u8]) -> Answer
     ensures { λ r. ⌜ Step Calls.restart (now (t .entry)) r (now (t .exit)) ⌝ }
 {

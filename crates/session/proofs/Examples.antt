@@ -1,4 +1,4 @@
--- The sessions of specs/Computed.antt and specs/EveryKind.antt, computed from the script's definition. Assumes nothing.
+-- The sessions of specs/Computed.antt, specs/EveryKind.antt and specs/Junction.antt, computed from the script's definition. Assumes nothing.
 use mathlib.Core.Path.{refl}
 use Rattle.fields.specs.Bytes.{big}
 use Rattle.text.specs.Decimal.{digits, widthFrom, width, decimal, signed}
@@ -11,6 +11,7 @@ use Rattle.requests.specs.Request as requests
 use Rattle.walk.specs.Script.{walk, script}
 use Rattle.session.specs.Computed.{TenLines, LimitNone, LimitReached, ByteAfter, EndsEarly}
 use Rattle.session.specs.EveryKind.{EveryKind}
+use Rattle.session.specs.Junction.{Junction}
 
 -- one name under which the script's definitions open
 unfoldable computes : Unit {0}
@@ -40,3 +41,7 @@ ends-early = record { text-is = refl; count-is = refl; why-is = refl }
 pub every-kind : EveryKind
 unfolding computes EveryKind
 every-kind = record { text-is = refl; count-is = refl; why-is = refl }
+
+pub junction : Junction
+unfolding computes Junction
+junction = record { text-is = refl; count-is = refl; why-is = refl }

@@ -8,23 +8,25 @@ use mathlib.Core.Option.{none, some}
 use lib.Dec.{ltb}
 use lib.ListN.{length}
 use Rattle.units.specs.Plain.{if_then_else_}
-use Rattle.rules.specs.State.{State}
+use Rattle.rules.specs.State.{Setting, State, setupOf}
 use Rattle.rules.specs.Setup.{Setup}
 use Rattle.rules.specs.Calls.{Call, fresh, step}
 use Rattle.rules.specs.Runs.{after, trace}
 use Rattle.rules.specs.Fair.{Demand3, TwoLanes}
+use Rattle.rules.proofs.SameSetup.{same-setup, fresh-setup}
 use Rattle.rules.proofs.Fair.{demand3, two-lanes}
 use Rattle.plan.specs.Read as plan
 use Rattle.plan.proofs.Accepted.{accepted}
 use Rattle.table.specs.Layout.{SIZE}
-use Rattle.lines.specs.Line.{lineOf, lanesLine}
+use Rattle.lines.specs.Line.{lanesLine}
 use Rattle.requests.specs.Request.{Item, request, last, bad, itemAt}
+use Rattle.answers.specs.Lines.{lineBy}
 use Rattle.walk.specs.Script.{Walked, closing, next, walk, begun, script, nothing, runOf}
 use Rattle.session.specs.Requests.{asked, requestsOf, linesOf, Lists, RunLists}
 
--- the walk from a state, with the lines before it
+-- the walk from a state, with the lines before it; the setup is the same in all of it
 record WalkLists (lines : List ℕ) (n : ℕ) (σ : State) (cs : List Call) (left : ℕ) (w : Walked) : Type 0 where
-  text : w .lines ≡ lines ++ linesOf (trace σ cs)
+  text : w .lines ≡ lines ++ linesOf (setupOf σ) (trace σ cs)
   count : w .count ≡ n + length cs
   state : w .state ≡ after σ cs
   within : length cs ≤ left
@@ -43,10 +45,11 @@ walk-lists (suc left) s at n lines σ = go (itemAt s at) (λ q m ls τ. walk-lis
     go (bad r p) more = walk-stops lines n (suc left) σ (next s n lines σ (bad r p) (walk left s)) refl refl refl
     go (last q) more = walk-stops lines n (suc left) σ (next s n lines σ (last q) (walk left s)) refl refl refl
     go (request c q) more =
-        let line = lineOf ((step σ c) .reply) in
+        let line = lineBy (setupOf σ) ((step σ c) .reply) in
         let rest = more q (n + 1) (lines ++ line) ((step σ c) .state) in
         record {
-          text = rest .text ∙ append-assoc lines line (linesOf (trace ((step σ c) .state) (requestsOf left s q)));
+          text = rest .text ∙ append-assoc lines line (linesOf (setupOf ((step σ c) .state)) (trace ((step σ c) .state) (requestsOf left s q)))
+              ∙ ap (λ (gs : List Setting). lines ++ (line ++ linesOf gs (trace ((step σ c) .state) (requestsOf left s q)))) (same-setup σ c);
           count = omega (arith, rest .count);
           state = rest .state;
           within = omega (arith, rest .within);
@@ -69,7 +72,8 @@ module _ (s : List ℕ) (limit : ℕ) (σ : State) where
         setup = ok;
         count = omega (arith, i .count);
         within = omega (arith, i .count, i .within);
-        text = ap (λ (x : List ℕ). lanesLine lanes ++ (x ++ closing (w .why) (w .count))) (i .text);
+        text = ap (λ (x : List ℕ). lanesLine lanes ++ (x ++ closing (w .why) (w .count)))
+            (i .text ∙ ap (λ (hs : List Setting). linesOf hs (trace (fresh gs) (requestsOf limit s at))) (fresh-setup gs));
         state = ap some (i .state);
         fair = demand3 gs ok;
         compared = two-lanes gs ok;

@@ -1,8 +1,8 @@
--- Document 01's session, and sessions at the edges of a run: what the script's definition gives for them.
+-- The first session of docs/RULES.md, R16, and sessions at the edges of a run: what the script's definition gives for them.
 --
 --   Shows          a run's text, its count of requests, and why it stopped
---   TenLines       "A session in full" gives its ten lines, and stops at the end field
---   LimitNone      a limit of 0: `lanes 2`, `end 0`
+--   TenLines       R16.3: the session gives its ten lines, and stops at the end field
+--   LimitNone      R16.5, as those below: a limit of 0: `lanes 2`, `end 0`
 --   LimitReached   the limit is looked at before the end field too: with 8 requests allowed the same lines, and the limit as the reason
 --   ByteAfter      a byte after the end field: refusal 4 with its place, and `no 4 PLACE` before `end 8`
 --   EndsEarly      a session that ends after its setup: refusal 1 at the input's length

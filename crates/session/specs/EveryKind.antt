@@ -1,7 +1,7 @@
--- A session whose output has a line of every kind, byte for byte, and what the script gives for it.
+-- R16.6: a session whose output has a line of every kind, byte for byte, and what the script gives for it.
 --
 --   everyRequests   puts, sets, look, takes, lags, restarts, and a field whose tag is unknown
---   everySession    the setup of document 01's session, and these
+--   everySession    the setup of the first session, and these
 --   everyOutput     its lines: each kind, lag above, below and at zero, `no` without a place and with one
 --   EveryKind       the script gives just these lines
 --

@@ -1,6 +1,6 @@
--- Document 01's session, byte for byte, and its output.
+-- The first session of docs/RULES.md, R16, byte for byte, and its output (R16.3).
 --
---   requests   the requests of "A session in full": put 0/1/1000, put 1/2/1000, put 0/3/500, sets, four takes
+--   requests   its requests: put 0/1/1000, put 1/2/1000, put 0/3/500, sets, four takes
 --   session    the whole session: the setup, these requests, the end field
 --   output     its ten lines
 --

@@ -1,4 +1,4 @@
--- What the promise of a run leaves open: nothing of its result and of the answer area, and of the table only what no call tells apart.
+-- R15.3: what the promise of a run leaves open: nothing of its result and of the answer area, and of the table only what no call tells apart.
 --
 --   SameRun   two outcomes of a run are one, so far
 --   OneRun    any two that `Ran` allows for the same input are

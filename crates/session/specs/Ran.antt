@@ -1,4 +1,4 @@
--- The promise of a session's run, for every input. Assumes nothing.
+-- The promise of a session's run, for every input (R10.11, R15.1). Assumes nothing.
 use Prim.Native.Nat.{ℕ}
 use mathlib.Core.List.{List}
 use lib.ListN.{length}

@@ -1,8 +1,8 @@
--- The requests of a run as a list of calls. A run that makes a table answers its requests as the rules do, from the fresh table of its setup; so what holds of every
--- list of the rules' calls holds of a run's answers, demand 3 included.
+-- The requests of a run as a list of calls (R10.16). A run that makes a table answers its requests as the rules do, from the fresh table of its setup; so
+-- what holds of every list of the rules' calls holds of a run's answers, R15.8 included.
 --
 --   requestsOf   the requests that stand from a place on, up to the limit
---   linesOf      the lines of their answers
+--   linesOf      the lines of their answers, by the setup
 --   Lists        what a script comes to, said by these
 --   RunLists     every run that makes a table comes to this
 --
@@ -18,8 +18,9 @@ use Rattle.rules.specs.Calls.{Call, fresh}
 use Rattle.rules.specs.Runs.{Event, after, trace}
 use Rattle.rules.specs.Fair.{Fair, Compared}
 use Rattle.plan.specs.Read as plan
-use Rattle.lines.specs.Line.{lineOf, lanesLine}
+use Rattle.lines.specs.Line.{lanesLine}
 use Rattle.requests.specs.Request.{Item, request, last, bad, itemAt}
+use Rattle.answers.specs.Lines.{lineBy}
 use Rattle.walk.specs.Script.{Script, closing, runOf}
 
 -- a request, and those behind it; none at the end field or a refused field
@@ -32,9 +33,9 @@ unfoldable pub requestsOf : ℕ → List ℕ → ℕ → List Call
 requestsOf zero s at = []
 requestsOf (suc left) s at = asked (itemAt s at) (requestsOf left s)
 
-unfoldable pub linesOf : List Event → List ℕ
-linesOf [] = []
-linesOf (e ∷ es) = lineOf (e .reply) ++ linesOf es
+unfoldable pub linesOf : List Setting → List Event → List ℕ
+linesOf gs [] = []
+linesOf gs (e ∷ es) = lineBy gs (e .reply) ++ linesOf gs es
 
 pub record Lists (s : List ℕ) (limit : ℕ) (x : Script) : Type 0 where
   pub settings : List Setting
@@ -44,13 +45,13 @@ pub record Lists (s : List ℕ) (limit : ℕ) (x : Script) : Type 0 where
   -- the setup at the front of the session, and the place behind it
   pub reads-it : plan.readPlan s 0 ≡ plan.read format settings lanes at
   pub setup : Setup settings
-  -- "the number of requests answered": all that stand there, up to the limit
+  -- all requests that stand there are answered, up to the limit
   pub count : x .count ≡ length (requestsOf limit s at)
   pub within : x .count ≤ limit
   -- a line for each, and each line that of the rules' answer
-  pub text : x .text ≡ lanesLine lanes ++ (linesOf (trace (fresh settings) (requestsOf limit s at)) ++ closing (x .why) (x .count))
+  pub text : x .text ≡ lanesLine lanes ++ (linesOf settings (trace (fresh settings) (requestsOf limit s at)) ++ closing (x .why) (x .count))
   pub state : x .state ≡ some (after (fresh settings) (requestsOf limit s at))
-  -- demand 3, of this list as of every one
+  -- R15.8, of this list as of every one
   pub fair : Fair (margin (framingOf settings)) settings
   -- and any two of its busy lanes compared
   pub compared : Compared (margin (framingOf settings)) settings

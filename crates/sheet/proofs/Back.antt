@@ -14,7 +14,7 @@ use lib.Dec.{ltb}
 use lib.ListN.{length}
 use borrow.Author.Tests.{ltb-true, ltb-false}
 use Rattle.units.specs.Plain.{if_then_else_}
-use Rattle.rules.specs.State.{Setting}
+use Rattle.rules.specs.State.{Setting, noSetting}
 use Rattle.rules.specs.Setup.{Setup, framingOf}
 use Rattle.rules.proofs.Figures.{framing-bound, framed-by}
 use Rattle.plan.specs.Judge.{given, after}
@@ -22,6 +22,7 @@ use Rattle.plan.specs.Read.{Reply, read, refused, noLanes, placed}
 use Rattle.plan.specs.Accepted.{present}
 use Rattle.plan.specs.declared.judge.Seen.{Seen}
 use Rattle.plan.specs.declared.parse.SetupField.the-variants.{Lane}
+use Rattle.plan.proofs.Lists.{replicate-at}
 use Rattle.plan.proofs.Rest.{refused-read}
 use Rattle.plan.proofs.Sound.{Sound, sound-first, sound-after}
 use Rattle.sheet.specs.Form.{begin, step}
@@ -41,6 +42,7 @@ use Rattle.sheet.proofs.Decimals.{append-assoc, append-nil}
 use Rattle.sheet.proofs.Steps.{soFar, lastBytes, bytesOf, rowBytes, Sane, sane-begin, Stepped, stepped, true-false}
 use Rattle.sheet.proofs.Rows.{Bare, is-taken, in-place}
 use Rattle.sheet.proofs.Sheets.{sheet-set}
+use Rattle.sheet.proofs.Unshared.{stays}
 
 -- a lane that is taken, in the plan so far
 pub record Grown (seen : Seen) (gs : List Setting) (r : Row) : Type 0 where
@@ -175,10 +177,11 @@ sound-none = record {
   few = sound-first .few;
   count = sound-first .count;
   floor = sound-first .floor;
+  last = λ o. true-false (sym o);
 }
 
 pub accepted-sheet : (s : List ℕ) (v : ℕ) (gs : List Setting) (n p : ℕ) → readSheet s ≡ read v gs n p → Accepted s v gs n p
 unfolding readSheet sheetBytes sheetFrom
 accepted-sheet s v gs n p h =
     let k = back v gs n p s noneSeen noLanes (begin 0) 0 sound-none bare-none (sane-begin 0) h in
-    record { format = k .format; same = sym (k .bytes); setup = k .setup; bare = k .bare; are-there = k .count; some-lane = k .some-lane; end = omega (arith, k .end) }
+    record { format = k .format; same = sym (k .bytes); setup = k .setup; bare = k .bare; unshared = stays v gs n p s noneSeen noLanes (begin 0) 0 (λ i. ap (λ (g : Setting). g .shared) (replicate-at 64 i noSetting)) h; are-there = k .count; some-lane = k .some-lane; end = omega (arith, k .end) }

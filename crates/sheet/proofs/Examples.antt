@@ -1,5 +1,6 @@
 -- Sheets worked by the definitions. Assumes nothing.
 use mathlib.Core.Path.{_≡_, refl}
+use mathlib.Core.Bool.{false}
 use mathlib.Core.List.{[], _∷_}
 use mathlib.Core.Option.{some}
 use lib.ListN.{set}
@@ -10,7 +11,7 @@ use Rattle.sheet.specs.Judge.{verdict}
 use Rattle.sheet.specs.Read.{walk, readSheet}
 
 -- `5 1 64`
-pub one-lane : readSheet (53 ∷ 32 ∷ 49 ∷ 32 ∷ 54 ∷ 52 ∷ 10 ∷ []) ≡ read 2 (set noLanes 5 (record { weight = 1; longest = 64; framing = 0 })) 1 7
+pub one-lane : readSheet (53 ∷ 32 ∷ 49 ∷ 32 ∷ 54 ∷ 52 ∷ 10 ∷ []) ≡ read 2 (set noLanes 5 (record { weight = 1; longest = 64; framing = 0; shared = false })) 1 7
 unfolding readSheet walk step verdict laneOutside
 one-lane = refl
 

@@ -31,7 +31,7 @@ use Rattle.sheet.specs.declared.judge.Verdict.{Verdict}
 use Rattle.sheet.proofs.Decimals.{append-assoc}
 use Rattle.sheet.proofs.Rows.{passes}
 use Rattle.sheet.proofs.Sheets.{line-there}
-use Rattle.sheet.specs.Promises.{place₃, rowAt}
+use Rattle.sheet.specs.Promises.{Unshared, place₃, rowAt}
 use Rattle.sheet.proofs.Numbers.{length-line, line-walk}
 
 abbrev blanks : List Setting → List Setting
@@ -51,6 +51,7 @@ record Ready (rest pre : List Setting) (seen : Seen) (k : ℕ) : Type 0 where
   whole : k + length rest ≡ 64
   each : (j : ℕ) → InNumbers (getD rest j noSetting) ⊎ (getD rest j noSetting ≡ noSetting)
   bare : (j : ℕ) → (getD rest j noSetting) .framing ≡ 0
+  unshared : (j : ℕ) → (getD rest j noSetting) .shared ≡ false
   floor : seen .floor ≤ k
   total : seen .total + weights rest ≤ 1024
   some-lane : 0 < seen .count + present rest
@@ -79,6 +80,7 @@ module _ (g : Setting) (rest pre : List Setting) (seen : Seen) (k at : ℕ) (h :
         whole = omega (arith, h .whole);
         each = λ j. h .each (suc j);
         bare = λ j. h .bare (suc j);
+        unshared = λ j. h .unshared (suc j);
         floor = omega (arith, h .floor);
         total = omega (arith, h .total);
         some-lane = omega (arith, h .some-lane, t);
@@ -113,12 +115,15 @@ module _ (g : Setting) (rest pre : List Setting) (seen : Seen) (k at : ℕ) (h :
           whole = omega (arith, h .whole);
           each = λ j. h .each (suc j);
           bare = λ j. h .bare (suc j);
+          unshared = λ j. h .unshared (suc j);
           floor = omega arith;
           total = omega (arith, h .total);
           some-lane = omega arith;
         } in
         let ok = passes seen row (omega arith) (i .weight-low) (i .weight-high) (i .longest-low) (i .longest-high) (h .floor) (omega (arith, h .total)) in
-        let own : given sheetFormat 0 (fieldOf row) ≡ g = ap (λ (n : ℕ). record { weight = g .weight; longest = g .longest; framing = n }) (sym (h .bare 0)) in
+        let own : given sheetFormat 0 (fieldOf row) ≡ g =
+        ap (λ (n : ℕ). record { weight = g .weight; longest = g .longest; framing = n; shared = false }) (sym (h .bare 0))
+        ∙ ap (λ (b : Bool). record { weight = g .weight; longest = g .longest; framing = g .framing; shared = b }) (sym (h .unshared 0)) in
         let count : seen₁ .count + present rest ≡ seen .count + present (g ∷ rest) = omega (arith, t) in
         let end : at₁ + length (sheetFrom (suc k) rest) ≡ at + length (sheetFrom k (g ∷ rest)) =
         omega (arith, length-line k (g .weight) (g .longest) at, ap length bytes, length-append (lineBytes k (g .weight) (g .longest)) (sheetFrom (suc k) rest)) in
@@ -153,15 +158,16 @@ some-there (g ∷ gs) h = go (ltb 0 (g .weight)) refl (some-there gs)
 all-bare : (gs : List Setting) → Setup gs → framingOf gs ≡ 0 → (k : ℕ) → (settingAt gs k) .framing ≡ 0
 all-bare gs s none k = ⊎-elim (λ i. s .framed k (i .weight-low) ∙ none) (λ e. ap (λ (g : Setting). g .framing) e) (s .each k)
 
-pub written-read : (gs : List Setting) → Setup gs → framingOf gs ≡ 0 → readSheet (sheetBytes gs) ≡ read sheetFormat gs (present gs) (length (sheetBytes gs))
+pub written-read : (gs : List Setting) → Setup gs → framingOf gs ≡ 0 → Unshared gs → readSheet (sheetBytes gs) ≡ read sheetFormat gs (present gs) (length (sheetBytes gs))
 unfolding readSheet sheetBytes
-written-read gs s none =
+written-read gs s none un =
     ap (λ (n : ℕ). walk noneSeen (replicate n noSetting) (begin 0) 0 (sheetFrom 0 gs)) (sym (s .size))
     ∙ forth gs [] noneSeen 0 0 (record {
       size = refl;
       whole = omega (arith, s .size);
       each = s .each;
       bare = all-bare gs s none;
+      unshared = un;
       floor = omega arith;
       total = omega (arith, s .total);
       some-lane = omega (arith, some-there gs (s .some-lane));

@@ -3,6 +3,7 @@ pub mod Steps
 pub mod Answers
 pub mod Rows
 pub mod Sheets
+pub mod Unshared
 pub mod Back
 pub mod Numbers
 pub mod Forth

@@ -10,7 +10,7 @@ use Rattle.sheet.proofs.Prefix.{wrong-byte, cut-short}
 
 pub reads-back : ReadsBack
 unfolding ReadsBack
-reads-back gs s none = written-read gs s none
+reads-back gs s none un = written-read gs s none un
 
 pub writes-back : WritesBack
 unfolding WritesBack

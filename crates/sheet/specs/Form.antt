@@ -1,5 +1,5 @@
--- The form of a sheet, as a machine over bytes: lines of three decimal numbers (lane, weight, longest) with one space between them and a line feed behind
--- each line. A number has one to five digits, and no 0 before another digit.
+-- The form of a sheet (R12.1), as a machine over bytes: lines of three decimal numbers (lane, weight, longest) with one space between them and a line feed
+-- behind each line. A number has one to five digits, and no 0 before another digit.
 --
 --   digit     a byte that is a decimal digit
 --   extends   a digit may follow

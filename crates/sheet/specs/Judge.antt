@@ -1,4 +1,4 @@
--- A whole line, judged by the lines before it: refusals 51, 52, 53, 4 and 6, in this order, each at the first digit of its number.
+-- A whole line, judged by the lines before it (R12.5, R14.20): refusals 51, 52, 53, 4 and 6, in this order, each at the first digit of its number.
 --
 --   fieldOf   the lane field of a setup that says what the line says
 --   told      the table: a fault of a lane field, told at the number of the line that it is about; or what the rest decides
@@ -33,8 +33,8 @@ told r BadLongest rest = Refused (LongestOutside (r .longest .place))
 told r BadFraming rest = rest
 told r TotalOver rest = Refused (WeightsOver (r .weight .place))
 
--- The setup's own tests of a lane field, in the sheet's order: the line's numbers, then whether the lane rises above those before it (4, at the lane), then
--- the weights so far.
+-- R14.41. The setup's own tests of a lane field, in the sheet's order: the line's numbers, then whether the lane rises above those before it (4, at the lane),
+-- then the weights so far.
 unfoldable pub verdict : Seen → Row → Verdict
 verdict seen r =
     told r (laneOutside (fieldOf r)) (if ltb (r .lane .value) (seen .floor) then Refused (OutOfOrder (r .lane .place)) else told r (over seen (Lane (fieldOf r))) Taken)

@@ -1,21 +1,21 @@
 -- What is promised of reading a sheet, of every input. Theorems of these names in small letters are in proofs/Promises.antt.
 --
---   ReadsBack       the sheet of a setup with no framing bytes is read as that setup, of format 2
---   WritesBack      a sheet that is read is, byte for byte, the sheet of what was read, and that is a setup of format 2 with no framing bytes
---   LineByLine      a line of the form is judged as a whole before a byte behind it is looked at, its numbers with the places of their first digits
---   RefusesInside   a refusal has a number of `refusals` and a place in the sheet, at its length only for 81
---   FirstWrong      80: the bytes before the place begin a sheet of the form, and with the byte at the place none goes on
---   CutShort        81: the place is the sheet's length; its bytes begin a sheet of the form and are none
---   FormIsRead      a sheet of the form is refused by 80 or 81 never
+--   ReadsBack       R12.9: the sheet of a setup with no framing bytes and no shared lane is read as that setup, of format 2
+--   WritesBack      R12.6: a sheet that is read is, byte for byte, the sheet of what was read: a setup of format 2 with no framing bytes and no shared lane
+--   LineByLine      R12.2: a line of the form is judged as a whole before a byte behind it is looked at, its numbers with the places of their first digits
+--   RefusesInside   R12.5: a refusal has a number of `refusals` and a place in the sheet, at its length only for 81
+--   FirstWrong      R12.3, of 80: the bytes before the place begin a sheet of the form, and with the byte at the place none goes on
+--   CutShort        R12.4, of 81: the place is the sheet's length; its bytes begin a sheet of the form and are none
+--   FormIsRead      R12.3: a sheet of the form is refused by 80 or 81 never
 --
 -- Assumes nothing.
 use Prim.Native.Nat.{ℕ, _+_, _≤_, _<_}
 use mathlib.Core.Path.{_≡_}
-use mathlib.Core.Bool.{true}
+use mathlib.Core.Bool.{true, false}
 use mathlib.Core.List.{List, [], _∷_, _++_}
 use mathlib.Core.Option.{Option, some}
 use lib.ListN.{length}
-use Rattle.rules.specs.State.{Setting}
+use Rattle.rules.specs.State.{Setting, settingAt}
 use Rattle.rules.specs.Setup.{Setup, framingOf}
 use Rattle.plan.specs.Read.{read, refused}
 use Rattle.plan.specs.Accepted.{present, among}
@@ -27,15 +27,20 @@ use Rattle.sheet.specs.Read.{sheetFormat, after-line, walk, readSheet}
 use Rattle.sheet.specs.Text.{lineBytes, Formed, Begins, sheetBytes}
 use Rattle.sheet.specs.declared.form.Row.{Row}
 
-unfoldable pub ReadsBack : Type 0
-ReadsBack = (gs : List Setting) → Setup gs → framingOf gs ≡ 0 → readSheet (sheetBytes gs) ≡ read sheetFormat gs (present gs) (length (sheetBytes gs))
+-- no lane is shared
+abbrev pub Unshared : List Setting → Type 0
+Unshared gs = (k : ℕ) → (settingAt gs k) .shared ≡ false
 
--- A sheet that was read as a format, these settings, so many lanes, as far as a place.
+unfoldable pub ReadsBack : Type 0
+ReadsBack = (gs : List Setting) → Setup gs → framingOf gs ≡ 0 → Unshared gs → readSheet (sheetBytes gs) ≡ read sheetFormat gs (present gs) (length (sheetBytes gs))
+
+-- R12.6. A sheet that was read as a format, these settings, so many lanes, as far as a place.
 pub record Accepted (s : List ℕ) (v : ℕ) (gs : List Setting) (n p : ℕ) : Type 0 where
   pub format : v ≡ sheetFormat
   pub same : sheetBytes gs ≡ s
   pub setup : Setup gs
   pub bare : framingOf gs ≡ 0
+  pub unshared : Unshared gs
   pub are-there : present gs ≡ n
   pub some-lane : 1 ≤ n
   pub end : p ≡ length s

@@ -1,8 +1,8 @@
 -- What reading a sheet answers: the promise of `read_sheet`.
 --
 --   walk        the sheet from a place on
---   sheetFormat the format of a plan that comes from a sheet
---   readSheet   the reply for a whole sheet: a plan of that format with no framing bytes, or a refusal
+--   sheetFormat R12.6: the format of a plan that comes from a sheet
+--   readSheet   R12.2, R12.6: the reply for a whole sheet: a plan of that format with no framing bytes and no shared lane, or a refusal
 --
 -- Assumes nothing.
 use Prim.Native.Nat.{ℕ, _+_}
@@ -33,7 +33,7 @@ sheetFormat = 2
 
 -- Before the first line: no lane, no framing bytes, and any lane number may follow.
 abbrev pub noneSeen : Seen
-noneSeen = record { begun = true; opening = false; format = sheetFormat; framing = 0; floor = 0; total = 0; count = 0 }
+noneSeen = record { begun = true; opening = false; laned = false; format = sheetFormat; framing = 0; floor = 0; total = 0; count = 0 }
 
 -- Nothing of a line is read.
 abbrev pub blank : part.Part → Bool → Bool
@@ -46,13 +46,13 @@ abbrev pub after-line : Seen → List Setting → ℕ → Row → Verdict → (S
 after-line seen gs at r (Refused x) go = refused (number x) (placeOf x)
 after-line seen gs at r Taken go = go (after seen (Lane (fieldOf r))) (placed sheetFormat 0 gs (Lane (fieldOf r))) (begin at)
 
--- 80 at the byte that the form can't have; a line that is whole is judged before the next one is looked at.
+-- R12.3, R14.18: 80 at a byte with which the form does not go on; a line that is whole is judged before the next one is looked at.
 abbrev pub next : Seen → List Setting → ℕ → Step → (Seen → List Setting → Line → Reply) → Reply
 next seen gs at Wrong go = refused 80 (some at)
 next seen gs at (More f) go = go seen gs f
 next seen gs at (Whole r) go = after-line seen gs (at + 1) r (verdict seen r) go
 
--- The bytes from a place on. 81 at the end, where no line was read or one is begun.
+-- R12.2, R14.19. The bytes from a place on. 81 at the end, where no line was read or one is begun.
 unfoldable pub walk : Seen → List Setting → Line → ℕ → List ℕ → Reply
 walk seen gs f at [] = if blank (f .part) (f .begun) && ltb 0 (seen .count) then read sheetFormat gs (seen .count) at else refused 81 (some at)
 walk seen gs f at (b ∷ bs) = next seen gs at (step f at b) (λ seen₁ gs₁ f₁. walk seen₁ gs₁ f₁ (at + 1) bs)

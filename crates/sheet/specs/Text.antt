@@ -1,11 +1,11 @@
--- A sheet as text.
+-- A sheet as text (R12.1).
 --
 --   lineBytes    a line of three numbers
 --   Entry        the three numbers of a line; Short: none has a sixth digit
 --   linesBytes   the bytes of lines, one after another
 --   Formed       a sheet of the form
 --   Begins       bytes with which a sheet of the form begins
---   sheetBytes   the sheet of a plan: a line for each of its lanes, by number
+--   sheetBytes   R12.7: the sheet of a plan: a line for each of its lanes, by number
 --
 -- Assumes nothing.
 use Prim.Native.Nat.{ℕ, zero, suc, _<_}

@@ -66,6 +66,7 @@ pub fn after(seen: Seen, row: Row) -> Seen
     Seen {
         begun: true,
         opening: false,
+        laned: true,
         format: seen.format,
         framing: seen.framing,
         floor: row.lane.value as usize + 1,

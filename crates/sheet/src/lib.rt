@@ -5,7 +5,7 @@
 //   lib     the walk over the bytes: `read_sheet`; refusal 81
 //
 // `read_sheet` takes any bytes. What it answers is `readSheet` of specs/Read.antt, and specs/Promises.antt says which sheets are read, and what 80 and 81
-// say of the sheets of the form. The plan is of format 2 and has no framing bytes.
+// say of the sheets of the form. The plan is of format 2 and has no framing bytes and no shared lane.
 //
 // Units: a place is a number of bytes from the first byte of the sheet, a longest is in `Bytes`; weights are plain numbers.
 ghost use mathlib.Core.Path.{_≡_};
@@ -61,6 +61,7 @@ fn placed(mut lanes: [Lane; LANES], row: Row) -> [Lane; LANES]
         weight: row.weight.value,
         longest: Bytes(row.longest.value),
         framing: Bytes(0),
+        shared: false,
     };
     lanes
 }
@@ -98,6 +99,7 @@ pub fn read_sheet(s: &[u8]) -> Reading
     let mut seen = Seen {
         begun: true,
         opening: false,
+        laned: false,
         format: FORMAT,
         framing: 0,
         floor: 0,

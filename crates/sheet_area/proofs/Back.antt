@@ -26,7 +26,7 @@ use Rattle.sheet.proofs.Back.{accepted-sheet}
 use Rattle.sheet.proofs.Forth.{written-read}
 use Rattle.sheet_writer.specs.Write.{sheetOf, sizeOf, Bare, wrote}
 use Rattle.sheet_writer.specs.declared.Written.{Written}
-use Rattle.sheet_writer.proofs.Calls.{bare-or-not}
+use Rattle.sheet_writer.proofs.Calls.{bare-or-not, none-shared, no-shareds}
 use Rattle.sheet_area.specs.Step.{ReadStep, WriteStep, WritesBack, ReadsBack}
 
 lanes-refused : {A : Type 0} {n m : ℕ} {q : Option ℕ} → lanes n ≡ refused m q → A
@@ -65,7 +65,7 @@ writes-back-area s area area′ g n r e before after a h room =
     let x = into .reads in
     let w : Within p = record { format = ap knownFormat (x .format); setup = x .setup; count = x .are-there } in
     let plan-is = shows-plan p area′ w (into .shows) in
-    let bare : Bare (planIn area′) = subst Bare (sym plan-is) (x .bare) in
+    let bare : Bare (planIn area′) = subst Bare (sym plan-is) (x .bare, no-shareds (p .lanes) (x .unshared)) in
     let long : sizeOf p ≡ length s = ap length (x .same) in
     let long-in : sizeOf (planIn area′) ≡ length s = ap sizeOf plan-is ∙ long in
     let done = h .written (shows-within p area′ w (into .shows) (into .room)) bare (omega (arith, long-in, room)) in
@@ -105,7 +105,7 @@ reads-back-area area before after a k h e area₁ area₂ g room r =
     let first : take k after ≡ sheetOf p =
     ap (λ (i : ℕ). take i after) (s .is) ∙ ap (take (sizeOf p)) (h .written (s .within) (s .bare) (s .room) .1) ∙ take-at (sheetOf p) (drop (sizeOf p) before) (sizeOf p) refl in
     let read-is : readSheet (take k after) ≡ read sheetFormat (p .lanes) (p .count) (sizeOf p) =
-    ap readSheet first ∙ written-read (p .lanes) (w .setup) (s .bare) ∙ ap (λ (n : ℕ). read sheetFormat (p .lanes) n (sizeOf p)) (w .count) in
+    ap readSheet first ∙ written-read (p .lanes) (w .setup) (s .bare .0) (none-shared (p .lanes) (s .bare .1)) ∙ ap (λ (n : ℕ). read sheetFormat (p .lanes) n (sizeOf p)) (w .count) in
     let f = subst (λ (x : plan.Reply). Follows x area₁ g area₂) read-is (r .follows room) in
     let t = area-shows area (s .within) in
     (f .0, λ i l. f .1 .lane i l ∙ sym (t .lane i l))

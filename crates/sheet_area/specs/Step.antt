@@ -1,8 +1,8 @@
--- The promises of the two calls on a sheet and a plan area, whole: for all bytes and every length.
+-- The promises of the two calls on a sheet and a plan area (R12.10), whole: for all bytes and every length.
 --
 --   ReadStep     the promise of `read_sheet`
 --   WriteStep    the promise of `write_sheet`
---   WritesBack   a sheet that is read into an area is written back as the same bytes
+--   WritesBack   a sheet that is read into an area comes back as its own bytes
 --   ReadsBack    what was written from an area is read, into any area, as the same lanes; the format is not given back
 --
 -- Theorems of the last two names in small letters are in proofs/Back.antt. Assumes nothing.
@@ -21,15 +21,15 @@ use Rattle.sheet.specs.Read.{readSheet}
 use Rattle.sheet_writer.specs.Write.{sheetOf, sizeOf, Bare, wrote}
 use Rattle.sheet_writer.specs.declared.Written.{Written}
 
--- 7 where the area is too short, first and at place 0. Else the sheet decides: its plan is in the area, and the bytes past it stay; or a refusal, and the
--- area stays.
+-- R14.13, R14.41: 7 where the area is too short, first and at place 0. Else the sheet decides: its plan is in the area, and the bytes past it stay; or a
+-- refusal, and the area stays.
 pub record ReadStep (s before : List ℕ) (a : Got) (after : List ℕ) : Type 0 where
   pub short : length before < 65 * 8 → (got a ≡ area.refused 7 (some 0)) × (after ≡ before)
   pub follows : Room before → Follows (readSheet s) before a after
   pub size : length after ≡ length before
 
--- 55 for an area that is no plan within the numbers, whatever else; 82 for a plan with framing bytes; 56 where the buffer is shorter than the exact size; the
--- buffer stays for all three. Else the answer is the size, the sheet stands first, and the bytes past it stay.
+-- 55 for an area that is no plan within the numbers, whatever else; 82 for a plan with framing bytes or a shared lane; 56 where the buffer is shorter than the
+-- exact size; the buffer stays for all three. Else the answer is the size, the sheet stands first, and the bytes past it stay.
 pub record WriteStep (a before : List ℕ) (answer : Written) (after : List ℕ) : Type 0 where
   pub outside : (AreaWithin a → ⊥) → (wrote answer ≡ refused 55) × (after ≡ before)
   pub no-sheet : AreaWithin a → (Bare (planIn a) → ⊥) → (wrote answer ≡ refused 82) × (after ≡ before)

@@ -1,27 +1,31 @@
 -- The answers of `write_sheet` as specs/Write.antt promises them, and the promises of specs/RoundTrip.antt.
 --
 --   says-outside, says-no-sheet, says-short, says-size   the promise, where the tests went so
+--   none-shared, no-shareds   no lane is shared, by their number and by each of them
 --   reads-back-calls, writes-back-calls, size-most-calls   the promises
 --
 -- Assumes nothing.
-use Prim.Native.Nat.{ℕ, _≤_, _<_}
+use Prim.Native.Nat.{ℕ, zero, suc, _+_, _≤_, _<_}
 use mathlib.Core.Path.{_≡_, refl, sym, ap, subst, _∙_}
+use mathlib.Core.Bool.{Bool, true, false}
 use mathlib.Core.Logic.{_⊎_, inl, inr, ⊎-elim}
-use mathlib.Core.List.{List, _++_}
+use mathlib.Core.List.{List, [], _∷_, _++_}
 use native.Mathlib.Decide.{decLe}
 use native.Mathlib.Omega.{arith}
 use lib.ListN.{length, drop, take}
 use lib.Seq.{sets, take-at}
-use Rattle.rules.specs.State.{Setting}
+use Rattle.units.specs.Plain.{if_then_else_}
+use Rattle.rules.specs.State.{Setting, settingAt}
 use Rattle.rules.specs.Setup.{framingOf}
 use Rattle.plan.specs.Judge.{knownFormat}
 use Rattle.plan.specs.Read.{read, settings, came}
-use Rattle.plan_writer.specs.Write.{Planned, planned, Within, size, refused}
+use Rattle.plan_writer.specs.Write.{Planned, planned, Within, shareds, size, refused}
 use Rattle.plan_writer.proofs.Decided.{within-or-not}
 use Rattle.plan_writer.proofs.Numbered.{numbered-all}
 use Rattle.plan_writer.proofs.Writing.{stored-first}
 use Rattle.sheet.specs.Read.{sheetFormat, readSheet}
 use Rattle.sheet.specs.Text.{sheetBytes}
+use Rattle.sheet.specs.Promises.{Unshared}
 use Rattle.sheet.proofs.Back.{accepted-sheet}
 use Rattle.sheet.proofs.Forth.{written-read}
 use Rattle.sheet_writer.specs.Write.{sheetOf, sizeOf, Bare, wrote, Writes}
@@ -62,7 +66,25 @@ size-refused : {A : Type 0} {k n : ℕ} → size k ≡ refused n → A
 size-refused h = absurd (let z : _≡_ {A = ℕ} 0 1 = cc in omega arith)
 
 pub bare-or-not : (p : Planned) → Bare p ⊎ (Bare p → ⊥)
-bare-or-not p = elim (decLe (framingOf (p .lanes)) 0) [ yes a ↦ inl (omega arith) | no a ↦ inr (λ e. omega (arith, e, a)) ]
+bare-or-not p =
+    elim (decLe (framingOf (p .lanes)) 0) [
+      | yes a ↦ elim (decLe (shareds (p .lanes)) 0) [ yes b ↦ inl (omega arith, omega arith) | no b ↦ inr (λ e. omega (arith, e .1, b)) ]
+      | no a ↦ inr (λ e. omega (arith, e .0, a))
+    ]
+
+-- no lane is shared, by their number
+pub none-shared : (gs : List Setting) → shareds gs ≡ 0 → Unshared gs
+none-shared [] e k = refl
+none-shared (g ∷ gs) e k = go (g .shared) refl e (none-shared gs) k
+  where
+    go : (b : Bool) → g .shared ≡ b → (if b then 1 else 0) + shareds gs ≡ 0 → (shareds gs ≡ 0 → Unshared gs) → (k : ℕ) → (settingAt (g ∷ gs) k) .shared ≡ false
+    go true q z more k = absurd (omega arith)
+    go false q z more zero = q
+    go false q z more (suc k) = more (omega arith) k
+
+pub no-shareds : (gs : List Setting) → Unshared gs → shareds gs ≡ 0
+no-shareds [] u = refl
+no-shareds (g ∷ gs) u = omega (arith, ap {B = ℕ} (λ (b : Bool). if b then 1 else 0) (u 0), no-shareds gs (λ k. u (suc k)))
 
 pub record Sized (p : Planned) (before : List ℕ) (k : ℕ) : Type 0 where
   pub within : Within p
@@ -94,7 +116,7 @@ reads-back-calls plan before after a k h e =
     ap (take k) (h .written (s .within) (s .bare) (s .room) .1) ∙ ap (λ (i : ℕ). take i (sheetOf p ++ drop (sizeOf p) before)) (s .is) ∙ take-at (sheetOf p) (drop (sizeOf p) before) (sizeOf p) refl
     in
     ap readSheet bytes
-    ∙ written-read (p .lanes) (s .within .setup) (s .bare)
+    ∙ written-read (p .lanes) (s .within .setup) (s .bare .0) (none-shared (p .lanes) (s .bare .1))
     ∙ ap (λ (n : ℕ). read sheetFormat (p .lanes) n (sizeOf p)) (s .within .count)
     ∙ ap (read sheetFormat (p .lanes) (plan .count)) (sym (s .is))
 
@@ -107,7 +129,7 @@ writes-back-calls s r k e o before after a h room =
     let w : Within p = record { format = ap knownFormat (x .format); setup = x .setup; count = x .are-there } in
     let h₁ : Writes p before a after = subst (λ (y : List Setting). Writes (record { format = r .plan .format; lanes = y; count = r .plan .count }) before a after) (numbered-all (settings (r .plan)) (x .setup .size)) h in
     let long : sizeOf p ≡ length s = ap length (x .same) in
-    let done = h₁ .written w (x .bare) (omega (arith, long, room)) in
+    let done = h₁ .written w (x .bare, no-shareds (p .lanes) (x .unshared)) (omega (arith, long, room)) in
     (done .0 ∙ ap size long, done .1 ∙ ap (λ (y : List ℕ). y ++ drop (sizeOf p) before) (x .same) ∙ ap (λ (i : ℕ). s ++ drop i before) long)
 
 pub size-most-calls : SizeMost

@@ -1,9 +1,9 @@
--- Writing and reading sheets go back and forth: the promises, of the two calls' own answers. (`Writes` is what `write_sheet` ensures, and
+-- Writing and reading sheets go back and forth (R12.9): the promises, of the two calls' own answers. (`Writes` is what `write_sheet` ensures, and
 -- `reads r ≡ readSheet s` what `read_sheet` does.) Theorems of these names in small letters are in proofs/Calls.antt.
 --
 --   ReadsBack    what was written is read as the same lanes; the format is not given back
---   WritesBack   a sheet that is read is written back as the same bytes
---   SizeMost     no sheet of a plan within the numbers has more than 698 bytes
+--   WritesBack   a sheet that is read comes back as its own bytes
+--   SizeMost     R12.7: no sheet of a plan within the numbers has more than 698 bytes
 --
 -- Assumes nothing.
 use Prim.Native.Nat.{ℕ, _≤_}

@@ -1,4 +1,4 @@
--- Writing a sheet: the promise of `write_sheet`. What the sheet of a plan is, `sheetBytes`, is the reader's (crate `sheet`, specs/Text.antt), and which
+-- Writing a sheet (R12.8): the promise of `write_sheet`. What the sheet of a plan is, `sheetBytes`, is the reader's (crate `sheet`, specs/Text.antt), and which
 -- plans are within the numbers the setup writer's (crate `plan_writer`, specs/Write.antt).
 --
 --   sheetOf   the sheet of a plan; sizeOf: how many bytes it has
@@ -10,23 +10,23 @@ use mathlib.Core.Path.{_≡_}
 use mathlib.Core.List.{List, _++_}
 use lib.ListN.{length, drop}
 use Rattle.rules.specs.Setup.{framingOf}
-use Rattle.plan_writer.specs.Write.{Planned, Within, Reply, size, refused}
+use Rattle.plan_writer.specs.Write.{Planned, Within, Reply, size, refused, shareds}
 use Rattle.sheet.specs.Text.{sheetBytes}
 use Rattle.sheet_writer.specs.declared.Unwritten.{Unwritten}
 use Rattle.sheet_writer.specs.declared.Unwritten.the-variants.{Outside, NoSheet, Short}
 use Rattle.sheet_writer.specs.declared.Written.{Written}
 use Rattle.sheet_writer.specs.declared.Written.the-variants.{Size, Refused}
 
--- A line for each lane, by number.
+-- R12.7. A line for each lane, by number.
 abbrev pub sheetOf : Planned → List ℕ
 sheetOf p = sheetBytes (p .lanes)
 
 abbrev pub sizeOf : Planned → ℕ
 sizeOf p = length (sheetOf p)
 
--- A sheet says nothing of framing bytes.
+-- A sheet says nothing of framing bytes and of shared lanes.
 abbrev pub Bare : Planned → Type 0
-Bare p = framingOf (p .lanes) ≡ 0
+Bare p = (framingOf (p .lanes) ≡ 0) × (shareds (p .lanes) ≡ 0)
 
 abbrev pub number : Unwritten → ℕ
 number Outside = 55
@@ -38,9 +38,9 @@ abbrev pub wrote : Written → Reply
 wrote (Size n) = size n
 wrote (Refused x) = refused (number x)
 
--- A plan outside the numbers is refused by 55, whatever else; one within them that has framing bytes by 82; one that a sheet can say by 56 where the buffer
--- is shorter than its exact size; the buffer stays for all three. Else the answer is the size, the sheet stands first in the buffer, and the bytes past it
--- stay.
+-- R14.16, R14.17, R14.21, R14.41. A plan outside the numbers is refused by 55, whatever else; one within them that has framing bytes or a shared lane by 82;
+-- one that a sheet can say by 56 where the buffer is shorter than its exact size; the buffer stays for all three. Else the answer is the size, the sheet stands
+-- first in the buffer, and the bytes past it stay.
 pub record Writes (p : Planned) (before : List ℕ) (answer : Written) (after : List ℕ) : Type 0 where
   pub outside : (Within p → ⊥) → (wrote answer ≡ refused 55) × (after ≡ before)
   pub no-sheet : Within p → (Bare p → ⊥) → (wrote answer ≡ refused 82) × (after ≡ before)

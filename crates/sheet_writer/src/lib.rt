@@ -1,8 +1,9 @@
-// The writer of the office's text sheet: a plan within the numbers and with no framing bytes is written to a lent buffer as a line for each of its lanes.
+// The writer of the office's text sheet: a plan within the numbers, with no framing bytes and no shared lane, is written to a lent buffer as
+// a line for each of its lanes.
 //
 // `write_sheet` takes any plan and any buffer. It tests the plan (55), then whether a sheet can say it (82), then the room (56), and only then stores: so
-// the buffer stays for a refusal. What it answers and leaves is `Writes` of specs/Write.antt; specs/RoundTrip.antt says that reading what was written gives
-// the same lanes, and that a sheet that is read is written back as the same bytes.
+// the buffer stays for a refusal. What it answers and leaves is `Writes` of specs/Write.antt; specs/RoundTrip.antt says that a plan's lanes come back from
+// its sheet, and that a sheet that is read comes back as its own bytes (R12.9).
 //
 // Units: a place is a number of bytes from the first byte of the buffer, a size a number of bytes. The inner functions' `requires` says that the plan was
 // tested and that there is room.
@@ -21,6 +22,7 @@ use plan::LANES;
 use plan::Lane;
 use plan::Plan;
 use plan_writer::line_framing;
+use plan_writer::shared_lanes;
 use plan_writer::within;
 use text::put_number;
 
@@ -35,7 +37,7 @@ const STOPS: usize = 3;
 pub enum Unwritten {
     // 55: the plan is outside the numbers.
     Outside,
-    // 82: the plan has framing bytes, which a sheet cannot say.
+    // 82: the plan has framing bytes or a shared lane, which a sheet cannot say.
     NoSheet,
     // 56: the buffer is shorter than the exact size.
     Short,
@@ -135,6 +137,9 @@ pub fn write_sheet(plan: Plan, buf: &mut [u8]) -> Written
     }
     let lanes = plan.lanes;
     if line_framing(lanes) != 0 {
+        return Written::Refused(Unwritten::NoSheet);
+    }
+    if shared_lanes(lanes) != 0 {
         return Written::Refused(Unwritten::NoSheet);
     }
     let size = sheet_size(lanes);

@@ -15,7 +15,7 @@ use Rattle.words.proofs.Runs.{getD-tab}
 use Rattle.rules.specs.State.{State, Lane, group, holds, laneAt, laneDepth, noLane}
 use Rattle.alike.specs.Alike.{Alike}
 use Rattle.table.specs.Layout.{cells, rowAt, placeOf, entryAt}
-use Rattle.table.specs.Means.{presentAt, recOf, ringOf, meant}
+use Rattle.table.specs.Means.{presentAt, givenOf, meant}
 use Rattle.table.specs.declared.LaneRow.{LaneRow}
 use Rattle.table.specs.declared.Entry.{Entry}
 use Rattle.table.proofs.Footprint.{lane-is}
@@ -37,7 +37,7 @@ unfolding view
 view-alike clock s u e = rw (e .clock)
 view-alike (lane k) s u e = rw (e .lanes)
 view-alike (backlog k) s u e = rw (e .lanes)
-view-alike (waits k i) s u e = rw (e .lanes)
+view-alike (waits k t i) s u e = rw (e .lanes)
 
 pub bad-shows : (a : Ask) (t : List ℕ) → (GoodTable t → ⊥) → Shows a t (Refused why.NotGood)
 bad-shows a t b = record { not-good = λ _. refl; shown = λ g. absurd (b g) }
@@ -60,33 +60,23 @@ module _ (s : State) (k : ℕ) (e : laneAt s k ≡ noLane) where
   unfolding view
   none-backlog = rw e
 
-  none-waits : (i : ℕ) → refused 11 none ≡ view s (waits k i)
+  none-waits : (j i : ℕ) → refused 11 none ≡ view s (waits k j i)
   unfolding view
-  none-waits i = rw e
+  none-waits j i = rw e
 
 -- ---- a lane by its row
 
 module _ (t : List ℕ) (k : ℕ) (l : LaneRow) (f : FindIs t k (Row l)) where
-  abbrev lane-k : Lane
+  abbrev pub lane-k : Lane
   lane-k = laneAt (meant t) k
 
-  found : RowIs lane-k l
+  pub found : RowIs lane-k l
   found = rw (f .3) (row-is t (good-sound t (f .0)) k (f .1) (f .2))
 
-  weighs : ltb (lane-k .given .weight) 1 ≡ false
+  pub weighs : ltb (lane-k .given .weight) 1 ≡ false
   weighs = le-ltb (lane-k .given .weight) 1 (row-weighs lane-k l found)
 
-  waiting-good : GoodWaiting (lane-k .given .longest) (lane-k .waiting)
-  waiting-good = f .0 .good .waiting k
-
-  pub few : l .count ≤ laneDepth
-  unfolding GoodWaiting held
-  few = go (lane-k .waiting) waiting-good (found .held)
-    where
-      go : (w : Waiting) → GoodWaiting (lane-k .given .longest) w → held w ≡ l .count → l .count ≤ laneDepth
-      go (plain q) g e = omega (arith, g .0, e)
-
-  pub shows-setting : settingIs (record { weight = l .weight; longest = l .longest .0; framing = l .framing .0 }) (l .group) ≡ view (meant t) (lane k)
+  pub shows-setting : settingIs (givenOf l) (l .group) ≡ view (meant t) (lane k)
   unfolding view
   shows-setting = rw (weighs, found .grouped, found .given)
 
@@ -97,25 +87,6 @@ module _ (t : List ℕ) (k : ℕ) (l : LaneRow) (f : FindIs t k (Row l)) where
   pub shows-backlog : backlogIs (l .count) (l .time .0) ≡ view (meant t) (backlog k)
   unfolding view
   shows-backlog = rw (weighs, found .held, time-is (holds lane-k) refl)
-
-  pub shows-none : (i : ℕ) → l .count ≤ i → refused 16 none ≡ view (meant t) (waits k i)
-  unfolding view
-  shows-none i h = rw (weighs, found .held, le-ltb i (l .count) h)
-
-  waiting-is : lane-k .waiting ≡ plain (ringOf (cells t) k (rowAt (cells t) k .head) (rowAt (cells t) k .count))
-  waiting-is = ap (λ (x : Lane). x .waiting) (lane-is (cells t) _ k (f .1)) ∙ waiting-row (cells t) k (f .2)
-
-  queue-is : queueOf (lane-k .waiting) 0 ≡ ringOf (cells t) k (l .head) (l .count)
-  unfolding queueOf
-  queue-is = rw (waiting-is, f .3)
-
-  ring-at : (i : ℕ) → i < l .count → getD (ringOf (cells t) k (l .head) (l .count)) i noRec ≡ recOf (entryAt (cells t) (placeOf k (l .head + i)))
-  unfolding ringOf
-  ring-at i h = getD-tab (l .count) i _ noRec h
-
-  pub shows-record : (i : ℕ) → i < l .count → recordIs k (recOf (entryAt (cells t) (placeOf k (l .head + i)))) ≡ view (meant t) (waits k i)
-  unfolding view
-  shows-record i h = rw (weighs, found .held, lt-ltb i (l .count) h, queue-is, ring-at i h)
 
 -- ---- by what was found
 
@@ -138,5 +109,5 @@ module _ (t : List ℕ) (k : ℕ) (r : Found) (e : r ≡ NoLane) (f : FindIs t k
   pub find-no-backlog : Shows (backlog k) t (Refused why.NoLane)
   find-no-backlog = good-shows (backlog k) t (Refused why.NoLane) (absent .0) (none-backlog (meant t) k (absent .1))
 
-  pub find-no-waits : (i : ℕ) → Shows (waits k i) t (Refused why.NoLane)
-  find-no-waits i = good-shows (waits k i) t (Refused why.NoLane) (absent .0) (none-waits (meant t) k (absent .1) i)
+  pub find-no-waits : (j i : ℕ) → Shows (waits k j i) t (Refused why.NoLane)
+  find-no-waits j i = good-shows (waits k j i) t (Refused why.NoLane) (absent .0) (none-waits (meant t) k (absent .1) j i)

@@ -1,11 +1,12 @@
-// What a lent table holds, told to its host: the clock, a lane's setting, its backlog, and each record that waits. Nothing is taken and nothing is written.
+// What a lent table holds, told to its host: the clock, a lane's setting, its backlog, and each record that waits, by its train. Nothing is taken and nothing
+// is written.
 //
-// Each call tests the whole table first, as every public call does, and refuses by number: 10, 11, and 16 for a record that is not there. What each promises
-// is `Shows` (specs/Shows.antt), whole.
+// Each call tests the whole table first, as every public call does, and refuses by number: 10, 11, 70 for a train that the lane does not know, and 16 for a
+// record that is not there. What each promises is `Shows` (specs/Shows.antt), whole.
 //
 // The setup in force is what `lane` tells of the lanes 0 to 63.
 ghost use Rattle.show.specs.Views as Views;
-ghost use Rattle.show.specs.Shows.{Shows, FindIs};
+ghost use Rattle.show.specs.Shows.{Shows, FindIs, RowFound, SpotIs};
 use good::good;
 use rules::Record;
 use rules::Refusal;
@@ -13,15 +14,18 @@ use table::LaneRow;
 use table::present;
 use table::record_at;
 use table::row;
+use turns::COUNT_UNIT;
+use turns::TRAIN_DEPTH;
 use units::Bytes;
 use units::Clock;
 
-// What the setup gives a lane, with the line's framing bytes and the group that follows.
+// What the setup gives a lane, with the line's framing bytes and the group that follows; whether several trains share it.
 pub struct Setting {
     pub weight: u64,
     pub longest: Bytes,
     pub framing: Bytes,
     pub group: u32,
+    pub shared: bool,
 }
 
 // How many records wait in a lane, and its time: S while it holds records, F while it is idle.
@@ -86,6 +90,7 @@ pub fn lane(t: &[u8], lane: u8) -> Shown
                 longest,
                 framing,
                 group: l.group,
+                shared: l.shared,
             })
         }
     }
@@ -108,24 +113,62 @@ pub fn backlog(t: &[u8], lane: u8) -> Shown
     }
 }
 
-// The record of a lane that has `i` before it.
-pub fn record(t: &[u8], lane: u8, i: u64) -> Shown
-    ensures { λ r. ⌜ Shows (Views.waits lane i) (now (t .entry)) r ⌝ }
+// Where a record stands among the lane's places, if it is there.
+pub enum Spot {
+    NoTrain,
+    Nothing,
+    At(u64),
+}
+
+// The record of a train of lane `k` that has `i` of its train before it; `l` is the lane's row. While a shared lane is idle, its trains' numbers mean nothing.
+fn seek(t: &[u8], k: usize, l: LaneRow, train: u8, i: u64) -> Spot
+    requires { ⌜ RowFound (now t) k l ⌝ }
+    ensures { λ r. ⌜ SpotIs (now (t .entry)) k train i r ⌝ }
+{
+    if l.shared {
+        if 8 <= train {
+            return Spot::NoTrain;
+        }
+        if l.count == 0 {
+            return Spot::Nothing;
+        }
+        let number = table::train(t, k, train as usize);
+        if number / COUNT_UNIT % 16 <= i {
+            return Spot::Nothing;
+        }
+        return Spot::At(TRAIN_DEPTH * (train as u64) + (number % TRAIN_DEPTH + i) % TRAIN_DEPTH);
+    }
+    if train != 0 {
+        return Spot::NoTrain;
+    }
+    if l.count <= i {
+        return Spot::Nothing;
+    }
+    Spot::At(l.head + i)
+}
+
+// The record of a train of a lane that has `i` of its train before it; in a lane that is not shared the train is 0.
+pub fn record(t: &[u8], lane: u8, train: u8, i: u64) -> Shown
+    ensures { λ r. ⌜ Shows (Views.waits lane train i) (now (t .entry)) r ⌝ }
 {
     match find(t, lane) {
         Found::NotGood => Shown::Refused(Refusal::NotGood),
         Found::NoLane => Shown::Refused(Refusal::NoLane),
         Found::Row(l) => {
-            if l.count <= i {
-                return Shown::Refused(Refusal::NothingHeld);
+            match seek(t, lane as usize, l, train, i) {
+                Spot::NoTrain => Shown::Refused(Refusal::NoTrain),
+                Spot::Nothing => Shown::Refused(Refusal::NothingHeld),
+                Spot::At(p) => {
+                    let e = record_at(t, lane as usize, p);
+                    let length = e.length;
+                    Shown::Record(Record {
+                        lane,
+                        train,
+                        mark: e.mark,
+                        length,
+                    })
+                }
             }
-            let e = record_at(t, lane as usize, l.head + i);
-            let length = e.length;
-            Shown::Record(Record {
-                lane,
-                mark: e.mark,
-                length,
-            })
         }
     }
 }

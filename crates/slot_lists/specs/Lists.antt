@@ -1,4 +1,4 @@
--- The slot lists of a table: for each group 16 to 31 and each of its 32 list numbers the lanes that stand there, the first first.
+-- The slot lists of a table (R6.1): for each group 16 to 31 and each of its 32 list numbers the lanes that stand there, the first first.
 --
 --   groupsWord, backWord   the words of the groups that have lanes, and of what was taken off the clock
 --   startWord, mapWord     group g's words: its start, and which of its lists have lanes
@@ -8,8 +8,8 @@
 --   listAt                 list b of group g
 --   startAt                the stored start of group g; none where the group's own bit is not set
 --   slotOf, listOf         the slot of a time in group g by the endless clock, and the number of its list
---   Fills                  each list that a word marks has lanes
---   Solid                  what is stored agrees with itself
+--   Fills                  R6.11: each list that a word marks has lanes
+--   Solid                  R6.11: what is stored agrees with itself
 --   Empty                  no group has lanes, and nothing was taken off the clock
 --
 -- Assumes nothing.

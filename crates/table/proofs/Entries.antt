@@ -10,7 +10,7 @@ use lib.Seq.{getD-set-same, getD-set-other}
 use Rattle.words.proofs.Runs.{eq-or-ne}
 use Rattle.digits.specs.Digits.{digit, putDigit}
 use Rattle.digits.proofs.Laws.{digit-put-same, digit-put-other}
-use Rattle.table.specs.Layout.{CELLS, lengthsCell, marksCell, lengthCell, markCell, entryAt, putLength, putMark, putEntry, clearLengths}
+use Rattle.table.specs.Layout.{CELLS, lengthsCell, marksCell, trainsCell, lengthCell, markCell, entryAt, putLength, putMark, putEntry, clearCells, trainPlace, trainNumber, putTrain}
 use Rattle.table.specs.declared.Entry.{Entry}
 
 -- a record by what its two cells hold
@@ -41,6 +41,8 @@ module _ (w : List ℕ) (p : ℕ) (hp : p < 4096) (size : length w ≡ CELLS) wh
       (λ (d : q / 4 ≡ p / 4 → ⊥). ap (digit 16 (q % 4)) (getD-set-other w (lengthCell p) (lengthCell q) (putDigit 16 (p % 4) (n - 1) (getD w (lengthCell p) 0)) 0 (λ e. d (omega arith))))
       (eq-or-ne (q / 4) (p / 4))
 
+-- the trains' numbers lie behind the marks as marks would
+module _ (w : List ℕ) (p : ℕ) (hp : p < 4608) (size : length w ≡ CELLS) where
   mark-same : (m : ℕ) → m < 2 ^ 32 → digit 32 (p % 2) (getD (putMark w p m) (markCell p) 0) ≡ m
   unfolding putMark
   mark-same m h = rw (getD-set-same w (markCell p) (putDigit 32 (p % 2) m (getD w (markCell p) 0)) 0 (omega arith)) (digit-put-same 32 (p % 2) m (getD w (markCell p) 0) h)
@@ -92,7 +94,7 @@ module _ (w : List ℕ) (p : ℕ) (hp : p < 4096) (size : length w ≡ CELLS) (e
 
   pub entry-same : entryAt (putEntry w p e) p ≡ e
   entry-same =
-      entry-eq w (putEntry w p e) p (e .mark) (e .length .0 - 1) (mark-same u p hp size-u (e .mark) (fits .mark))
+      entry-eq w (putEntry w p e) p (e .mark) (e .length .0 - 1) (mark-same u p (omega arith) size-u (e .mark) (fits .mark))
       (ap (digit 16 (p % 4)) (mark-apart p hp) ∙ length-same w p hp size (e .length .0) (omega (arith, fits .length)))
       ∙ whole
     where
@@ -105,30 +107,59 @@ module _ (w : List ℕ) (p : ℕ) (hp : p < 4096) (size : length w ≡ CELLS) (e
   pub entry-other : (q : ℕ) → q < 4096 → (q ≡ p → ⊥) → entryAt (putEntry w p e) q ≡ entryAt w q
   unfolding entryAt
   entry-other q hq ne =
-      rw (mark-other u p hp size-u (e .mark) q (fits .mark) ne, length-apart q, mark-apart q hq, length-other w p hp size (e .length .0) q (omega (arith, fits .length)) ne)
+      rw (mark-other u p (omega arith) size-u (e .mark) q (fits .mark) ne, length-apart q, mark-apart q hq, length-other w p hp size (e .length .0) q (omega (arith, fits .length)) ne)
 
--- ---- lengths cleared
+-- ---- a train's number
 
-pub clear-other : (w : List ℕ) (from n i : ℕ) → ((from ≤ i) → (i < from + n) → ⊥) → getD (clearLengths w from n) i 0 ≡ getD w i 0
-unfolding clearLengths
+pub train-kept : (w u : List ℕ) (k j : ℕ) → getD u (markCell (trainPlace k j)) 0 ≡ getD w (markCell (trainPlace k j)) 0 → trainNumber u k j ≡ trainNumber w k j
+unfolding trainNumber
+train-kept w u k j e = rw e
+
+-- which cells its store leaves
+pub train-apart : (w : List ℕ) (k j n i : ℕ) → (i ≡ markCell (trainPlace k j) → ⊥) → getD (putTrain w k j n) i 0 ≡ getD w i 0
+unfolding putMark
+train-apart w k j n i ne = getD-set-other w (markCell (trainPlace k j)) i _ 0 ne
+
+pub length-train : (w : List ℕ) (k j n : ℕ) → length (putTrain w k j n) ≡ length w
+unfolding putMark
+length-train w k j n = simp length-set
+
+module _ (w : List ℕ) (k j : ℕ) (hk : k < 64) (hj : j < 8) (size : length w ≡ CELLS) (n : ℕ) (fits : n < 2 ^ 32) where
+  pub train-same : trainNumber (putTrain w k j n) k j ≡ n
+  unfolding trainNumber
+  train-same = mark-same w (trainPlace k j) (omega arith) size n fits
+
+  pub train-other : (i : ℕ) → (i ≡ j → ⊥) → trainNumber (putTrain w k j n) k i ≡ trainNumber w k i
+  unfolding trainNumber
+  train-other i ne = mark-other w (trainPlace k j) (omega arith) size n (trainPlace k i) fits (λ e. ne (omega arith))
+
+-- ---- cells cleared
+
+pub clear-other : (w : List ℕ) (from n i : ℕ) → ((from ≤ i) → (i < from + n) → ⊥) → getD (clearCells w from n) i 0 ≡ getD w i 0
+unfolding clearCells
 clear-other w from zero i h = refl
-clear-other w from (suc n) i h = getD-set-other (clearLengths w from n) (from + n) i 0 0 (λ e. h (omega arith) (omega arith)) ∙ clear-other w from n i (λ a b. h a (omega arith))
+clear-other w from (suc n) i h = getD-set-other (clearCells w from n) (from + n) i 0 0 (λ e. h (omega arith) (omega arith)) ∙ clear-other w from n i (λ a b. h a (omega arith))
 
-pub length-clear : (w : List ℕ) (from n : ℕ) → length (clearLengths w from n) ≡ length w
-unfolding clearLengths
+pub length-clear : (w : List ℕ) (from n : ℕ) → length (clearCells w from n) ≡ length w
+unfolding clearCells
 length-clear w from zero = refl
-length-clear w from (suc n) = length-set (clearLengths w from n) (from + n) 0 ∙ length-clear w from n
+length-clear w from (suc n) = length-set (clearCells w from n) (from + n) 0 ∙ length-clear w from n
 
-pub clear-same : (w : List ℕ) (from n i : ℕ) → from + n ≤ length w → from ≤ i → i < from + n → getD (clearLengths w from n) i 0 ≡ 0
-unfolding clearLengths
+pub clear-same : (w : List ℕ) (from n i : ℕ) → from + n ≤ length w → from ≤ i → i < from + n → getD (clearCells w from n) i 0 ≡ 0
+unfolding clearCells
 clear-same w from zero i fit lo hi = absurd (omega arith)
 clear-same w from (suc n) i fit lo hi =
     ⊎-elim
-    (λ (e : i ≡ from + n). rw e (getD-set-same (clearLengths w from n) (from + n) 0 0 (omega (arith, length-clear w from n))))
-    (λ (ne : i ≡ from + n → ⊥). getD-set-other (clearLengths w from n) (from + n) i 0 0 ne ∙ clear-same w from n i (omega arith) lo (omega arith))
+    (λ (e : i ≡ from + n). rw e (getD-set-same (clearCells w from n) (from + n) 0 0 (omega (arith, length-clear w from n))))
+    (λ (ne : i ≡ from + n → ⊥). getD-set-other (clearCells w from n) (from + n) i 0 0 ne ∙ clear-same w from n i (omega arith) lo (omega arith))
     (eq-or-ne i (from + n))
 
 -- a cell of 0 has digits of 0
 pub digit-none : (b j : ℕ) → digit b j 0 ≡ 0
 unfolding digit
 digit-none b j = rw (zero-div (2 ^ (b * j)), zero-mod (2 ^ b))
+
+pub train-cleared : (w : List ℕ) (k j : ℕ) → k < 64 → j < 8 → length w ≡ CELLS → trainNumber (clearCells w (trainsCell + 4 * k) 4) k j ≡ 0
+unfolding trainNumber
+train-cleared w k j hk hj size =
+    rw (clear-same w (trainsCell + 4 * k) 4 (markCell (trainPlace k j)) (omega arith) (omega arith) (omega arith)) (digit-none 32 (trainPlace k j % 2))

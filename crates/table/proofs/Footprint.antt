@@ -9,21 +9,25 @@ use lib.ListN.{length, getD, set}
 use lib.Seq.{getD-set-same, getD-set-other}
 use Rattle.words.specs.Runs.{tab}
 use Rattle.words.proofs.Runs.{eq-or-ne, tab-ext, tab-set, getD-tab}
+use Rattle.rounds.specs.Round.{Shared, held}
+use Rattle.turns.specs.Turns.{sharedOf, Ordered}
+use Rattle.turns.proofs.Train.{shared-same}
 use Rattle.rules.specs.State.{noLane, laneAt}
-use Rattle.table.specs.Layout.{CELLS, presentWord, depthWord, framingWord, laneWord, lengthsCell, marksCell, placeOf, entryAt, rowAt, rowOf}
-use Rattle.table.specs.Means.{presentAt, recOf, ringOf, rowLane, laneOf, stateOf, RowAgrees, PlacesFit, Beside, withClock, withLane}
+use Rattle.table.specs.Layout.{CELLS, presentWord, depthWord, framingWord, laneWord, roundWord, roundAt, lengthsCell, marksCell, trainsCell, placeOf, entryAt, rowAt, rowOf, trainNumber}
+use Rattle.table.specs.Means.{presentAt, recOf, recAt, ringOf, sharedAt, waitingOf, rowLane, laneOf, stateOf, RowAgrees, PlacesFit, TrainsFit, Housed, Beside, withClock, withLane}
 use Rattle.table.specs.declared.LaneRow.{LaneRow}
 use Rattle.table.specs.declared.Entry.{Entry}
 use Rattle.table.proofs.Stores.{rowOf-eq}
-use Rattle.table.proofs.Entries.{entry-kept}
+use Rattle.table.proofs.Entries.{entry-kept, train-kept}
 
 -- words that agree on lane k
 pub record SameLane (w u : List ℕ) (k : ℕ) : Type 0 where
   pub present : presentAt u k ≡ presentAt w k
   pub framing : getD u framingWord 0 ≡ getD w framingWord 0
-  pub row : (i : ℕ) → laneWord k ≤ i → i < laneWord k + 3 → getD u i 0 ≡ getD w i 0
+  pub row : (i : ℕ) → laneWord k ≤ i → i < laneWord k + 4 → getD u i 0 ≡ getD w i 0
   pub lengths : (i : ℕ) → lengthsCell + 16 * k ≤ i → i < lengthsCell + 16 * k + 16 → getD u i 0 ≡ getD w i 0
   pub marks : (i : ℕ) → marksCell + 32 * k ≤ i → i < marksCell + 32 * k + 32 → getD u i 0 ≡ getD w i 0
+  pub trains : (i : ℕ) → trainsCell + 4 * k ≤ i → i < trainsCell + 4 * k + 4 → getD u i 0 ≡ getD w i 0
 
 pub present-kept : (w u : List ℕ) (k : ℕ) → getD u presentWord 0 ≡ getD w presentWord 0 → presentAt u k ≡ presentAt w k
 unfolding presentAt
@@ -47,9 +51,35 @@ module _ (w u : List ℕ) (k : ℕ) (lengths : (i : ℕ) → lengthsCell + 16 * 
   pub fit-kept : (l : LaneRow) → PlacesFit w k l → PlacesFit u k l
   fit-kept l f i h = rw (place-kept i) (f i h)
 
-pub lane-kept : (w u : List ℕ) (k : ℕ) → SameLane w u k → laneOf u k ≡ laneOf w k
-unfolding laneOf rowLane
-lane-kept w u k s = rw (s .present, row-kept w u k (s .framing) (s .row), ring-kept w u k (s .lengths) (s .marks) _ _)
+  -- and the words of its trains and its round
+  module _ (trains : (i : ℕ) → trainsCell + 4 * k ≤ i → i < trainsCell + 4 * k + 4 → getD u i 0 ≡ getD w i 0) (round : roundAt u k ≡ roundAt w k) where
+    pub shared-kept : sharedAt u k ≡ sharedAt w k
+    unfolding sharedAt recAt
+    shared-kept =
+        shared-same (recAt u k) (recAt w k) (trainNumber u k) (trainNumber w k) (roundAt u k) (λ i h. ap recOf (place-kept i)) (λ j h. train-kept w u k j (trains _ (omega arith) (omega arith)))
+        ∙ ap (sharedOf (recAt w k) (trainNumber w k)) round
+
+    pub waiting-kept : (l : LaneRow) → waitingOf u k l ≡ waitingOf w k l
+    unfolding waitingOf
+    waiting-kept l = rw (shared-kept, ring-kept (l .head) (l .count))
+
+    pub housed-kept : (l : LaneRow) → Housed w k l → Housed u k l
+    housed-kept l h =
+        record {
+          places = fit-kept l (h .places);
+          trains = λ e. record { counted = ap held shared-kept ∙ h .trains e .counted; ordered = subst Ordered (sym round) (h .trains e .ordered) };
+        }
+
+module _ (w u : List ℕ) (k : ℕ) (s : SameLane w u k) where
+  same-row : rowAt u k ≡ rowAt w k
+  same-row = row-kept w u k (s .framing) (λ i p q. s .row i p (omega arith))
+
+  same-round : roundAt u k ≡ roundAt w k
+  same-round = s .row (roundWord k) (omega arith) (omega arith)
+
+  pub lane-kept : laneOf u k ≡ laneOf w k
+  unfolding laneOf rowLane
+  lane-kept = rw (s .present, same-row, waiting-kept w u k (s .lengths) (s .marks) (s .trains) same-round (rowAt w k))
 
 pub lane-is : (w o : List ℕ) (k : ℕ) → k < 64 → laneAt (stateOf w o) k ≡ laneOf w k
 unfolding stateOf
@@ -58,12 +88,13 @@ lane-is w o k h = getD-tab 64 k (laneOf w) noLane h
 -- ---- a change in one lane's words but its setting
 
 pub record Outside (w u : List ℕ) (k : ℕ) : Type 0 where
-  pub kept : (i : ℕ) → ((laneWord k + 1 ≤ i) → (i < laneWord k + 3) → ⊥) → ((lengthsCell + 16 * k ≤ i) → (i < lengthsCell + 16 * k + 16) → ⊥) → ((marksCell + 32 * k ≤ i) → (i < marksCell + 32 * k + 32) → ⊥) → getD u i 0 ≡ getD w i 0
+  pub kept : (i : ℕ) → ((laneWord k + 1 ≤ i) → (i < laneWord k + 4) → ⊥) → ((lengthsCell + 16 * k ≤ i) → (i < lengthsCell + 16 * k + 16) → ⊥)
+      → ((marksCell + 32 * k ≤ i) → (i < marksCell + 32 * k + 32) → ⊥) → ((trainsCell + 4 * k ≤ i) → (i < trainsCell + 4 * k + 4) → ⊥) → getD u i 0 ≡ getD w i 0
 
 module _ (w u : List ℕ) (k : ℕ) (hk : k < 64) (o : Outside w u k) where
   -- a word that is in no lane
   pub single-kept : (i : ℕ) → i < 80 → getD u i 0 ≡ getD w i 0
-  single-kept i h = o .kept i (λ p q. omega arith) (λ p q. omega arith) (λ p q. omega arith)
+  single-kept i h = o .kept i (λ p q. omega arith) (λ p q. omega arith) (λ p q. omega arith) (λ p q. omega arith)
 
   -- every other lane
   pub others-kept : (j : ℕ) → j < 64 → (j ≡ k → ⊥) → SameLane w u j
@@ -71,9 +102,10 @@ module _ (w u : List ℕ) (k : ℕ) (hk : k < 64) (o : Outside w u k) where
       record {
         present = present-kept w u j (single-kept 1 (omega arith));
         framing = single-kept framingWord (omega arith);
-        row = λ i p q. o .kept i (λ x y. omega arith) (λ x y. omega arith) (λ x y. omega arith);
-        lengths = λ i p q. o .kept i (λ x y. omega arith) (λ x y. omega arith) (λ x y. omega arith);
-        marks = λ i p q. o .kept i (λ x y. omega arith) (λ x y. omega arith) (λ x y. omega arith);
+        row = λ i p q. o .kept i (λ x y. omega arith) (λ x y. omega arith) (λ x y. omega arith) (λ x y. omega arith);
+        lengths = λ i p q. o .kept i (λ x y. omega arith) (λ x y. omega arith) (λ x y. omega arith) (λ x y. omega arith);
+        marks = λ i p q. o .kept i (λ x y. omega arith) (λ x y. omega arith) (λ x y. omega arith) (λ x y. omega arith);
+        trains = λ i p q. o .kept i (λ x y. omega arith) (λ x y. omega arith) (λ x y. omega arith) (λ x y. omega arith);
       }
 
   -- leaves the state with that lane changed
@@ -90,29 +122,27 @@ row-agrees h s x y x′ y′ a = record { numbers = a .numbers; framing = a .fra
 
 -- a lane that is as it was
 module _ (w u : List ℕ) (k : ℕ) (s : SameLane w u k) (b : Beside w) (hk : k < 64) (p : presentAt u k ≡ true) where
-  same-row : rowAt u k ≡ rowAt w k
-  same-row = row-kept w u k (s .framing) (s .row)
-
   pub agrees-kept : RowAgrees (rowAt u k)
-  agrees-kept = rw same-row (b .rows k hk (sym (s .present) ∙ p))
+  agrees-kept = rw (same-row w u k s) (b .rows k hk (sym (s .present) ∙ p))
 
-  pub places-kept : 0 < rowAt u k .count → PlacesFit u k (rowAt u k)
-  places-kept n = rw same-row (fit-kept w u k (s .lengths) (s .marks) (rowAt w k) (b .places k hk (sym (s .present) ∙ p) (rw same-row at n)))
+  pub lane-housed : 0 < rowAt u k .count → Housed u k (rowAt u k)
+  lane-housed n =
+      rw (same-row w u k s) (housed-kept w u k (s .lengths) (s .marks) (s .trains) (same-round w u k s) (rowAt w k) (b .housed k hk (sym (s .present) ∙ p) (rw (same-row w u k s) at n)))
 
--- a change in one lane's words but its setting: that lane's places have to be within its numbers again
-pub beside-changed : (w u : List ℕ) (k : ℕ) → k < 64 → Outside w u k → (Beside w → presentAt u k ≡ true → 0 < rowAt u k .count → PlacesFit u k (rowAt u k)) → Beside w → Beside u
+-- a change in one lane's words but its setting: that lane has to be housed again
+pub beside-changed : (w u : List ℕ) (k : ℕ) → k < 64 → Outside w u k → (Beside w → presentAt u k ≡ true → 0 < rowAt u k .count → Housed u k (rowAt u k)) → Beside w → Beside u
 unfolding rowAt
 beside-changed w u k hk o f b =
     record {
       depth = single-kept w u k hk o depthWord (omega arith) ∙ b .depth;
-      places = λ j h p n. ⊎-elim (λ (e : j ≡ k). at-k j e p n) (λ (ne : j ≡ k → ⊥). places-kept w u j (others-kept w u k hk o j h ne) b h p n) (eq-or-ne j k);
+      housed = λ j h p n. ⊎-elim (λ (e : j ≡ k). at-k j e p n) (λ (ne : j ≡ k → ⊥). lane-housed w u j (others-kept w u k hk o j h ne) b h p n) (eq-or-ne j k);
       rows = λ j h p.
           let present : presentAt w j ≡ true = sym (present-kept w u j (single-kept w u k hk o 1 (omega arith))) ∙ p in
-          rw (single-kept w u k hk o framingWord (omega arith), o .kept (laneWord j) (λ x y. omega arith) (λ x y. omega arith) (λ x y. omega arith)) (row-agrees (getD w framingWord 0) (getD w (laneWord j) 0) (getD w (laneWord j + 1) 0) (getD w (laneWord j + 2) 0) (getD u (laneWord j + 1) 0) (getD u (laneWord j + 2) 0) (b .rows j h present));
+          rw (single-kept w u k hk o framingWord (omega arith), o .kept (laneWord j) (λ x y. omega arith) (λ x y. omega arith) (λ x y. omega arith) (λ x y. omega arith)) (row-agrees (getD w framingWord 0) (getD w (laneWord j) 0) (getD w (laneWord j + 1) 0) (getD w (laneWord j + 2) 0) (getD u (laneWord j + 1) 0) (getD u (laneWord j + 2) 0) (b .rows j h present));
     }
   where
-    at-k : (j : ℕ) → j ≡ k → presentAt u j ≡ true → 0 < rowAt u j .count → PlacesFit u j (rowAt u j)
-    at-k j e = subst (λ (i : ℕ). presentAt u i ≡ true → 0 < rowAt u i .count → PlacesFit u i (rowAt u i)) (sym e) (f b)
+    at-k : (j : ℕ) → j ≡ k → presentAt u j ≡ true → 0 < rowAt u j .count → Housed u j (rowAt u j)
+    at-k j e = subst (λ (i : ℕ). presentAt u i ≡ true → 0 < rowAt u i .count → Housed u i (rowAt u i)) (sym e) (f b)
 
 -- ---- a change in the clock
 
@@ -128,6 +158,7 @@ module _ (w : List ℕ) (v : ℕ) where
         row = λ i p q. clock-other i (omega arith);
         lengths = λ i p q. clock-other i (omega arith);
         marks = λ i p q. clock-other i (omega arith);
+        trains = λ i p q. clock-other i (omega arith);
       }
 
   pub clock-changed : (o : List ℕ) → length w ≡ CELLS → stateOf (set w 0 v) o ≡ withClock (stateOf w o) v
@@ -140,6 +171,6 @@ module _ (w : List ℕ) (v : ℕ) where
   clock-beside b =
       record {
         depth = clock-other depthWord (omega arith) ∙ b .depth;
-        places = λ k h p n. places-kept w (set w 0 v) k (clock-lane k) b h p n;
+        housed = λ k h p n. lane-housed w (set w 0 v) k (clock-lane k) b h p n;
         rows = λ k h p. agrees-kept w (set w 0 v) k (clock-lane k) b h p;
       }

@@ -2,47 +2,60 @@
 -- Assumes nothing.
 use mathlib.Core.Path.{_≡_, refl, sym, ap, _∙_}
 use mathlib.Core.Bool.{Bool, true, false}
-use Prim.Native.Nat.{ℕ, _+_, _*_, _/_, _%_, _≤_, _<_}
-use mathlib.Core.List.{List}
+use Prim.Native.Nat.{ℕ, zero, suc, _+_, _*_, _/_, _%_, _≤_, _<_}
+use mathlib.Core.List.{List, []}
 use native.Mathlib.Omega.{arith}
 use lib.ListN.{length, getD, set, length-set}
 use lib.Seq.{getD-set-same, getD-set-other}
-use Rattle.table.specs.Layout.{CELLS, presentWord, framingWord, laneWord, placeOf, lengthsCell, rowAt, putRow, putEntry, clearLengths, entryAt}
-use Rattle.table.specs.Means.{presentAt, ringOf, givenOf, timed, rowLane, laneOf, stateOf}
+use Rattle.units.specs.Plain.{if_then_else_}
+use Rattle.words.specs.Runs.{tab, tabFrom}
+use Rattle.table.specs.Layout.{CELLS, presentWord, framingWord, laneWord, roundWord, roundAt, placeOf, lengthsCell, trainsCell, rowAt, putRow, putEntry, clearCells, entryAt, putTrain}
+use Rattle.table.specs.Means.{presentAt, ringOf, givenOf, sharedAt, sharedIf, waitingOf, timed, rowLane, laneOf, stateOf, Housed}
 use Rattle.table.specs.declared.LaneRow.{LaneRow}
 use Rattle.table.specs.declared.Entry.{Entry}
 use Rattle.words.proofs.Runs.{length-tab}
-use Rattle.waiting.specs.Waiting.{plain, held}
+use Rattle.rounds.specs.Round.{empty}
+use Rattle.waiting.specs.Waiting.{plain, shared, nothing, isShared, held}
+use Rattle.waiting.proofs.Laws.{held-nothing}
 use Rattle.rules.specs.State.{Lane, laneAt, holds, noLane, laneDepth}
 use Rattle.table.proofs.Timed.{timed-given, timed-waiting}
-use Rattle.table.proofs.Entries.{put-other, clear-other}
-use Rattle.table.proofs.Footprint.{Outside, present-kept, row-kept, place-kept, ring-kept, lane-is}
+use Rattle.table.proofs.Entries.{put-other, clear-other, train-apart}
+use Rattle.table.proofs.Footprint.{Outside, present-kept, row-kept, place-kept, waiting-kept, housed-kept, lane-is}
 
 -- ---- where the stores lie
 
 pub outside-trans : (w u v : List ℕ) (k : ℕ) → Outside w u k → Outside u v k → Outside w v k
-outside-trans w u v k a b = record { kept = λ i p q r. b .kept i p q r ∙ a .kept i p q r }
+outside-trans w u v k a b = record { kept = λ i p q r x. b .kept i p q r x ∙ a .kept i p q r x }
 
 pub outside-row : (w : List ℕ) (k : ℕ) (l : LaneRow) → Outside w (putRow w k l) k
 unfolding putRow
 outside-row w k l =
     record {
-      kept = λ i p q r.
+      kept = λ i p q r x.
           getD-set-other (set w (laneWord k + 1) (l .time .0)) (laneWord k + 2) i (l .head + laneDepth * l .count) 0 (λ e. p (omega arith) (omega arith))
           ∙ getD-set-other w (laneWord k + 1) i (l .time .0) 0 (λ e. p (omega arith) (omega arith));
     }
 
 pub outside-place : (w : List ℕ) (k i : ℕ) (e : Entry) → Outside w (putEntry w (placeOf k i) e) k
-outside-place w k i e = record { kept = λ j p q r. put-other w (placeOf k i) e j (λ x. q (omega arith) (omega arith)) (λ x. r (omega arith) (omega arith)) }
+outside-place w k i e = record { kept = λ j p q r y. put-other w (placeOf k i) e j (λ x. q (omega arith) (omega arith)) (λ x. r (omega arith) (omega arith)) }
 
-pub outside-cleared : (w : List ℕ) (k : ℕ) → Outside w (clearLengths w (lengthsCell + 16 * k) 16) k
-outside-cleared w k = record { kept = λ j p q r. clear-other w (lengthsCell + 16 * k) 16 j q }
+pub outside-cleared : (w : List ℕ) (k : ℕ) → Outside w (clearCells w (lengthsCell + 16 * k) 16) k
+outside-cleared w k = record { kept = λ j p q r x. clear-other w (lengthsCell + 16 * k) 16 j q }
+
+pub outside-round : (w : List ℕ) (k v : ℕ) → Outside w (set w (roundWord k) v) k
+outside-round w k v = record { kept = λ j p q r x. getD-set-other w (roundWord k) j v 0 (λ e. p (omega arith) (omega arith)) }
+
+pub outside-train : (w : List ℕ) (k i n : ℕ) → i < 8 → Outside w (putTrain w k i n) k
+outside-train w k i n h = record { kept = λ j p q r x. train-apart w k i n j (λ e. x (omega arith) (omega arith)) }
+
+pub outside-trains : (w : List ℕ) (k : ℕ) → Outside w (clearCells w (trainsCell + 4 * k) 4) k
+outside-trains w k = record { kept = λ j p q r x. clear-other w (trainsCell + 4 * k) 4 j x }
 
 -- ---- a row stored and read again
 
 -- a row with its clock and its ring changed
 abbrev pub retimed : LaneRow → ℕ → ℕ → ℕ → LaneRow
-retimed l x h n = record { longest = l .longest; framing = l .framing; weight = l .weight; group = l .group; rate = l .rate; time = record { 0 = x }; head = h; count = n }
+retimed l x h n = record { longest = l .longest; framing = l .framing; weight = l .weight; group = l .group; rate = l .rate; shared = l .shared; time = record { 0 = x }; head = h; count = n }
 
 pub row-put : (w : List ℕ) (k x h n : ℕ) → length w ≡ CELLS → k < 64 → h < laneDepth → rowAt (putRow w k (retimed (rowAt w k) x h n)) k ≡ retimed (rowAt w k) x h n
 unfolding rowAt putRow
@@ -58,7 +71,7 @@ row-put w k x h n len hk small =
 
 pub present-put : (w : List ℕ) (k : ℕ) (l : LaneRow) → presentAt (putRow w k l) k ≡ presentAt w k
 present-put w k l =
-    present-kept w (putRow w k l) k (outside-row w k l .kept presentWord (λ p q. omega arith) (λ p q. omega arith) (λ p q. omega arith))
+    present-kept w (putRow w k l) k (outside-row w k l .kept presentWord (λ p q. omega arith) (λ p q. omega arith) (λ p q. omega arith) (λ p q. omega arith))
 
 -- a row's store leaves every place
 pub places-put : (w : List ℕ) (k i : ℕ) (l : LaneRow) → k < 64 → lengthsCell ≤ i → getD (putRow w k l) i 0 ≡ getD w i 0
@@ -68,31 +81,46 @@ places-put w k i l hk h = getD-set-other (set w (laneWord k + 1) (l .time .0)) (
 pub entry-put : (w : List ℕ) (k i : ℕ) (l : LaneRow) → k < 64 → entryAt (putRow w k l) (placeOf k i) ≡ entryAt w (placeOf k i)
 entry-put w k i l hk = place-kept w (putRow w k l) k (λ j p q. places-put w k j l hk (omega arith)) (λ j p q. places-put w k j l hk (omega arith)) i
 
-ring-put : (w : List ℕ) (k h n : ℕ) (l : LaneRow) → k < 64 → ringOf (putRow w k l) k h n ≡ ringOf w k h n
-ring-put w k h n l hk = ring-kept w (putRow w k l) k (λ j p q. places-put w k j l hk (omega arith)) (λ j p q. places-put w k j l hk (omega arith)) h n
+-- and its round
+pub round-put : (w : List ℕ) (k : ℕ) (l : LaneRow) → roundAt (putRow w k l) k ≡ roundAt w k
+unfolding putRow
+round-put w k l = getD-set-other (set w (laneWord k + 1) (l .time .0)) (laneWord k + 2) (roundWord k) (l .head + laneDepth * l .count) 0 (omega arith) ∙ getD-set-other w (laneWord k + 1) (roundWord k) (l .time .0) 0 (omega arith)
+
+module _ (w : List ℕ) (k : ℕ) (l : LaneRow) (hk : k < 64) where
+  pub waiting-put : (m : LaneRow) → waitingOf (putRow w k l) k m ≡ waitingOf w k m
+  waiting-put = waiting-kept w (putRow w k l) k (λ j p q. places-put w k j l hk (omega arith)) (λ j p q. places-put w k j l hk (omega arith)) (λ j p q. places-put w k j l hk (omega arith)) (round-put w k l)
+
+  pub housed-put : (m : LaneRow) → Housed w k m → Housed (putRow w k l) k m
+  housed-put = housed-kept w (putRow w k l) k (λ j p q. places-put w k j l hk (omega arith)) (λ j p q. places-put w k j l hk (omega arith)) (λ j p q. places-put w k j l hk (omega arith)) (round-put w k l)
 
 -- the lane, once its row is stored
-pub lane-put : (w : List ℕ) (k x h n : ℕ) → length w ≡ CELLS → k < 64 → h < laneDepth → presentAt w k ≡ true → laneOf (putRow w k (retimed (rowAt w k) x h n)) k ≡ timed (givenOf (rowAt w k)) x (ringOf w k h n)
+pub lane-put : (w : List ℕ) (k x h n : ℕ) → length w ≡ CELLS → k < 64 → h < laneDepth → presentAt w k ≡ true → laneOf (putRow w k (retimed (rowAt w k) x h n)) k ≡ timed (givenOf (rowAt w k)) x (waitingOf w k (retimed (rowAt w k) x h n))
 unfolding laneOf rowLane
 lane-put w k x h n len hk small p =
-    rw (present-put w k (retimed (rowAt w k) x h n), p, row-put w k x h n len hk small, ring-put w k h n (retimed (rowAt w k) x h n) hk)
+    rw (present-put w k (retimed (rowAt w k) x h n), p, row-put w k x h n len hk small, waiting-put w k (retimed (rowAt w k) x h n) hk (retimed (rowAt w k) x h n))
 
--- ---- a change of places alone leaves every row
+-- ---- a change of lane k's places, trains and round leaves every row
 
-abbrev pub SameRows : List ℕ → List ℕ → Type 0
-SameRows w u = (i : ℕ) → i < lengthsCell → getD u i 0 ≡ getD w i 0
+abbrev pub SameRows : List ℕ → List ℕ → ℕ → Type 0
+SameRows w u k = (i : ℕ) → i < lengthsCell → (i ≡ roundWord k → ⊥) → getD u i 0 ≡ getD w i 0
 
-pub rows-place : (w : List ℕ) (p : ℕ) (e : Entry) → SameRows w (putEntry w p e)
-rows-place w p e i h = put-other w p e i (λ x. omega arith) (λ x. omega arith)
+pub rows-place : (w : List ℕ) (k p : ℕ) (e : Entry) → SameRows w (putEntry w p e) k
+rows-place w k p e i h ne = put-other w p e i (λ x. omega arith) (λ x. omega arith)
 
-pub rows-cleared : (w : List ℕ) (k : ℕ) → SameRows w (clearLengths w (lengthsCell + 16 * k) 16)
-rows-cleared w k i h = clear-other w (lengthsCell + 16 * k) 16 i (λ p q. omega arith)
+pub rows-cleared : (w : List ℕ) (k from n : ℕ) → lengthsCell ≤ from → SameRows w (clearCells w from n) k
+rows-cleared w k from n lo i h ne = clear-other w from n i (λ p q. omega arith)
 
-pub row-same : (w u : List ℕ) (k : ℕ) → k < 64 → SameRows w u → rowAt u k ≡ rowAt w k
-row-same w u k hk s = row-kept w u k (s framingWord (omega arith)) (λ j p q. s j (omega arith))
+pub rows-train : (w : List ℕ) (k j n : ℕ) → SameRows w (putTrain w k j n) k
+rows-train w k j n i h ne = train-apart w k j n i (λ x. omega arith)
 
-pub present-same : (w u : List ℕ) (k : ℕ) → SameRows w u → presentAt u k ≡ presentAt w k
-present-same w u k s = present-kept w u k (s presentWord (omega arith))
+pub rows-round : (w : List ℕ) (k v : ℕ) → SameRows w (set w (roundWord k) v) k
+rows-round w k v i h ne = getD-set-other w (roundWord k) i v 0 ne
+
+pub row-same : (w u : List ℕ) (k : ℕ) → k < 64 → SameRows w u k → rowAt u k ≡ rowAt w k
+row-same w u k hk s = row-kept w u k (s framingWord (omega arith) (omega arith)) (λ j p q. s j (omega arith) (omega arith))
+
+pub present-same : (w u : List ℕ) (k : ℕ) → SameRows w u k → presentAt u k ≡ presentAt w k
+present-same w u k s = present-kept w u k (s presentWord (omega arith) (omega arith))
 
 -- every row has the line's framing bytes
 pub row-framing : (w : List ℕ) (k : ℕ) → rowAt w k .framing .0 ≡ getD w framingWord 0
@@ -101,7 +129,7 @@ row-framing w k = refl
 
 -- ---- which lanes are in the setup, and what their rows say of them
 
-pub lane-present : (w : List ℕ) (k : ℕ) → presentAt w k ≡ true → laneOf w k ≡ timed (givenOf (rowAt w k)) (rowAt w k .time .0) (ringOf w k (rowAt w k .head) (rowAt w k .count))
+pub lane-present : (w : List ℕ) (k : ℕ) → presentAt w k ≡ true → laneOf w k ≡ timed (givenOf (rowAt w k)) (rowAt w k .time .0) (waitingOf w k (rowAt w k))
 unfolding laneOf rowLane
 lane-present w k p = rw p
 
@@ -131,13 +159,54 @@ pub length-ring : (w : List ℕ) (k h n : ℕ) → length (ringOf w k h n) ≡ n
 unfolding ringOf
 length-ring w k h n = length-tab n _
 
+-- what waits in a lane, by its row
+module _ (w : List ℕ) (k : ℕ) (l : LaneRow) where
+  pub waiting-plain : l .shared ≡ false → waitingOf w k l ≡ plain (ringOf w k (l .head) (l .count))
+  unfolding waitingOf
+  waiting-plain e = rw e
+
+  pub waiting-none : l .count ≡ 0 → waitingOf w k l ≡ nothing (l .shared)
+  unfolding waitingOf sharedIf ringOf tab tabFrom
+  waiting-none e = rw e (go (l .shared))
+    where
+      go : (b : Bool) → (if b then shared empty else plain []) ≡ nothing b
+      go true = refl
+      go false = refl
+
+  pub waiting-shared : l .shared ≡ true → 0 < l .count → waitingOf w k l ≡ shared (sharedAt w k)
+  unfolding waitingOf sharedIf
+  waiting-shared e h = rw e (go (l .count) h)
+    where
+      go : (n : ℕ) → 0 < n → sharedIf n (sharedAt w k) ≡ shared (sharedAt w k)
+      go zero h = absurd (omega arith)
+      go (suc n) h = refl
+
+  -- its kind is the setting's
+  pub waiting-kind : isShared (waitingOf w k l) ≡ l .shared
+  unfolding waitingOf isShared sharedIf
+  waiting-kind = go (l .shared) (l .count)
+    where
+      go : (b : Bool) (n : ℕ) → isShared (if b then sharedIf n (sharedAt w k) else plain (ringOf w k (l .head) (l .count))) ≡ b
+      go false n = refl
+      go true zero = refl
+      go true (suc n) = refl
+
+  -- the row counts it
+  pub waiting-held : (0 < l .count → Housed w k l) → held (waitingOf w k l) ≡ l .count
+  unfolding waitingOf held sharedIf
+  waiting-held h = go (l .shared) (l .count) refl refl
+    where
+      go : (b : Bool) (n : ℕ) → l .shared ≡ b → l .count ≡ n → held (if b then sharedIf n (sharedAt w k) else plain (ringOf w k (l .head) (l .count))) ≡ l .count
+      go false n e q = length-ring w k _ _
+      go true zero e q = held-nothing true ∙ sym q
+      go true (suc n) e q = h (omega arith) .trains e .counted
+
 module _ (w : List ℕ) (k : ℕ) (p : presentAt w k ≡ true) where
   pub given-row : laneOf w k .given ≡ givenOf (rowAt w k)
   given-row = ap (λ (l : Lane). l .given) (lane-present w k p) ∙ timed-given _ _ _
 
-  pub waiting-row : laneOf w k .waiting ≡ plain (ringOf w k (rowAt w k .head) (rowAt w k .count))
+  pub waiting-row : laneOf w k .waiting ≡ waitingOf w k (rowAt w k)
   waiting-row = ap (λ (l : Lane). l .waiting) (lane-present w k p) ∙ timed-waiting _ _ _
 
-  pub count-row : held (laneOf w k .waiting) ≡ rowAt w k .count
-  unfolding held
-  count-row = ap held waiting-row ∙ length-ring w k _ _
+  pub count-row : (0 < rowAt w k .count → Housed w k (rowAt w k)) → held (laneOf w k .waiting) ≡ rowAt w k .count
+  count-row h = ap held waiting-row ∙ waiting-held w k (rowAt w k) h

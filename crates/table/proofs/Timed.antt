@@ -1,48 +1,77 @@
--- Laws of a lane by its one clock word: each change that a call makes to a lane is a new clock word and a new queue. Assumes nothing.
-use mathlib.Core.Path.{_≡_, refl}
+-- Laws of a lane by its one clock word: each change that a call makes to a lane is a new clock word and a change of what waits. Assumes nothing.
+use mathlib.Core.Path.{_≡_, refl, ap, _∙_}
 use mathlib.Core.Bool.{true, false≢true}
 use Prim.Native.Nat.{ℕ, _+_, _*_, max}
-use mathlib.Core.List.{List, [], _∷_, _++_}
-use Rattle.rules.specs.State.{Rec, Setting, charge, rate, some?}
-use Rattle.waiting.specs.Waiting.{plain, head, tail, enter, handOut}
+use mathlib.Core.Option.{Option, none, some}
+use Rattle.rules.specs.State.{Rec, Setting, Lane, charge, rate, some?}
+use Rattle.waiting.specs.Waiting.{Waiting, nothing, first, enter, handOut}
+use Rattle.waiting.proofs.Laws.{first-nothing}
 use Rattle.rules.specs.Calls as rules
 use Rattle.rules.specs.Calls.{appended, woken, served, idle}
 use Rattle.table.specs.Means.{timed}
 
-pub timed-given : (g : Setting) (x : ℕ) (q : List Rec) → timed g x q .given ≡ g
-unfolding timed
-timed-given g x [] = refl
-timed-given g x (r ∷ rs) = refl
+-- ---- its parts
 
-pub timed-waiting : (g : Setting) (x : ℕ) (q : List Rec) → timed g x q .waiting ≡ plain q
-unfolding timed
-timed-waiting g x [] = refl
-timed-waiting g x (r ∷ rs) = refl
+given-by : (g : Setting) (x : ℕ) (w : Waiting) (o : Option Rec) → rules.timed g x w o .given ≡ g
+unfolding rules.timed
+given-by g x w none = refl
+given-by g x w (some r) = refl
 
--- a holding lane's clock word is its S
-pub timed-start : (g : Setting) (x : ℕ) (q : List Rec) → some? (head q) ≡ true → timed g x q .start ≡ x
-unfolding timed
-timed-start g x [] h = absurd (false≢true h)
-timed-start g x (r ∷ rs) h = refl
+waiting-by : (g : Setting) (x : ℕ) (w : Waiting) (o : Option Rec) → rules.timed g x w o .waiting ≡ w
+unfolding rules.timed
+waiting-by g x w none = refl
+waiting-by g x w (some r) = refl
 
--- put on a holding lane
-pub timed-appended : (g : Setting) (x : ℕ) (q : List Rec) (r : Rec) → some? (head q) ≡ true → appended (timed g x q) r ≡ timed g x (q ++ r ∷ [])
-unfolding timed appended enter
-timed-appended g x [] r h = absurd (false≢true h)
-timed-appended g x (r′ ∷ rs) r h = refl
+start-by : (g : Setting) (x : ℕ) (w : Waiting) (o : Option Rec) → some? o ≡ true → rules.timed g x w o .start ≡ x
+unfolding rules.timed
+start-by g x w none h = absurd (false≢true h)
+start-by g x w (some r) h = refl
+
+module _ (g : Setting) (x : ℕ) (w : Waiting) where
+  pub timed-given : timed g x w .given ≡ g
+  unfolding timed
+  timed-given = given-by g x w (first w)
+
+  pub timed-waiting : timed g x w .waiting ≡ w
+  unfolding timed
+  timed-waiting = waiting-by g x w (first w)
+
+  -- a holding lane's clock word is its S, and an idle one's is its F
+  pub timed-start : some? (first w) ≡ true → timed g x w .start ≡ x
+  unfolding timed
+  timed-start = start-by g x w (first w)
+
+  pub timed-none : first w ≡ none → timed g x w ≡ record { given = g; start = 0; finish = x; waiting = w }
+  unfolding timed rules.timed
+  timed-none e = rw e
+
+  pub timed-some : (r : Rec) → first w ≡ some r → timed g x w ≡ record { given = g; start = x; finish = x + charge g (r .len) * rate g; waiting = w }
+  unfolding timed rules.timed
+  timed-some r e = rw e
+
+-- ---- changed by a call
+
+appended-by : (g : Setting) (x : ℕ) (w : Waiting) (o : Option Rec) (r : Rec) → appended (rules.timed g x w o) r ≡ rules.timed g x (enter (g .longest) w r) o
+unfolding rules.timed appended
+appended-by g x w none r = refl
+appended-by g x w (some y) r = refl
+
+-- put on a holding lane: its first record stays
+pub timed-appended : (g : Setting) (x : ℕ) (w : Waiting) (r : Rec) → first (enter (g .longest) w r) ≡ first w → appended (timed g x w) r ≡ timed g x (enter (g .longest) w r)
+unfolding timed
+timed-appended g x w r e = rw e (appended-by g x w (first w) r)
 
 -- put on an idle lane
-pub timed-woken : (g : Setting) (v x : ℕ) (r : Rec) → woken v (timed g x []) r ≡ timed g (max x v) (r ∷ [])
-unfolding timed woken enter
-timed-woken g v x r = refl
+pub timed-woken : (g : Setting) (v x : ℕ) (w : Waiting) (r : Rec) → first w ≡ none → first (enter (g .longest) w r) ≡ some r → woken v (timed g x w) r ≡ timed g (max x v) (enter (g .longest) w r)
+unfolding woken
+timed-woken g v x w r none-first e = rw (timed-none g x w none-first, timed-some g (max x v) (enter (g .longest) w r) r e)
 
 -- take: the new clock word is F, whether the lane holds more or not
-pub timed-served : (g : Setting) (x : ℕ) (r : Rec) (rs : List Rec) → served (timed g x (r ∷ rs)) ≡ timed g (x + charge g (r .len) * rate g) rs
-unfolding timed served rules.timed handOut tail
-timed-served g x r [] = refl
-timed-served g x r (r′ ∷ rs) = refl
+pub timed-served : (g : Setting) (x : ℕ) (w : Waiting) (r : Rec) → first w ≡ some r → served (timed g x w) ≡ timed g (x + charge g (r .len) * rate g) (handOut (g .longest) w)
+unfolding timed served
+timed-served g x w r e = ap served (timed-some g x w r e)
 
 -- fresh
-pub timed-idle : (g : Setting) → idle g ≡ timed g 0 []
-unfolding timed idle
-timed-idle g = refl
+pub timed-idle : (g : Setting) → idle g ≡ timed g 0 (nothing (g .shared))
+unfolding idle
+timed-idle g = rw (timed-none g 0 (nothing (g .shared)) (first-nothing (g .shared)))

@@ -1,4 +1,4 @@
--- When a table's bytes encode a state: they are long enough, mean a state that no call tells apart from it, and store beside it what agrees.
+-- When a table's bytes encode a state (R6.12): they are long enough, mean a state that no call tells apart from it, and store beside it what agrees.
 -- Assumes nothing.
 use Prim.Native.Nat.{ℕ}
 use mathlib.Core.List.{List}

@@ -1,5 +1,5 @@
 -- Where a table's parts lie (docs/TABLE.md), and what a store leaves. First come single words, the lanes' rows and their records' lengths, 1,360 words;
--- then the slot lists (crate slot_lists); then the records' marks.
+-- then the slot lists (crate slot_lists); then the records' marks, and the numbers of the shared lanes' trains.
 --
 --   SIZE, Room       the fixed size of a table, in bytes; bytes that are long enough for it
 --   keptBytes        the last bytes of a table, which mean nothing
@@ -8,26 +8,29 @@
 --   wordOf           the word that a cell is
 --   Behind           the bytes that are no cell stay: the slot lists, and all past the table
 --   Now              what a store in the cells leaves
---   laneWord         the first of lane k's words: setting, clock, ring
+--   laneWord         the first of lane k's words: setting, clock, ring, round
 --   depthWord        the word of a lane's room, which tells this layout from those before it
 --   framingWord      the word of h, the line's framing bytes
---   rowOf, rowAt     a lane's three words, taken apart, with the line's framing bytes
+--   rowOf, rowAt     a lane's first three words, taken apart, with the line's framing bytes
+--   roundAt          a shared lane's fourth word: the round's number (crate turns)
 --   placeOf          the number of lane k's place i among all places, i counted on past the ring's end
 --   lengthCell       the cell of a place's length less one, four in a cell; markCell: of its mark, two in a cell
 --   entryAt          the record at a place; putEntry: the cells with a record stored there
---   clearLengths     the cells with n cells of 0 from a cell on
+--   trainNumber      the number of lane k's train j (crate turns); trainPlace: its place, counted on behind those of the records
+--   clearCells       the cells with n cells of 0 from a cell on
 --
 -- Assumes nothing.
 use mathlib.Core.Path.{_≡_}
 use Prim.Native.Nat.{ℕ, zero, suc, _+_, _-_, _*_, _/_, _%_, _^_, _≤_, _<_}
 use mathlib.Core.List.{List}
-use lib.Dec.{ltb}
+use lib.Dec.{ltb, eqb}
 use lib.ListN.{length, drop, getD, set}
 use Rattle.units.specs.Plain.{if_then_else_}
 use Rattle.words.specs.Runs.{tab}
 use Rattle.words.specs.Words.{wordAt}
 use Rattle.digits.specs.Digits.{digit, putDigit}
-use Rattle.parts.specs.Parts.{rowsFrom, lengthsFrom, listsFrom, ringsEnd, marksEnd}
+use Rattle.parts.specs.Parts.{rowsFrom, lengthsFrom, listsFrom, ringsEnd, trainsEnd}
+use Rattle.rounds.specs.Round.{trainCount}
 use Rattle.rules.specs.State.{laneDepth}
 use Rattle.table.specs.declared.LaneRow.{LaneRow}
 use Rattle.table.specs.declared.Entry.{Entry}
@@ -40,18 +43,23 @@ lengthsCell = lengthsFrom
 abbrev pub marksCell : ℕ
 marksCell = listsFrom
 
--- 3,408
+-- 3,408: the first cell of the trains' numbers, two in a cell as the marks are
+abbrev pub trainsCell : ℕ
+trainsCell = marksCell + 64 * laneDepth / 2
+
+-- 3,664
 abbrev pub CELLS : ℕ
-CELLS = marksCell + 64 * laneDepth / 2
+CELLS = trainsCell + 64 * trainCount / 2
 
--- bytes behind the marks that no call looks at, kept for what is to come (docs/TABLE.md)
+-- bytes behind them that no call looks at, kept for what is to come (docs/TABLE.md)
 abbrev pub keptBytes : ℕ
-keptBytes = 4096
+keptBytes = 2048
 
--- 65,536
+-- R6.1, R13.7: 65,536
 abbrev pub SIZE : ℕ
-SIZE = marksEnd + keptBytes
+SIZE = trainsEnd + keptBytes
 
+-- R6.1
 abbrev pub Room : List ℕ → Type 0
 Room t = SIZE ≤ length t
 
@@ -99,7 +107,8 @@ rowOf framing setting time ring = record {
   framing = record { 0 = framing };
   weight = setting / 2 ^ 16 % 2 ^ 16;
   group = setting / 2 ^ 32 % 2 ^ 8;
-  rate = record { 0 = setting / 2 ^ 40 };
+  rate = record { 0 = setting / 2 ^ 40 % 2 ^ 23 };
+  shared = eqb (setting / 2 ^ 63) 1;
   time = record { 0 = time };
   head = ring % laneDepth;
   count = ring / laneDepth;
@@ -111,6 +120,12 @@ rowAt w k = rowOf (getD w framingWord 0) (getD w (laneWord k) 0) (getD w (laneWo
 -- the words with lane k's clock and ring changed; the setting stays
 unfoldable pub putRow : List ℕ → ℕ → LaneRow → List ℕ
 putRow w k l = set (set w (laneWord k + 1) (l .time .0)) (laneWord k + 2) (l .head + laneDepth * l .count)
+
+abbrev pub roundWord : ℕ → ℕ
+roundWord k = laneWord k + 3
+
+abbrev pub roundAt : List ℕ → ℕ → ℕ
+roundAt w k = getD w (roundWord k) 0
 
 -- the words with lane k's ring changed alone
 abbrev pub putRing : List ℕ → ℕ → ℕ → ℕ → List ℕ
@@ -142,6 +157,17 @@ putMark w p m = set w (markCell p) (putDigit 32 (p % 2) m (getD w (markCell p) 0
 abbrev pub putEntry : List ℕ → ℕ → Entry → List ℕ
 putEntry w p e = putMark (putLength w p (e .length .0)) p (e .mark)
 
-unfoldable pub clearLengths : List ℕ → ℕ → ℕ → List ℕ
-clearLengths w from zero = w
-clearLengths w from (suc n) = set (clearLengths w from n) (from + n) 0
+unfoldable pub clearCells : List ℕ → ℕ → ℕ → List ℕ
+clearCells w from zero = w
+clearCells w from (suc n) = set (clearCells w from n) (from + n) 0
+
+-- ---- a train of a shared lane
+
+abbrev pub trainPlace : ℕ → ℕ → ℕ
+trainPlace k j = 64 * laneDepth + (trainCount * k + j)
+
+unfoldable pub trainNumber : List ℕ → ℕ → ℕ → ℕ
+trainNumber w k j = digit 32 (trainPlace k j % 2) (getD w (markCell (trainPlace k j)) 0)
+
+abbrev pub putTrain : List ℕ → ℕ → ℕ → ℕ → List ℕ
+putTrain w k j n = putMark w (trainPlace k j) n

@@ -2,12 +2,15 @@
 --
 --   presentAt   lane k is in the setup: bit k of the word of present lanes
 --   Next        the next lane in the setup
---   timed       a lane by its setting, its one clock word and its queue
+--   timed       a lane by its setting, its one clock word and what waits in it
+--   waitingOf   what waits in a lane: a ring of records, or those of a shared lane's trains
 --   laneOf      lane k; one that is not in the setup means nothing, whatever its words hold
 --   stateOf     the state of the first part's words, with a tie order
 --   meant       the state of a table's bytes: the tie order is the slot lists, one behind the other
---   PlacesFit   every place of a lane's ring holds a length within the lane's numbers
---   Beside      what is stored beside the state: the depth; c and the group of each present lane; h within its numbers; the places of holding lanes
+--   PlacesFit   every place of a lane holds a length within the lane's numbers
+--   TrainsFit   the row of a shared lane counts the records of all trains, and its round's number has no bit that means nothing
+--   Housed      both, of a lane that holds records
+--   Beside      R6.10: what is stored beside the state: the depth; c and the group of each present lane; h within its numbers; how holding lanes are housed
 --   Listed      the slot lists and the groups' starts are those of the lanes
 --   Sound       what the inner functions rest on, in the middle of a call too
 --   Leaves      what a function that stores in the first part leaves: a state, what is stored beside it, and every byte behind that part
@@ -15,19 +18,22 @@
 -- Assumes nothing.
 use mathlib.Core.Path.{_≡_}
 use mathlib.Core.Bool.{Bool, true}
-use Prim.Native.Nat.{ℕ, _+_, _*_, _≤_, _<_}
-use mathlib.Core.List.{List, [], _∷_}
+use Prim.Native.Nat.{ℕ, zero, suc, _+_, _≤_, _<_}
+use mathlib.Core.List.{List}
 use lib.Dec.{eqb}
 use lib.ListN.{getD, set}
 use Rattle.words.specs.Bits.{bit}
 use Rattle.words.specs.Runs.{tab}
 use Rattle.units.specs.Plain.{if_then_else_}
-use Rattle.waiting.specs.Waiting.{plain}
-use Rattle.rules.specs.State.{Rec, Setting, Lane, State, charge, rate, group, noLane, laneDepth}
+use Rattle.rounds.specs.Round.{Rec, Shared, empty, held}
+use Rattle.turns.specs.Turns.{sharedOf, Ordered}
+use Rattle.waiting.specs.Waiting.{Waiting, plain, shared, first}
+use Rattle.rules.specs.State.{Setting, Lane, State, rate, group, noLane, laneDepth}
+use Rattle.rules.specs.Calls as rules
 use Rattle.rules.specs.Setup.{InNumbers}
 use Rattle.slot_lists.specs.Lists.{backAt, listAt, startAt, Solid}
 use Rattle.filing.specs.Filing.{inARow, Agrees}
-use Rattle.table.specs.Layout.{Room, Behind, cells, clockWord, presentWord, depthWord, lengthCell, placeOf, entryAt, rowAt}
+use Rattle.table.specs.Layout.{Room, Behind, cells, clockWord, presentWord, depthWord, placeOf, entryAt, rowAt, roundAt, trainNumber}
 use Rattle.table.specs.declared.LaneRow.{LaneRow}
 use Rattle.table.specs.declared.Entry.{Entry}
 
@@ -41,7 +47,7 @@ pub record Next (lanes from k : ℕ) : Type 0 where
   pub absent : (i : ℕ) → from ≤ i → i < k → bit i lanes ≡ 0
   pub present : k < 64 → bit k lanes ≡ 1
 
--- a record as the rules have it
+-- a record as the rules have it, without its train
 abbrev pub recOf : Entry → Rec
 recOf e = record { mark = e .mark; len = e .length .0 }
 
@@ -50,15 +56,30 @@ unfoldable pub ringOf : List ℕ → ℕ → ℕ → ℕ → List Rec
 ringOf w k h n = tab n (λ i. recOf (entryAt w (placeOf k (h + i))))
 
 abbrev pub givenOf : LaneRow → Setting
-givenOf l = record { weight = l .weight; longest = l .longest .0; framing = l .framing .0 }
+givenOf l = record { weight = l .weight; longest = l .longest .0; framing = l .framing .0; shared = l .shared }
 
--- One clock word x: F of an idle lane, whose S is 0 by definition; S of a holding one, whose F is "S + its first record's length times c".
-unfoldable pub timed : Setting → ℕ → List Rec → Lane
-timed g x [] = record { given = g; start = 0; finish = x; waiting = plain [] }
-timed g x (r ∷ rs) = record { given = g; start = x; finish = x + charge g (r .len) * rate g; waiting = plain (r ∷ rs) }
+-- the record at lane k's place i
+unfoldable pub recAt : List ℕ → ℕ → ℕ → Rec
+recAt w k i = recOf (entryAt w (placeOf k i))
+
+-- R18.9: train j of a shared lane has its places 8 j to 8 j + 7
+unfoldable pub sharedAt : List ℕ → ℕ → Shared
+sharedAt w k = sharedOf (recAt w k) (trainNumber w k) (roundAt w k)
+
+-- the words of trains and round mean nothing while the lane holds no record
+unfoldable pub sharedIf : ℕ → Shared → Waiting
+sharedIf zero s = shared empty
+sharedIf (suc n) s = shared s
+
+unfoldable pub waitingOf : List ℕ → ℕ → LaneRow → Waiting
+waitingOf w k l = if l .shared then sharedIf (l .count) (sharedAt w k) else plain (ringOf w k (l .head) (l .count))
+
+-- One clock word x: F of an idle lane, whose S is 0 by definition; S of a holding one, whose F follows by R6.6.
+unfoldable pub timed : Setting → ℕ → Waiting → Lane
+timed g x w = rules.timed g x w (first w)
 
 unfoldable pub rowLane : List ℕ → ℕ → LaneRow → Lane
-rowLane w k l = timed (givenOf l) (l .time .0) (ringOf w k (l .head) (l .count))
+rowLane w k l = timed (givenOf l) (l .time .0) (waitingOf w k l)
 
 unfoldable pub laneOf : List ℕ → ℕ → Lane
 laneOf w k = if presentAt w k then rowLane w k (rowAt w k) else noLane
@@ -66,29 +87,38 @@ laneOf w k = if presentAt w k then rowLane w k (rowAt w k) else noLane
 unfoldable pub stateOf : List ℕ → List ℕ → State
 stateOf w order = record { clock = getD w clockWord 0; lanes = tab 64 (laneOf w); order = order }
 
--- No call looks at the order of two lanes of different lists, so any row of the lists will do (crate alike).
+-- R6.1. No call looks at the order of two lanes of different lists, so any row of the lists will do (crate alike).
 abbrev pub meant : List ℕ → State
 meant t = stateOf (cells t) (inARow (listAt t))
 
 -- ---- what is stored beside the state
 
--- "any stored links and sets agreeing with these": a lane is present exactly if it is in the setup, and its c and group are those of its setting
+-- R6.10: a lane is present exactly if it is in the setup, and its c and group are those of its setting
 pub record RowAgrees (l : LaneRow) : Type 0 where
   pub numbers : InNumbers (givenOf l)
   pub framing : l .framing .0 ≤ 64
   pub rated : l .rate .0 ≡ rate (givenOf l)
   pub grouped : l .group ≡ group (givenOf l)
 
--- every place of a ring holds a length of 1 to the lane's longest, whether a record is there or not: so the test reads all places at once
+-- R6.10: every place of a lane holds a length of 1 to the lane's longest, whether a record is there or not: so the test reads all places at once
 abbrev pub PlacesFit : List ℕ → ℕ → LaneRow → Type 0
 PlacesFit w k l = (i : ℕ) → i < laneDepth → entryAt w (placeOf k i) .length .0 ≤ l .longest .0
 
+-- R18.9
+pub record TrainsFit (w : List ℕ) (k : ℕ) (l : LaneRow) : Type 0 where
+  pub counted : held (sharedAt w k) ≡ l .count
+  pub ordered : Ordered (roundAt w k)
+
+pub record Housed (w : List ℕ) (k : ℕ) (l : LaneRow) : Type 0 where
+  pub places : PlacesFit w k l
+  pub trains : l .shared ≡ true → TrainsFit w k l
+
 pub record Beside (w : List ℕ) : Type 0 where
   pub depth : getD w depthWord 0 ≡ laneDepth
-  pub places : (k : ℕ) → k < 64 → presentAt w k ≡ true → 0 < rowAt w k .count → PlacesFit w k (rowAt w k)
+  pub housed : (k : ℕ) → k < 64 → presentAt w k ≡ true → 0 < rowAt w k .count → Housed w k (rowAt w k)
   pub rows : (k : ℕ) → k < 64 → presentAt w k ≡ true → RowAgrees (rowAt w k)
 
--- each lane that holds records stands in the list of its group and of the slot of its S, and in no other; each group's start is the least R of its lanes
+-- R6.11: each lane that holds records stands in the list of its group and of the slot of its S, and in no other; each group's start is the least R of its lanes
 pub record Listed (t : List ℕ) : Type 0 where
   pub solid : Solid t
   pub agrees : Agrees (backAt t) (listAt t) (startAt t) (meant t)

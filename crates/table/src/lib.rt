@@ -1,6 +1,6 @@
 // The lent table: a state of `rules` in 65,536 lent bytes (docs/TABLE.md). This crate reads and stores its cells: the clock, the lanes' rows and their
-// records' lengths, 1,360 words, and behind the slot lists the records' marks. By the slot lists a table has its tie order: crates `slot_lists` and
-// `filing`.
+// records' lengths, 1,360 words, and behind the slot lists the records' marks and the numbers of the shared lanes' trains (crate `turns`). By the slot
+// lists a table has its tie order: crates `slot_lists` and `filing`.
 //
 // Three views, each over the one below: bytes; words (`cells`), where a store is one `set`; and the state that they mean (`meant`,
 // specs/Means.antt). `Encodes` (specs/Encodes.antt) says when bytes encode a state. Queues, fresh tables and the good-table test are in
@@ -10,7 +10,7 @@
 ghost use mathlib.Core.Path.{_≡_};
 ghost use Prim.Native.Nat.{_+_, _*_, _^_, _<_, _≤_};
 ghost use lib.ListN.{getD, set};
-ghost use Rattle.table.specs.Layout.{Room, Front, marksCell, lengthsCell, Now, cells, rowAt, putRow, putRing, entryAt, putEntry, placeOf, clearLengths};
+ghost use Rattle.table.specs.Layout.{Room, Front, marksCell, lengthsCell, trainsCell, Now, cells, rowAt, putRow, putRing, entryAt, putEntry, placeOf, clearCells, roundWord, roundAt, trainNumber, putTrain};
 ghost use Rattle.rules.specs.State.{charge, laneDepth};
 ghost use Rattle.table.specs.Means.{presentAt, Next, givenOf, meant, Sound, Leaves, withClock};
 use digits::half;
@@ -18,6 +18,7 @@ use digits::quarter;
 use digits::set_half;
 use digits::set_quarter;
 use parts::PLACES;
+use parts::TRAINS;
 use rings::END;
 use units::Bytes;
 use units::Clock;
@@ -45,16 +46,22 @@ pub const LENGTHS: usize = parts::LENGTHS;
 
 const MARKS: usize = END / 8;
 
+// The first word of the trains' numbers, two in a word as the marks are.
+pub const TRAIN_NUMBERS: usize = MARKS + LANES * PLACES / 2;
+
 // Words of a row, and of the lengths of a lane's places, four in a word.
 pub const ROW_WORDS: usize = 4;
 
 pub const LENGTH_WORDS: usize = PLACES / 4;
 
-// Bytes behind the marks, four bytes each, that no call looks at (docs/TABLE.md).
-const KEPT: usize = 4096;
+// Words of the numbers of a lane's trains, two in a word.
+pub const TRAIN_WORDS: usize = TRAINS / 2;
+
+// Bytes behind them that no call looks at (docs/TABLE.md).
+const KEPT: usize = 2048;
 
 // The fixed size of a table, in bytes: 65,536.
-pub const SIZE: usize = END + 4 * LANES * PLACES + KEPT;
+pub const SIZE: usize = END + 4 * LANES * PLACES + 4 * LANES * TRAINS + KEPT;
 
 // Where weight, group and c begin in a setting word, after longest.
 pub const WEIGHT_UNIT: u64 = 65536;
@@ -63,18 +70,25 @@ pub const GROUP_UNIT: u64 = 4294967296;
 
 pub const RATE_UNIT: u64 = 1099511627776;
 
-// Longest and weight have 2^16 values, a group 2^8.
+// The top bit says that several trains share the lane.
+pub const SHARED_UNIT: u64 = 9223372036854775808;
+
+// Longest and weight have 2^16 values, a group 2^8, c 2^23.
 const PART: u64 = 65536;
 
 const GROUPS: u64 = 256;
 
-// A lane as the table keeps it: its setting, the line's framing bytes, its one clock word (S while it holds records, F while it is idle), and its ring.
+const RATES: u64 = 8388608;
+
+// A lane as the table keeps it: its setting, the line's framing bytes, its one clock word (S while it holds records, F while it is idle), and its ring. A
+// shared lane has a ring for each train instead: its count is that of all its records, and its head means nothing.
 pub struct LaneRow {
     pub longest: Bytes,
     pub framing: Bytes,
     pub weight: u64,
     pub group: u32,
     pub rate: Rate,
+    pub shared: bool,
     pub time: Clock,
     pub head: u64,
     pub count: u64,
@@ -105,7 +119,7 @@ pub fn set_cell(t: &mut [u8], i: usize, v: u64)
 // Lane `k`'s words, taken apart, with the line's framing bytes.
 pub fn row(t: &[u8], k: usize) -> LaneRow
     requires { ⌜ Front (now t) × (k < 64) ⌝ }
-    ensures { λ r. ⌜ (r ≡ rowAt (cells (now (t .entry))) k) × (r .head < laneDepth) × (r .rate .0 < 2 ^ 24) ⌝ }
+    ensures { λ r. ⌜ (r ≡ rowAt (cells (now (t .entry))) k) × (r .head < laneDepth) × (r .rate .0 < 2 ^ 23) ⌝ }
 {
     let base = ROWS + ROW_WORDS * k;
     let setting = cell(t, base);
@@ -117,7 +131,8 @@ pub fn row(t: &[u8], k: usize) -> LaneRow
         framing: Bytes(framing),
         weight: setting / WEIGHT_UNIT % PART,
         group: (setting / GROUP_UNIT % GROUPS) as u32,
-        rate: Rate(setting / RATE_UNIT),
+        rate: Rate(setting / RATE_UNIT % RATES),
+        shared: setting / SHARED_UNIT == 1,
         time: Clock(time),
         head: ring % DEPTH,
         count: ring / DEPTH,
@@ -169,12 +184,57 @@ pub fn set_record(t: &mut [u8], k: usize, i: u64, e: Entry)
 // Makes the length of each place of lane `k`'s ring 1: what stood there may have been anything.
 pub fn clear_lengths(t: &mut [u8], k: usize)
     requires { ⌜ Room (now t) × (k < 64) ⌝ }
-    ensures { λ _. ⌜ Now (now (t .entry)) (now (t .exit)) (clearLengths (cells (now (t .entry))) (lengthsCell + 16 * k) 16) ⌝ }
+    ensures { λ _. ⌜ Now (now (t .entry)) (now (t .exit)) (clearCells (cells (now (t .entry))) (lengthsCell + 16 * k) 16) ⌝ }
 {
     let from = LENGTHS + LENGTH_WORDS * k;
     let mut i = 0;
     while i < LENGTH_WORDS {
         set_cell(t, from + i, 0);
+        i += 1;
+    }
+}
+
+// The round's number of lane `k`, a shared one.
+pub fn round(t: &[u8], k: usize) -> u64
+    requires { ⌜ Front (now t) × (k < 64) ⌝ }
+    ensures { λ r. ⌜ r ≡ roundAt (cells (now (t .entry))) k ⌝ }
+{
+    cell(t, ROWS + ROW_WORDS * k + 3)
+}
+
+// Stores the round's number of lane `k`.
+pub fn set_round(t: &mut [u8], k: usize, v: u64)
+    requires { ⌜ Room (now t) × (k < 64) ⌝ }
+    ensures { λ _. ⌜ Now (now (t .entry)) (now (t .exit)) (set (cells (now (t .entry))) (roundWord k) v) ⌝ }
+{
+    set_cell(t, ROWS + ROW_WORDS * k + 3, v);
+}
+
+// The number of train `j` of lane `k`.
+pub fn train(t: &[u8], k: usize, j: usize) -> u64
+    requires { ⌜ Room (now t) × (k < 64) × (j < 8) ⌝ }
+    ensures { λ r. ⌜ (r ≡ trainNumber (cells (now (t .entry))) k j) × (r < 2 ^ 32) ⌝ }
+{
+    half(t, 2 * TRAIN_NUMBERS + (TRAINS * k + j))
+}
+
+// Stores the number of train `j` of lane `k`.
+pub fn set_train(t: &mut [u8], k: usize, j: usize, v: u64)
+    requires { ⌜ Room (now t) × (k < 64) × (j < 8) × (v < 2 ^ 32) ⌝ }
+    ensures { λ _. ⌜ Now (now (t .entry)) (now (t .exit)) (putTrain (cells (now (t .entry))) k j v) ⌝ }
+{
+    set_half(t, 2 * TRAIN_NUMBERS + (TRAINS * k + j), v);
+}
+
+// Makes the number of each of lane `k`'s trains 0: no record, and no deficit.
+pub fn clear_trains(t: &mut [u8], k: usize)
+    requires { ⌜ Room (now t) × (k < 64) ⌝ }
+    ensures { λ _. ⌜ Now (now (t .entry)) (now (t .exit)) (clearCells (cells (now (t .entry))) (trainsCell + 4 * k) 4) ⌝ }
+{
+    let from = TRAIN_NUMBERS + TRAIN_WORDS * k;
+    let mut i = 0;
+    while i < TRAIN_WORDS {
+        set_word(t, from + i, 0);
         i += 1;
     }
 }

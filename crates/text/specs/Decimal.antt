@@ -1,4 +1,4 @@
--- Numbers as text: plain decimal, no leading zeros, a minus sign below zero. Characters are ASCII bytes.
+-- Numbers as text (R10.13): plain decimal, no leading zeros, a minus sign below zero. Characters are ASCII bytes.
 --
 --   digits k n   the k lowest digits of n, highest first
 --   Width n k    n has k digits

@@ -151,7 +151,7 @@ module _ (t r : ℕ) (light : Light t) (some-held : 0 < countOf t) (o : Ordered 
       abbrev fewer : ℕ
       fewer = h + 8 * suc c + 128 * d
 
-      small-x : fewer < 2 ^ 32
+      small-x : fewer < 2 ^ 20
       small-x = omega (arith, light .0, light .1)
 
       next-place : (at : ℕ → Rec) → at (placeOf k (headOf t + 1)) .len ≡ next → at (placeOf k h) .len ≡ next

@@ -11,8 +11,8 @@ use borrow.Author.Tests.{eq-eqb, ne-eqb}
 use Rattle.units.specs.Plain.{if_then_else_}
 use Rattle.words.specs.Runs.{tab, tabFrom}
 use Rattle.words.proofs.Runs.{tab-ext, tab-set, tab-cons, tab-snoc, length-tab, getD-tab}
-use Rattle.rounds.specs.Round.{Rec, Train, Shared, noTrain, raised, added, begin}
-use Rattle.turns.specs.Turns.{headOf, countOf, deficitOf, placeOf, ringOf, trainOf, trainsOf, sharedOf, roundOf, turnOf, with, begun}
+use Rattle.rounds.specs.Round.{Rec, Train, Shared, noTrain, empty, raised, added, begin}
+use Rattle.turns.specs.Turns.{headOf, countOf, deficitOf, placeOf, ringOf, trainOf, trainsOf, sharedOf, fours, roundOf, turnOf, with, begun}
 
 -- ---- parts of a number
 
@@ -143,3 +143,21 @@ unfolding sharedOf trainsOf trainOf ringOf
 shared-same at bt ts us r f g =
     ap (λ (x : List Train). record { trains = x; round = roundOf r })
     (tab-ext 8 _ _ (λ k h. rw (g k h) (ap (λ (q : List Rec). record { deficit = deficitOf (us k); queue = q }) (tab-ext (countOf (us k)) _ _ (λ i p. f (placeOf k (headOf (us k) + i)) (omega arith))))))
+
+-- nor does the place behind a train's last record, where it has one
+module _ (at bt : ℕ → Rec) (ts : ℕ → ℕ) (r j : ℕ) (room : countOf (ts j) < 8) (f : (p : ℕ) → p < 64 → (p ≡ placeOf j (headOf (ts j) + countOf (ts j)) → ⊥) → at p ≡ bt p) where
+  apart : (k i : ℕ) → k < 8 → i < countOf (ts k) → placeOf k (headOf (ts k) + i) ≡ placeOf j (headOf (ts j) + countOf (ts j)) → ⊥
+  apart k i h p e =
+      let same : k ≡ j = omega arith in
+      subst (λ (x : ℕ). i < countOf (ts x) → placeOf x (headOf (ts x) + i) ≡ placeOf j (headOf (ts j) + countOf (ts j)) → ⊥) (sym same) (λ a b. omega arith) p e
+
+  pub shared-but : sharedOf at ts r ≡ sharedOf bt ts r
+  unfolding sharedOf trainsOf trainOf ringOf
+  shared-but =
+      ap (λ (x : List Train). record { trains = x; round = roundOf r })
+      (tab-ext 8 _ _ (λ k h. ap (λ (q : List Rec). record { deficit = deficitOf (ts k); queue = q }) (tab-ext (countOf (ts k)) _ _ (λ i p. f (placeOf k (headOf (ts k) + i)) (omega arith) (apart k i h p)))))
+
+-- numbers of 0 are those of a lane in which nothing waits
+pub shared-none : (at : ℕ → Rec) → sharedOf at (λ (k : ℕ). 0) 0 ≡ empty
+unfolding sharedOf trainsOf trainOf ringOf roundOf fours empty tab tabFrom
+shared-none at = refl

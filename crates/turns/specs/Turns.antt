@@ -63,6 +63,7 @@ roundOf r = fours (namedOf r) (orderOf r)
 abbrev pub turnOf : ℕ → ℕ
 turnOf r = orderOf r % 16
 
+-- R18.9
 pub record Ordered (r : ℕ) : Type 0 where
   pub few : namedOf r ≤ trainCount
   pub fits : orderOf r < 16 ^ namedOf r
@@ -76,6 +77,7 @@ Known r = (i : ℕ) → 0 < times i (roundOf r) → i < trainCount
 unfoldable pub trainsOf : (ℕ → Rec) → (ℕ → ℕ) → List Train
 trainsOf at ts = tab trainCount (λ k. trainOf at k (ts k))
 
+-- R18.9
 unfoldable pub sharedOf : (ℕ → Rec) → (ℕ → ℕ) → ℕ → Shared
 sharedOf at ts r = record { trains = trainsOf at ts; round = roundOf r }
 
@@ -105,5 +107,6 @@ pub record HandsOut (t r length next : ℕ) (c : Change) : Type 0 where
       → at (placeOf (turnOf r) (headOf t)) .len ≡ length → at (placeOf (turnOf r) (headOf t + 1)) .len ≡ next
       → sharedOf at (begun L (c .begins) (with ts (turnOf r) (c .train)) (c .round)) (c .round) ≡ handOut L (sharedOf at ts r)
   pub ordered : Ordered (c .round)
-  pub small : c .train < 2 ^ 32
+  -- so small that a turn may still add its longest
+  pub small : c .train < 2 ^ 20
   pub turn : c .begins ≡ true → turnOf (c .round) < trainCount

@@ -1,5 +1,5 @@
-// One shared lane, by deficit round robin (document 02, l): what a put and a hand-out make of the numbers that the lane is kept in
-// (specs/Turns.antt has their parts). There is no loop over the trains: "to the end of the round" is one shift and one addition.
+// One shared lane, by deficit round robin: what a put and a hand-out make of the numbers that the lane is kept in
+// (specs/Turns.antt has their parts). There is no loop over the trains: going to the end of the round is one shift and one addition.
 //
 // These functions know no table: they get the numbers of the train at hand and of the round, and give both back. The records themselves
 // stay in the lane's places. They are inner functions: a `requires` says what a good lane gives (proofs/Good.antt has the laws for it).

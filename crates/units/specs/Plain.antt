@@ -1,4 +1,4 @@
--- What the rules' definitions are written with. Nothing of document 01 is in it.
+-- What the rules' definitions are written with. No rule is stated here.
 --
 --   if_then_else_   a choice by a test
 --   count           1 where a test passes, else 0

@@ -1,4 +1,4 @@
-// Bytes and clock units, counted apart, and the numbers of a lane: document 01, "Numbers".
+// Bytes and clock units, counted apart (R1.13), and the numbers of a lane (R1.8 to R1.10).
 //
 // Units:
 //   Bytes   bytes of records
@@ -8,7 +8,7 @@
 // Bytes and clock units are never added to each other. Only `lane_charge` and `line_charge` turn the first into the second. Times are compared by
 // `not_after`, `before` and `same_time`, so that the crates above compare a time with a time.
 //
-// These are inner functions: a `requires` says what the crates above keep. Ranges (document 01): weight 1 to 1,024, so c is 1,024 to 1,048,576;
+// These are inner functions: a `requires` says what the crates above keep. Ranges (R1.2, R1.11, R6.5): weight 1 to 1,024, so c is 1,024 to 1,048,576;
 // group index 16 to 31; the clock below 2^62 + 2^44.
 ghost use mathlib.Core.Path.{_≡_};
 ghost use Prim.Native.Nat.{_+_, _*_, _^_, _<_, _≤_, max, min};
@@ -21,7 +21,7 @@ pub struct Clock(pub u64);
 
 pub struct Rate(pub u64);
 
-// Clock units by which one byte of any lane moves the clock.
+// R1.9: the clock units that a byte costs the line, whatever its lane.
 pub const LINE_RATE: u64 = 1024;
 
 // The clock units that the whole line's weight, 1,024, gives to one byte of a lane of weight 1: 2^20.
@@ -51,7 +51,7 @@ pub fn line_charge(length: Bytes) -> Clock
     Clock(LINE_RATE * length.0)
 }
 
-// The group index of a lane whose longest record costs it `span`: the least i with 2^i at least `span`. So many bits has `span` less one: a power of two is its own.
+// R1.10: the group index of a lane whose longest record costs it `span`: as many bits as `span` less one has, so that a power of two is its own.
 pub fn group_index(span: Clock) -> u32
     requires { ⌜ span .0 ≤ 2 ^ 63 ⌝ }
     ensures { λ r. ⌜ Least (span .0) r × (r ≤ 63) ⌝ }

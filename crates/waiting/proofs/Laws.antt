@@ -7,155 +7,216 @@ use mathlib.Core.List.{List, [], _∷_, _++_, append-nil}
 use mathlib.Core.Option.{Option, none, some}
 use lib.Dec.{leb, eqb}
 use lib.ListN.{length, length-append}
-use borrow.Author.Tests.{leb-true, leb-false, le-leb, eq-eqb, ne-eqb}
+use borrow.Author.Tests.{leb-true, leb-false, ltb-true, ltb-false, lt-ltb, le-leb, eq-eqb, ne-eqb}
 use Rattle.units.specs.Plain.{if_then_else_}
-use Rattle.waiting.specs.Waiting.{Rec, laneDepth, Waiting, plain, nothing, head, tail, first, turnOf, enter, handOut, held, queueOf, full, known, Lengths, GoodWaiting, lengthsTest, waitingTest}
+use Rattle.rounds.specs.Round as round
+use Rattle.rounds.specs.Round.{Moving, Shared, noTrain, trainAt, trainCount, trainDepth, some?}
+use Rattle.rounds.specs.Good.{Good}
+use Rattle.rounds.specs.Runs.{ofTrain}
+use Rattle.rounds.proofs.Keep as keep
+use Rattle.rounds.proofs.Order as order
+use Rattle.rounds.proofs.Held as heldLaws
+use Rattle.rounds.proofs.Test as test
+use Rattle.rounds.proofs.Lists.{and-parts}
+use Rattle.waiting.specs.Waiting.{laneDepth, Rec, bare, Waiting, plain, shared, nothing, itemOf, isShared, head, tail, first, enter, handOut, held, queueOf, full, known, Lengths, GoodWaiting, lengthsTest, waitingTest}
 
 -- what an accepted record has
-pub record Enters (L : ℕ) (w : Waiting) (k : ℕ) (r : Rec) : Type 0 where
-  pub train : known w k ≡ true
+pub record Enters (L : ℕ) (w : Waiting) (r : Rec) : Type 0 where
+  pub train : known w (r .train) ≡ true
   pub some-bytes : 1 ≤ r .len
   pub fits : r .len ≤ L
-  pub room : full w k ≡ false
+  pub room : full w (r .train) ≡ false
 
 clash {ℓ} : {A : Type 0} {P : Type ℓ} (x : A) → none ≡ some x → P
 clash x e = let z : _≡_ {A = ℕ} 0 1 = cc in absurd (omega arith)
 
-and-parts : (a b : Bool) → (a && b) ≡ true → (a ≡ true) × (b ≡ true)
-and-parts true b e = (refl, e)
-and-parts false b e = absurd (false≢true e)
+some-inj : (x y : Rec) → some x ≡ some y → x ≡ y
+some-inj x y e = cc
+
+-- a shared lane's choice, taken apart
+item-none : (o : Option Moving) → itemOf o ≡ none → o ≡ none
+item-none none e = refl
+item-none (some x) e = clash _ (sym e)
+
+abbrev pub moved : Rec → Moving
+moved r = record { train = r .train; item = bare r }
+
+pub item-some : (o : Option Moving) (r : Rec) → itemOf o ≡ some r → o ≡ some (moved r)
+item-some none r e = clash r e
+item-some (some x) r e = ap (λ (z : Rec). some (moved z)) (some-inj _ r e)
 
 -- ---- nothing waits
 
-pub first-nothing : first nothing ≡ none
-first-nothing = refl
+pub first-nothing : (b : Bool) → first (nothing b) ≡ none
+unfolding round.first round.firstIn round.empty
+first-nothing false = refl
+first-nothing true = refl
 
-pub held-nothing : held nothing ≡ 0
-unfolding held
-held-nothing = refl
+pub held-nothing : (b : Bool) → held (nothing b) ≡ 0
+unfolding held round.empty
+held-nothing false = refl
+held-nothing true = refl
 
-pub queue-nothing : (k : ℕ) → queueOf nothing k ≡ []
+pub queue-nothing : (b : Bool) (k : ℕ) → queueOf (nothing b) k ≡ []
 unfolding queueOf
-queue-nothing zero = refl
-queue-nothing (suc k) = refl
+queue-nothing false zero = refl
+queue-nothing false (suc k) = refl
+queue-nothing true k = ap (λ (t : round.Train). t .queue) (heldLaws.empty-train k)
 
-pub good-nothing : (L : ℕ) → GoodWaiting L nothing
+pub good-nothing : (L : ℕ) (b : Bool) → GoodWaiting L (nothing b)
 unfolding GoodWaiting
-good-nothing L = (omega arith, tt)
+good-nothing L false = (omega arith, tt)
+good-nothing L true = heldLaws.empty-good L
 
 -- ---- the first record
 
--- the first record of all is the one that enters
-pub first-enter : (L : ℕ) (w : Waiting) (k : ℕ) (r : Rec) → GoodWaiting L w → Enters L w k r → first w ≡ none → first (enter L w k r) ≡ some r
-unfolding enter
-first-enter L (plain []) k r g a e = refl
-first-enter L (plain (x ∷ xs)) k r g a e = clash x (sym e)
+inside : (L : ℕ) (s : Shared) (r : Rec) → Good L s → Enters L (shared s) r → r .train < length (s .trains)
+unfolding known
+inside L s r g a = omega (arith, ltb-true (r .train) trainCount (a .train), g .size)
 
--- "then stays"
-pub first-stays : (L : ℕ) (w : Waiting) (k : ℕ) (r x : Rec) → GoodWaiting L w → Enters L w k r → first w ≡ some x → first (enter L w k r) ≡ some x
-unfolding enter
-first-stays L (plain []) k r x g a e = clash x e
-first-stays L (plain (y ∷ ys)) k r x g a e = e
+zero-train : (r : Rec) → leb (r .train) 0 ≡ true → r .train ≡ 0
+zero-train r e = omega (arith, leb-true (r .train) 0 e)
+
+-- the first record of all is the one that enters
+pub first-enter : (L : ℕ) (w : Waiting) (r : Rec) → GoodWaiting L w → Enters L w r → first w ≡ none → first (enter L w r) ≡ some r
+unfolding enter GoodWaiting known
+first-enter L (plain []) r g a e = ap (λ (n : ℕ). some (record { train = n; mark = r .mark; len = r .len })) (sym (zero-train r (a .train)))
+first-enter L (plain (x ∷ xs)) r g a e = clash _ (sym e)
+first-enter L (shared s) r g a e = ap itemOf (heldLaws.first-put L s (r .train) (bare r) g (inside L s r g a) (item-none (round.first s) e))
+
+-- and no later one takes its place
+pub first-stays : (L : ℕ) (w : Waiting) (r x : Rec) → GoodWaiting L w → Enters L w r → first w ≡ some x → first (enter L w r) ≡ some x
+unfolding enter GoodWaiting
+first-stays L (plain []) r x g a e = clash x e
+first-stays L (plain (y ∷ ys)) r x g a e = e
+first-stays L (shared s) r x g a e = ap itemOf (order.first-stays L s (r .train) (bare r) (moved x) (inside L s r g a) (item-some (round.first s) x e))
 
 pub first-fits : (L : ℕ) (w : Waiting) (x : Rec) → GoodWaiting L w → first w ≡ some x → (0 < x .len) × (x .len ≤ L)
 unfolding GoodWaiting
 first-fits L (plain []) x g e = clash x e
 first-fits L (plain (y ∷ ys)) x g e =
-    let h : y ≡ x = cc in (omega (arith, g .1 .0, ap (λ (z : Rec). z .len) h), omega (arith, g .1 .1, ap (λ (z : Rec). z .len) h))
+    let h = some-inj _ x e in (omega (arith, g .1 .0, ap (λ (z : Rec). z .len) h), omega (arith, g .1 .1, ap (λ (z : Rec). z .len) h))
+first-fits L (shared s) x g e = order.first-fits L s (moved x) g (item-some (round.first s) x e)
 
 -- ---- how many wait
 
-pub held-enter : (L : ℕ) (w : Waiting) (k : ℕ) (r : Rec) → GoodWaiting L w → Enters L w k r → held (enter L w k r) ≡ suc (held w)
-unfolding held enter
-held-enter L (plain q) k r g a = omega (arith, length-append q (r ∷ []))
+pub held-enter : (L : ℕ) (w : Waiting) (r : Rec) → GoodWaiting L w → Enters L w r → held (enter L w r) ≡ suc (held w)
+unfolding held enter GoodWaiting
+held-enter L (plain q) r g a = omega (arith, length-append q (bare r ∷ []))
+held-enter L (shared s) r g a = heldLaws.put-held L s (r .train) (bare r) (inside L s r g a)
 
 pub held-hand : (L : ℕ) (w : Waiting) (x : Rec) → GoodWaiting L w → first w ≡ some x → held w ≡ suc (held (handOut L w))
-unfolding held handOut tail
+unfolding held handOut tail GoodWaiting
 held-hand L (plain []) x g e = clash x e
 held-hand L (plain (y ∷ ys)) x g e = refl
+held-hand L (shared s) x g e = heldLaws.hand-held L s (moved x) g (item-some (round.first s) x e)
 
 pub held-none : (L : ℕ) (w : Waiting) → GoodWaiting L w → first w ≡ none → held w ≡ 0
-unfolding held
+unfolding held GoodWaiting
 held-none L (plain []) g e = refl
-held-none L (plain (y ∷ ys)) g e = clash y (sym e)
+held-none L (plain (y ∷ ys)) g e = clash _ (sym e)
+held-none L (shared s) g e = heldLaws.none-held L s g (item-none (round.first s) e)
 
 pub held-most : (L : ℕ) (w : Waiting) → GoodWaiting L w → held w ≤ laneDepth
 unfolding held GoodWaiting
 held-most L (plain q) g = g .0
+held-most L (shared s) g = heldLaws.held-most L s g
 
 -- ---- the order of each train
 
-pub queue-enter : (L : ℕ) (w : Waiting) (k : ℕ) (r : Rec) → GoodWaiting L w → Enters L w k r → (t : ℕ) → queueOf w t ++ (if eqb k t then r ∷ [] else []) ≡ queueOf (enter L w k r) t
-unfolding queueOf enter known
-queue-enter L (plain q) k r g a zero = simp (eq-eqb k 0 (omega (arith, leb-true k 0 (a .train))))
-queue-enter L (plain q) k r g a (suc t) = simp (ne-eqb k (suc t) (λ e. omega (arith, leb-true k 0 (a .train))))
+pub queue-enter : (L : ℕ) (w : Waiting) (r : Rec) → GoodWaiting L w → Enters L w r → (t : ℕ) → queueOf w t ++ (if eqb (r .train) t then bare r ∷ [] else []) ≡ queueOf (enter L w r) t
+unfolding queueOf enter known GoodWaiting ofTrain
+queue-enter L (plain q) r g a zero = simp (eq-eqb (r .train) 0 (zero-train r (a .train)))
+queue-enter L (plain q) r g a (suc t) = simp (ne-eqb (r .train) (suc t) (λ e. omega (arith, zero-train r (a .train))))
+queue-enter L (shared s) r g a t = order.put-fifo L s (r .train) t (bare r) (inside L s r g a)
 
-pub queue-hand : (L : ℕ) (w : Waiting) (x : Rec) → GoodWaiting L w → first w ≡ some x → (t : ℕ) → queueOf w t ≡ (if eqb (turnOf w) t then x ∷ [] else []) ++ queueOf (handOut L w) t
-unfolding queueOf handOut tail turnOf
+pub queue-hand : (L : ℕ) (w : Waiting) (x : Rec) → GoodWaiting L w → first w ≡ some x → (t : ℕ) → queueOf w t ≡ (if eqb (x .train) t then bare x ∷ [] else []) ++ queueOf (handOut L w) t
+unfolding queueOf handOut tail GoodWaiting ofTrain
 queue-hand L (plain []) x g e t = clash x e
-queue-hand L (plain (y ∷ ys)) x g e zero = let h : y ≡ x = cc in ap (λ (z : Rec). z ∷ ys) h
-queue-hand L (plain (y ∷ ys)) x g e (suc t) = simp (ne-eqb 0 (suc t) (λ q. omega arith))
+queue-hand L (plain (y ∷ ys)) x g e zero = let h = some-inj _ x e in rw (eq-eqb (x .train) 0 (sym (ap (λ (z : Rec). z .train) h))) (ap (λ (z : Rec). bare z ∷ ys) h)
+queue-hand L (plain (y ∷ ys)) x g e (suc t) = simp (ne-eqb (x .train) (suc t) (λ q. omega (arith, ap (λ (z : Rec). z .train) (some-inj _ x e))))
+queue-hand L (shared s) x g e t = order.hand-fifo L s g t ∙ ap (λ (o : Option Moving). ofTrain t o ++ trainAt (round.handOut L s) t .queue) (item-some (round.first s) x e)
 
 pub queue-none : (L : ℕ) (w : Waiting) → GoodWaiting L w → first w ≡ none → (t : ℕ) → queueOf w t ≡ []
-unfolding queueOf
+unfolding queueOf GoodWaiting
 queue-none L (plain []) g e zero = refl
 queue-none L (plain []) g e (suc t) = refl
-queue-none L (plain (y ∷ ys)) g e t = clash y (sym e)
+queue-none L (plain (y ∷ ys)) g e t = clash _ (sym e)
+queue-none L (shared s) g e t = heldLaws.none-queue L s g (item-none (round.first s) e) t
 
--- a train that has room holds fewer than the lane may
-pub queue-room : (w : Waiting) (k : ℕ) → known w k ≡ true → full w k ≡ false → length (queueOf w k) < laneDepth
-unfolding queueOf known full
+-- a train that has room holds fewer than it may
+pub queue-room : (w : Waiting) (k : ℕ) → known w k ≡ true → full w k ≡ false → length (queueOf w k) < (if isShared w then trainDepth else laneDepth)
+unfolding queueOf known full isShared
 queue-room (plain q) zero t e = leb-false laneDepth (length q) e
 queue-room (plain q) (suc k) t e = omega arith
-
--- until lanes are shared
-pub full-plain : (w : Waiting) → full w 0 ≡ leb laneDepth (held w)
-unfolding full held
-full-plain (plain q) = refl
-
-pub queue-plain : (w : Waiting) → length (queueOf w 0) ≡ held w
-unfolding queueOf held
-queue-plain (plain q) = refl
-
-pub turn-plain : (w : Waiting) → turnOf w ≡ 0
-unfolding turnOf
-turn-plain (plain q) = refl
-
-pub known-zero : (w : Waiting) → known w 0 ≡ true
-unfolding known
-known-zero (plain q) = refl
+queue-room (shared s) k t e = leb-false trainDepth (length (trainAt s k .queue)) e
 
 -- ---- good
 
-pub good-enter : (L : ℕ) (w : Waiting) (k : ℕ) (r : Rec) → GoodWaiting L w → Enters L w k r → GoodWaiting L (enter L w k r)
-unfolding GoodWaiting enter full
-good-enter L (plain q) k r g a = (omega (arith, length-append q (r ∷ []), leb-false laneDepth (length q) (a .room)), more q (g .1))
+pub good-enter : (L : ℕ) (w : Waiting) (r : Rec) → GoodWaiting L w → Enters L w r → GoodWaiting L (enter L w r)
+unfolding GoodWaiting enter full known
+good-enter L (plain q) r g a = (omega (arith, length-append q (bare r ∷ []), leb-false laneDepth (length q) (a .room)), more q (g .1))
   where
-    more : (q : List Rec) → Lengths L q → Lengths L (q ++ (r ∷ []))
+    more : (q : List round.Rec) → Lengths L q → Lengths L (q ++ (bare r ∷ []))
     more [] l = (a .some-bytes, a .fits, tt)
     more (x ∷ xs) l = (l .0, l .1, more xs (l .2))
+good-enter L (shared s) r g a =
+    keep.put-good L s g (r .train) (bare r) (record { train = ltb-true (r .train) trainCount (a .train); some-bytes = a .some-bytes; fits = a .fits; room = leb-false trainDepth (length (trainAt s (r .train) .queue)) (a .room) })
 
 pub good-hand : (L : ℕ) (w : Waiting) → GoodWaiting L w → GoodWaiting L (handOut L w)
 unfolding GoodWaiting handOut tail
 good-hand L (plain []) g = g
 good-hand L (plain (r ∷ rs)) g = (omega (arith, g .0), g .1 .2)
+good-hand L (shared s) g = keep.hand-out-good L s g
 
 pub test-good : (L : ℕ) (w : Waiting) → waitingTest L w ≡ true → GoodWaiting L w
 unfolding GoodWaiting waitingTest lengthsTest
 test-good L (plain q) e =
     let a = and-parts (leb (length q) laneDepth) (lengthsTest L q) e in (leb-true (length q) laneDepth (a .0), go q (a .1))
   where
-    go : (q : List Rec) → lengthsTest L q ≡ true → Lengths L q
+    go : (q : List round.Rec) → lengthsTest L q ≡ true → Lengths L q
     go [] e = tt
     go (r ∷ rs) e =
         let a = and-parts (leb 1 (r .len) && leb (r .len) L) (lengthsTest L rs) e in
         let b = and-parts (leb 1 (r .len)) (leb (r .len) L) (a .0) in
         (leb-true 1 (r .len) (b .0), leb-true (r .len) L (b .1), go rs (a .1))
+test-good L (shared s) e = test.test-good L s e
 
 pub good-test : (L : ℕ) (w : Waiting) → GoodWaiting L w → waitingTest L w ≡ true
 unfolding GoodWaiting waitingTest lengthsTest
 good-test L (plain q) g = simp (le-leb (length q) laneDepth (g .0), go q (g .1))
   where
-    go : (q : List Rec) → Lengths L q → lengthsTest L q ≡ true
+    go : (q : List round.Rec) → Lengths L q → lengthsTest L q ≡ true
     go [] l = refl
     go (r ∷ rs) l = simp (le-leb 1 (r .len) (l .0), le-leb (r .len) L (l .1), go rs (l .2))
+good-test L (shared s) g = test.good-test L s g
+
+-- ---- a lane is shared or not for good
+
+pub shared-nothing : (b : Bool) → isShared (nothing b) ≡ b
+unfolding isShared
+shared-nothing false = refl
+shared-nothing true = refl
+
+pub shared-enter : (L : ℕ) (w : Waiting) (r : Rec) → isShared (enter L w r) ≡ isShared w
+unfolding isShared enter
+shared-enter L (plain q) r = refl
+shared-enter L (shared s) r = refl
+
+pub shared-hand : (L : ℕ) (w : Waiting) → isShared (handOut L w) ≡ isShared w
+unfolding isShared handOut
+shared-hand L (plain q) = refl
+shared-hand L (shared s) = refl
+
+-- ---- a lane that is not shared has the train 0 alone
+
+pub first-train : (w : Waiting) (x : Rec) → isShared w ≡ false → first w ≡ some x → x .train ≡ 0
+unfolding isShared
+first-train (plain []) x u e = clash x e
+first-train (plain (y ∷ ys)) x u e = sym (ap (λ (z : Rec). z .train) (some-inj _ x e))
+first-train (shared s) x u e = absurd (false≢true (sym u))
+
+pub known-train : (w : Waiting) (t : ℕ) → isShared w ≡ false → known w t ≡ true → t ≡ 0
+unfolding isShared known
+known-train (plain q) t u e = omega (arith, leb-true t 0 e)
+known-train (shared s) t u e = absurd (false≢true (sym u))

@@ -1,10 +1,8 @@
 -- What waits in one lane.
 --
---   Rec           a waiting record: its mark and its length
 --   Waiting       the records of one lane
 --   nothing       no record
 --   first         the first record, the one that the lane hands out next
---   turnOf        the train of the first record
 --   enter         a record more, of a train
 --   handOut       without the first record
 --   held          how many records wait
@@ -17,72 +15,104 @@ use Prim.Native.Nat.{ℕ, zero, suc, _≤_}
 use mathlib.Core.Bool.{Bool, true, false, _&&_}
 use mathlib.Core.List.{List, [], _∷_, _++_}
 use mathlib.Core.Option.{Option, none, some}
-use lib.Dec.{leb}
+use lib.Dec.{leb, ltb}
 use lib.ListN.{length}
+use Rattle.rounds.specs.Round as round
+use Rattle.rounds.specs.Round.{Moving, Shared, trainAt, trainCount, trainDepth}
+use Rattle.rounds.specs.Good.{Good, goodTest}
 
--- how many records a lane has room for (document 02, g); lanes share no room
+-- R1.7: how many records a lane has room for; lanes share no room
 abbrev pub laneDepth : ℕ
 laneDepth = 64
 
+-- R1.5: a record with its train; a lane that is not shared has train 0 only
 pub record Rec : Type 0 where
+  pub train : ℕ
   pub mark : ℕ
   pub len : ℕ
 
+abbrev pub bare : Rec → round.Rec
+bare r = record { mark = r .mark; len = r .len }
+
+abbrev pub withTrain : ℕ → round.Rec → Rec
+withTrain k r = record { train = k; mark = r .mark; len = r .len }
+
+-- R2.1, R18.1: a queue; in a shared lane one for each train, and their turns
 pub data Waiting : Type 0 where
-  plain : List Rec → Waiting
+  plain : List round.Rec → Waiting
+  shared : Shared → Waiting
 
-abbrev pub nothing : Waiting
-nothing = plain []
+-- what waits in a lane, shared or not, at first
+abbrev pub nothing : Bool → Waiting
+nothing false = plain []
+nothing true = shared round.empty
 
-abbrev pub head : List Rec → Option Rec
+abbrev pub head : List round.Rec → Option Rec
 head [] = none
-head (r ∷ rs) = some r
+head (r ∷ rs) = some (withTrain 0 r)
 
-unfoldable pub tail : List Rec → List Rec
+unfoldable pub tail : List round.Rec → List round.Rec
 tail [] = []
 tail (r ∷ rs) = rs
 
+abbrev pub itemOf : Option Moving → Option Rec
+itemOf none = none
+itemOf (some x) = some (withTrain (x .train) (x .item))
+
+-- R18.4: in a shared lane that of the train in turn
 abbrev pub first : Waiting → Option Rec
 first (plain q) = head q
+first (shared s) = itemOf (round.first s)
 
-unfoldable pub turnOf : Waiting → ℕ
-turnOf (plain q) = 0
-
-unfoldable pub enter : ℕ → Waiting → ℕ → Rec → Waiting
-enter L (plain q) k r = plain (q ++ (r ∷ []))
+unfoldable pub enter : ℕ → Waiting → Rec → Waiting
+enter L (plain q) r = plain (q ++ (bare r ∷ []))
+enter L (shared s) r = shared (round.put L s (r .train) (bare r))
 
 unfoldable pub handOut : ℕ → Waiting → Waiting
 handOut L (plain q) = plain (tail q)
+handOut L (shared s) = shared (round.handOut L s)
 
 unfoldable pub held : Waiting → ℕ
 held (plain q) = length q
+held (shared s) = round.held s
 
--- a lane that is not shared holds records of train 0 only
-unfoldable pub queueOf : Waiting → ℕ → List Rec
+-- R18.3: a lane that is not shared holds records of train 0 only
+unfoldable pub queueOf : Waiting → ℕ → List round.Rec
 queueOf (plain q) zero = q
 queueOf (plain q) (suc k) = []
+queueOf (shared s) k = trainAt s k .queue
 
+-- R1.7, R14.25, R14.46
 unfoldable pub full : Waiting → ℕ → Bool
 full (plain q) k = leb laneDepth (length q)
+full (shared s) k = leb trainDepth (length (trainAt s k .queue))
 
--- a train that the lane knows
+-- R14.45, R18.3: a train that the lane knows
 unfoldable pub known : Waiting → ℕ → Bool
 known (plain q) k = leb k 0
+known (shared s) k = ltb k trainCount
+
+-- the lane is shared
+unfoldable pub isShared : Waiting → Bool
+isShared (plain q) = false
+isShared (shared s) = true
 
 -- ---- good
 
--- "each length 1 to the lane's longest"
-abbrev pub Lengths : ℕ → List Rec → Type 0
+-- R1.5: each length 1 to the longest
+abbrev pub Lengths : ℕ → List round.Rec → Type 0
 Lengths L [] = Unit {0}
 Lengths L (r ∷ rs) = (1 ≤ r .len) × (r .len ≤ L) × Lengths L rs
 
--- no more records than the lane has room for
+-- R6.4: no more records than the lane has room for
 unfoldable pub GoodWaiting : ℕ → Waiting → Type 0
 GoodWaiting L (plain q) = (length q ≤ laneDepth) × Lengths L q
+GoodWaiting L (shared s) = Good L s
 
-unfoldable pub lengthsTest : ℕ → List Rec → Bool
+unfoldable pub lengthsTest : ℕ → List round.Rec → Bool
 lengthsTest L [] = true
 lengthsTest L (r ∷ rs) = (leb 1 (r .len) && leb (r .len) L) && lengthsTest L rs
 
 unfoldable pub waitingTest : ℕ → Waiting → Bool
 waitingTest L (plain q) = leb (length q) laneDepth && lengthsTest L q
+waitingTest L (shared s) = goodTest L s

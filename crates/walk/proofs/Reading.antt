@@ -18,12 +18,12 @@ use Rattle.fields.specs.Bytes.{byteAt, big}
 use Rattle.requests.proofs.Values.{big-more, big-most}
 
 pub record Reading (s : List ℕ) (at size i value : ℕ) : Type 0 where
-  pub short : size ≤ 7
+  pub short : size ≤ 8
   pub few : i ≤ size
   pub within : at + 3 + i ≤ length s
   pub is : value ≡ big s (at + 3) i
 
-pub read-none : (s : List ℕ) (at size : ℕ) → at + 3 ≤ length s → size ≤ 7 → Reading s at size 0 0
+pub read-none : (s : List ℕ) (at size : ℕ) → at + 3 ≤ length s → size ≤ 8 → Reading s at size 0 0
 unfolding big
 read-none s at size h l = record { short = l; few = omega arith; within = omega arith; is = refl }
 
@@ -36,5 +36,5 @@ module _ {s : List ℕ} {at size i value : ℕ} (r : Reading s at size i value) 
     is = rw add-one (omega (arith, r .is, e, big-more s i (at + 3)));
   }
 
-  pub read-fits : ((k : ℕ) → byteAt s k < 256) → i < size → value < 256 ^ 6
-  read-fits small l = omega (arith, r .is, big-most s small i (at + 3), pow-le-pow-right {n = 256} (omega arith) {i = i} {j = 6} (omega (arith, r .short)))
+  pub read-fits : ((k : ℕ) → byteAt s k < 256) → i < size → value < 256 ^ 7
+  read-fits small l = omega (arith, r .is, big-most s small i (at + 3), pow-le-pow-right {n = 256} (omega arith) {i = i} {j = 7} (omega (arith, r .short)))

@@ -16,17 +16,18 @@ use mathlib.Core.List.{List, [], _++_}
 use mathlib.Core.Option.{Option}
 use lib.ListN.{length, drop, length-append}
 use lib.Seq.{length-sets}
-use Rattle.rules.specs.State.{State}
-use Rattle.rules.specs.Calls.{Call, Reply, step}
+use Rattle.rules.specs.State.{State, setupOf}
+use Rattle.rules.specs.Calls.{Call, step}
 use Rattle.table.specs.Layout.{SIZE}
 use Rattle.alike.proofs.Alike.{alike-refl}
 use Rattle.table.specs.Means.{meant}
 use Rattle.table.specs.Encodes.{Encodes}
-use Rattle.lines.specs.Line.{lineOf, Wrote, Line}
+use Rattle.lines.specs.Line.{Wrote, Line}
 use Rattle.lines.proofs.Writing.{wrote-both}
 use Rattle.requests.specs.Request.{request, last, bad, itemAt}
+use Rattle.answers.specs.Lines.{lineBy}
 use Rattle.answers.specs.Answers.{Made, Answers}
-use Rattle.answers.proofs.Made.{encodes-step, reply-step}
+use Rattle.answers.proofs.Made.{encodes-step, line-step}
 use Rattle.answers.specs.declared.Tally.{Tally}
 use Rattle.walk.specs.Script.{atLimit, refusal, closed, walk}
 use Rattle.walk.specs.Follows.{whyIs}
@@ -49,7 +50,7 @@ module _ (s : List ℕ) (limit at n : ℕ) (lines : List ℕ) (σ : State) where
   walk-last h at′ e = let l : limit - n ≡ suc (limit - (n + 1)) = omega arith in rw (l, e)
 
   pub walk-request : n < limit → (c : Call) (at′ : ℕ) → itemAt s at ≡ request c at′
-      → walk (limit - n) s at n lines σ ≡ walk (limit - (n + 1)) s at′ (n + 1) (lines ++ lineOf ((step σ c) .reply)) ((step σ c) .state)
+      → walk (limit - n) s at n lines σ ≡ walk (limit - (n + 1)) s at′ (n + 1) (lines ++ lineBy (setupOf σ) ((step σ c) .reply)) ((step σ c) .state)
   unfolding walk
   walk-request h c at′ e = let l : limit - n ≡ suc (limit - (n + 1)) = omega arith in rw (l, e)
 
@@ -99,13 +100,14 @@ module _ {s : List ℕ} {from limit : ℕ} {t₀ a₀ : List ℕ} {start : ℕ} 
   pub stands-next : n < limit → (c : Call) (at′ : ℕ) → itemAt s at ≡ request c at′ → {t′ a′ : List ℕ} {r : Tally} → Answers c t t′ a a′ (record { answered = n; next = next }) r
       → Stands s from limit t₀ a₀ start t′ a′ at′ (r .next) (r .answered)
   stands-next l c at′ e {t′} {a′} {r} x =
-      let line : Line a a′ next (lineOf ((step (i .state) c) .reply)) (r .next) = subst (λ (y : Reply). Line a a′ next (lineOf y) (r .next)) (reply-step t c (i .state) (i .made) (i .encodes)) (x .line) in
+      let text : List ℕ = lineBy (setupOf (i .state)) ((step (i .state) c) .reply) in
+      let line : Line a a′ next text (r .next) = subst (λ (y : List ℕ). Line a a′ next y (r .next)) (line-step t c (i .state) (i .made) (i .encodes)) (x .line) in
       rw (x .count) (record {
-        lines = i .lines ++ lineOf ((step (i .state) c) .reply);
+        lines = i .lines ++ text;
         state = (step (i .state) c) .state;
         same = sym (walk-request s limit at n (i .lines) (i .state) l c at′ e) ∙ i .same;
-        wrote = wrote-both (i .lines) (lineOf ((step (i .state) c) .reply)) (i .wrote) (line .wrote);
-        long = omega (arith, i .long, line .most, length-append (i .lines) (lineOf ((step (i .state) c) .reply)));
+        wrote = wrote-both (i .lines) text (i .wrote) (line .wrote);
+        long = omega (arith, i .long, line .most, length-append (i .lines) text);
         encodes = encodes-step t t′ c (i .state) (i .made) (i .encodes) (x .state);
         made = x .made;
         rest = x .rest ∙ i .rest;

@@ -18,28 +18,29 @@ use Rattle.walk.specs.Script.{Why, atEnd, atLimit, refusal, Script}
 use Rattle.walk.specs.declared.Stop as Stop
 use Rattle.walk.specs.declared.RunResult.{RunResult}
 
+-- R10.11
 abbrev pub whyIs : Stop.Stop → Why
 whyIs Stop.the-variants.End = atEnd
 whyIs Stop.the-variants.Limit = atLimit
 whyIs (Stop.the-variants.Refused x) = refusal (number x) (placeOf x)
 
--- "the run's table keeps what the answered requests made of it"; "Bytes past the fixed size are never touched"
+-- R10.11: the table is as the answered requests left it, and what is lent past its fixed size stays
 pub record Tabled (t t′ : List ℕ) (σ : State) : Type 0 where
   pub encodes : Encodes t′ σ
   pub rest : drop SIZE t′ ≡ drop SIZE t
 
--- "A refusal changes no lent table": every byte stays after 17, 7 or a refused setup
+-- R10.4, R10.5, R14.43: every byte stays after 17, 7 or a refused setup; a later refusal keeps what the answered requests made
 abbrev pub Table : List ℕ → List ℕ → Option State → Type 0
 Table t t′ none = t′ ≡ t
 Table t t′ (some σ) = Tabled t t′ σ
 
--- A run on a table t and an answer area a, which leaves t′ and a′ and answers r.
+-- R10.11: a run on a table t and an answer area a, which leaves t′ and a′ and answers r.
 pub record Follows (t t′ a a′ : List ℕ) (r : RunResult) (x : Script) : Type 0 where
-  -- "Its result holds the number of requests answered, counted as the script's definition counts them"
+  -- the requests answered are those that the script counts
   pub count : r .answered ≡ x .count
-  -- ", the number of answer bytes written, and why it stopped"
+  -- the bytes are those of its text
   pub written : r .written ≡ length (x .text)
   pub why : whyIs (r .why) ≡ x .why
-  -- "Answer bytes past the last line stay."
+  -- the text stands at the front, and what stood behind the last line stays
   pub answers : a′ ≡ x .text ++ drop (length (x .text)) a
   pub table : Table t t′ (x .state)

@@ -1,4 +1,4 @@
--- The script of a session (document 01, "Setup and session fields", "A session in full"): what a run writes, counts and leaves, and why it stops.
+-- The script of a session (docs/RULES.md, R10): what a run writes, counts and leaves, and why it stops.
 --
 --   Why       why a run stops: at the end field, at the limit, or at a refusal with its number and place
 --   Walked    what the requests come to: their lines, how many were answered, why the walk stopped, the state
@@ -15,14 +15,15 @@ use mathlib.Core.Option.{Option, none, some}
 use lib.Dec.{ltb}
 use lib.ListN.{length}
 use Rattle.units.specs.Plain.{if_then_else_}
-use Rattle.rules.specs.State.{State}
+use Rattle.rules.specs.State.{State, setupOf}
 use Rattle.rules.specs.Calls.{fresh, step}
 use Rattle.plan.specs.Read as plan
 use Rattle.table.specs.Layout.{SIZE}
-use Rattle.lines.specs.Line.{noLine, lineOf, lanesLine, endLine}
+use Rattle.lines.specs.Line.{noLine, lanesLine, endLine}
 use Rattle.requests.specs.Request.{Item, request, last, bad, itemAt}
+use Rattle.answers.specs.Lines.{lineBy}
 
--- "why it stopped: end field, limit, or a refusal with its number and place"
+-- R10.11: the reasons for a stop; a refusal has its number, and its place if there is one
 pub data Why : Type 0 where
   atEnd atLimit : Why
   refusal : ℕ → Option ℕ → Why
@@ -35,18 +36,18 @@ pub record Walked : Type 0 where
   pub why : Why
   pub state : State
 
--- "4: byte after the last 0x7F. Place: that byte."
+-- R10.9, R14.6: a byte behind the end field is refused by 4, at that byte
 abbrev pub closed : List ℕ → ℕ → Why
 closed s at = if ltb at (length s) then refusal 4 (some at) else atEnd
 
--- "It leaves the walk at the end field, at a refused field ..": neither is counted. A request is, also where its line is a `no` line: "Numbers 10 to 16
--- answer their request with a `no` line and the walk goes on."
+-- R10.8, R10.9: the walk stops at the end field and at a refused field, and counts neither. It counts each request and goes on behind it, also where the
+-- call refused it, as by 16, 70 or 71, and its line is a `no` line.
 abbrev pub next : List ℕ → ℕ → List ℕ → State → Item → (ℕ → ℕ → List ℕ → State → Walked) → Walked
 next s n lines σ (bad r p) go = record { lines = lines; count = n; why = refusal r p; state = σ }
 next s n lines σ (last at) go = record { lines = lines; count = n; why = closed s at; state = σ }
-next s n lines σ (request c at) go = go at (n + 1) (lines ++ lineOf ((step σ c) .reply)) ((step σ c) .state)
+next s n lines σ (request c at) go = go at (n + 1) (lines ++ lineBy (setupOf σ) ((step σ c) .reply)) ((step σ c) .state)
 
--- "the limit is looked at before each field after the setup", the end field included: n requests are answered, by these lines, and so many more are allowed
+-- R10.7: the limit goes before each field, the end field too: n requests are answered, by these lines, and so many more are allowed
 unfoldable pub walk : ℕ → List ℕ → ℕ → ℕ → List ℕ → State → Walked
 walk zero s at n lines σ = record { lines = lines; count = n; why = atLimit; state = σ }
 walk (suc left) s at n lines σ = next s n lines σ (itemAt s at) (walk left s)
@@ -60,12 +61,13 @@ pub record Script : Type 0 where
   pub why : Why
   pub state : Option State
 
--- "The end field, or the limit, adds `end N` only. A refused session field, or a byte after the end field, adds `no R PLACE`, then `end N`"
+-- R10.10: the last line is `end N`; a refusal has its own line before it
 abbrev pub closing : Why → ℕ → List ℕ
 closing atEnd n = endLine n
 closing atLimit n = endLine n
 closing (refusal r p) n = noLine r p ++ endLine n
 
+-- R10.6: the first line is `lanes N`
 abbrev pub finished : ℕ → Walked → Script
 finished lanes w = record {
   text = lanesLine lanes ++ (w .lines ++ closing (w .why) (w .count));
@@ -74,20 +76,21 @@ finished lanes w = record {
   state = some (w .state);
 }
 
--- "a refused setup writes that `no` line alone"; else `lanes N`, and the requests on the fresh table of the setup
+-- R10.5, R10.6: of a refused setup its `no` line alone; else `lanes N`, and the requests on the fresh table of the setup
 abbrev pub begun : List ℕ → ℕ → plan.Reply → Script
 begun s limit (plan.refused r p) = record { text = noLine r p; count = 0; why = refusal r p; state = none }
 begun s limit (plan.read v gs lanes at) = finished lanes (walk limit s at 0 [] (fresh gs))
 
--- "Session: a setup, then requests, then 0x7F."
+-- R10.1: a setup comes first
 unfoldable pub script : List ℕ → ℕ → Script
 script s limit = begun s limit (plan.readPlan s 0)
 
--- "17: run's limit over 1,000, or answer area under 64 x (limit + 2) bytes", "7: lent table shorter than the fixed size": "nothing written for either"
+-- R10.4: after 17 and 7 there is no text, and no table was made
 abbrev pub nothing : ℕ → Option ℕ → Script
 nothing r p = record { text = []; count = 0; why = refusal r p; state = none }
 
--- "Run: 17, then 7 ..; then the setup", of a session's bytes and a limit, with a table and an answer area of so many bytes
+-- R10.4, R14.38: 17 by the limit and the answer area (R14.14), 7 by the table (R14.13), and then the setup, whose table is a new one (R3.22); of a session's
+-- bytes and a limit, with a table and an answer area of so many bytes
 unfoldable pub runOf : List ℕ → ℕ → ℕ → ℕ → Script
 runOf s limit table area =
     if ltb 1000 limit || ltb area (64 * (limit + 2)) then nothing 17 none

@@ -23,7 +23,7 @@ lineCount Stop.the-variants.End = 1
 lineCount Stop.the-variants.Limit = 1
 lineCount (Stop.the-variants.Refused x) = 2
 
--- of the walk w: 64 bytes are enough for `lanes N`, each answered request and the closing lines, from which 17's figure follows
+-- R10.14, of the walk w: 64 bytes are enough for `lanes N`, each answered request and the closing lines, from which 17's figure follows
 pub record Walks (limit : ℕ) (t t′ a a′ : List ℕ) (start : ℕ) (r : Walked.Walked) (w : Script.Walked) : Type 0 where
   pub count : r .answered ≡ w .count
   pub why : whyIs (r .why) ≡ w .why

@@ -1,8 +1,8 @@
-// A session on a table and an answer area that are long enough: document 01, "Setup and session fields", "A session in full". Bytes in, answer lines out.
+// A session on a table and an answer area that are long enough (docs/RULES.md, R10). Bytes in, answer lines out.
 //
-// `begun` reads the setup, makes the table, and walks over the requests. What it answers and leaves is `script` of specs/Script.antt, by the promise `Follows` of
-// specs/Follows.antt. After its own making of the table it rests on the inner calls, with no test for each request. The run itself, which tests its limit and what
-// it was lent, is `session`.
+// `begun` reads the setup, makes the table, and walks over the requests. What it answers and leaves is `script` of specs/Script.antt, by the promise
+// `Follows` of specs/Follows.antt. After its own making of the table it rests on the inner calls, with no test for each request. The run itself, which tests
+// its limit and what it was lent, is `session`.
 //
 // Units: places and lengths are numbers of bytes; places are counted from the first byte of the session.
 ghost use mathlib.Core.Path.{_≡_};
@@ -59,7 +59,7 @@ fn closed(s: &[u8], at: usize) -> Stop
     Stop::End
 }
 
-// Walks the requests from a place on: for each its call, and its line. "It leaves the walk at the end field, at a refused field, or at the limit".
+// Walks the requests from a place on, for each its call and its line, up to the end field, a refused field or the limit (R10.7 to R10.9).
 fn walk(s: &[u8], from: usize, limit: u64, t: &mut [u8], a: &mut [u8], start: usize) -> Walked
     requires { ⌜ Made (now t) × (limit ≤ 1000) × (start ≤ 64) × (64 * (limit + 2) ≤ length (now a)) ⌝ }
     ensures { λ r. ⌜ Walks limit (now (t .entry)) (now (t .exit)) (now (a .entry)) (now (a .exit)) start r (walk limit (now (s .entry)) from 0 [] (meant (now (t .entry)))) ⌝ }

@@ -2,7 +2,7 @@
 use Prim.Native.Nat.{ℕ, _+_, _^_, _≤_}
 use native.Mathlib.Omega.{arith}
 use mathlib.Core.Path.{_≡_, refl, ap}
-use mathlib.Core.Bool.{Bool, true, false, _||_}
+use mathlib.Core.Bool.{Bool, true, false, not, _||_}
 use mathlib.Core.Option.{Option, none, some}
 use lib.Dec.{ltb}
 use lib.IntN.{ℤ, pos, negsuc}
@@ -10,7 +10,7 @@ use mir.Syntax.{w64}
 use mir.Val.{SFits}
 use mir.ValLaws.{toZ-ofZ}
 use Rattle.units.specs.Plain.{if_then_else_}
-use Rattle.waiting.specs.Waiting.{full}
+use Rattle.waiting.specs.Waiting.{full, known}
 use Rattle.rules.specs.State.{Rec, State, laneAt, setupOf, anyHolds}
 use Rattle.rules.specs.Setup.{margin}
 use Rattle.rules.specs.Good.{Good}
@@ -30,19 +30,26 @@ lag-fits f (pos n) most h = record { sfits = omega arith }
 lag-fits f (negsuc n) most h = record { sfits = omega arith }
 
 module _ (s : State) where
-  heard-put : (j m n : ℕ) → Heard (put j m n) ((step s (put j m n)) .reply)
+  heard-put : (j k m n : ℕ) → Heard (put j k m n) ((step s (put j k m n)) .reply)
   unfolding step doPut putRefusal putOf heard
-  heard-put j m n =
-      go (ltb (laneAt s j .given .weight) 1) (ltb n 1 || ltb (laneAt s j .given .longest) n) (full (laneAt s j .waiting) 0)
+  heard-put j k m n =
+      go (ltb (laneAt s j .given .weight) 1) (known (laneAt s j .waiting) k) (ltb n 1 || ltb (laneAt s j .given .longest) n) (full (laneAt s j .waiting) k)
+      (laneAt s j .given .shared)
     where
       r : Rec
-      r = record { mark = m; len = n }
+      r = record { train = k; mark = m; len = n }
 
-      go : (a b c : Bool) → Heard (put j m n) ((putOf s j r (if a then some 11 else (if b then some 12 else (if c then some 13 else none)))) .reply)
-      go true b c = refl
-      go false true c = refl
-      go false false true = refl
-      go false false false = refl
+      -- a refusal's number by the tests in their order
+      by : (a i b c d : Bool) → Option ℕ
+      by a i b c d = if a then some 11 else (if not i then some 70 else (if b then some 12 else (if c then some (if d then 71 else 13) else none)))
+
+      go : (a i b c d : Bool) → Heard (put j k m n) ((putOf s j r (by a i b c d)) .reply)
+      go true i b c d = refl
+      go false false b c d = refl
+      go false true true c d = refl
+      go false true false true true = refl
+      go false true false true false = refl
+      go false true false false d = refl
 
   heard-take : Heard take ((step s take) .reply)
   unfolding step doTake takeOf heard
@@ -78,7 +85,7 @@ module _ (s : State) where
 
   pub heard-back : Good s → (c : Call) → Heard c ((step s c) .reply)
   unfolding step doSets heard
-  heard-back g (put j m n) = heard-put j m n
+  heard-back g (put j k m n) = heard-put j k m n
   heard-back g take = heard-take
   heard-back g look = heard-look
   heard-back g sets = refl

@@ -8,7 +8,7 @@ use lib.ListN.{length}
 use Rattle.words.proofs.Runs.{le-or-lt}
 use Rattle.rules.specs.Reads.{number}
 use Rattle.rules.specs.declared.Refusal.{Refusal}
-use Rattle.rules.specs.declared.Refusal.the-variants.{Cut, UnknownTag, WrongLength, OutOfOrder, WeightsOver, TableShort, NotGood, NoLane, BadLength, LaneFull, StillHolds, NothingHeld, RunBounds, InputLong, FormatOutside, LaneOutside, WeightOutside, LongestOutside, FramingOutside, WrongByte, SheetCut, NoSheet}
+use Rattle.rules.specs.declared.Refusal.the-variants.{Cut, UnknownTag, WrongLength, OutOfOrder, WeightsOver, TableShort, NotGood, NoLane, BadLength, LaneFull, StillHolds, NothingHeld, RunBounds, InputLong, FormatOutside, LaneOutside, WeightOutside, LongestOutside, FramingOutside, WrongByte, SheetCut, NoSheet, NoTrain, TrainFull}
 use Rattle.plan.specs.Read as plan
 use Rattle.plan.specs.Read.{readSetup}
 use Rattle.table.specs.Layout.{SIZE}
@@ -45,6 +45,8 @@ number-not-0 (FramingOutside p) e = omega arith
 number-not-0 (WrongByte p) e = omega arith
 number-not-0 (SheetCut p) e = omega arith
 number-not-0 NoSheet e = omega arith
+number-not-0 NoTrain e = omega arith
+number-not-0 TrainFull e = omega arith
 
 module _ (setup before t out out′ : List ℕ) (n : ℕ) (m : MakeStep setup before (Made n) t) (w : Spoken out (makeValues (making.made n)) out′) where
   by-plan : SIZE ≤ length before → (y : plan.Reply) → readSetup setup ≡ y → making.Follows y before (Made n) t → Begun setup t out′

@@ -1,5 +1,5 @@
--- Public calls on the table that a session's run left. The run's requests led to that table, and so the requests and then these calls are one list from the fresh
--- table of the session's setup: all that holds after `make` holds after a run.
+-- R15.4: public calls on the table that a session's run left. The run's requests led to that table, and so the requests and then these calls are one list from
+-- the fresh table of the session's setup: all that holds after `make` holds after a run.
 --
 --   answered   the requests of a run with their answers
 --   ByRun      a run's table is one that its requests led to

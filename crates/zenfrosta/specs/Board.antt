@@ -19,7 +19,7 @@ code (stands x) = 0
 code begun = 0
 code (refused n p) = n
 
--- The line that was changed. What stands on a line: kind, train, cell, sequence, all 0 where it is free. A refusal as in every call.
+-- R13.5. The line that was changed. What stands on a line: kind, train, cell, sequence, all 0 where it is free. A refusal as in every call.
 abbrev pub values : Plain → Four
 values (line k) = four k 0 0 0
 values (stands none) = four 0 0 0 0
@@ -27,7 +27,7 @@ values (stands (some r)) = four (r .kind) (r .train) (r .cell) (r .sequence)
 values begun = four 0 0 0 0
 values (refused n p) = refusalWords p
 
--- A buffer shorter than 32 bytes gives 255, and nothing is done. Else the call is made, and its answer is told.
+-- R13.2, R13.5: a buffer shorter than 32 bytes gives 255, and nothing is done. Else the call is made, and its answer is told.
 pub record CrossesBoard {A : Type 0} (plain : A → Plain) (Call : A → Type 0) (same : Type 0) (out : List ℕ) (r : ℕ) (out′ : List ℕ) : Type 0 where
   pub short : length out < 32 → (r ≡ 255) × same × (out′ ≡ out)
   pub told : 32 ≤ length out → (a : A) × Call a × (r ≡ code (plain a)) × Spoken out (values (plain a)) out′

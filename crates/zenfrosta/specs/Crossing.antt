@@ -29,26 +29,27 @@ use Rattle.zenfrosta.specs.declared.Four.{Four}
 abbrev pub four : ℕ → ℕ → ℕ → ℕ → Four
 four a b c d = record { a = a; b = b; c = c; d = d }
 
--- a refusal: its place, and 1; 0 and 0 where the list has none. 0 is a place too, so the second word says which it is.
+-- R13.3: its place, and 1; 0 and 0 where it has none. 0 is a place too, so the second word says which it is.
 abbrev pub refusalWords : Option ℕ → Four
 refusalWords none = four 0 0 0 0
 refusalWords (some p) = four p 1 0 0
 
--- 0: done. Else document 01's number of the refusal.
+-- R13.1: 0 if the call is done, else the number of the refusal
 abbrev pub code : Reply → ℕ
 code (accepted n) = 0
-code (taken j m n) = 0
-code (seen j m n) = 0
+code (taken j k m n) = 0
+code (seen j k m n) = 0
 code (words a b c d) = 0
 code (lagged z) = 0
 code restarted = 0
 code (refused n p) = n
 
--- An accepted put: how many its lane held before it. A record: lane, mark, length. The sets: their four words. A lag: in two's complement. What is left is 0.
+-- R13.1, R13.4. An accepted put: how many of its train its lane held before it. A record: lane, mark, length, train. The sets: their four words. A lag: in
+-- two's complement. What is left is 0, and so is the train of a lane that is not shared.
 abbrev pub values : Reply → Four
 values (accepted n) = four n 0 0 0
-values (taken j m n) = four j m n 0
-values (seen j m n) = four j m n 0
+values (taken j k m n) = four j m n k
+values (seen j k m n) = four j m n k
 values (words a b c d) = four a b c d
 values (lagged z) = four (ofZ w64 z) 0 0 0
 values restarted = four 0 0 0 0
@@ -58,59 +59,62 @@ abbrev pub makeCode : making.Reply → ℕ
 makeCode (made n) = 0
 makeCode (notMade n p) = n
 
--- the number of lanes, or a refusal
+-- R13.4: the number of lanes, or a refusal
 abbrev pub makeValues : making.Reply → Four
 makeValues (made n) = four n 0 0 0
 makeValues (notMade n p) = refusalWords p
 
--- 0: the run went as far as the end field or the limit. Else the number of the refusal that it stopped at.
+-- R13.6: 0 if the run went as far as the end field or the limit, else the number of the refusal that it stopped at
 abbrev pub stopCode : Why → ℕ
 stopCode atEnd = 0
 stopCode atLimit = 0
 stopCode (refusal n p) = n
 
--- why a run stopped: 0 the end field, 1 the limit, 2 a refusal that has no place, 3 one that has
+-- R13.6: why a run stopped: 0 the end field, 1 the limit, 2 a refusal that has no place, 3 one that has
 abbrev pub stopKind : Why → ℕ
 stopKind atEnd = 0
 stopKind atLimit = 1
 stopKind (refusal n none) = 2
 stopKind (refusal n (some p)) = 3
 
+-- R13.6
 abbrev pub stopPlace : Why → ℕ
 stopPlace atEnd = 0
 stopPlace atLimit = 0
 stopPlace (refusal n none) = 0
 stopPlace (refusal n (some p)) = p
 
--- requests answered, answer bytes written, why it stopped, a refusal's place
+-- R13.6: requests answered, answer bytes written, why it stopped, a refusal's place
 abbrev pub runValues : RunResult → Four
 runValues x = four (x .answered) (x .written) (stopKind (whyIs (x .why))) (stopPlace (whyIs (x .why)))
 
--- the buffer with four words, low byte first, in its first 32 bytes
+-- R13.1: the buffer with four words, low byte first, in its first 32 bytes
 unfoldable pub spoken : List ℕ → Four → List ℕ
 spoken out w = putWord (putWord (putWord (putWord out 0 (w .a)) 1 (w .b)) 2 (w .c)) 3 (w .d)
 
 abbrev pub wordsIn : List ℕ → Four
 wordsIn out = four (wordAt out 0) (wordAt out 1) (wordAt out 2) (wordAt out 3)
 
--- the words w are told in a buffer, and are what a host reads there
+-- R13.1: the words w are told in a buffer, and are what a host reads there
 pub record Spoken (out : List ℕ) (w : Four) (out′ : List ℕ) : Type 0 where
   pub buffer : out′ ≡ spoken out w
   pub read : wordsIn out′ ≡ w
 
--- A buffer shorter than 32 bytes gives 255, and nothing is done. Else the call is made, and its answer is told.
+-- R13.2, R14.35: a buffer shorter than 32 bytes gives 255, and nothing is done. Else the call is made, and its answer is told.
 pub record Crosses (Call : Answer → Type 0) (same : Type 0) (out : List ℕ) (r : ℕ) (out′ : List ℕ) : Type 0 where
   pub short : length out < 32 → (r ≡ 255) × same × (out′ ≡ out)
   pub told : 32 ≤ length out → (a : Answer) × Call a × (r ≡ code (reads a)) × Spoken out (values (reads a)) out′
 
--- .. of a call on a table, which leaves the bytes u
+-- R13.4: .. of a call on a table, which leaves the bytes u
 abbrev pub CrossesCall : Call → List ℕ → List ℕ → List ℕ → ℕ → List ℕ → Type 0
 CrossesCall c t u out r out′ = Crosses (λ a. Step c t a u) (u ≡ t) out r out′
 
+-- R13.2, R13.4
 pub record CrossesMaking (Make : Making → Type 0) (same : Type 0) (out : List ℕ) (r : ℕ) (out′ : List ℕ) : Type 0 where
   pub short : length out < 32 → (r ≡ 255) × same × (out′ ≡ out)
   pub told : 32 ≤ length out → (a : Making) × Make a × (r ≡ makeCode (making.reads a)) × Spoken out (makeValues (making.reads a)) out′
 
+-- R13.2, R13.6
 pub record CrossesRun (Run : RunResult → Type 0) (same : Type 0) (out : List ℕ) (r : ℕ) (out′ : List ℕ) : Type 0 where
   pub short : length out < 32 → (r ≡ 255) × same × (out′ ≡ out)
   pub told : 32 ≤ length out → (x : RunResult) × Run x × (r ≡ stopCode (whyIs (x .why))) × Spoken out (runValues x) out′

@@ -1,12 +1,12 @@
--- Lists of exported calls, by what a host gets of each: a result, and the four words in its buffer.
+-- R13.8: lists of exported calls, by what a host gets of each: a result, and the four words in its buffer.
 --
 --   heard       the reply that a result and four words tell, by the call that was made
 --   Crossed     a list of exported calls, each on the bytes that the last one left, with the replies that the host heard. A call that gave 255 adds nothing
---   HostLists   on a table that a list led to, such a list is a list of public calls: what the host heard is what they answered, and all of `Demands` holds of it
+--   HostLists   on a table that a list led to, such a list is one of public calls: what the host heard is what they answered, and all of `Demands` holds of it
 --   HostMakes   zf_make gave 0: a list may begin with its table
 --
--- So demand 3's T, O and "holds" are counted from what crossed to the host: a take that gave 0 sent a record of the lane in word 0 and of the length in word 2; a put
--- that gave 0 was accepted; a result of 10 never comes. Assumes nothing.
+-- So what R15.6 and R15.7 count, and a train's bytes, is counted from what crossed to the host: a take that gave 0 sent a record of the lane in word 0, of the
+-- length in word 2 and of the train in word 3; a put that gave 0 was accepted; a result of 10 never comes. Assumes nothing.
 use Prim.Native.Nat.{ℕ, _≤_, _<_}
 use mathlib.Core.Path.{_≡_}
 use mathlib.Core.List.{List, [], _∷_, _++_}
@@ -28,9 +28,9 @@ use Rattle.zenfrosta.specs.declared.Four.{Four}
 
 -- a call that gave 0
 abbrev pub heardDone : Call → Four → Reply
-heardDone (put j m n) w = accepted (w .a)
-heardDone take w = taken (w .a) (w .b) (w .c)
-heardDone look w = seen (w .a) (w .b) (w .c)
+heardDone (put j k m n) w = accepted (w .a)
+heardDone take w = taken (w .a) (w .d) (w .b) (w .c)
+heardDone look w = seen (w .a) (w .d) (w .b) (w .c)
 heardDone sets w = words (w .a) (w .b) (w .c) (w .d)
 heardDone (lag j) w = lagged (toZ w64 (w .a))
 heardDone restart w = restarted

@@ -2,8 +2,7 @@
 --
 --   convertCode, convertValues   of converting: 0 or the refusal's number; words of 0, or the refusal's place
 --   CrossesConverting            the promise of zf_convert
---   HeardTakes                   takes one after another by zf_take, with no other call between: from some bytes to others, with the replies that the host
---                                heard. One that gave 255 adds nothing
+--   HeardTakes                   takes in a row by zf_take: from some bytes to others, with the replies that the host heard. One that gave 255 adds nothing
 --   GoesOn                       the table `after` goes on where the old one stood: it took over what that means, and takes answer from it as from that
 --   HostConverts                 zf_convert gave 0: the table goes on. It gave anything else: no byte of the table is changed
 --
@@ -26,11 +25,12 @@ abbrev pub convertCode : Reply → ℕ
 convertCode converted = 0
 convertCode (notConverted n p) = n
 
+-- R13.4
 abbrev pub convertValues : Reply → Four
 convertValues converted = four 0 0 0 0
 convertValues (notConverted n p) = refusalWords p
 
--- A buffer shorter than 32 bytes gives 255, and nothing is done. Else the table is converted, or refused, and that is told.
+-- R13.2: a buffer shorter than 32 bytes gives 255, and nothing is done. Else the table is converted, or refused, and that is told.
 pub record CrossesConverting (Convert : Converting → Type 0) (same : Type 0) (out : List ℕ) (r : ℕ) (out′ : List ℕ) : Type 0 where
   pub short : length out < 32 → (r ≡ 255) × same × (out′ ≡ out)
   pub told : 32 ≤ length out → (a : Converting) × Convert a × (r ≡ convertCode (reads a)) × Spoken out (convertValues (reads a)) out′
@@ -46,6 +46,7 @@ pub record GoesOn (old before after : List ℕ) : Type 0 where
   pub over : TakenOver old before after
   pub takes : (rs qs : List calls.Reply) (u v : List ℕ) → OldTakes old rs u → HeardTakes after qs v → UntilTen rs qs
 
+-- R13.4, with R7.5 and R7.6
 unfoldable pub HostConverts : Type 0
 HostConverts =
     (old before after out out′ : List ℕ) (r : ℕ) → CrossesConverting (λ a. Converts old before a after) (after ≡ before) out r out′

@@ -19,6 +19,7 @@ abbrev pub readCode : area.Reply → ℕ
 readCode (area.lanes n) = 0
 readCode (area.refused n p) = n
 
+-- R13.5
 abbrev pub readValues : area.Reply → Four
 readValues (area.lanes n) = four n 0 0 0
 readValues (area.refused n p) = refusalWords p
@@ -27,11 +28,12 @@ abbrev pub writeCode : write.Reply → ℕ
 writeCode (write.size n) = 0
 writeCode (write.refused n) = n
 
+-- R13.5
 abbrev pub writeValues : write.Reply → Four
 writeValues (write.size n) = four n 0 0 0
 writeValues (write.refused n) = refusalWords none
 
--- A buffer shorter than 32 bytes gives 255, and nothing is done. Else the call is made, and its answer is told.
+-- R13.2: a buffer shorter than 32 bytes gives 255, and nothing is done. Else the call is made, and its answer is told.
 pub record CrossesPlan {A B : Type 0} (plain : A → B) (code : B → ℕ) (values : B → Four) (Call : A → Type 0) (same : Type 0) (out : List ℕ) (r : ℕ) (out′ : List ℕ) : Type 0 where
   pub short : length out < 32 → (r ≡ 255) × same × (out′ ≡ out)
   pub told : 32 ≤ length out → (a : A) × Call a × (r ≡ code (plain a)) × Spoken out (values (plain a)) out′

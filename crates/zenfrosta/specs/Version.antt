@@ -1,4 +1,4 @@
--- The version that a host is told.
+-- The version that a host is told (R13.7).
 --
 --   versionNumber   major times 65,536, minor times 256 and patch together; the file VERSION has the three, and hosts/check holds this number to it
 --

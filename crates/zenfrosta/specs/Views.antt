@@ -4,10 +4,11 @@
 --   CrossesView     the promise of an exported call that shows a table
 --
 -- Assumes nothing.
-use Prim.Native.Nat.{ℕ, _≤_, _<_}
+use Prim.Native.Nat.{ℕ, _+_, _≤_, _<_}
 use mathlib.Core.Path.{_≡_}
 use mathlib.Core.List.{List}
 use lib.ListN.{length}
+use Rattle.plan_area.specs.Area.{sharedPart}
 use Rattle.show.specs.Views.{Ask, View, clockIs, settingIs, backlogIs, recordIs, refused}
 use Rattle.show.specs.Shows.{reads, Shows}
 use Rattle.show.specs.declared.Shown.{Shown}
@@ -21,15 +22,16 @@ code (backlogIs n x) = 0
 code (recordIs k r) = 0
 code (refused n p) = n
 
--- The clock. A setting: weight, longest, h, group. A backlog: how many wait, S or F. A record: lane, mark, length. A refusal as in every call.
+-- The clock. A setting: weight, longest, h, group, which has 2^32 added in a shared lane. A backlog: how many wait, S or F. A record: lane, mark, length,
+-- train. A refusal as in every call.
 abbrev pub values : View → Four
 values (clockIs v) = four v 0 0 0
-values (settingIs g i) = four (g .weight) (g .longest) (g .framing) i
+values (settingIs g i) = four (g .weight) (g .longest) (g .framing) (i + sharedPart (g .shared))
 values (backlogIs n x) = four n x 0 0
-values (recordIs k r) = four k (r .mark) (r .len) 0
+values (recordIs k r) = four k (r .mark) (r .len) (r .train)
 values (refused n p) = refusalWords p
 
--- A buffer shorter than 32 bytes gives 255, and nothing is done. Else the table is looked at, and what it shows is told.
+-- R17.6, R17.8: a buffer shorter than 32 bytes gives 255, and nothing is done. Else the table is looked at, and what it shows is told.
 pub record CrossesView (a : Ask) (t out : List ℕ) (r : ℕ) (out′ : List ℕ) : Type 0 where
   pub short : length out < 32 → (r ≡ 255) × (out′ ≡ out)
   pub told : 32 ≤ length out → (x : Shown) × Shows a t x × (r ≡ code (reads x)) × Spoken out (values (reads x)) out′

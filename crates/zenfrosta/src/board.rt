@@ -1,4 +1,4 @@
-// The desk's board for hosts: the journal's calls, exported. Answers cross as those of lib.rt do (specs/Board.antt).
+// The desk's board for hosts: the journal's calls, exported (R13.7, R13.9). Answers cross as those of lib.rt do (specs/Board.antt).
 ghost use mathlib.Core.Path.{_≡_};
 ghost use Prim.Native.Nat.{_≤_};
 ghost use lib.ListN.{length};
@@ -155,7 +155,7 @@ pub extern "C" fn zf_board_record(board: &mut [u8], field: &[u8], out: &mut [u8]
     tell_line(out, journal::record(board, field))
 }
 
-// Clears a train whose last record is a leave.
+// Frees the line of a train that has left (R11.12).
 #[no_mangle]
 pub extern "C" fn zf_board_clear(board: &mut [u8], train: u32, out: &mut [u8]) -> u64
     ensures { λ r. ⌜ CrossesBoard told (λ a. Step.Step (Calls.clear train) (now (board .entry)) a (now (board .exit))) (now (board .exit) ≡ now (board .entry)) (now (out .entry)) r (now (out .exit)) ⌝ }

@@ -1,7 +1,8 @@
-// The public calls for hosts in C and Rust: exported functions on numbers and byte slices. include/zenfrosta.h documents each.
+// The public calls for hosts in C and Rust: exported functions on numbers and byte slices (R13.9). include/zenfrosta.h documents each.
 //
-// One rule for every answer (specs/Crossing.antt): the result is 0, or document 01's number of the refusal; values stand in a lent buffer of at least 32 bytes as
-// four 64-bit words, low byte first. A shorter buffer gives 255, and nothing is done. specs/Heard.antt says what lists of these calls come to for a host.
+// One rule for every answer (R13.1 to R13.3, specs/Crossing.antt): the result is 0, or the number of the refusal; values stand in a lent buffer of at least 32
+// bytes as four 64-bit words, low byte first. A shorter buffer gives 255, and nothing is done. specs/Heard.antt says what lists of these calls come to for a
+// host.
 //
 // The contracts are of slices, as Rust lends them: no area that is written overlaps another one of the call. Safe Rust cannot lend otherwise; a host in C can,
 // and nothing here finds it out, so include/zenfrosta.h asks it of the host.
@@ -80,15 +81,15 @@ fn refusal_words(x: Refusal) -> Four
     }
 }
 
-// The words that tell a record: lane, mark and length.
+// The words that tell a record: lane, mark, length and train.
 fn record_words(r: Record) -> Four
-    ensures { λ w. ⌜ w ≡ four (r .lane) (r .mark) (r .length .0) 0 ⌝ }
+    ensures { λ w. ⌜ w ≡ four (r .lane) (r .mark) (r .length .0) (r .train) ⌝ }
 {
     Four {
         a: r.lane as u64,
         b: r.mark as u64,
         c: r.length.0,
-        d: 0,
+        d: r.train as u64,
     }
 }
 
@@ -221,15 +222,33 @@ pub extern "C" fn zf_make(setup: &[u8], table: &mut [u8], out: &mut [u8]) -> u64
     }
 }
 
-// Puts a record into a lane.
+// Puts a record into a lane: of train 0, in a shared lane too.
 #[no_mangle]
 pub extern "C" fn zf_put(table: &mut [u8], lane: u8, mark: u32, size: u64, out: &mut [u8]) -> u64
-    ensures { λ r. ⌜ CrossesCall (Calls.put lane mark size) (now (table .entry)) (now (table .exit)) (now (out .entry)) r (now (out .exit)) ⌝ }
+    ensures { λ r. ⌜ CrossesCall (Calls.put lane 0 mark size) (now (table .entry)) (now (table .exit)) (now (out .entry)) r (now (out .exit)) ⌝ }
 {
     if out.len() < 32 {
         return 255;
     }
-    tell(out, scheduler::put(table, lane, mark, Bytes(size)))
+    tell(out, scheduler::put(table, lane, 0, mark, Bytes(size)))
+}
+
+// Puts a record of a train into a lane.
+#[no_mangle]
+pub extern "C" fn zf_put_train(
+    table: &mut [u8],
+    lane: u8,
+    train: u8,
+    mark: u32,
+    size: u64,
+    out: &mut [u8],
+) -> u64
+    ensures { λ r. ⌜ CrossesCall (Calls.put lane train mark size) (now (table .entry)) (now (table .exit)) (now (out .entry)) r (now (out .exit)) ⌝ }
+{
+    if out.len() < 32 {
+        return 255;
+    }
+    tell(out, scheduler::put(table, lane, train, mark, Bytes(size)))
 }
 
 // Takes the next record.
@@ -277,7 +296,7 @@ pub extern "C" fn zf_lag(table: &[u8], lane: u8, out: &mut [u8]) -> u64
     tell(out, scheduler::lag(table, lane))
 }
 
-// Gives the fresh table of the same setup, once no record is held.
+// Begins anew with the table's own setup (R3.19), once no record is held.
 #[no_mangle]
 pub extern "C" fn zf_restart(table: &mut [u8], out: &mut [u8]) -> u64
     ensures { λ r. ⌜ CrossesCall Calls.restart (now (table .entry)) (now (table .exit)) (now (out .entry)) r (now (out .exit)) ⌝ }

@@ -1,4 +1,4 @@
-// Tables of units that are not yet updated: the converter, exported. Its answer crosses as those of lib.rt do (specs/Old.antt).
+// Tables of units that are not yet updated: the converter, exported (R13.9). Its answer crosses as those of lib.rt do (specs/Old.antt).
 ghost use mathlib.Core.Path.{_≡_};
 ghost use Prim.Native.Nat.{_≤_};
 ghost use lib.ListN.{length};

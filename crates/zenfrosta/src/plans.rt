@@ -1,4 +1,5 @@
-// Plans for the depot's tool: a setup read into a plan area, and a plan area written as a setup. Answers cross as those of lib.rt do (specs/Plans.antt).
+// Plans for the depot's tool (R13.7, R13.9): a setup read into a plan area, and a plan area written as a setup. Answers cross as those of lib.rt do
+// (specs/Plans.antt).
 ghost use mathlib.Core.Path.{_≡_};
 ghost use Prim.Native.Nat.{_*_, _≤_};
 ghost use lib.ListN.{length};

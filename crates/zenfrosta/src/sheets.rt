@@ -1,4 +1,5 @@
-// Text sheets for the depot's tool: a sheet read into a plan area, and a plan area written as a sheet. Answers cross as those of plans.rt do (specs/Plans.antt).
+// Text sheets for the depot's tool (R13.9): a sheet read into a plan area, and a plan area written as a sheet. Answers cross as those of plans.rt do
+// (specs/Plans.antt).
 ghost use mathlib.Core.Path.{_≡_};
 ghost use Prim.Native.Nat.{_≤_};
 ghost use lib.ListN.{length};

@@ -1,4 +1,4 @@
-// The version of the library, as a number that hosts can compare.
+// The version of the library, as a number that hosts can compare (R13.7, R13.9).
 ghost use mathlib.Core.Path.{_≡_};
 ghost use Rattle.zenfrosta.specs.Version.{versionNumber};
 

@@ -1,7 +1,8 @@
-// A table shown to its host: the calls of crate show, exported. Answers cross as those of lib.rt do (specs/Views.antt).
+// A table shown to its host (R17.6 to R17.8): the calls of crate show, exported. Answers cross as those of lib.rt do (specs/Views.antt).
 ghost use mathlib.Core.Path.{_≡_};
 ghost use Prim.Native.Nat.{_≤_};
 ghost use lib.ListN.{length};
+ghost use Rattle.plan_area.specs.Area.{sharedPart};
 ghost use Rattle.show.specs.Views as Views;
 ghost use Rattle.show.specs.Shows.{reads};
 ghost use Rattle.zenfrosta.specs.Crossing.{Spoken};
@@ -10,6 +11,13 @@ use crate::record_words;
 use crate::refusal_words;
 use crate::speak;
 use show::Shown;
+
+// What a shared lane's word has more, as in a plan area.
+fn shared_part(shared: bool) -> u64
+    ensures { λ r. ⌜ (r ≡ sharedPart shared) × (r ≤ 4294967296) ⌝ }
+{
+    if shared { 4294967296 } else { 0 }
+}
 
 // Tells what a table shows.
 fn tell_view(out: &mut [u8], x: Shown) -> u64
@@ -22,7 +30,13 @@ fn tell_view(out: &mut [u8], x: Shown) -> u64
             0
         }
         Shown::Setting(g) => {
-            speak(out, g.weight, g.longest.0, g.framing.0, g.group as u64);
+            speak(
+                out,
+                g.weight,
+                g.longest.0,
+                g.framing.0,
+                (g.group as u64) + shared_part(g.shared),
+            );
             0
         }
         Shown::Backlog(q) => {
@@ -75,13 +89,24 @@ pub extern "C" fn zf_backlog(table: &[u8], lane: u8, out: &mut [u8]) -> u64
     tell_view(out, show::backlog(table, lane))
 }
 
-// The record of a lane that has `i` before it.
+// The record of a lane that has `i` before it: of train 0, in a shared lane too.
 #[no_mangle]
 pub extern "C" fn zf_record(table: &[u8], lane: u8, i: u64, out: &mut [u8]) -> u64
-    ensures { λ r. ⌜ CrossesView (Views.waits lane i) (now (table .entry)) (now (out .entry)) r (now (out .exit)) ⌝ }
+    ensures { λ r. ⌜ CrossesView (Views.waits lane 0 i) (now (table .entry)) (now (out .entry)) r (now (out .exit)) ⌝ }
 {
     if out.len() < 32 {
         return 255;
     }
-    tell_view(out, show::record(table, lane, i))
+    tell_view(out, show::record(table, lane, 0, i))
+}
+
+// The record of a train of a lane that has `i` of its train before it.
+#[no_mangle]
+pub extern "C" fn zf_train_record(table: &[u8], lane: u8, train: u8, i: u64, out: &mut [u8]) -> u64
+    ensures { λ r. ⌜ CrossesView (Views.waits lane train i) (now (table .entry)) (now (out .entry)) r (now (out .exit)) ⌝ }
+{
+    if out.len() < 32 {
+        return 255;
+    }
+    tell_view(out, show::record(table, lane, train, i))
 }

@@ -1,4 +1,5 @@
-//! A plan edited from Rust: a setup is read, lane 1 gets less, lane 5 comes in, the line is charged 12 framing bytes; then it is written, and a wrong edit is refused.
+//! A plan edited from Rust: a setup is read, lane 1 gets less, lane 5 comes in for several trains, the line is charged 12 framing bytes; then it is
+//! written, and a wrong edit is refused.
 
 use zenfrosta::{Plan, PlanLane, Refusal};
 
@@ -8,8 +9,9 @@ const DEPOT: &[u8] = b"\x01\0\x02\0\x01\x10\0\x03\0\x02\0\x10\0\x05\x01\x01\0\x0
 fn show(plan: &Plan) {
     println!("format {}, framing {}", plan.format, plan.framing);
     for (number, lane) in plan.lanes.iter().enumerate() {
-        if let Some(PlanLane { weight, longest }) = lane {
-            println!("lane {number}: weight {weight}, longest {longest}");
+        if let Some(PlanLane { weight, longest, shared }) = lane {
+            let shared = if *shared { ", shared" } else { "" };
+            println!("lane {number}: weight {weight}, longest {longest}{shared}");
         }
     }
 }
@@ -28,18 +30,18 @@ fn main() -> Result<(), Refusal> {
     let mut plan = Plan::from_setup(DEPOT)?;
     println!("{} lanes", plan.lanes.iter().flatten().count());
     show(&plan);
-    plan.lanes[1] = Some(PlanLane { weight: 128, longest: 576 });
-    plan.lanes[5] = Some(PlanLane { weight: 64, longest: 64 });
+    plan.lanes[1] = Some(PlanLane::new(128, 576));
+    plan.lanes[5] = Some(PlanLane::shared(64, 64));
     plan.framing = 12;
     show(&plan);
     write(&plan);
     // The weights now sum to more than 1,024.
-    plan.lanes[6] = Some(PlanLane { weight: 1_000, longest: 64 });
+    plan.lanes[6] = Some(PlanLane::new(1_000, 64));
     write(&plan);
     // No lane.
     let mut plan = Plan::new();
     write(&plan);
-    plan.lanes[63] = Some(PlanLane { weight: 1_024, longest: 1_500 });
+    plan.lanes[63] = Some(PlanLane::new(1_024, 1_500));
     write(&plan);
     Ok(())
 }

@@ -6,7 +6,9 @@ fn read(sheet: &str) -> Result<Plan, Refusal> {
     let plan = Plan::from_sheet(sheet.as_bytes());
     match &plan {
         Ok(plan) => println!("{} lanes", plan.lanes.iter().flatten().count()),
-        Err(refusal) => println!("refused with {} at byte {}", refusal.number, refusal.place.unwrap_or_default()),
+        Err(refusal) => {
+            println!("refused with {} at byte {}", refusal.number, refusal.place.unwrap_or_default())
+        }
     }
     plan
 }
@@ -20,7 +22,7 @@ fn write(plan: &Plan) {
 
 fn main() -> Result<(), Refusal> {
     let mut plan = read("0 512 1500\n1 256 576\n")?;
-    plan.lanes[7] = Some(PlanLane { weight: 16, longest: 64 });
+    plan.lanes[7] = Some(PlanLane::new(16, 64));
     write(&plan);
     println!("{} bytes of setup", plan.to_setup()?.len());
     // A sheet cannot say it.

@@ -30,6 +30,16 @@ extern "C" {
         out: *mut u8,
         out_len: usize,
     ) -> u64;
+    fn zf_put_train(
+        t: *mut u8,
+        t_len: usize,
+        lane: u8,
+        train: u8,
+        mark: u32,
+        length: u64,
+        out: *mut u8,
+        out_len: usize,
+    ) -> u64;
     fn zf_take(t: *mut u8, t_len: usize, out: *mut u8, out_len: usize) -> u64;
     fn zf_look(t: *const u8, t_len: usize, out: *mut u8, out_len: usize) -> u64;
     fn zf_sets(t: *const u8, t_len: usize, out: *mut u8, out_len: usize) -> u64;
@@ -38,6 +48,15 @@ extern "C" {
     fn zf_lane(t: *const u8, t_len: usize, lane: u8, out: *mut u8, out_len: usize) -> u64;
     fn zf_backlog(t: *const u8, t_len: usize, lane: u8, out: *mut u8, out_len: usize) -> u64;
     fn zf_record(t: *const u8, t_len: usize, lane: u8, before: u64, out: *mut u8, out_len: usize) -> u64;
+    fn zf_train_record(
+        t: *const u8,
+        t_len: usize,
+        lane: u8,
+        train: u8,
+        before: u64,
+        out: *mut u8,
+        out_len: usize,
+    ) -> u64;
     fn zf_restart(t: *mut u8, t_len: usize, out: *mut u8, out_len: usize) -> u64;
     fn zf_run(
         s: *const u8,
@@ -85,6 +104,10 @@ pub fn put(t: &mut [u8], lane: u8, mark: u32, length: u64) -> Told {
     told(|out, n| unsafe { zf_put(t.as_mut_ptr(), t.len(), lane, mark, length, out, n) })
 }
 
+pub fn put_train(t: &mut [u8], lane: u8, train: u8, mark: u32, length: u64) -> Told {
+    told(|out, n| unsafe { zf_put_train(t.as_mut_ptr(), t.len(), lane, train, mark, length, out, n) })
+}
+
 pub fn take(t: &mut [u8]) -> Told {
     told(|out, n| unsafe { zf_take(t.as_mut_ptr(), t.len(), out, n) })
 }
@@ -115,6 +138,10 @@ pub fn backlog(t: &[u8], lane: u8) -> Told {
 
 pub fn record(t: &[u8], lane: u8, before: u64) -> Told {
     told(|out, n| unsafe { zf_record(t.as_ptr(), t.len(), lane, before, out, n) })
+}
+
+pub fn train_record(t: &[u8], lane: u8, train: u8, before: u64) -> Told {
+    told(|out, n| unsafe { zf_train_record(t.as_ptr(), t.len(), lane, train, before, out, n) })
 }
 
 pub fn restart(t: &mut [u8]) -> Told {

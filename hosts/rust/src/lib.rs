@@ -72,6 +72,8 @@ impl std::error::Error for Refusal {}
 pub struct Record {
     /// The lane that it waited in.
     pub lane: u8,
+    /// The train that it is of; 0 in a lane that is not shared.
+    pub train: u8,
     /// The host's mark.
     pub mark: u32,
     /// Its length in bytes.
@@ -102,12 +104,14 @@ pub struct LaneSetting {
     pub framing: u64,
     /// Its group index, 16 to 31.
     pub group: u64,
+    /// Trains share it, each with a queue of its own.
+    pub shared: bool,
 }
 
 /// What waits in a lane.
 #[derive(Clone, Copy, Debug, PartialEq, Eq)]
 pub struct Backlog {
-    /// How many records, 0 to 64.
+    /// How many records, 0 to 64, of all its trains together.
     pub records: u64,
     /// The lane's start S while it holds records, its finish F while it is idle.
     pub time: u64,
@@ -145,8 +149,13 @@ fn answer((result, words): boundary::Told) -> Result<[u64; 4], Refusal> {
 }
 
 fn record(told: boundary::Told) -> Result<Record, Refusal> {
-    // The library widened a u8 and a u32.
-    answer(told).map(|[lane, mark, length, _]| Record { lane: lane as u8, mark: mark as u32, length })
+    // The library widened two u8 and a u32.
+    answer(told).map(|[lane, mark, length, train]| Record {
+        lane: lane as u8,
+        train: train as u8,
+        mark: mark as u32,
+        length,
+    })
 }
 
 /// The table size as the library has it; [`TABLE_SIZE`].
@@ -173,9 +182,17 @@ pub fn convert(old: &[u8], table: &mut [u8]) -> Result<(), Refusal> {
     answer(boundary::convert(old, table)).map(|_| ())
 }
 
-/// Puts a record into a lane; how many records the lane held before it, 0 to 63: so many of this lane go out first.
+/// Puts a record into a lane, in a shared one for train 0; how many records its train held before it, 0 to 63, in a shared lane 0 to 7: so many of this
+/// train go out first.
 pub fn put(table: &mut [u8], lane: u8, mark: u32, length: u64) -> Result<u64, Refusal> {
     answer(boundary::put(table, lane, mark, length)).map(|words| words[0])
+}
+
+/// Puts a record of a train into a lane: 0 to 7 in a shared lane, 0 alone in another. How many records the train held before it.
+///
+/// Refused with 10, 11, 70, 12, then 13, or 71 in a shared lane.
+pub fn put_train(table: &mut [u8], lane: u8, train: u8, mark: u32, length: u64) -> Result<u64, Refusal> {
+    answer(boundary::put_train(table, lane, train, mark, length)).map(|words| words[0])
 }
 
 /// Takes the next record.
@@ -198,18 +215,20 @@ pub fn lag(table: &[u8], lane: u8) -> Result<i64, Refusal> {
     answer(boundary::lag(table, lane)).map(|words| words[0] as i64)
 }
 
-/// The clock V. This call and the three below show a table, and change nothing.
+/// The clock V. This call and the four below show a table, and change nothing.
 pub fn clock(table: &[u8]) -> Result<u64, Refusal> {
     answer(boundary::clock(table)).map(|words| words[0])
 }
 
 /// What the setup in force gives a lane; 11 if it is not in the setup.
 pub fn lane(table: &[u8], lane: u8) -> Result<LaneSetting, Refusal> {
-    answer(boundary::lane(table, lane)).map(|[weight, longest, framing, group]| LaneSetting {
+    answer(boundary::lane(table, lane)).map(|[weight, longest, framing, word]| LaneSetting {
         weight,
         longest,
         framing,
-        group,
+        // 2^32 more where the lane is shared.
+        group: word & 0xFFFF_FFFF,
+        shared: word >> 32 != 0,
     })
 }
 
@@ -218,9 +237,14 @@ pub fn backlog(table: &[u8], lane: u8) -> Result<Backlog, Refusal> {
     answer(boundary::backlog(table, lane)).map(|[records, time, ..]| Backlog { records, time })
 }
 
-/// The record of a lane that `before` others of the lane go out before; 16 if no more than that wait there.
+/// The record of a lane that `before` others of the lane go out before; 16 if no more than that wait there. Of a shared lane it is train 0's queue.
 pub fn waiting(table: &[u8], lane: u8, before: u64) -> Result<Record, Refusal> {
     record(boundary::record(table, lane, before))
+}
+
+/// The record of a train that `before` others of the train go out before; refused with 10, 11, 70, then 16 if no more than that wait there.
+pub fn waiting_of(table: &[u8], lane: u8, train: u8, before: u64) -> Result<Record, Refusal> {
+    record(boundary::train_record(table, lane, train, before))
 }
 
 /// Gives the fresh table of the same setup, once no record is held.

@@ -7,7 +7,7 @@ use crate::{answer, Refusal};
 pub const PLAN_SIZE: usize = 520;
 
 /// The most bytes that a setup has when it is written.
-pub const SETUP_MOST: usize = 524;
+pub const SETUP_MOST: usize = 780;
 
 /// The most bytes that a text sheet has when it is written.
 pub const SHEET_MOST: usize = 698;
@@ -24,6 +24,30 @@ pub struct PlanLane {
     pub weight: u16,
     /// The longest record in bytes, 64 to 1,500.
     pub longest: u16,
+    /// Up to 8 trains share the lane, each with a queue of its own.
+    pub shared: bool,
+}
+
+impl PlanLane {
+    /// A lane that is not shared.
+    pub const fn new(weight: u16, longest: u16) -> PlanLane {
+        PlanLane { weight, longest, shared: false }
+    }
+
+    /// A lane that trains share.
+    pub const fn shared(weight: u16, longest: u16) -> PlanLane {
+        PlanLane { weight, longest, shared: true }
+    }
+
+    fn in_word(word: u64) -> PlanLane {
+        PlanLane { weight: word as u16, longest: (word >> 16) as u16, shared: word >> 32 != 0 }
+    }
+
+    /// A lane that is there with weight 0 is outside the numbers, and all zero would be no lane.
+    fn word(&self) -> u64 {
+        let longest = if self.weight == 0 { self.longest.max(1) } else { self.longest };
+        u64::from(self.weight) | u64::from(longest) << 16 | u64::from(self.shared) << 32
+    }
 }
 
 /// A plan of lanes, to be edited. Any numbers may stand in it; writing it tests them.
@@ -67,7 +91,7 @@ impl Plan {
         let head = words.next().expect("65 words");
         let mut plan = Plan { format: head as u16, framing: (head >> 16) as u8, lanes: [None; 64] };
         for (lane, word) in plan.lanes.iter_mut().zip(words) {
-            *lane = (word != 0).then_some(PlanLane { weight: word as u16, longest: (word >> 16) as u16 });
+            *lane = (word != 0).then_some(PlanLane::in_word(word));
         }
         plan
     }
@@ -76,12 +100,7 @@ impl Plan {
     fn area(&self) -> [u8; PLAN_SIZE] {
         let mut area = [0; PLAN_SIZE];
         let head = u64::from(self.format) | u64::from(self.framing) << 16;
-        // A lane that is there with weight 0 is outside the numbers, and all zero would be no lane.
-        let lanes = self.lanes.iter().map(|lane| match lane {
-            None => 0,
-            Some(PlanLane { weight: 0, longest }) => u64::from(*longest).max(1) << 16,
-            Some(PlanLane { weight, longest }) => u64::from(*weight) | u64::from(*longest) << 16,
-        });
+        let lanes = self.lanes.iter().map(|lane| lane.map_or(0, |lane| lane.word()));
         for (bytes, word) in area.chunks_exact_mut(8).zip(std::iter::once(head).chain(lanes)) {
             bytes.copy_from_slice(&word.to_le_bytes());
         }
@@ -101,13 +120,13 @@ impl Plan {
         Ok(setup)
     }
 
-    /// Writes the plan as a text sheet into the lent bytes; its size. Refused with 55 outside the numbers, with 82 where it has framing bytes, with 56 where
-    /// the bytes are too few; they stay then.
+    /// Writes the plan as a text sheet into the lent bytes; its size. Refused with 55 outside the numbers, with 82 where it has framing bytes or a shared
+    /// lane, with 56 where the bytes are too few; they stay then.
     pub fn write_sheet(&self, sheet: &mut [u8]) -> Result<usize, Refusal> {
         answer(calls::write_sheet(&self.area(), sheet)).map(|words| words[0] as usize)
     }
 
-    /// The plan as a text sheet; refused with 55 outside the numbers, with 82 where it has framing bytes.
+    /// The plan as a text sheet; refused with 55 outside the numbers, with 82 where it has framing bytes or a shared lane.
     pub fn to_sheet(&self) -> Result<String, Refusal> {
         let mut sheet = vec![0; SHEET_MOST];
         let size = self.write_sheet(&mut sheet)?;

@@ -53,7 +53,7 @@ refusals! {
     WRONG_LENGTH WrongLength 3 "a length that is wrong for the tag",
         "write the length that this kind of field has, and just that many bytes behind it";
     OUT_OF_ORDER OutOfOrder 4 "a field out of its order, or a byte after the end",
-        "begin with the format, then framing if there is any, then the lanes in rising order, each once, and end with 7F";
+        "begin with the format, then framing if there is any, then the lanes in rising order, each once, a shared lane's 12 right behind it, and end with 7F";
     WEIGHTS_OVER WeightsOver 6 "the weights sum to more than 1,024",
         "lower this weight or earlier ones until all of them together are at most 1,024";
     TABLE_SHORT TableShort 7 "the table is too short",
@@ -99,13 +99,17 @@ refusals! {
     PLAN_OUTSIDE PlanOutside 55 "the plan is outside the numbers",
         "mend the number that is outside; take a lane out by clearing all of it";
     SETUP_SHORT SetupShort 56 "the buffer is shorter than what is to be written",
-        "lend 524 bytes, which every setup fits, or 698, which every sheet does";
+        "lend 780 bytes, which every setup fits, or 698, which every sheet does";
+    NO_TRAIN NoTrain 70 "the train is over 7, or over 0 in a lane that is not shared",
+        "give a train from 0 to 7, or make the lane shared in the setup";
+    TRAIN_FULL TrainFull 71 "the train's queue is full",
+        "take records first, and put again; other trains of the lane may still have room";
     SHEET_BYTE SheetByte 80 "a byte that cannot stand there in a sheet",
         "look at that byte, and take it out or put the right one there; save the sheet without carriage returns";
     SHEET_CUT SheetCut 81 "the sheet is empty, or ends in a line",
         "add the last line feed, or send the sheet again, whole";
-    NO_SHEET NoSheet 82 "the plan has framing bytes, which a sheet cannot say",
-        "take the framing bytes out, or keep the plan as a setup";
+    NO_SHEET NoSheet 82 "the plan has framing bytes or a shared lane, which a sheet cannot say",
+        "take the framing bytes out and let no lane be shared, or keep the plan as a setup";
     BUFFER_SHORT BufferShort 255 "the answer buffer is too short",
         "lend 32 bytes";
 }

@@ -28,11 +28,11 @@ fn the_session_by_calls() {
     assert_eq!(put(&mut t, 1, 2, 1000), Ok(0));
     assert_eq!(put(&mut t, 0, 3, 500), Ok(1));
     assert_eq!(sets(&t), Ok(Sets { er: 12_582_912, ir: 0, eb: 0, ib: 0 }));
-    assert_eq!(look(&t), Ok(Record { lane: 0, mark: 1, length: 1000 }));
+    assert_eq!(look(&t), Ok(Record { lane: 0, train: 0, mark: 1, length: 1000 }));
     assert_eq!(restart(&mut t), refused(15, None));
-    assert_eq!(take(&mut t), Ok(Record { lane: 0, mark: 1, length: 1000 }));
-    assert_eq!(take(&mut t), Ok(Record { lane: 0, mark: 3, length: 500 }));
-    assert_eq!(take(&mut t), Ok(Record { lane: 1, mark: 2, length: 1000 }));
+    assert_eq!(take(&mut t), Ok(Record { lane: 0, train: 0, mark: 1, length: 1000 }));
+    assert_eq!(take(&mut t), Ok(Record { lane: 0, train: 0, mark: 3, length: 500 }));
+    assert_eq!(take(&mut t), Ok(Record { lane: 1, train: 0, mark: 2, length: 1000 }));
     assert_eq!(take(&mut t), refused(16, None));
     // M2
     assert_eq!(put(&mut t, 0, 4, 100), Ok(0));

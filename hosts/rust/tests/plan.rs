@@ -5,7 +5,7 @@ use zenfrosta::*;
 const SETUP: &[u8] = b"\x01\0\x02\0\x01\x10\0\x05\0\x02\0\x05\xDC\x10\0\x05\x01\x01\0\x05\xDC\x7F\0\0";
 
 fn lane(weight: u16, longest: u16) -> Option<PlanLane> {
-    Some(PlanLane { weight, longest })
+    Some(PlanLane::new(weight, longest))
 }
 
 fn outside(plan: &Plan) {
@@ -93,8 +93,26 @@ fn buffers() {
 
 #[test]
 fn the_greatest() {
-    let plan = Plan { framing: 64, lanes: [lane(16, 1500); 64], ..Plan::new() };
+    let shared = Some(PlanLane::shared(16, 1500));
+    let plan = Plan { framing: 64, lanes: [shared; 64], ..Plan::new() };
     let setup = plan.to_setup().unwrap();
     assert_eq!(setup.len(), SETUP_MOST);
     assert_eq!(Plan::from_setup(&setup), Ok(plan));
+    let plan = Plan { framing: 64, lanes: [lane(16, 1500); 64], ..Plan::new() };
+    assert_eq!(plan.to_setup().map(|setup| setup.len()), Ok(524), "four bytes less for each lane of its own");
+}
+
+#[test]
+fn shared_lanes() {
+    let setup =
+        b"\x01\0\x02\0\x02\x10\0\x05\x03\x02\0\x02\x40\x12\0\x01\x03\x10\0\x05\x04\0\x10\0\x40\x7F\0\0";
+    let plan = Plan::from_setup(setup).unwrap();
+    assert_eq!(plan.lanes[3..5], [Some(PlanLane::shared(512, 576)), lane(16, 64)]);
+    assert_eq!(plan.to_setup().unwrap(), setup);
+    assert_eq!(plan.to_sheet(), Err(Refusal { number: 82, place: None }));
+    for wrong in [PlanLane::shared(0, 0), PlanLane::shared(0, 64), PlanLane::shared(1, 63)] {
+        let mut plan = plan.clone();
+        plan.lanes[9] = Some(wrong);
+        outside(&plan);
+    }
 }

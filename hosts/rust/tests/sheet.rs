@@ -5,7 +5,7 @@ use zenfrosta::*;
 const SHEET: &[u8] = b"0 512 1500\n1 256 576\n63 1 64\n";
 
 fn lane(weight: u16, longest: u16) -> Option<PlanLane> {
-    Some(PlanLane { weight, longest })
+    Some(PlanLane::new(weight, longest))
 }
 
 #[test]
@@ -31,7 +31,11 @@ fn refusals_of_reading_have_their_places() {
         ("1 1 64\n1 1 64\n", 4, 7),
         ("1 1024 64\n2 1 64\n", 6, 12),
     ] {
-        assert_eq!(Plan::from_sheet(sheet.as_bytes()), Err(Refusal { number, place: Some(place) }), "{sheet:?}");
+        assert_eq!(
+            Plan::from_sheet(sheet.as_bytes()),
+            Err(Refusal { number, place: Some(place) }),
+            "{sheet:?}"
+        );
     }
 }
 

@@ -20,12 +20,19 @@ fn refused<T>(number: u64) -> Result<T, Refusal> {
 fn the_setup_in_force() {
     let t = made();
     // (1,500 + 20) 2,048 lies between 2^21 and 2^22, (64 + 20) 4,096 between 2^18 and 2^19.
-    assert_eq!(lane(&t, 0), Ok(LaneSetting { weight: 512, longest: 1500, framing: 20, group: 22 }));
-    assert_eq!(lane(&t, 5), Ok(LaneSetting { weight: 256, longest: 64, framing: 20, group: 19 }));
+    assert_eq!(
+        lane(&t, 0),
+        Ok(LaneSetting { weight: 512, longest: 1500, framing: 20, group: 22, shared: false })
+    );
+    assert_eq!(
+        lane(&t, 5),
+        Ok(LaneSetting { weight: 256, longest: 64, framing: 20, group: 19, shared: false })
+    );
     for k in (0..=255).filter(|k| ![0, 5].contains(k)) {
         assert_eq!(lane(&t, k), refused(11));
         assert_eq!(backlog(&t, k), refused(11));
         assert_eq!(waiting(&t, k, 0), refused(11));
+        assert_eq!(waiting_of(&t, k, 8, 0), refused(11), "11 before 70");
     }
 }
 
@@ -37,17 +44,19 @@ fn what_waits() {
     for i in 0..3 {
         assert_eq!(put(&mut t, 0, 10 + i, 100 + u64::from(i)), Ok(u64::from(i)));
     }
-    assert_eq!(take(&mut t), Ok(Record { lane: 0, mark: 10, length: 100 }));
+    assert_eq!(take(&mut t), Ok(Record { lane: 0, train: 0, mark: 10, length: 100 }));
     // V went on by 1,024 (100 + 20), the lane's S by 2,048 (100 + 20).
     assert_eq!(clock(&t), Ok(122_880));
     assert_eq!(backlog(&t, 0), Ok(Backlog { records: 2, time: 245_760 }));
-    assert_eq!(waiting(&t, 0, 0), Ok(Record { lane: 0, mark: 11, length: 101 }));
-    assert_eq!(waiting(&t, 0, 1), Ok(Record { lane: 0, mark: 12, length: 102 }));
+    assert_eq!(waiting(&t, 0, 0), Ok(Record { lane: 0, train: 0, mark: 11, length: 101 }));
+    assert_eq!(waiting(&t, 0, 1), Ok(Record { lane: 0, train: 0, mark: 12, length: 102 }));
     assert_eq!(waiting(&t, 0, 2), refused(16));
+    assert_eq!(waiting_of(&t, 0, 0, 1), waiting(&t, 0, 1));
+    assert_eq!(waiting_of(&t, 0, 1, 0), refused(70), "the lane is not shared");
     assert_eq!(waiting(&t, 0, u64::MAX), refused(16));
     // Its first record is the one that take hands out next; idle, it keeps F.
-    assert_eq!(take(&mut t), Ok(Record { lane: 0, mark: 11, length: 101 }));
-    assert_eq!(take(&mut t), Ok(Record { lane: 0, mark: 12, length: 102 }));
+    assert_eq!(take(&mut t), Ok(Record { lane: 0, train: 0, mark: 11, length: 101 }));
+    assert_eq!(take(&mut t), Ok(Record { lane: 0, train: 0, mark: 12, length: 102 }));
     assert_eq!(backlog(&t, 0), Ok(Backlog { records: 0, time: 2_048 * (120 + 121 + 122) }));
 }
 
@@ -59,5 +68,6 @@ fn a_table_that_is_not_good() {
     assert_eq!(lane(&t, 0), refused(10));
     assert_eq!(backlog(&t, 0), refused(10));
     assert_eq!(waiting(&t, 0, 0), refused(10));
+    assert_eq!(waiting_of(&t, 0, 8, 0), refused(10));
     assert_eq!(clock(&t[..TABLE_SIZE - 1]), refused(10));
 }

@@ -48,7 +48,7 @@ fn full_lanes_are_taken_over() {
     }
     assert_eq!(put(&mut t, 0, 0, 100), refused(13, None));
     // The tie goes to lane 1; a lane's records stay in their order.
-    assert_eq!(take(&mut t), Ok(Record { lane: 1, mark: 200, length: 100 }));
+    assert_eq!(take(&mut t), Ok(Record { lane: 1, train: 0, mark: 200, length: 100 }));
     let rest: Vec<Record> = std::iter::from_fn(|| take(&mut t).ok()).collect();
     let marks = |lane| rest.iter().filter(move |r| r.lane == lane).map(|r| r.mark);
     assert!(marks(0).eq(100..164));
@@ -94,6 +94,6 @@ fn sixty_four_records_and_no_more() {
         assert_eq!(put(&mut t, 0, i as u32, 100), Ok(i));
     }
     assert_eq!(put(&mut t, 0, 64, 100), refused(13, None));
-    assert_eq!(take(&mut t), Ok(Record { lane: 0, mark: 0, length: 100 }));
+    assert_eq!(take(&mut t), Ok(Record { lane: 0, train: 0, mark: 0, length: 100 }));
     assert_eq!(put(&mut t, 0, 64, 100), Ok(63));
 }

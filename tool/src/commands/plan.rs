@@ -15,7 +15,8 @@ Shows a plan of lanes as a table. FILE is a text sheet, the bytes of a setup or 
 standard input if none is named.
 
   --rate BITS   the line's rate in bits a second: waits in seconds too
-  --ahead N     waits with so many records of the same lane before it, each of the lane's longest (0)
+  --ahead N     waits with so many records of the same lane before it, each of the lane's longest (0); in a shared
+                lane so many of the same train, 7 at most
   -o FILE       write to a file
 
   share         of the line, when every lane has something to send
@@ -24,6 +25,7 @@ standard input if none is named.
   group         document 01's group index; the slot is 2^group
   worst wait    all lanes together send fewer bytes than this, framing counted, from a put until its record is
                 handed out
+  shared        up to 8 trains share the lane and take turns by bytes
 ";
 
 pub fn run(words: &[String]) -> Result<u8, Fault> {
@@ -55,6 +57,10 @@ fn shown(plan: &Plan, rate: Option<u64>, ahead: u64) -> String {
     let mut head = ["lane", "weight", "share", "at least", "longest", "c", "group", "worst wait"]
         .map(String::from)
         .to_vec();
+    let shared = lanes.iter().any(|(_, lane)| lane.shared);
+    if shared {
+        head.push("shared".to_string());
+    }
     if let Some(rate) = rate {
         head.push(format!("at {} bit/s", thousands(rate)));
     }
@@ -62,7 +68,12 @@ fn shown(plan: &Plan, rate: Option<u64>, ahead: u64) -> String {
     for (number, lane) in lanes {
         let weight = u64::from(lane.weight);
         let figures = Figures::of(lane.weight, lane.longest, plan.framing);
-        let wait = figures.wait(ahead);
+        // A train's queue has 8 records, so that no more than 7 are before one.
+        let wait = match lane.shared {
+            false => Some(figures.wait(ahead)),
+            true if ahead < 8 => Some(figures.shared_wait(ahead)),
+            true => None,
+        };
         let mut row = vec![
             number.to_string(),
             thousands(weight),
@@ -71,16 +82,20 @@ fn shown(plan: &Plan, rate: Option<u64>, ahead: u64) -> String {
             thousands(u64::from(lane.longest)),
             thousands(figures.c),
             figures.group.to_string(),
-            thousands(wait),
+            wait.map_or("-".to_string(), thousands),
         ];
-        row.extend(rate.map(|rate| seconds(wait, rate)));
+        if shared {
+            row.push(if lane.shared { "yes" } else { "no" }.to_string());
+        }
+        row.extend(rate.map(|rate| wait.map_or("-".to_string(), |wait| seconds(wait, rate))));
         rows.push(row);
     }
-    text += &table(if rate.is_some() { ">>>>>>>>>" } else { ">>>>>>>>" }, &rows);
+    text += &table(&">".repeat(rows[0].len()), &rows);
     let before = match ahead {
         0 => "no record of the lane before it".to_string(),
         n => format!("{} of the lane before it", count(n, "record")),
     };
+    let before = if shared { format!("{before} (of its train, in a shared lane)") } else { before };
     text += &format!("\nWorst wait: in bytes of the line, framing counted, with {before}. Fewer go out until it is handed out.\n");
     if let Some(rate) = rate {
         let most = 1_500 + u64::from(plan.framing);

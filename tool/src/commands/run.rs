@@ -2,13 +2,14 @@
 
 use crate::args::Args;
 use crate::fault::Fault;
+use crate::fields::setup_of;
 use crate::figures::LINE_RATE;
 use crate::files;
 use crate::script;
 use crate::sessions::Session;
 use crate::text::{count, signed, table, thousands};
 use zenfrosta::refusals::INPUT_LONG;
-use zenfrosta::{answer_area, Refusal, RefusalKind, Stop, MOST_REQUESTS, TABLE_SIZE};
+use zenfrosta::{answer_area, Plan, Refusal, RefusalKind, Stop, MOST_REQUESTS, TABLE_SIZE};
 
 pub const HELP: &str = "\
 zenfrosta run [FILE] [--limit N] [--plain] [--table FILE] [-o FILE]
@@ -57,6 +58,11 @@ pub fn run(words: &[String]) -> Result<u8, Fault> {
 
 /// The requests with their answers, and how the run ended.
 fn beside(session: &[u8], answered: usize, lines: &str, stop: Stop) -> String {
+    let plan = Plan::from_setup(setup_of(session)).ok();
+    let shared = |lane: &str| {
+        let lane = lane.parse().ok().and_then(|lane: usize| *plan.as_ref()?.lanes.get(lane)?);
+        lane.is_some_and(|lane| lane.shared)
+    };
     let mut lines = lines.lines();
     let mut rows = vec![["", "request", "answer", ""].map(String::from).to_vec()];
     rows.push(vec![
@@ -68,7 +74,7 @@ fn beside(session: &[u8], answered: usize, lines: &str, stop: Stop) -> String {
     for (i, ((_, request), answer)) in
         script::requests(session).into_iter().zip(&mut lines).take(answered).enumerate()
     {
-        let says = in_words(&request, answer);
+        let says = in_words(&request, answer, shared);
         rows.push(vec![(i + 1).to_string(), request, answer.to_string(), says]);
     }
     let mut text = table("><<<", &rows);
@@ -82,7 +88,7 @@ fn beside(session: &[u8], answered: usize, lines: &str, stop: Stop) -> String {
 }
 
 /// What an answer says.
-fn in_words(request: &str, answer: &str) -> String {
+fn in_words(request: &str, answer: &str, shared: impl Fn(&str) -> bool) -> String {
     let asked: Vec<&str> = request.split(' ').collect();
     let told: Vec<&str> = answer.split(' ').collect();
     match told.as_slice() {
@@ -91,10 +97,22 @@ fn in_words(request: &str, answer: &str) -> String {
             .ok()
             .and_then(RefusalKind::of)
             .map_or(String::new(), |kind| kind.words().to_string()),
-        ["put", "ok", "0"] => format!("the next of lane {}", asked[1]),
-        ["put", "ok", ahead] => format!("{ahead} before it in lane {}", asked[1]),
-        ["take", lane, mark, length] => format!("lane {lane} sends record {mark}, {length} bytes"),
-        ["look", lane, mark, length] => format!("lane {lane} would send record {mark}, {length} bytes"),
+        ["put", "ok", ahead] => {
+            let lane = asked[1];
+            // In a shared lane those of its train are counted; a put without a train is train 0's.
+            let train = if asked.len() == 5 { asked[2] } else { "0" };
+            match (*ahead, shared(lane)) {
+                ("0", true) => format!("the next of train {train} in lane {lane}"),
+                ("0", false) => format!("the next of lane {lane}"),
+                (ahead, true) => format!("{ahead} before it of train {train} in lane {lane}"),
+                (ahead, false) => format!("{ahead} before it in lane {lane}"),
+            }
+        }
+        [what @ ("take" | "look"), lane, mark, length, train @ ..] => {
+            let sends = if *what == "take" { "sends" } else { "would send" };
+            let of = train.first().map_or(String::new(), |train| format!(" of train {train}"));
+            format!("lane {lane} {sends} record {mark}{of}, {length} bytes")
+        }
         ["lag", lag] => lag.parse().map_or(String::new(), lagging),
         ["sets", words @ ..] => sets(words),
         ["restart", ..] => "a fresh table of the same setup".to_string(),

@@ -21,7 +21,8 @@ A line of the text is one field; numbers are decimal, or hexadecimal with 0x; '#
   format F                      1 or 2; format 2 if no line says it
   framing H                     the framing bytes of the line
   lane LANE WEIGHT [LONGEST]    a lane; without a longest it is 1,500 in format 1, 576 in format 2
-  put LANE MARK LENGTH          the requests; the setup ends before the first of them
+  shared LANE                   right behind its lane: trains share it
+  put LANE [TRAIN] MARK LENGTH  the requests; the setup ends before the first of them
   take, look, sets, lag LANE, restart
   end                           the end field; it is written at the end of the text if no line says it
 

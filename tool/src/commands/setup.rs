@@ -10,7 +10,7 @@ pub const HELP: &str = "\
 zenfrosta setup [FILE] [EDITS] [--hex] [-o FILE]
 
 Writes the bytes of a setup. FILE is a text sheet, the bytes of a setup or of a session, or a session's text; standard
-input if none is named. A sheet gives a plan of format 2 with no framing bytes.
+input if none is named. A sheet gives a plan of format 2 with no framing bytes and no shared lane.
 
   --hex            write the bytes as hexadecimal digits, a field on a line
   -o FILE          write to a file
@@ -20,15 +20,15 @@ Edits, in any number:
   --format F       1 or 2
   --framing H      the framing bytes of the line, 0 to 64
   --remove LANE    take a lane out
-  --lane LANE:WEIGHT:LONGEST
-                   add a lane, or change it
+  --lane LANE:WEIGHT:LONGEST[:shared]
+                   add a lane, or change it; with ':shared' up to 8 trains share it
 ";
 
 pub const SHEET_HELP: &str = "\
 zenfrosta sheet [FILE] [EDITS] [-o FILE]
 
 Writes a text sheet: a line 'lane weight longest' for each lane. FILE and the edits are those of 'zenfrosta setup'. A
-sheet cannot say framing bytes.
+sheet cannot say framing bytes or lanes that are shared.
 ";
 
 pub fn run(words: &[String]) -> Result<u8, Fault> {

@@ -6,7 +6,7 @@ use crate::fault::Fault;
 use crate::files::{self, Input};
 use crate::plans;
 use crate::text::{count, signed, table, thousands};
-use zenfrosta::refusals::{NOT_GOOD, NO_LANE};
+use zenfrosta::refusals::{NOTHING_HELD, NOT_GOOD, NO_LANE};
 use zenfrosta::{LaneSetting, Record, Refusal, OLD_TABLE_SIZE, TABLE_SIZE};
 
 pub const HELP: &str = "\
@@ -21,7 +21,7 @@ which is shorter, is converted first.
   -o FILE            write to a file
 
   lag       the clock less the lane's start; below 0 the lane was served ahead
-  waiting   mark/length of each record, first one first
+  waiting   mark/length of each record, first one first; in a shared lane train by train, those that hold records
 ";
 
 pub fn run(words: &[String]) -> Result<u8, Fault> {
@@ -70,8 +70,22 @@ struct Lane {
     number: u8,
     setting: LaneSetting,
     lag: i64,
-    /// First record first.
+    /// First record first; in a shared lane train by train.
     waiting: Vec<Record>,
+}
+
+/// What waits in a lane: the queue of its one train, or of each train that shares it.
+fn waiting(bytes: &[u8], number: u8, shared: bool) -> Result<Vec<Record>, Refusal> {
+    let mut records = Vec::new();
+    for train in 0..if shared { 8 } else { 1 } {
+        for before in 0.. {
+            match zenfrosta::waiting_of(bytes, number, train, before) {
+                Err(refusal) if refusal.number == NOTHING_HELD => break,
+                record => records.push(record?),
+            }
+        }
+    }
+    Ok(records)
 }
 
 struct Shown {
@@ -94,9 +108,7 @@ impl Shown {
                     number,
                     setting,
                     lag: zenfrosta::lag(bytes, number)?,
-                    waiting: (0..zenfrosta::backlog(bytes, number)?.records)
-                        .map(|before| zenfrosta::waiting(bytes, number, before))
-                        .collect::<Result<_, _>>()?,
+                    waiting: waiting(bytes, number, setting.shared)?,
                 }),
             }
         }
@@ -104,6 +116,19 @@ impl Shown {
         let mut copy = bytes.to_vec();
         let order = std::iter::from_fn(|| zenfrosta::take(&mut copy).ok()).collect();
         Ok(Shown { size: bytes.len(), clock, lanes, order })
+    }
+
+    /// Whether a record waits in a shared lane.
+    fn shared(&self, record: &Record) -> bool {
+        self.lanes.iter().any(|lane| lane.number == record.lane && lane.setting.shared)
+    }
+
+    fn of_train(&self, record: &Record) -> String {
+        if self.shared(record) {
+            format!(" of train {}", record.train)
+        } else {
+            String::new()
+        }
     }
 
     fn text(&self, with_order: bool) -> String {
@@ -120,9 +145,10 @@ impl Shown {
         );
         if let Some(next) = self.order.first() {
             text += &format!(
-                "next out: lane {}, record {}, {}\n",
+                "next out: lane {}, record {}{}, {}\n",
                 next.lane,
                 next.mark,
+                self.of_train(next),
                 count(next.length, "byte")
             );
         }
@@ -132,10 +158,20 @@ impl Shown {
         let mut rows = vec![head];
         for lane in &self.lanes {
             let (setting, held) = (lane.setting, &lane.waiting);
-            let mut waiting: Vec<String> =
-                held.iter().take(8).map(|record| format!("{}/{}", record.mark, record.length)).collect();
+            let mut waiting: Vec<String> = Vec::new();
+            let mut train = None;
+            for record in held.iter().take(8) {
+                if setting.shared && train != Some(record.train) {
+                    waiting.push(format!("train {}:", record.train));
+                    train = Some(record.train);
+                }
+                waiting.push(format!("{}/{}", record.mark, record.length));
+            }
             if held.len() > 8 {
                 waiting.push(format!("and {} more", held.len() - 8));
+            }
+            if setting.shared && held.is_empty() {
+                waiting.push("(shared)".to_string());
             }
             rows.push(vec![
                 lane.number.to_string(),
@@ -151,16 +187,24 @@ impl Shown {
         }
         text += &format!("\n{}", table(">>>>>>>><", &rows));
         if with_order && !self.order.is_empty() {
+            let shared = self.lanes.iter().any(|lane| lane.setting.shared);
             let mut rows = vec![["out", "lane", "mark", "length"].map(String::from).to_vec()];
+            if shared {
+                rows[0].push("train".to_string());
+            }
             for (i, record) in self.order.iter().enumerate() {
-                rows.push(vec![
+                let mut row = vec![
                     (i + 1).to_string(),
                     record.lane.to_string(),
                     record.mark.to_string(),
                     thousands(record.length),
-                ]);
+                ];
+                if self.shared(record) {
+                    row.push(record.train.to_string());
+                }
+                rows.push(row);
             }
-            text += &format!("\n{}", table(">>>>", &rows));
+            text += &format!("\n{}", table(if shared { ">>>>>" } else { ">>>>" }, &rows));
         }
         text
     }

@@ -49,7 +49,9 @@ pub fn draw(svg: &mut Svg, trace: &Trace, axis: &Axis, index: usize, row: Row, t
     }
     let grey = format!("fill=\"{GREY}\"");
     svg.words(20.0, top + 13.0, 12.0, "font-weight=\"bold\"", &format!("lane {number}"));
-    svg.words(20.0, top + 27.0, 10.5, &grey, &format!("weight {}", thousands(u64::from(lane.plan.weight))));
+    let shared = if lane.plan.shared { ", shared" } else { "" };
+    let weight = format!("weight {}{shared}", thousands(u64::from(lane.plan.weight)));
+    svg.words(20.0, top + 27.0, 10.5, &grey, &weight);
     if tall {
         svg.words(
             20.0,
@@ -64,11 +66,14 @@ pub fn draw(svg: &mut Svg, trace: &Trace, axis: &Axis, index: usize, row: Row, t
     area(svg, axis, &values, waiting_base, row.waiting, most);
     svg.line(axis.left, waiting_base, axis.right, waiting_base, "stroke=\"#99a\" stroke-width=\"0.5\"");
     let mut total = 0;
+    let lane_shared = lane.plan.shared;
     for step in &trace.steps {
         match step.did {
-            Did::Sent { lane, mark, length, from, .. } if lane == number => {
+            Did::Sent { lane, train, mark, length, from, .. } if lane == number => {
                 total += length;
-                record(svg, trace, axis, (number, mark, length, from), sent_top, row.sent);
+                let of = if lane_shared { format!(" of train {train}") } else { String::new() };
+                let name = format!("lane {lane} sends record {mark}{of}");
+                record(svg, trace, axis, &name, (mark, length, from), sent_top, row.sent);
             }
             Did::PutRefused { lane, number: no } if lane == number => {
                 let words = RefusalKind::of(no).map_or("", RefusalKind::words);
@@ -97,7 +102,8 @@ fn record(
     svg: &mut Svg,
     trace: &Trace,
     axis: &Axis,
-    (lane, mark, length, from): (u8, u32, u64, u64),
+    name: &str,
+    (mark, length, from): (u32, u64, u64),
     top: f64,
     height: f64,
 ) {
@@ -106,7 +112,7 @@ fn record(
     let width = (axis.x(to) - x).max(0.8);
     svg.add(format_args!(
         "<rect x=\"{x:.1}\" y=\"{top:.1}\" width=\"{width:.1}\" height=\"{height:.1}\" fill=\"{SENT}\" stroke=\"#fff\" stroke-width=\"{}\">\
-         <title>lane {lane} sends record {mark}, {length} bytes, at {} to {}</title></rect>",
+         <title>{name}, {length} bytes, at {} to {}</title></rect>",
         if width > 3.0 { 0.8 } else { 0.0 },
         thousands(from / LINE_RATE),
         thousands(to / LINE_RATE)

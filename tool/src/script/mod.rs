@@ -42,8 +42,25 @@ mod tests {
     }
 
     #[test]
+    fn trains() {
+        let text = "format 1\nlane 3 512 64\nshared 3\n\nput 3 5 16 64\nput 3 1 64\nend\n";
+        let bytes = b"\x01\0\x02\0\x01\x10\0\x05\x03\x02\0\0\x40\x12\0\x01\x03\x7F\0\0\
+            \x26\0\x08\x03\x05\0\0\0\x10\0\x40\x20\0\x07\x03\0\0\0\x01\0\x40\x7F\0\0";
+        assert_eq!(read(&input(text)).expect("a good text").bytes, bytes);
+        assert_eq!(write(bytes), text);
+    }
+
+    #[test]
     fn faults_have_line_and_column() {
-        assert_eq!(fault("lane 0 512\n  put 0 1"), "s.txt:2:10: a number is missing: 'put LANE MARK LENGTH'");
+        assert_eq!(
+            fault("lane 0 512\n  put 0 1"),
+            "s.txt:2:10: a number is missing: 'put LANE [TRAIN] MARK LENGTH'"
+        );
+        assert_eq!(fault("put 0 1 2 3 4"), "s.txt:1:13: one word too many: 'put LANE [TRAIN] MARK LENGTH'");
+        assert_eq!(
+            fault("put 0 256 2 3"),
+            "s.txt:1:7: the train 256 does not fit its field: 255 is the most"
+        );
         assert_eq!(fault("take 1"), "s.txt:1:6: one word too many: 'take'");
         assert_eq!(fault("put 0 x 1"), "s.txt:1:7: the mark is 'x', and not a number");
         assert_eq!(fault("lane 256 1"), "s.txt:1:6: the lane 256 does not fit its field: 255 is the most");
@@ -68,9 +85,11 @@ mod tests {
     #[test]
     fn any_bytes_come_back() {
         let mut noise = Noise(3);
-        let good = read(&input("framing 9\nlane 0 512\nlane 1 256 64\nput 0 1 9\nlag 1\ntake\nrestart"))
-            .expect("a good text")
-            .bytes;
+        let good = read(&input(
+            "framing 9\nlane 0 512\nlane 1 256 64\nshared 1\nput 0 1 9\nput 1 7 2 9\nlag 1\ntake\nrestart",
+        ))
+        .expect("a good text")
+        .bytes;
         for round in 0..6_000 {
             let bytes = match round % 3 {
                 0 => (0..noise.below(40))

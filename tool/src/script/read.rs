@@ -35,8 +35,9 @@ const LINES: &[(&str, &str)] = &[
     ("format", "F"),
     ("framing", "H"),
     ("lane", "LANE WEIGHT [LONGEST]"),
+    ("shared", "LANE"),
     ("requests", ""),
-    ("put", "LANE MARK LENGTH"),
+    ("put", "LANE [TRAIN] MARK LENGTH"),
     ("take", ""),
     ("look", ""),
     ("sets", ""),
@@ -146,7 +147,7 @@ impl Writer {
             return Err(line.fault(0, format!("'{name}' behind the session's end")));
         }
         match name {
-            "format" | "framing" | "lane" => {
+            "format" | "framing" | "lane" | "shared" => {
                 if self.part == Part::Requests {
                     return Err(
                         line.fault(0, format!("'{name}' belongs to the setup, before the first request"))
@@ -161,6 +162,10 @@ impl Writer {
                     "framing" => {
                         line.words(2, 2)?;
                         self.field(line, 0x11, &[line.number(1, "the framing number", 1)?]);
+                    }
+                    "shared" => {
+                        line.words(2, 2)?;
+                        self.field(line, 0x12, &[line.number(1, "the lane", 1)?]);
                     }
                     _ => {
                         line.words(3, 4)?;
@@ -177,11 +182,17 @@ impl Writer {
                 self.requests(spot);
                 match name {
                     "put" => {
-                        line.words(4, 4)?;
-                        let lane = line.number(1, "the lane", 1)?;
-                        let mark = line.number(2, "the mark", 4)?;
-                        let length = line.number(3, "the length", 2)?;
-                        self.field(line, 0x20, &[lane, mark, length]);
+                        line.words(4, 5)?;
+                        // With a train it has a number more, and is another field.
+                        let train = line.words.len() == 5;
+                        let mut values = vec![line.number(1, "the lane", 1)?];
+                        if train {
+                            values.push(line.number(2, "the train", 1)?);
+                        }
+                        let at = values.len() + 1;
+                        values.push(line.number(at, "the mark", 4)?);
+                        values.push(line.number(at + 1, "the length", 2)?);
+                        self.field(line, if train { 0x26 } else { 0x20 }, &values);
                     }
                     "lag" => {
                         line.words(2, 2)?;

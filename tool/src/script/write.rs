@@ -13,6 +13,8 @@ pub fn line_of(field: &Field<'_>, in_setup: bool) -> Option<String> {
         (true, 0x11, 1) => format!("framing {}", value[0]),
         (true, 0x10, 3) => format!("lane {} {}", value[0], number(1, 2)),
         (true, 0x10, 5) => format!("lane {} {} {}", value[0], number(1, 2), number(3, 2)),
+        (true, 0x12, 1) => format!("shared {}", value[0]),
+        (false, 0x26, 8) => format!("put {} {} {} {}", value[0], value[1], number(2, 4), number(6, 2)),
         (false, 0x20, 7) => format!("put {} {} {}", value[0], number(1, 4), number(5, 2)),
         (false, 0x21, 0) => "take".to_string(),
         (false, 0x22, 0) => "look".to_string(),
@@ -99,12 +101,12 @@ pub fn hex(session: &[u8]) -> String {
         } else {
             line_of(&field, in_setup).unwrap_or_else(|| "no field of this part".to_string())
         };
-        writeln!(text, "{:<24}# {says}", shown.trim_end()).expect("a String takes all");
+        writeln!(text, "{:<26}# {says}", shown.trim_end()).expect("a String takes all");
         done = field.end();
     }
     for row in session[done..].chunks(16) {
         let digits: Vec<_> = row.iter().map(|byte| format!("{byte:02X}")).collect();
-        writeln!(text, "{:<24}# no whole field", digits.join(" ")).expect("a String takes all");
+        writeln!(text, "{:<26}# no whole field", digits.join(" ")).expect("a String takes all");
     }
     text
 }

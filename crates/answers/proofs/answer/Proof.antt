@@ -5,6 +5,7 @@ use Rattle.table.specs.Means.{meant}
 use Rattle.lines.specs.Line.{Words32}
 use Rattle.requests.specs.Request.{callIs}
 use Rattle.answers.proofs.Made.{reached-known, made-step}
+use Rattle.answers.proofs.Shared.{line-told}
 use Rattle.answers.proofs.Replies.{words32}
 use borrow.Author.Needs.{needs}
 use Rattle.answers.proofs.answer.Statement.{statement}
@@ -13,8 +14,14 @@ use Rattle.answers.proofs.answer.Tie as tie
 call-requires : tie.Need-call-requires
 call-requires c κs = reached-known _ (c .before .before .before .pre .0)
 
+in-shared-requires : tie.Need-in-shared-requires
+in-shared-requires c κs = c .before .before .before .call .ensures .encodes .room
+
 put-answer-requires : tie.Need-put-answer-requires
-put-answer-requires c κs = (subst Words32 (sym (c .before .before .before .call .ensures .says)) (words32 (meant (c .before .before .before .before .before .before .before .args .t .now)) (callIs (c .before .before .before .before .before .before .before .args .q))), c .before .before .before .before .before .before .before .pre .1)
+put-answer-requires c κs =
+    let s = c .before .before .before .before .before .before .before .before .before in
+    let k = c .before .before .before .before .before .call in
+    (subst Words32 (sym (k .ensures .says)) (words32 (meant (s .args .t .now)) (callIs (s .args .q))), s .pre .1)
 
 add-answered : tie.Need-add-answered
 add-answered c = search needs
@@ -27,17 +34,17 @@ same-length-2 c = search needs
 
 returns : tie.Need-returns
 returns c =
-    let s = c .before .before .before .before .before .before .before .before .before .before .before in
-    let k = c .before .before .before .before .before .before .before .call in
+    let s = c .before .before .before .before .before .before .before .before .before .before .before .before .before in
+    let k = c .before .before .before .before .before .before .before .before .before .call in
     let m = made-step (s .args .t .now) (k .last .0) (callIs (s .args .q)) (s .pre .0) (k .ensures .encodes) in
     record {
       made = m;
       state = k .ensures .encodes;
       rest = k .ensures .rest;
-      line = rw (k .ensures .says) at (c .before .before .before .put-answer .ensures);
+      line = line-told (s .args .t .now) (k .last .0) (callIs (s .args .q)) (k .result) (c .before .before .before .before .before .in-shared .result) (k .ensures .encodes) (k .ensures .says) (c .before .before .before .before .before .in-shared .ensures) (c .before .before .before .put-answer .ensures);
       count = refl;
     }
 
 pub answer-spec : {M : Type 1} → statement M
 answer-spec =
-    tie.close (tie.spec call-requires put-answer-requires add-answered same-length same-length-2 returns)
+    tie.close (tie.spec call-requires in-shared-requires put-answer-requires add-answered same-length same-length-2 returns)

@@ -1,10 +1,10 @@
 -- `put_first` meets its contract. Assumes nothing.
-use mathlib.Core.Path.{_≡_, sym, _∙_}
+use mathlib.Core.Path.{sym, _∙_}
 use native.Mathlib.Omega.{arith}
 use Rattle.table.specs.Means.{meant}
 use Rattle.table.proofs.Lists.{groups-stay}
 use Rattle.engine.proofs.Ends.{known-holds}
-use Rattle.engine.proofs.Putting.{small, weight, idle-t, bytes, row, start-is, start-small, solid-after, room-after, sound₂, put-beside, put-alone}
+use Rattle.engine.proofs.Putting.{small, weight, idle-t, lane-good, lane-enters, row, start-is, start-small, solid-after, room-after, sound₂, put-beside, put-alone}
 use borrow.Author.Needs.{needs}
 use Rattle.engine.proofs.put_first.Statement.{statement}
 use Rattle.engine.proofs.put_first.Tie as tie
@@ -37,7 +37,7 @@ wake-requires : tie.Need-wake-requires
 wake-requires c κs =
     let p = c .before .before .before .before .before .before .before .before .before .pre in
     let e = c .before .before .before .before .before .before .before .before .before .args .e in
-    (p .0 .sound, small _ (meant _) (known-holds _ (p .0)) (p .0 .good) _ e (p .1) (p .2), bytes _ (meant _) (known-holds _ (p .0)) (p .0 .good) _ e (p .1) (p .2), weight _ (meant _) (known-holds _ (p .0)) (p .0 .good) _ e (p .1) (p .2), idle-t _ (meant _) (known-holds _ (p .0)) (p .0 .good) _ e (p .1) (p .2), start-is _ (meant _) (known-holds _ (p .0)) (p .0 .good) _ e (p .1) (p .2) _ (c .before .before .before .before .before .before .row .ensures .0) _ _ (c .before .before .before .before .clock .ensures) (c .before .later .ensures))
+    (p .0 .sound, small _ (meant _) (known-holds _ (p .0)) (p .0 .good) _ e (p .1) (p .2), lane-good _ (meant _) (known-holds _ (p .0)) (p .0 .good) _ e (p .1) (p .2), lane-enters _ (meant _) (known-holds _ (p .0)) (p .0 .good) _ e (p .1) (p .2), weight _ (meant _) (known-holds _ (p .0)) (p .0 .good) _ e (p .1) (p .2), idle-t _ (meant _) (known-holds _ (p .0)) (p .0 .good) _ e (p .1) (p .2), start-is _ (meant _) (known-holds _ (p .0)) (p .0 .good) _ e (p .1) (p .2) _ (c .before .before .before .before .before .before .row .ensures .0) _ _ (c .before .before .before .before .clock .ensures) (c .before .later .ensures))
 
 add-requires : tie.Need-add-requires
 add-requires c κs =

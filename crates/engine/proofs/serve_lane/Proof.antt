@@ -1,11 +1,10 @@
 -- `serve_lane` meets its contract. Assumes nothing.
-use mathlib.Core.Path.{refl, sym, ap, subst, _∙_}
+use mathlib.Core.Path.{refl, sym, _∙_}
 use native.Mathlib.Omega.{arith}
-use Rattle.table.specs.declared.LaneRow.{LaneRow}
 use Rattle.table.specs.Means.{meant}
-use Rattle.queue.proofs.Lane.{rate-row}
 use Rattle.choice.proofs.Held.{start-early}
-use Rattle.engine.proofs.Serving.{lane-holds, lane-small, lane-few, lane-finish, finish-small, lane-row, short, time-is, finish-is, more-is, solid-after, some-after, rooms-after, start₁, start-reached}
+use Rattle.engine.proofs.RowIs.{row-rate}
+use Rattle.engine.proofs.Serving.{lane-holds, lane-small, lane-good, lane-finish, finish-small, lane-row, short, time-is, finish-is, more-is, solid-after, some-after, rooms-after, start₁, start-reached}
 use Rattle.engine.proofs.Handing.{sound₂, early₂, start-now, handed, at-chosen}
 use borrow.Author.Needs.{needs}
 use Rattle.engine.proofs.serve_lane.Statement.{statement}
@@ -34,7 +33,7 @@ take-first-requires : tie.Need-take-first-requires
 take-first-requires c κs =
     let ch = c .before .before .before .before .before .before .pre in
     let a = at-chosen _ (ch .0) _ (ch .1) in
-    (ch .0 .sound, lane-small _ (meant _) _ _ _ a, lane-holds _ (meant _) _ _ _ a, lane-few _ (meant _) _ _ _ a, lane-finish _ (meant _) _ _ _ a)
+    (ch .0 .sound, lane-small _ (meant _) _ _ _ a, lane-good _ (meant _) _ _ _ a, lane-holds _ (meant _) _ _ _ a, lane-finish _ (meant _) _ _ _ a)
 
 charged-requires : tie.Need-charged-requires
 charged-requires c κs =
@@ -48,7 +47,7 @@ lane-charge-requires c κs =
     let ch = c .before .before .before .before .before .before .before .before .before .before .before .pre in
     let a = at-chosen _ (ch .0) _ (ch .1) in
     let tk = c .before .before .before .before .take-first in
-    (omega (arith, c .charged .ensures .1, short _ (meant _) _ _ _ a _ _ (tk .ensures) (tk .kept .0)), rate-row _ _ _ (c .before .before .before .before .before .before .before .before .row .ensures .0) (ch .0 .sound) (lane-small _ (meant _) _ _ _ a) (lane-holds _ (meant _) _ _ _ a))
+    (omega (arith, c .charged .ensures .1, short _ (meant _) _ _ _ a _ _ (tk .ensures) (tk .kept .0)), row-rate _ _ (lane-row _ (meant _) _ _ _ a _ (c .before .before .before .before .before .before .before .before .row .ensures .0)))
 
 plus-requires : tie.Need-plus-requires
 plus-requires c κs =
@@ -124,7 +123,7 @@ returns c =
     let em = more-is _ (meant _) _ _ _ a _ _ (tk .ensures) (tk .kept .0) _ er in
     handed _ _ _ _ a _ _ (tk .ensures) (tk .kept .0) _ _ ef _ em (rf .kept .0) _ (rf .ensures) _ _ _ (c .before .before .settle .kept .0)
     (time-is _ (meant _) _ _ _ a _ _ (tk .ensures) (tk .kept .0) _ er _ _ _ (c .before .before .before .before .before .before .before .before .before .before .before .before .before .before .before .before .before .before .before .clock .ensures) (c .before .before .before .before .before .before .before .before .before .before .before .before .before .charged .ensures .0) (c .before .before .before .plus2 .ensures ∙ rw (c .before .before .before .before .line-charge .ensures)))
-    (c .before .before .settle .ensures) refl refl refl
+    (c .before .before .settle .ensures) refl refl refl refl
 
 pub serve-lane-spec : {M : Type 1} → statement M
 serve-lane-spec =

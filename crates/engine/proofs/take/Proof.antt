@@ -1,5 +1,5 @@
 -- `take` meets its contract. Assumes nothing.
-use mathlib.Core.Path.{_≡_, refl, sym, ap, subst, _∙_}
+use mathlib.Core.Path.{refl, subst}
 use Rattle.rules.specs.Calls.{take}
 use Rattle.rules.specs.declared.Refusal.the-variants.{NothingHeld}
 use Rattle.table.specs.Means.{meant}

@@ -47,7 +47,7 @@ lane-good-requires c κs =
     let l = c .before .before .loop in
     let framed : c .row .result .framing .0 ≡ getD (cells (s .args .t .now)) framingWord 0 = ap (λ (l : LaneRow). l .framing .0) (c .row .ensures .0) ∙ row-framing _ _ in
     let some = c .before .loop-test .taken in
-    (omega (arith, s .pre .0), lane-small _ _ (today _) _ (λ k g. g .fine) (l .rest) (l .found) (l .inv) some, lane-here _ _ (today _) _ (λ k g. g .fine) (l .rest) (l .found) (l .inv) some, c .row .ensures .0, c .row .ensures .1, c .row .ensures .2, s .pre .1, omega (arith, framed, s .pre .2))
+    (omega (arith, s .pre .0), lane-small _ _ (today _) _ (λ k g. g .fine) (l .rest) (l .found) (l .inv) some, lane-here _ _ (today _) _ (λ k g. g .fine) (l .rest) (l .found) (l .inv) some, c .row .ensures .0, c .row .ensures .1, omega (arith, c .row .ensures .2), s .pre .1, omega (arith, framed, s .pre .2))
 
 returns : tie.Need-returns Inv-loop μ-loop
 unfolding PassSays

@@ -18,8 +18,11 @@ add-u16-at c = search needs
 u16-at-requires : tie.Need-u16-at-requires
 u16-at-requires c κs = search needs
 
-cast-t13 : tie.Need-cast-t13
-cast-t13 c = search needs
+cast-put : tie.Need-cast-put
+cast-put c = search needs
+
+cast-t16 : tie.Need-cast-t16
+cast-t16 c = search needs
 
 put-requires : tie.Need-put-requires
 put-requires c κs = search needs
@@ -31,7 +34,9 @@ same-length : tie.Need-same-length
 same-length c = search needs
 
 returns : tie.Need-returns
-returns c = put-at _ _ _ (c .before .before .before .before .before .if1 .taken) (c .before .before .before .u16-at .ensures .0) (c .before .before .put .ensures)
+returns c =
+    put-at _ _ _ (c .before .before .before .before .before .if1 .taken)
+    (c .before .before .before .before .u16-at .ensures .0) (c .before .before .put .ensures)
 
 same-length-2 : tie.Need-same-length-2
 same-length-2 c = search needs
@@ -46,7 +51,8 @@ call-spec =
     shared-slice-read-lane
     add-u16-at
     u16-at-requires
-    cast-t13
+    cast-put
+    cast-t16
     put-requires
     take-requires
     same-length

@@ -1,12 +1,14 @@
 use Rattle.lane_test.proofs.Lane.{lane-made, lane-room, lane-time}
+use Rattle.lane_test.proofs.Trains.{lane-plain, lane-shared}
 use Rattle.lane_test.proofs.Setting.{says-yes, says-no, group-at-most}
-use Rattle.lane_test.specs.Says.{TimeGood}
+use Rattle.lane_test.specs.Says.{Says, TimeGood, TrainsGood, LaneGood}
 use Rattle.table.specs.declared.LaneRow.{LaneRow}
 use Rattle.table.specs.Means.{RowAgrees, PlacesFit}
 use Rattle.table.specs.Layout.{cells}
 use Rattle.rules.specs.State.{laneDepth}
 use Prim.Native.Nat.{_≤_, _<_}
 use mathlib.Core.Path.{_≡_, sym, subst}
+use mathlib.Core.Bool.{true, false, not}
 use native.Mathlib.Omega.{arith}
 use borrow.Author.Needs.{needs}
 use Rattle.lane_test.proofs.lane_good.Statement.{statement}
@@ -48,7 +50,7 @@ returns-4 c =
     let a = says-yes (c .before .before .before .before .before .before .before .setting-good .result) (c .before .before .before .before .before .before .before .setting-good .ensures) (c .before .before .before .before .before .before .if1 .left) in
     let idle : s .args .l .count ≡ 0 = c .if4 .taken in
     lane-made v w k (s .pre .2) (subst RowAgrees e a) (subst (λ (l : LaneRow). l .count ≤ laneDepth) e (omega (arith, idle))) (subst (TimeGood v) e (says-yes (c .before .before .before .time-good .result) (c .before .before .before .time-good .ensures) (c .before .before .if3 .left)))
-    (λ some. absurd (omega (arith, subst (λ (l : LaneRow). l .count ≡ 0) e idle)))
+    (λ some. absurd (omega (arith, subst (λ (l : LaneRow). l .count ≡ 0) e idle))) (λ some. absurd (omega (arith, subst (λ (l : LaneRow). l .count ≡ 0) e idle)))
 
 places-good-requires : tie.Need-places-good-requires
 places-good-requires c κs =
@@ -62,18 +64,46 @@ returns-5 c =
     let w = cells (s .args .t .now) in
     let k = s .args .k in
     let e = s .pre .3 in
-    λ g. says-no (c .before .places-good .result) (c .before .places-good .ensures) (c .if5 .taken) (subst (PlacesFit w k) (sym e) (g .places (subst (λ (l : LaneRow). 0 < l .count) e (omega (arith, c .before .before .if4 .left)))))
+    λ g. says-no (c .before .places-good .result) (c .before .places-good .ensures) (c .if5 .taken) (subst (PlacesFit w k) (sym e) (g .housed (subst (λ (l : LaneRow). 0 < l .count) e (omega (arith, c .before .before .if4 .left))) .places))
 
+-- a lane that is not shared has no train to look at
 returns-6 : tie.Need-returns-6
 returns-6 c =
-    let s = c .before .before .before .before .before .before .before .before .before .before .before in
+    let five = c .before .before in
+    let three = five .before .before .before .before in
+    let one = three .before .before .before .before in
+    let s = one .before .before .before in
     let v = s .args .v .0 in
     let w = cells (s .args .t .now) in
     let k = s .args .k in
-    let e = s .pre .3 in
-    let a = says-yes (c .before .before .before .before .before .before .before .before .before .setting-good .result) (c .before .before .before .before .before .before .before .before .before .setting-good .ensures) (c .before .before .before .before .before .before .before .before .if1 .left) in
-    lane-made v w k (s .pre .2) (subst RowAgrees e a) (subst (λ (l : LaneRow). l .count ≤ laneDepth) e (c .before .before .before .before .before .before .if2 .left)) (subst (TimeGood v) e (says-yes (c .before .before .before .before .before .time-good .result) (c .before .before .before .before .before .time-good .ensures) (c .before .before .before .before .if3 .left)))
-    (λ some. subst (PlacesFit w k) e (says-yes (c .before .places-good .result) (c .before .places-good .ensures) (c .if5 .left)))
+    subst (λ (l : LaneRow). RowAgrees l → l .count ≤ laneDepth → TimeGood v l → PlacesFit w k l → not (l .shared) ≡ true → LaneGood v w k) (sym (s .pre .3)) (lane-plain v w k (s .pre .2))
+    (says-yes (one .before .setting-good .result) (one .before .setting-good .ensures) (one .if1 .left)) (three .before .before .if2 .left)
+    (says-yes (three .before .time-good .result) (three .before .time-good .ensures) (three .if3 .left))
+    (says-yes (five .before .places-good .result) (five .before .places-good .ensures) (five .if5 .left)) (c .if6 .taken)
+
+trains-good-requires : tie.Need-trains-good-requires
+trains-good-requires c κs =
+    let five = c .before .before in
+    let one = five .before .before .before .before .before .before .before .before in
+    let s = one .before .before .before in
+    let a = says-yes (one .before .setting-good .result) (one .before .setting-good .ensures) (one .if1 .left) in
+    (s .pre .0, s .pre .1, omega (arith, a .numbers .longest-low), omega (arith, a .numbers .longest-high), says-yes (five .before .places-good .result) (five .before .places-good .ensures) (five .if5 .left))
+
+returns-7 : tie.Need-returns-7
+returns-7 c =
+    let five = c .before .before .before in
+    let three = five .before .before .before .before in
+    let one = three .before .before .before .before in
+    let s = one .before .before .before in
+    let v = s .args .v .0 in
+    let w = cells (s .args .t .now) in
+    let k = s .args .k in
+    let b = c .trains-good .result in
+    subst (λ (l : LaneRow). RowAgrees l → l .count ≤ laneDepth → TimeGood v l → PlacesFit w k l → 0 < l .count → not (l .shared) ≡ false → Says b (TrainsGood w k l) → Says b (LaneGood v w k)) (sym (s .pre .3))
+    (λ a r t f h u. lane-shared v w k (s .pre .2) a r t f h u b)
+    (says-yes (one .before .setting-good .result) (one .before .setting-good .ensures) (one .if1 .left)) (three .before .before .if2 .left)
+    (says-yes (three .before .time-good .result) (three .before .time-good .ensures) (three .if3 .left))
+    (says-yes (five .before .places-good .result) (five .before .places-good .ensures) (five .if5 .left)) (omega (arith, five .before .before .if4 .left)) (c .before .if6 .left) (c .trains-good .ensures)
 
 pub lane-good-spec : {M : Type 1} → statement M
 lane-good-spec =
@@ -87,4 +117,6 @@ lane-good-spec =
     returns-4
     places-good-requires
     returns-5
-    returns-6)
+    returns-6
+    trains-good-requires
+    returns-7)

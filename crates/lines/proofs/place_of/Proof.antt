@@ -71,6 +71,12 @@ enum-known-x-12 c = search needs
 enum-told-10 : tie.Need-enum-told-10
 enum-told-10 c = search needs
 
+enum-told-11 : tie.Need-enum-told-11
+enum-told-11 c = search needs
+
+enum-told-12 : tie.Need-enum-told-12
+enum-told-12 c = search needs
+
 returns : tie.Need-returns
 returns c = sym (ap placeOf (c .before .x .given .1))
 
@@ -137,6 +143,12 @@ returns-21 c = sym (ap placeOf (c .before .x12 .given .1))
 returns-22 : tie.Need-returns-22
 returns-22 c = sym (ap placeOf (c .enum-told10 .given .1))
 
+returns-23 : tie.Need-returns-23
+returns-23 c = sym (ap placeOf (c .enum-told11 .given .1))
+
+returns-24 : tie.Need-returns-24
+returns-24 c = sym (ap placeOf (c .enum-told12 .given .1))
+
 pub place-of-spec : {M : Type 1} → statement M
 place-of-spec =
     tie.close
@@ -163,6 +175,8 @@ place-of-spec =
     enum-known-x-11
     enum-known-x-12
     enum-told-10
+    enum-told-11
+    enum-told-12
     returns
     returns-2
     returns-3
@@ -184,4 +198,6 @@ place-of-spec =
     returns-19
     returns-20
     returns-21
-    returns-22)
+    returns-22
+    returns-23
+    returns-24)

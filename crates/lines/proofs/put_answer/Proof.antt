@@ -1,4 +1,5 @@
 -- `put_answer` meets its contract: each case is the line of what it reads as. Assumes nothing.
+use mathlib.Core.Bool.{false}
 use native.Mathlib.Omega.{arith}
 use mir.Syntax.{w64}
 use mir.ValLaws.{toZ-ofZ}
@@ -57,7 +58,7 @@ slice-aggregate-put-line-2 : tie.Need-slice-aggregate-put-line-2
 slice-aggregate-put-line-2 c = search needs
 
 put-line-requires : tie.Need-put-line-requires
-put-line-requires c κs = omega (arith, c .before .before .before .before .before .before .pre .1, line-most restarted tt)
+put-line-requires c κs = omega (arith, c .before .before .before .before .before .before .pre .1, line-most false restarted tt)
 
 enum-known-x-6 : tie.Need-enum-known-x-6
 enum-known-x-6 c = search needs
@@ -99,7 +100,7 @@ same-length-6 : tie.Need-same-length-6
 same-length-6 c = search needs
 
 returns-6 : tie.Need-returns-6
-returns-6 c = rw (c .before .before .before .before .before .before .enum-told .given .1) (record { wrote = c .before .before .put-line .ensures; most = line-most restarted tt })
+returns-6 c = rw (c .before .before .before .before .before .before .enum-told .given .1) (record { wrote = c .before .before .put-line .ensures; most = line-most false restarted tt })
 
 same-length-7 : tie.Need-same-length-7
 same-length-7 c = search needs

@@ -1,4 +1,5 @@
 -- `put_lag` meets its contract. Assumes nothing.
+use mathlib.Core.Bool.{false}
 use Prim.Native.Nat.{_<_}
 use mathlib.Core.Path.{_∙_}
 use mathlib.Core.List.{[], _∷_, _++_}
@@ -54,7 +55,7 @@ same-length c = simp length-set (c .before .before .put-signed .kept .0 ∙ c .b
 returns : tie.Need-returns
 returns c =
     let s = c .before .before .before .before .before .before .before .before .before .before in
-    record { wrote = wrote-both (lagWord ++ signed (s .args .z)) (10 ∷ []) (number c) (wrote-byte _ _ _); most = line-most (lagged (s .args .z)) (s .fits .z) }
+    record { wrote = wrote-both (lagWord ++ signed (s .args .z)) (10 ∷ []) (number c) (wrote-byte _ _ _); most = line-most false (lagged (s .args .z)) (s .fits .z) }
 
 pub put-lag-spec : {M : Type 1} → statement M
 put-lag-spec =

@@ -6,6 +6,7 @@ use mathlib.Core.List.{map}
 use mathlib.Core.Path.{_≡_, sym, ap, _∙_}
 use native.Mathlib.Omega.{arith}
 use Rattle.plan.proofs.Stands.{behind-item, is-taken}
+use Rattle.plan.proofs.Sound.{numbered}
 use Rattle.plan.proofs.Walks.{Standing, stand-first, stand-no, taken-here, moves, stand-end, stand-next}
 use Rattle.plan.proofs.read_plan.Statement.{statement}
 use Rattle.plan.proofs.read_plan.Tie as tie
@@ -65,7 +66,9 @@ returns-2 : tie.Need-returns-2 Inv-loop μ-loop
 returns-2 c = c .answered2 .ensures ∙ stand-end _ _ _ _ _ (c .before .before .before .before .before .before .before .before .loop .inv) _ _ (moved-is (c .before .before .before)) (sym (c .before .before .ends .ensures) ∙ c .before .if1 .taken)
 
 placed-requires : tie.Need-placed-requires Inv-loop μ-loop
-placed-requires c κs = taken-here _ _ _ _ _ (c .before .before .before .before .before .before .before .loop .inv) _ _ (moved-is (c .before .before)) .inside
+placed-requires c κs =
+    let k = taken-here _ _ _ _ _ (c .before .before .before .before .before .before .before .loop .inv) _ _ (moved-is (c .before .before)) in
+    (k .inside, numbered _ _ (c .before .before .before .before .before .before .before .loop .inv .sound) (c .before .before .before .before .field .given .0 .0) (k .in-place))
 
 after-requires : tie.Need-after-requires Inv-loop μ-loop
 after-requires c κs = let k = c .before .before .before .before .before .before .before .before .loop .inv .sound in omega (arith, k .total, k .count, k .floor)

@@ -1,4 +1,3 @@
--- `put_lanes` meets its contract. Assumes nothing.
 use Prim.Native.Nat.{_-_}
 use borrow.Author.Needs.{needs}
 use mathlib.Core.Logic.{⊎-elim}
@@ -6,6 +5,9 @@ use native.Mathlib.Omega.{arith}
 use Rattle.plan_writer.proofs.Writing.{Laying, lay-none, lay-numbers, lay-room, lay-more, lay-skip, lay-all}
 use Rattle.plan_writer.proofs.put_lanes.Statement.{statement}
 use Rattle.plan_writer.proofs.put_lanes.Tie as tie
+use Rattle.plan_writer.proofs.put_lanes.Reads as reads
+use Rattle.plan_writer.proofs.put_lanes.Lts as lts
+use Rattle.plan_writer.proofs.put_fields.Reads as put-fields-reads
 
 abbrev Inv-loop : tie.InvT-loop
 Inv-loop a₀ at lanes p₀ k₀ a p k = Laying a₀ at lanes a p k
@@ -13,17 +15,21 @@ Inv-loop a₀ at lanes p₀ k₀ a p k = Laying a₀ at lanes a p k
 abbrev μ-loop : tie.MeasureT-loop
 μ-loop a₀ at lanes p₀ k₀ a p k = 64 - k
 
+-- src/lib.rt:246:5
 loop-holds : tie.Need-loop-holds Inv-loop μ-loop
 loop-holds c = lay-none _ _ _
 
+-- src/lib.rt:247:17
 mul-l : tie.Need-mul-l Inv-loop μ-loop
 mul-l c = search needs
 
+-- src/lib.rt:247:17
 array-copy-out-l : tie.Need-array-copy-out-l Inv-loop μ-loop
 array-copy-out-l c = search needs
 
-put-lane-requires : tie.Need-put-lane-requires Inv-loop μ-loop
-put-lane-requires c κs =
+-- src/lib.rt:249:13
+put-fields-requires : tie.Need-put-fields-requires Inv-loop μ-loop
+put-fields-requires c κs =
     let l = c .before .before .before .before .before .loop in
     let s = c .before .before .before .before .before .before .before in
     let lt = c .before .before .before .before .loop-test .taken in
@@ -31,32 +37,30 @@ put-lane-requires c κs =
     let n = lay-numbers (s .args .a .now) (s .args .at) (s .args .t3) (l .a) (l .p) (l .k) (l .inv) lt (s .pre .0) w in
     (lay-room (s .args .a .now) (s .args .at) (s .args .t3) (l .a) (l .p) (l .k) (l .inv) lt (s .pre .0) (s .pre .1) w, lt, n .weight-high, n .longest-high)
 
-add-p : tie.Need-add-p Inv-loop μ-loop
-add-p c =
-    let l = c .before .before .before .before .before .before .before .before .loop in
-    let s = c .before .before .before .before .before .before .before .before .before .before in
-    let lt = c .before .before .before .before .before .before .before .loop-test .taken in
-    omega (arith, lay-room (s .args .a .now) (s .args .at) (s .args .t3) (l .a) (l .p) (l .k) (l .inv) lt (s .pre .0) (s .pre .1) (c .before .before .before .before .if1 .taken), l .inv .size)
-
+-- src/lib.rt:251:9
 add-k : tie.Need-add-k Inv-loop μ-loop
 add-k c = search needs
 
+-- src/lib.rt:246:5
 loop-less : tie.Need-loop-less Inv-loop μ-loop
 loop-less c = search needs
 
+-- src/lib.rt:246:5
 loop-again : tie.Need-loop-again Inv-loop μ-loop
 loop-again c =
     let l = c .before .before .before .before .loop in
     let s = c .before .before .before .before .before .before in
     let lt = c .before .before .before .loop-test .taken in
     ⊎-elim
-    (λ w. rw (w .5, w .6) (lay-more (s .args .a .now) (s .args .at) (s .args .t3) (l .a) (l .p) (l .k) (l .inv) lt (s .pre .0) (w .0 .taken) _ (w .2 .kept .0) (w .2 .ensures)))
+    (λ w. rw (w .5, w .6, w .2 .ensures .1) (lay-more (s .args .a .now) (s .args .at) (s .args .t3) (l .a) (l .p) (l .k) (l .inv) lt (s .pre .0) (w .0 .taken) _ (w .2 .kept .0) (w .2 .ensures .0)))
     (λ w. rw (w .1, w .2) (lay-skip (s .args .a .now) (s .args .at) (s .args .t3) (l .a) (l .p) (l .k) (l .inv) lt (s .pre .0) (w .0 .left)))
     (c .if1 .came)
 
+-- src/lib.rt:240:1
 same-length : tie.Need-same-length Inv-loop μ-loop
 same-length c = c .before .loop .inv .size
 
+-- src/lib.rt:240:1
 returns : tie.Need-returns Inv-loop μ-loop
 returns c =
     let l = c .before .loop in
@@ -72,8 +76,7 @@ put-lanes-spec =
     loop-holds
     mul-l
     array-copy-out-l
-    put-lane-requires
-    add-p
+    put-fields-requires
     add-k
     loop-less
     loop-again

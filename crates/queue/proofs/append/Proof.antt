@@ -1,7 +1,14 @@
-use Prim.Native.Nat.{_-_, _^_, _<_}
-use Rattle.rules.specs.State.{laneDepth}
-use Rattle.queue.proofs.Lane.{append-leaves, room-row, small-held}
+use mathlib.Core.Path.{_≡_, sym, subst}
+use mathlib.Core.Bool.{true}
+use Prim.Native.Nat.{_+_, _≤_, _<_}
 use native.Mathlib.Omega.{arith}
+use Rattle.rules.specs.State.{laneAt, laneDepth}
+use Rattle.rules.specs.Calls.{appended}
+use Rattle.table.specs.Layout.{Now, cells, putRing}
+use Rattle.table.specs.Means.{meant, Leaves, withLane}
+use Rattle.table.specs.declared.LaneRow.{LaneRow}
+use Rattle.queue.specs.Queue.{waiting, Ready, Entered}
+use Rattle.queue.proofs.Appending.{append-short, append-fits, append-room, append-ready, append-leaves}
 use borrow.Author.Needs.{needs}
 use Rattle.queue.proofs.append.Statement.{statement}
 use Rattle.queue.proofs.append.Tie as tie
@@ -9,47 +16,49 @@ use Rattle.queue.proofs.append.Tie as tie
 row-requires : tie.Need-row-requires
 row-requires c κs = search needs
 
-add-set-record : tie.Need-add-set-record
-add-set-record c =
+enter-requires : tie.Need-enter-requires
+enter-requires c κs =
     let s = c .before .before .before .before in
+    let t = s .args .t .now in
+    let k = s .args .k in
+    let e = s .args .e in
     let r = c .before .row in
-    omega (arith, room-row (s .args .t .now) (s .args .k) (laneDepth - 1) (r .result) (r .ensures .0) (s .pre .1) (s .pre .3) (omega (arith, s .pre .4)))
-
-set-record-requires : tie.Need-set-record-requires
-set-record-requires c κs =
-    let s = c .before .before .before .before in
-    (omega (arith, s .pre .0 .room), s .pre .1, s .pre .2 .0, small-held (s .args .t .now) (s .args .k) (s .args .e) (s .pre .0) (s .pre .1) (s .pre .3) (s .pre .2))
+    let x = subst (λ (l : LaneRow). (l .count < laneDepth) × (l .longest .0 ≤ 1500) × (e .length .0 ≤ l .longest .0) × (l .shared ≡ true → Ready (cells t) k (e .train))) (sym (r .ensures .0)) (append-room t t t k e (s .pre .0) (s .pre .1) (s .pre .2) (s .pre .3) (s .pre .4), append-short t t t k e (s .pre .0) (s .pre .1) (s .pre .2) (s .pre .3) (s .pre .4), append-fits t t t k e (s .pre .0) (s .pre .1) (s .pre .2) (s .pre .3) (s .pre .4) .1, append-ready t t t k e (s .pre .0) (s .pre .1) (s .pre .2) (s .pre .3) (s .pre .4)) in
+    (s .pre .0 .room, s .pre .1, r .ensures .1, x .0, x .1, append-fits t t t k e (s .pre .0) (s .pre .1) (s .pre .2) (s .pre .3) (s .pre .4) .0, x .2, x .3)
 
 add-set-ring : tie.Need-add-set-ring
 add-set-ring c =
-    let s = c .before .before .before .before .before .before .before .before in
-    let r = c .before .before .before .before .before .row in
-    omega (arith, room-row (s .args .t .now) (s .args .k) (laneDepth - 1) (r .result) (r .ensures .0) (s .pre .1) (s .pre .3) (omega (arith, s .pre .4)))
+    let s = c .before .before .before .before .before .before .before .before .before in
+    let t = s .args .t .now in
+    let k = s .args .k in
+    let e = s .args .e in
+    let r = c .before .before .before .before .before .before .row in
+    omega (arith, subst (λ (l : LaneRow). l .count < laneDepth) (sym (r .ensures .0)) (append-room t t t k e (s .pre .0) (s .pre .1) (s .pre .2) (s .pre .3) (s .pre .4)))
 
 set-ring-requires : tie.Need-set-ring-requires
 set-ring-requires c κs =
-    let s = c .before .before .before .before .before .before .before .before in
-    let r = c .before .before .before .before .before .row in
-    (omega (arith, c .before .before .before .set-record .kept .0, s .pre .0 .room), s .pre .1, r .ensures .1, omega (arith, room-row (s .args .t .now) (s .args .k) (laneDepth - 1) (r .result) (r .ensures .0) (s .pre .1) (s .pre .3) (omega (arith, s .pre .4))))
+    let s = c .before .before .before .before .before .before .before .before .before in
+    let t = s .args .t .now in
+    let k = s .args .k in
+    let e = s .args .e in
+    let r = c .before .before .before .before .before .before .row in
+    (omega (arith, c .before .before .before .before .enter .kept .0, s .pre .0 .room), s .pre .1, r .ensures .1, omega (arith, subst (λ (l : LaneRow). l .count < laneDepth) (sym (r .ensures .0)) (append-room t t t k e (s .pre .0) (s .pre .1) (s .pre .2) (s .pre .3) (s .pre .4))))
 
 same-length : tie.Need-same-length
 same-length c = search needs
 
 returns : tie.Need-returns
 returns c =
-    let s = c .before .before .before .before .before .before .before .before .before .before .before in
-    let r = c .before .before .before .before .before .before .before .before .row in
-    let small : s .args .e .mark < 2 ^ 32 = omega (arith, s .good) in
-    append-leaves (s .args .t .now) _ _ (s .args .k) (s .args .e) (r .result) (r .ensures .0) (s .pre .0) (s .pre .1) small (r .ensures .1) (s .pre .2) (s .pre .3) (s .pre .4) (c .before .before .before .before .before .before .set-record .ensures) (c .before .before .set-ring .ensures)
+    let s = c .before .before .before .before .before .before .before .before .before .before .before .before in
+    let t = s .args .t .now in
+    let k = s .args .k in
+    let e = s .args .e in
+    let r = c .before .before .before .before .before .before .before .before .before .row in
+    let t₁ = c .before .before .before .before .before .before .before .enter .last .0 in
+    let t₂ = c .before .before .set-ring .last .0 in
+    subst (λ (l : LaneRow). l .head < laneDepth → Entered t t₁ k l e → Now t₁ t₂ (putRing (cells t₁) k (l .head) (l .count + 1)) → Leaves t t₂ (withLane (meant t) k (appended (laneAt (meant t) k) (waiting e)))) (sym (r .ensures .0)) (append-leaves t t₁ t₂ k e (s .pre .0) (s .pre .1) (s .pre .2) (s .pre .3) (s .pre .4)) (r .ensures .1) (c .before .before .before .before .before .before .before .enter .ensures) (c .before .before .set-ring .ensures)
 
 pub append-spec : {M : Type 1} → statement M
 append-spec =
     tie.close
-    (tie.spec
-    row-requires
-    add-set-record
-    set-record-requires
-    add-set-ring
-    set-ring-requires
-    same-length
-    returns)
+    (tie.spec row-requires enter-requires add-set-ring set-ring-requires same-length returns)

@@ -16,7 +16,7 @@ same-length : tie.Need-same-length
 same-length c = search needs
 
 returns : tie.Need-returns
-returns c = bad-step (put _ _ _) (c .before .before .before .before .args .t .now) (found-bad (c .before .good2 .result) (c .before .good2 .ensures) (c .if1 .taken))
+returns c = bad-step (put _ _ _ _) (c .before .before .before .before .args .t .now) (found-bad (c .before .good2 .result) (c .before .good2 .ensures) (c .if1 .taken))
 
 put-requires : tie.Need-put-requires
 put-requires c κs = good-known (c .before .before .before .before .before .args .t .now) (found-good (c .before .before .good2 .result) (c .before .before .good2 .ensures) (c .before .if1 .left))
@@ -26,7 +26,7 @@ same-length-2 c = search needs
 
 returns-2 : tie.Need-returns-2
 returns-2 c =
-    does-step (put _ _ _) (c .before .before .before .before .before .before .before .before .args .t .now) _ _ (found-good (c .before .before .before .before .before .good2 .result) (c .before .before .before .before .before .good2 .ensures) (c .before .before .before .before .if1 .left)) (c .before .before .put .kept .0) (c .before .before .put .ensures)
+    does-step (put _ _ _ _) (c .before .before .before .before .before .before .before .before .args .t .now) _ _ (found-good (c .before .before .before .before .before .good2 .result) (c .before .before .before .before .before .good2 .ensures) (c .before .before .before .before .if1 .left)) (c .before .before .put .kept .0) (c .before .before .put .ensures)
 
 pub put-spec : {M : Type 1} → statement M
 put-spec =

@@ -19,28 +19,38 @@ line-framing-requires c κs = search needs
 returns-2 : tie.Need-returns-2
 returns-2 c =
     let w = c .before .before .before .before .within .ensures .yes (not-false (c .before .before .before .before .within .result) (c .before .before .before .if1 .left)) in
-    says-no-sheet _ _ w (λ e. c .if2 .taken (c .before .line-framing .ensures ∙ e))
+    says-no-sheet _ _ w (λ e. c .if2 .taken (c .before .line-framing .ensures ∙ e .0))
 
-sheet-size-requires : tie.Need-sheet-size-requires
-sheet-size-requires c κs = let w = c .before .before .before .before .within .ensures .yes (not-false (c .before .before .before .before .within .result) (c .before .before .before .if1 .left)) in w .setup
+shared-lanes-requires : tie.Need-shared-lanes-requires
+shared-lanes-requires c κs = search needs
 
 returns-3 : tie.Need-returns-3
 returns-3 c =
     let w = c .before .before .before .before .before .before .within .ensures .yes (not-false (c .before .before .before .before .before .before .within .result) (c .before .before .before .before .before .if1 .left)) in
-    says-short _ _ w (sym (c .before .before .before .line-framing .ensures) ∙ c .before .before .if2 .left) (omega (arith, c .if3 .taken, c .before .sheet-size .ensures))
+    says-no-sheet _ _ w (λ e. c .if3 .taken (c .before .shared-lanes .ensures .0 ∙ e .1))
+
+sheet-size-requires : tie.Need-sheet-size-requires
+sheet-size-requires c κs = let w = c .before .before .before .before .before .before .within .ensures .yes (not-false (c .before .before .before .before .before .before .within .result) (c .before .before .before .before .before .if1 .left)) in w .setup
+
+returns-4 : tie.Need-returns-4
+returns-4 c =
+    let w = c .before .before .before .before .before .before .before .before .within .ensures .yes (not-false (c .before .before .before .before .before .before .before .before .within .result) (c .before .before .before .before .before .before .before .if1 .left)) in
+    says-short _ _ w (sym (c .before .before .before .before .before .line-framing .ensures) ∙ c .before .before .before .before .if2 .left, sym (c .before .before .before .shared-lanes .ensures .0) ∙ c .before .before .if3 .left) (omega (arith, c .if4 .taken, c .before .sheet-size .ensures))
 
 put-lanes-requires : tie.Need-put-lanes-requires
-put-lanes-requires c κs = let w = c .before .before .before .before .before .before .before .within .ensures .yes (not-false (c .before .before .before .before .before .before .before .within .result) (c .before .before .before .before .before .before .if1 .left)) in (w .setup, omega (arith, c .before .if3 .left, c .before .before .sheet-size .ensures))
+put-lanes-requires c κs =
+    let w = c .before .before .before .before .before .before .before .before .before .within .ensures .yes (not-false (c .before .before .before .before .before .before .before .before .before .within .result) (c .before .before .before .before .before .before .before .before .if1 .left)) in
+    (w .setup, omega (arith, c .before .if4 .left, c .before .before .sheet-size .ensures))
 
 same-length : tie.Need-same-length
 same-length c = search needs
 
-returns-4 : tie.Need-returns-4
-returns-4 c =
-    let w = c .before .before .before .before .before .before .before .before .before .before .within .ensures .yes (not-false (c .before .before .before .before .before .before .before .before .before .before .within .result) (c .before .before .before .before .before .before .before .before .before .if1 .left)) in
-    says-size _ _ w (sym (c .before .before .before .before .before .before .before .line-framing .ensures) ∙ c .before .before .before .before .before .before .if2 .left) _ (c .before .before .before .before .before .sheet-size .ensures) (c .before .before .before .before .if3 .left) _ (c .before .before .put-lanes .ensures)
+returns-5 : tie.Need-returns-5
+returns-5 c =
+    let w = c .before .before .before .before .before .before .before .before .before .before .before .before .within .ensures .yes (not-false (c .before .before .before .before .before .before .before .before .before .before .before .before .within .result) (c .before .before .before .before .before .before .before .before .before .before .before .if1 .left)) in
+    says-size _ _ w (sym (c .before .before .before .before .before .before .before .before .before .line-framing .ensures) ∙ c .before .before .before .before .before .before .before .before .if2 .left, sym (c .before .before .before .before .before .before .before .shared-lanes .ensures .0) ∙ c .before .before .before .before .before .before .if3 .left) _ (c .before .before .before .before .before .sheet-size .ensures) (c .before .before .before .before .if4 .left) _ (c .before .before .put-lanes .ensures)
 
 pub write-sheet-spec : {M : Type 1} → statement M
 write-sheet-spec =
     tie.close
-    (tie.spec within-requires returns line-framing-requires returns-2 sheet-size-requires returns-3 put-lanes-requires same-length returns-4)
+    (tie.spec within-requires returns line-framing-requires returns-2 shared-lanes-requires returns-3 sheet-size-requires returns-4 put-lanes-requires same-length returns-5)

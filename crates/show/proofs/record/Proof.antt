@@ -1,16 +1,14 @@
 -- `record` meets its contract. Assumes nothing.
-use mathlib.Core.Path.{ap, _∙_}
-use native.Mathlib.Omega.{arith}
-use Rattle.table.specs.Means.{recOf}
-use Rattle.table.specs.declared.Entry.{Entry}
-use Rattle.show.specs.Views.{waits, recordIs}
-use Rattle.show.proofs.Shows.{good-shows, find-bad, find-row, find-no-waits, few, shows-none, shows-record}
+use Rattle.show.specs.Views.{waits}
+use Rattle.show.proofs.Shows.{good-shows, find-bad, find-row, find-no-waits}
+use Rattle.show.proofs.Spots.{shows-no-train, shows-nothing, shows-record}
 use borrow.Author.Needs.{needs}
 use Rattle.show.proofs.record.Statement.{statement}
 use Rattle.show.proofs.record.Tie as tie
 use Rattle.show.proofs.record.Reads as reads
 use Rattle.show.proofs.record.Lts as lts
 use Rattle.show.proofs.find.Reads as find-reads
+use Rattle.show.proofs.seek.Reads as seek-reads
 use Rattle.table.proofs.record_at.Reads as record-at-reads
 
 find-requires : tie.Need-find-requires
@@ -25,34 +23,66 @@ enum-told-2 c = search needs
 enum-known-l : tie.Need-enum-known-l
 enum-known-l c = search needs
 
-returns : tie.Need-returns
-returns c =
-    let f = find-row (c .before .before .before .before .before .before .before .args .t .now) (c .before .before .before .before .before .before .before .args .lane) _ _ (c .before .before .before .l .given .1) (c .before .before .before .before .before .find .ensures) in
-    good-shows (waits _ _) (c .before .before .before .before .before .before .before .args .t .now) _ (f .0) (shows-none (c .before .before .before .before .before .before .before .args .t .now) (c .before .before .before .before .before .before .before .args .lane) _ f _ (c .if1 .taken))
+seek-requires : tie.Need-seek-requires
+seek-requires c κs =
+    let s = c .before .before .before .before .before in
+    let f = find-row (s .args .t .now) (s .args .lane) _ _
+    (c .before .l .given .1) (c .before .before .before .find .ensures) in
+    f
 
-add-record-at : tie.Need-add-record-at
-add-record-at c =
-    let f = find-row (c .before .before .before .before .before .before .before .before .args .t .now) (c .before .before .before .before .before .before .before .before .args .lane) _ _ (c .before .before .before .before .l .given .1) (c .before .before .before .before .before .before .find .ensures) in
-    let n = few (c .before .before .before .before .before .before .before .before .args .t .now) (c .before .before .before .before .before .before .before .before .args .lane) _ f in
-    omega (arith, n, f .4, c .before .if1 .left)
+enum-told-3 : tie.Need-enum-told-3
+enum-told-3 c = search needs
+
+enum-told-4 : tie.Need-enum-told-4
+enum-told-4 c = search needs
+
+enum-known-p : tie.Need-enum-known-p
+enum-known-p c = search needs
 
 record-at-requires : tie.Need-record-at-requires
 record-at-requires c κs =
-    let f = find-row (c .before .before .before .before .before .before .before .before .args .t .now) (c .before .before .before .before .before .before .before .before .args .lane) _ _ (c .before .before .before .before .l .given .1) (c .before .before .before .before .before .before .find .ensures) in
+    let s = c .before .before .before .before .before .before .before .before .before in
+    let f = find-row (s .args .t .now) (s .args .lane) _ _
+    (c .before .before .before .before .before .l .given .1) (c .before .before .before .before .before .before .before .find .ensures) in
     (f .0 .room, f .1)
+
+returns : tie.Need-returns
+returns c =
+    let s = c .before .before .before .before in
+    find-bad (waits _ _ _) (s .args .t .now) (s .args .lane) _ (c .enum-told .given .1) (c .before .before .find .ensures)
 
 returns-2 : tie.Need-returns-2
 returns-2 c =
-    find-bad (waits _ _) (c .before .before .before .before .args .t .now) (c .before .before .before .before .args .lane) _ (c .enum-told .given .1) (c .before .before .find .ensures)
+    let s = c .before .before .before .before in
+    find-no-waits (s .args .t .now) (s .args .lane) _ (c .enum-told2 .given .1) (c .before .before .find .ensures) _ _
 
 returns-3 : tie.Need-returns-3
 returns-3 c =
-    find-no-waits (c .before .before .before .before .args .t .now) (c .before .before .before .before .args .lane) _ (c .enum-told2 .given .1) (c .before .before .find .ensures) _
+    let s = c .before .before .before .before .before .before .before .before in
+    let f = find-row (s .args .t .now) (s .args .lane) _ _
+    (c .before .before .before .before .l .given .1) (c .before .before .before .before .before .before .find .ensures) in
+    good-shows (waits _ _ _) (s .args .t .now) _ (f .0)
+    (shows-no-train (s .args .t .now) (s .args .lane) _ f (s .args .train) (s .args .i) _
+    (c .before .before .seek .ensures) (c .enum-told3 .given .1))
 
 returns-4 : tie.Need-returns-4
 returns-4 c =
-    let f = find-row (c .before .before .before .before .before .before .before .before .before .before .args .t .now) (c .before .before .before .before .before .before .before .before .before .before .args .lane) _ _ (c .before .before .before .before .before .before .l .given .1) (c .before .before .before .before .before .before .before .before .find .ensures) in
-    good-shows (waits _ _) (c .before .before .before .before .before .before .before .before .before .before .args .t .now) _ (f .0) (ap (λ (e : Entry). recordIs (c .before .before .before .before .before .before .before .before .before .before .args .lane) (recOf e)) (c .before .record-at .ensures .0) ∙ shows-record (c .before .before .before .before .before .before .before .before .before .before .args .t .now) (c .before .before .before .before .before .before .before .before .before .before .args .lane) _ f _ (c .before .before .before .if1 .left))
+    let s = c .before .before .before .before .before .before .before .before in
+    let f = find-row (s .args .t .now) (s .args .lane) _ _
+    (c .before .before .before .before .l .given .1) (c .before .before .before .before .before .before .find .ensures) in
+    good-shows (waits _ _ _) (s .args .t .now) _ (f .0)
+    (shows-nothing (s .args .t .now) (s .args .lane) _ f (s .args .train) (s .args .i) _
+    (c .before .before .seek .ensures) (c .enum-told4 .given .1))
+
+returns-5 : tie.Need-returns-5
+returns-5 c =
+    let s = c .before .before .before .before .before .before .before .before .before .before .before in
+    let f = find-row (s .args .t .now) (s .args .lane) _ _
+    (c .before .before .before .before .before .before .before .l .given .1)
+    (c .before .before .before .before .before .before .before .before .before .find .ensures) in
+    good-shows (waits _ _ _) (s .args .t .now) _ (f .0)
+    (shows-record (s .args .t .now) (s .args .lane) _ f (s .args .train) (s .args .i) _
+    (c .before .before .before .before .before .seek .ensures) _ (c .before .before .before .p .given .1) _ (c .before .record-at .ensures .0))
 
 pub record-spec : {M : Type 1} → statement M
 record-spec =
@@ -62,9 +92,13 @@ record-spec =
     enum-told
     enum-told-2
     enum-known-l
-    returns
-    add-record-at
+    seek-requires
+    enum-told-3
+    enum-told-4
+    enum-known-p
     record-at-requires
+    returns
     returns-2
     returns-3
-    returns-4)
+    returns-4
+    returns-5)

@@ -3,14 +3,14 @@ use mathlib.Core.Path.{_≡_, refl, ap, subst, _∙_}
 use Prim.Native.Nat.{ℕ, _+_, _-_, _*_, _≤_, _<_}
 use native.Mathlib.Omega.{arith}
 use lib.ListN.{length}
-use Rattle.table.specs.Layout.{Now, cells, lengthsCell, clearLengths}
+use Rattle.table.specs.Layout.{Now, cells, lengthsCell, clearCells}
 use Rattle.table.proofs.Stores.{behind-refl, behind-then}
 use borrow.Author.Needs.{needs}
 use Rattle.table.proofs.clear_lengths.Statement.{statement}
 use Rattle.table.proofs.clear_lengths.Tie as tie
 
 abbrev Inv-loop : tie.InvT-loop
-Inv-loop t₀ k from i₀ t i = (i ≤ 16) × (length t ≡ length t₀) × Now t₀ t (clearLengths (cells t₀) (lengthsCell + 16 * k) i)
+Inv-loop t₀ k from i₀ t i = (i ≤ 16) × (length t ≡ length t₀) × Now t₀ t (clearCells (cells t₀) (lengthsCell + 16 * k) i)
 
 abbrev μ-loop : tie.MeasureT-loop
 μ-loop t₀ k from i₀ t i = 16 - i
@@ -48,7 +48,7 @@ returns : tie.Need-returns Inv-loop μ-loop
 returns c = let s = c .before .before .before in
     let l = c .before .loop in
     let all : l .i ≡ 16 = omega (arith, c .loop-test .left) in
-    subst (λ (n : ℕ). Now (s .args .t .now) (l .t) (clearLengths (cells (s .args .t .now)) (lengthsCell + 16 * s .args .k) n)) all (l .inv .2)
+    subst (λ (n : ℕ). Now (s .args .t .now) (l .t) (clearCells (cells (s .args .t .now)) (lengthsCell + 16 * s .args .k) n)) all (l .inv .2)
 
 pub clear-lengths-spec : {M : Type 1} → statement M
 clear-lengths-spec =

@@ -32,6 +32,9 @@ enum-known-field-3 c = search needs
 enum-told : tie.Need-enum-told
 enum-told c = search needs
 
+enum-told-2 : tie.Need-enum-told-2
+enum-told-2 c = search needs
+
 returns : tie.Need-returns
 returns c = sym (ap (after (c .before .before .before .args .seen)) (c .before .field .given .1))
 
@@ -42,7 +45,10 @@ returns-3 : tie.Need-returns-3
 returns-3 c = sym (ap (after (c .before .before .before .args .seen)) (c .before .field3 .given .1))
 
 returns-4 : tie.Need-returns-4
-returns-4 c = search needs
+returns-4 c = sym (ap (after (c .before .before .args .seen)) (c .enum-told .given .1))
+
+returns-5 : tie.Need-returns-5
+returns-5 c = search needs
 
 pub after-spec : {M : Type 1} → statement M
 after-spec =
@@ -57,7 +63,9 @@ after-spec =
     add-t11
     enum-known-field-3
     enum-told
+    enum-told-2
     returns
     returns-2
     returns-3
-    returns-4)
+    returns-4
+    returns-5)

@@ -24,6 +24,9 @@ enum-known-field-3 c = search needs
 enum-told : tie.Need-enum-told
 enum-told c = search needs
 
+enum-told-2 : tie.Need-enum-told-2
+enum-told-2 c = search needs
+
 returns : tie.Need-returns
 returns c = sym (ap outside (c .before .before .before .field .given .1) ∙ rw (sym (c .before .known-format .ensures) ∙ c .if1 .taken))
 
@@ -42,6 +45,9 @@ returns-5 c = sym (ap outside (c .before .before .field3 .given .1) ∙ rw (le-l
 returns-6 : tie.Need-returns-6
 returns-6 c = search needs
 
+returns-7 : tie.Need-returns-7
+returns-7 c = search needs
+
 pub outside-spec : {M : Type 1} → statement M
 outside-spec =
     tie.close
@@ -52,9 +58,11 @@ outside-spec =
     lane-outside-requires
     enum-known-field-3
     enum-told
+    enum-told-2
     returns
     returns-2
     returns-3
     returns-4
     returns-5
-    returns-6)
+    returns-6
+    returns-7)

@@ -24,6 +24,9 @@ enum-told-2 c = search needs
 enum-told-3 : tie.Need-enum-told-3
 enum-told-3 c = search needs
 
+enum-told-4 : tie.Need-enum-told-4
+enum-told-4 c = search needs
+
 returns : tie.Need-returns
 returns c = sym (ap (over (c .before .before .before .before .before .before .args .seen)) (c .before .before .before .before .field .given .1) ∙ rw (lt-ltb _ _ (c .if1 .taken)))
 
@@ -39,6 +42,9 @@ returns-4 c = search needs
 returns-5 : tie.Need-returns-5
 returns-5 c = search needs
 
+returns-6 : tie.Need-returns-6
+returns-6 c = search needs
+
 pub over-spec : {M : Type 1} → statement M
 over-spec =
     tie.close
@@ -49,8 +55,10 @@ over-spec =
     enum-told
     enum-told-2
     enum-told-3
+    enum-told-4
     returns
     returns-2
     returns-3
     returns-4
-    returns-5)
+    returns-5
+    returns-6)

@@ -1,6 +1,6 @@
 -- `plan::parse::fitting` meets its contract. Assumes nothing.
 use mathlib.Core.Path.{sym}
-use Rattle.plan.proofs.Tags.{fitting-format, fitting-short, fitting-long, fitting-framing, fitting-end}
+use Rattle.plan.proofs.Tags.{fitting-format, fitting-short, fitting-long, fitting-framing, fitting-shared, fitting-end}
 use Rattle.plan.proofs.parse.fitting.Statement.{statement}
 use Rattle.plan.proofs.parse.fitting.Tie as tie
 
@@ -17,7 +17,10 @@ returns-4 : tie.Need-returns-4
 returns-4 c = let a = c .before .args in sym (fitting-framing (a .tag) (a .n) (c .match .keys3))
 
 returns-5 : tie.Need-returns-5
-returns-5 c = let a = c .before .args in sym (fitting-end (a .tag) (a .n) (c .match .rest .0 .0 .1) (c .match .rest .0 .1) (c .match .rest .1))
+returns-5 c = let a = c .before .args in sym (fitting-shared (a .tag) (a .n) (c .match .keys4))
+
+returns-6 : tie.Need-returns-6
+returns-6 c = let a = c .before .args in sym (fitting-end (a .tag) (a .n) (c .match .rest .0 .0 .0 .1) (c .match .rest .0 .0 .1) (c .match .rest .0 .1) (c .match .rest .1))
 
 pub fitting-spec : {M : Type 1} → statement M
-fitting-spec = tie.close (tie.spec returns returns-2 returns-3 returns-4 returns-5)
+fitting-spec = tie.close (tie.spec returns returns-2 returns-3 returns-4 returns-5 returns-6)

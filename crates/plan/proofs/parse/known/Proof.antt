@@ -6,10 +6,10 @@ use Rattle.plan.proofs.parse.known.Statement.{statement}
 use Rattle.plan.proofs.parse.known.Tie as tie
 
 returns : tie.Need-returns
-returns c = sym (known-out (c .before .before .args .tag) (c .before .match .rest .1) (λ e. omega (arith, c .if1 .taken)) (λ e. omega (arith, c .if1 .taken)))
+returns c = sym (known-out (c .before .before .args .tag) (c .before .match .rest .1) (λ e. omega (arith, c .if1 .taken)) (λ e. omega (arith, c .if1 .taken)) (λ e. omega (arith, c .if1 .taken)))
 
 returns-2 : tie.Need-returns-2
-returns-2 c = sym (known-out (c .before .before .before .args .tag) (c .before .before .match .rest .1) (λ e. omega (arith, c .if2 .left)) (λ e. omega (arith, c .if2 .left)))
+returns-2 c = sym (known-out (c .before .before .before .args .tag) (c .before .before .match .rest .1) (λ e. omega (arith, c .if2 .left)) (λ e. omega (arith, c .if2 .left)) (λ e. omega (arith, c .if2 .left)))
 
 returns-3 : tie.Need-returns-3
 returns-3 c = sym (known-ends (c .before .args .tag) (c .match .keys1))

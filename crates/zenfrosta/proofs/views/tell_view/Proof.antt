@@ -10,6 +10,7 @@ use Rattle.lines.proofs.number.Reads as number-reads
 use Rattle.zenfrosta.proofs.record_words.Reads as record-words-reads
 use Rattle.zenfrosta.proofs.refusal_words.Reads as refusal-words-reads
 use Rattle.zenfrosta.proofs.speak.Reads as speak-reads
+use Rattle.zenfrosta.proofs.views.shared_part.Reads as shared-part-reads
 
 enum-known-x : tie.Need-enum-known-x
 enum-known-x c = search needs
@@ -22,6 +23,12 @@ enum-known-x-2 c = search needs
 
 cast-speak : tie.Need-cast-speak
 cast-speak c = search needs
+
+shared-part-requires : tie.Need-shared-part-requires
+shared-part-requires c κs = search needs
+
+add-speak : tie.Need-add-speak
+add-speak c = search needs
 
 speak-requires-2 : tie.Need-speak-requires-2
 speak-requires-2 c κs = search needs
@@ -66,8 +73,8 @@ same-length-2 c = search needs
 
 returns-2 : tie.Need-returns-2
 returns-2 c =
-    let e = c .before .before .before .before .before .before .x2 .given .1 in
-    (rw e, told-as _ _ _ _ (rw e) (c .before .before .speak2 .ensures))
+    let e = c .before .before .before .before .before .before .before .x2 .given .1 in
+    (rw e, told-as _ _ _ _ (rw (c .before .before .before .shared-part .ensures .0, e)) (c .before .before .speak2 .ensures))
 
 same-length-3 : tie.Need-same-length-3
 same-length-3 c = search needs
@@ -101,6 +108,8 @@ tell-view-spec =
     speak-requires
     enum-known-x-2
     cast-speak
+    shared-part-requires
+    add-speak
     speak-requires-2
     enum-known-x-3
     speak-requires-3

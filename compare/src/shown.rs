@@ -1,0 +1,59 @@
+//! What a table shows to a host that asks: the clock, a lane's setting, its backlog, and the records that wait, by train.
+
+use crate::numbers::{refusal, TRAINS};
+use crate::rules::State;
+
+#[derive(Clone, Copy, Debug, PartialEq, Eq)]
+pub enum Ask {
+    Clock,
+    Lane(u8),
+    Backlog(u8),
+    /// The record of a lane with so many before it; of a shared lane train 0's.
+    Record(u8, u64),
+    /// The same of a train: lane, train, how many of it are before.
+    TrainRecord(u8, u8, u64),
+}
+
+/// The four words of the answer, or a refusal by 11, 70 or 16.
+pub fn shown(state: &State, ask: Ask) -> Result<[u64; 4], u8> {
+    let lane = |number: u8| state.lane(number).ok_or(refusal::NO_SUCH_LANE);
+    let word = |clock: i128| u64::try_from(clock).expect("a clock word");
+    let record = |number: u8, train: u8, before: u64| {
+        let queue = lane(number)?.waiting.queue(train).ok_or(refusal::NO_TRAIN)?;
+        let place = usize::try_from(before).ok();
+        let record = place.and_then(|place| queue.get(place)).ok_or(refusal::NOTHING_HELD)?;
+        Ok([number.into(), record.mark.into(), record.length, train.into()])
+    };
+    match ask {
+        Ask::Clock => Ok([word(state.clock), 0, 0, 0]),
+        Ask::Lane(number) => {
+            let lane = lane(number)?;
+            let group = u64::from(lane.group) + (u64::from(lane.plan.shared) << 32);
+            Ok([lane.plan.weight.into(), lane.plan.longest.into(), state.framing.into(), group])
+        }
+        Ask::Backlog(number) => {
+            let lane = lane(number)?;
+            let time = if lane.holds() { lane.start } else { lane.finish };
+            Ok([lane.waiting.len() as u64, word(time), 0, 0])
+        }
+        Ask::Record(number, before) => record(number, 0, before),
+        Ask::TrainRecord(number, train, before) => record(number, train, before),
+    }
+}
+
+/// The questions that tell of everything that a table holds, but for turns, and some that are refused.
+pub fn all(state: &State) -> Vec<Ask> {
+    let mut asks =
+        vec![Ask::Clock, Ask::Lane(64), Ask::Backlog(255), Ask::Record(64, 0), Ask::TrainRecord(64, 8, 0)];
+    for lane in &state.lanes {
+        let number = lane.plan.number;
+        asks.extend([Ask::Lane(number), Ask::Backlog(number), Ask::TrainRecord(number, TRAINS, 0)]);
+        asks.extend([Ask::Record(number, 0), Ask::Record(number, 64), Ask::Record(number, u64::MAX)]);
+        let trains = if lane.plan.shared { TRAINS } else { 2 };
+        for train in 0..trains {
+            let held = lane.waiting.queue(train).map_or(0, |queue| queue.len() as u64);
+            asks.extend((0..=held).map(|before| Ask::TrainRecord(number, train, before)));
+        }
+    }
+    asks
+}

@@ -1,0 +1,63 @@
+-- A lane is kept as its setting says, shared or not, whatever the clocks are. Assumes nothing.
+use Prim.Native.Nat.{ℕ}
+use mathlib.Core.Path.{_≡_, sym, subst, _∙_}
+use mathlib.Core.Bool.{not, _&&_}
+use mathlib.Core.Option.{Option, none, some}
+use mathlib.Core.List.{List, [], _∷_}
+use lib.Dec.{ltb}
+use lib.ListN.{set}
+use Rattle.waiting.specs.Waiting.{isShared}
+use Rattle.waiting.proofs.Laws.{shared-nothing, shared-enter, shared-hand}
+use Rattle.rules.specs.State.{Rec, Setting, noSetting, settingAt, setupOf, Lane, noLane, State, startR, holds, laneAt, anyHolds}
+use Rattle.rules.specs.Calls.{Pick, Call, Outcome, put, take, look, sets, lag, restart, putRefusal, shifted, appended, woken, accept, putOf, doPut, served, serve, picked, takeOf, doTake, doLook, doSets, idle, fresh, doRestart, step}
+use Rattle.rules.specs.Runs.{after}
+use Rattle.rules.proofs.Bools.{if-ind}
+use Rattle.rules.proofs.Lists.{set-all}
+use Rattle.rules.proofs.Serve.{served-ind}
+use Rattle.rules.proofs.Bounds.{idle-at}
+use Rattle.rules.proofs.Shift.{shifted-given, shifted-waiting}
+use Rattle.rules.proofs.Keep.{look-same, lag-same}
+
+abbrev pub Kind : Lane → Type 0
+Kind l = isShared (l .waiting) ≡ l .given .shared
+
+abbrev pub AllKind : State → Type 0
+AllKind s = (k : ℕ) → Kind (laneAt s k)
+
+take-kind : (s : State) (o : Option Pick) → AllKind s → AllKind ((takeOf s o) .state)
+unfolding takeOf serve
+take-kind s none w = w
+take-kind s (some p) w =
+    let l = laneAt s (p .lane) in
+    let g = shared-hand (l .given .longest) (l .waiting) ∙ w (p .lane) in
+    set-all Kind (s .lanes) (p .lane) (served l) noLane (served-ind Kind l (λ e. g) (λ r e. g)) w
+
+accept-kind : (s : State) (j : ℕ) (r : Rec) → AllKind s → AllKind (accept s j r)
+unfolding accept appended woken
+accept-kind s j r w =
+    let l = laneAt s j in
+    let g = shared-enter (l .given .longest) (l .waiting) r ∙ w j in
+    if-ind AllKind (holds l) _ _ (λ e. set-all Kind (s .lanes) j (appended l r) noLane g w) (λ e. set-all Kind (s .lanes) j (woken (s .clock) l r) noLane g w)
+
+put-kind : (s : State) (j : ℕ) (r : Rec) (o : Option ℕ) → AllKind s → AllKind ((putOf s j r o) .state)
+unfolding putOf
+put-kind s j r none w = accept-kind (shifted s) j r (λ k. rw (shifted-given s k, shifted-waiting s k) (w k))
+put-kind s j r (some n) w = w
+
+pub fresh-kind : (gs : List Setting) → AllKind (fresh gs)
+unfolding fresh idle
+fresh-kind gs k = subst Kind (sym (idle-at gs k)) (shared-nothing ((settingAt gs k) .shared))
+
+pub step-kind : (s : State) (c : Call) → AllKind s → AllKind ((step s c) .state)
+unfolding step doPut doTake doLook doSets doRestart
+step-kind s (put j k m n) w = put-kind s j (record { train = k; mark = m; len = n }) (putRefusal s j (record { train = k; mark = m; len = n })) w
+step-kind s take w = take-kind s (picked s) w
+step-kind s look w = subst AllKind (sym (look-same s (picked s))) w
+step-kind s sets w = w
+step-kind s (lag j) w = subst AllKind (sym (lag-same s j)) w
+step-kind s restart w = if-ind (λ (o : Outcome). AllKind (o .state)) (anyHolds (s .lanes)) _ _ (λ e. w) (λ e. fresh-kind (setupOf s))
+
+pub kind-run : (s : State) (cs : List Call) → AllKind s → AllKind (after s cs)
+unfolding after
+kind-run s [] w = w
+kind-run s (c ∷ cs) w = kind-run ((step s c) .state) cs (step-kind s c w)

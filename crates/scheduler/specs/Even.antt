@@ -1,0 +1,36 @@
+-- R15.18: the trains of one lane, of a list from the fresh table of the setup gs: bare bytes sent of one and of another, counted from the list's own answers.
+--
+--   EvenCalls          while two trains both hold records, neither is sent more than three times the lane's longest ahead of the other
+--   EvenTightCalls     .. less 2, which is reached (crate rules, specs/TrainExamples.antt)
+--   OthersTightCalls   while one train holds records, no other is sent more than that ahead of it, whether it holds some throughout or not
+--
+-- A train holds a record where more of its records were accepted than handed out. Refused calls are in the list. In a lane that is not shared no train but 0
+-- ever holds one. Assumes nothing.
+use Prim.Native.Nat.{ℕ, _+_, _*_, _≤_}
+use mathlib.Core.Path.{_≡_}
+use mathlib.Core.List.{List, _++_}
+use Rattle.rules.specs.State.{Setting, settingAt}
+use Rattle.rules.specs.Runs.{Event}
+use Rattle.rules.specs.Even.{HoldingTrain, bytesOf, BothThroughout}
+use Rattle.scheduler.specs.Chain.{inForce}
+
+-- Any stretch of the list (what comes before it, the stretch, what follows), any lane k and any two of its trains that both hold a record before the stretch
+-- and after each call in it. The two may be exchanged, so this bounds the difference either way.
+unfoldable pub EvenCalls : List Setting → List Event → Type 0
+EvenCalls gs es =
+    (past stretch rest : List Event) → es ≡ past ++ stretch ++ rest
+    → (k a b : ℕ) → BothThroughout k a b past stretch
+    → bytesOf k a stretch ≤ bytesOf k b stretch + 3 * (settingAt (inForce gs past) k) .longest
+
+unfoldable pub EvenTightCalls : List Setting → List Event → Type 0
+EvenTightCalls gs es =
+    (past stretch rest : List Event) → es ≡ past ++ stretch ++ rest
+    → (k a b : ℕ) → (a ≡ b → ⊥) → BothThroughout k a b past stretch
+    → bytesOf k a stretch + 2 ≤ bytesOf k b stretch + 3 * (settingAt (inForce gs past) k) .longest
+
+-- train a holds a record throughout, and b may come and go
+unfoldable pub OthersTightCalls : List Setting → List Event → Type 0
+OthersTightCalls gs es =
+    (past stretch rest : List Event) → es ≡ past ++ stretch ++ rest
+    → (k a b : ℕ) → (a ≡ b → ⊥) → ((p q : List Event) → p ++ q ≡ stretch → HoldingTrain k a (past ++ p))
+    → bytesOf k b stretch + 2 ≤ bytesOf k a stretch + 3 * (settingAt (inForce gs past) k) .longest

@@ -1,0 +1,32 @@
+-- `zf_train_record` meets its contract. Assumes nothing.
+use mathlib.Core.Path.{refl}
+use native.Mathlib.Omega.{arith}
+use borrow.Author.Needs.{needs}
+use Rattle.zenfrosta.proofs.views.zf_train_record.Statement.{statement}
+use Rattle.zenfrosta.proofs.views.zf_train_record.Tie as tie
+use Rattle.zenfrosta.proofs.views.zf_train_record.Reads as reads
+use Rattle.zenfrosta.proofs.views.zf_train_record.Lts as lts
+use Rattle.show.proofs.record.Reads as record-reads
+use Rattle.zenfrosta.proofs.views.tell_view.Reads as tell-view-reads
+
+returns : tie.Need-returns
+returns c = record { short = λ _. (refl, refl); told = λ h. absurd (omega (arith, c .if1 .taken)) }
+
+record-requires : tie.Need-record-requires
+record-requires c κs = search needs
+
+tell-view-requires : tie.Need-tell-view-requires
+tell-view-requires c κs = search needs
+
+same-length : tie.Need-same-length
+same-length c = search needs
+
+returns-2 : tie.Need-returns-2
+returns-2 c =
+    let m = c .before .before .before .record in
+    let w = c .before .before .tell-view .ensures in
+    record { short = λ h. absurd (omega (arith, c .before .before .before .before .before .if1 .left)); told = λ _. (m .result, m .ensures, w .0, w .1) }
+
+pub zf-train-record-spec : {M : Type 1} → statement M
+zf-train-record-spec =
+    tie.close (tie.spec returns record-requires tell-view-requires same-length returns-2)
