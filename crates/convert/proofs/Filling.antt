@@ -9,7 +9,7 @@ use Rattle.words.proofs.Runs.{tab-snoc}
 use Rattle.waiting.specs.Waiting.{Lengths}
 use Rattle.rounds.specs.Round.{Rec}
 use Rattle.rules.specs.State.{laneDepth}
-use Rattle.table.specs.Layout.{Now, cells, lengthsCell, placeOf, putEntry, clearCells}
+use Rattle.table.specs.Layout.{Now, cells, lengthsCell, lengthWords, placeOf, putEntry, clearCells}
 use Rattle.table.specs.Means.{recOf, ringOf}
 use Rattle.table.specs.declared.LaneRow.{LaneRow}
 use Rattle.table.specs.declared.Entry.{Entry}
@@ -22,11 +22,11 @@ use Rattle.old_table.proofs.Lengths.{ring-length}
 use Rattle.convert.specs.Over.{Filled}
 
 module _ (old t : List ℕ) (k : ℕ) (hk : k < 64) (l : LaneRow) where
-  pub filled-none : (u : List ℕ) → 0 < l .longest .0 → Now t u (clearCells (cells t) (lengthsCell + 16 * k) 16) → Filled old t u k l 0
+  pub filled-none : (u : List ℕ) → 0 < l .longest .0 → Now t u (clearCells (cells t) (lengthsCell + lengthWords * k) lengthWords) → Filled old t u k l 0
   unfolding ringOf oldRing tab tabFrom
   filled-none u some n =
       record {
-        kept = λ i q. rw (n .words) (clear-other (cells t) (lengthsCell + 16 * k) 16 i (q .0));
+        kept = λ i q. rw (n .words) (clear-other (cells t) (lengthsCell + lengthWords * k) lengthWords i (q .0));
         ring = refl;
         places = rw (n .words) (places-cleared (cells t) k l hk (length-cells t) some);
         rest = n .rest;

@@ -13,6 +13,7 @@ use Rattle.rounds.specs.Round.{Rec}
 use Rattle.waiting.specs.Waiting.{Waiting, plain, Lengths}
 use Rattle.rules.specs.State.{Setting, laneDepth}
 use Rattle.rules.specs.Older.{oldDepth}
+use Rattle.parts.specs.Parts.{rowsFrom}
 use Rattle.table.specs.Layout.{Behind, Now, cells, presentWord, framingWord, laneWord, rowAt, putRow}
 use Rattle.table.specs.Means.{presentAt, ringOf, givenOf, waitingOf, timed, laneOf, RowAgrees, PlacesFit}
 use Rattle.table.specs.declared.LaneRow.{LaneRow}
@@ -85,7 +86,7 @@ module _ (old : List ℕ) (k : ℕ) (hk : k < 64) (p : presentAt (cells old) k �
   abbrev w : List ℕ
   w = cells u
 
-  single : (i : ℕ) → i < 80 → (i ≡ 3 → ⊥) → getD w i 0 ≡ getD (cells old) i 0
+  single : (i : ℕ) → i < rowsFrom → (i ≡ 3 → ⊥) → getD w i 0 ≡ getD (cells old) i 0
   single i h ne = kept i (λ a b. omega arith, λ a b. omega arith) ∙ c .single i h ne
 
   setting : getD w (laneWord k) 0 ≡ getD (cells old) (laneWord k) 0

@@ -15,9 +15,10 @@ use Prim.Native.Nat.{ℕ, _+_, _*_, _≤_, _<_}
 use mathlib.Core.List.{List}
 use lib.ListN.{getD, drop}
 use Rattle.rules.specs.State.{laneDepth}
+use Rattle.parts.specs.Parts.{rowsFrom}
 use Rattle.rings.specs.Rings.{ringsEnd}
 use Rattle.slot_lists.specs.Lists.{listsFrom}
-use Rattle.table.specs.Layout.{SIZE, Behind, cells, depthWord, laneWord, lengthsCell, marksCell, rowAt}
+use Rattle.table.specs.Layout.{SIZE, Behind, cells, depthWord, laneWord, lengthsCell, lengthWords, marksCell, markWords, rowAt}
 use Rattle.table.specs.Means.{presentAt, ringOf, PlacesFit, Housed, laneOf}
 use Rattle.table.specs.declared.LaneRow.{LaneRow}
 use Rattle.old_table.specs.Old.{oldRing, oldLane}
@@ -27,14 +28,14 @@ pub record Copied (old before after : List ℕ) (n : ℕ) : Type 0 where
   pub rest : drop SIZE after ≡ drop SIZE before
 
 pub record Carried (old t : List ℕ) : Type 0 where
-  pub single : (i : ℕ) → i < 80 → (i ≡ depthWord → ⊥) → getD (cells t) i 0 ≡ getD (cells old) i 0
+  pub single : (i : ℕ) → i < rowsFrom → (i ≡ depthWord → ⊥) → getD (cells t) i 0 ≡ getD (cells old) i 0
   pub settings : (k : ℕ) → k < 64 → getD (cells t) (laneWord k) 0 ≡ getD (cells old) (laneWord k) 0
   pub depth : getD (cells t) depthWord 0 ≡ laneDepth
   pub lists : (a : ℕ) → listsFrom * 8 ≤ a → a < ringsEnd → getD t a 0 ≡ getD old a 0
 
 -- a cell that is no length and no mark of lane k
 abbrev pub NoPlace : ℕ → ℕ → Type 0
-NoPlace k i = ((lengthsCell + 16 * k ≤ i) → (i < lengthsCell + 16 * k + 16) → ⊥) × ((marksCell + 32 * k ≤ i) → (i < marksCell + 32 * k + 32) → ⊥)
+NoPlace k i = ((lengthsCell + lengthWords * k ≤ i) → (i < lengthsCell + lengthWords * k + lengthWords) → ⊥) × ((marksCell + markWords * k ≤ i) → (i < marksCell + markWords * k + markWords) → ⊥)
 
 pub record Filled (old before after : List ℕ) (k : ℕ) (l : LaneRow) (n : ℕ) : Type 0 where
   pub kept : (i : ℕ) → NoPlace k i → getD (cells after) i 0 ≡ getD (cells before) i 0
@@ -50,7 +51,7 @@ pub record LaneOver (old t : List ℕ) (k : ℕ) : Type 0 where
   pub housed : presentAt (cells t) k ≡ true → 0 < rowAt (cells t) k .count → Housed (cells t) k (rowAt (cells t) k)
 
 pub record Moved (old before after : List ℕ) (k : ℕ) : Type 0 where
-  pub kept : (i : ℕ) → ((laneWord k + 1 ≤ i) → (i < laneWord k + 3) → ⊥) → ((lengthsCell + 16 * k ≤ i) → (i < lengthsCell + 16 * k + 16) → ⊥) → ((marksCell + 32 * k ≤ i) → (i < marksCell + 32 * k + 32) → ⊥) → getD (cells after) i 0 ≡ getD (cells before) i 0
+  pub kept : (i : ℕ) → ((laneWord k + 1 ≤ i) → (i < laneWord k + 3) → ⊥) → ((lengthsCell + lengthWords * k ≤ i) → (i < lengthsCell + lengthWords * k + lengthWords) → ⊥) → ((marksCell + markWords * k ≤ i) → (i < marksCell + markWords * k + markWords) → ⊥) → getD (cells after) i 0 ≡ getD (cells before) i 0
   pub over : LaneOver old after k
   pub rest : Behind before after
 

@@ -9,9 +9,6 @@ ghost use Prim.Native.Nat.{ℕ, _+_, _*_, _/_, _%_, _^_, _<_, _≤_};
 ghost use lib.ListN.{length, getD};
 ghost use Rattle.words.specs.Words.{wordAt};
 ghost use Rattle.digits.specs.Digits.{digit, putDigit, Stored};
-ghost use Rattle.digits.specs.Under.{Gathered};
-use std::num::wrapping_add_u64;
-use words::word;
 
 // The byte at `a`, as a number below 256, as every byte is.
 fn byte(t: &[u8], a: usize) -> u64
@@ -63,24 +60,4 @@ pub fn set_half(t: &mut [u8], i: usize, v: u64)
     t[a + 1] = (v / 256 % 256) as u8;
     t[a + 2] = (v / 65536 % 256) as u8;
     t[a + 3] = (v / 16777216 % 256) as u8;
-}
-
-// 1 in each quarter.
-const ONES: u64 = 281479271743489;
-
-// A number whose quarters' top bits are all 0 exactly if each quarter of the 16 words from `from` on is below `bound`. There is no branch in it, so the
-// words are worked several at a time.
-pub fn gather(t: &[u8], from: usize, bound: u64) -> u64
-    requires { ⌜ (from * 8 + 128 ≤ length (now t)) × (0 < bound) × (bound ≤ 2 ^ 15) ⌝ }
-    ensures { λ r. ⌜ Gathered (now (t .entry)) from 16 bound r ⌝ }
-{
-    let more = (32768 - bound) * ONES;
-    let mut tops: u64 = 0;
-    let mut i = 0;
-    while i < 16 {
-        let x = word(t, from + i);
-        tops = tops | x | wrapping_add_u64(x, more);
-        i += 1;
-    }
-    tops
 }

@@ -23,7 +23,7 @@ use Rattle.rules.specs.Good.{Times}
 use Rattle.digits.specs.Digits.{digit}
 use Rattle.digits.specs.Under.{AllUnder, Clear, Gathered}
 use Rattle.digits.proofs.Under.{tops-clear, clear-tops}
-use Rattle.table.specs.Layout.{cells, lengthsCell, lengthCell, placeOf, rowAt, entryAt}
+use Rattle.table.specs.Layout.{cells, lengthsCell, lengthWords, lengthCell, placeOf, rowAt, entryAt}
 use Rattle.table.specs.Means.{presentAt, recOf, ringOf, givenOf, waitingOf, timed, RowAgrees, PlacesFit, Housed, laneOf}
 use Rattle.table.specs.declared.LaneRow.{LaneRow}
 use Rattle.table.proofs.Stores.{cell-is, word-before}
@@ -35,27 +35,27 @@ use Rattle.lane_test.specs.Says.{Says, TimeGood, TrainsGood, LaneFine, L
 
 -- the places, four to a word
 module _ (t : List ℕ) (k : ℕ) (l : LaneRow) (hk : k < 64) where
-  place-word : (i : ℕ) → i < 16 → getD (cells t) (lengthsCell + (16 * k + i)) 0 ≡ wordAt t (lengthsCell + 16 * k + i)
+  place-word : (i : ℕ) → i < lengthWords → getD (cells t) (lengthsCell + (lengthWords * k + i)) 0 ≡ wordAt t (lengthsCell + lengthWords * k + i)
   place-word i h =
-      let at : lengthsCell + (16 * k + i) ≡ lengthsCell + 16 * k + i = omega arith in
-      cell-is t (lengthsCell + (16 * k + i)) (omega arith) ∙ ap (wordAt t) (word-before (lengthsCell + (16 * k + i)) (omega arith) ∙ at)
+      let at : lengthsCell + (lengthWords * k + i) ≡ lengthsCell + lengthWords * k + i = omega arith in
+      cell-is t (lengthsCell + (lengthWords * k + i)) (omega arith) ∙ ap (wordAt t) (word-before (lengthsCell + (lengthWords * k + i)) (omega arith) ∙ at)
 
   -- place i is quarter i % 4 of word i / 4
-  pub place-length : (i : ℕ) → i < laneDepth → entryAt (cells t) (placeOf k i) .length .0 ≡ digit 16 (i % 4) (wordAt t (lengthsCell + 16 * k + i / 4)) + 1
+  pub place-length : (i : ℕ) → i < laneDepth → entryAt (cells t) (placeOf k i) .length .0 ≡ digit 16 (i % 4) (wordAt t (lengthsCell + lengthWords * k + i / 4)) + 1
   unfolding entryAt
   place-length i h =
       let which : placeOf k i % 4 ≡ i % 4 = omega arith in
-      let cell : lengthCell (placeOf k i) ≡ lengthsCell + (16 * k + i / 4) = omega arith in
+      let cell : lengthCell (placeOf k i) ≡ lengthsCell + (lengthWords * k + i / 4) = omega arith in
       rw (which, cell, place-word (i / 4) (omega arith))
 
-  pub places-under : PlacesFit (cells t) k l → AllUnder t (lengthsCell + 16 * k) 16 (l .longest .0)
+  pub places-under : PlacesFit (cells t) k l → AllUnder t (lengthsCell + lengthWords * k) lengthWords (l .longest .0)
   places-under f i h d hd =
       let whole : (4 * i + d) / 4 ≡ i = omega arith in
       let part : (4 * i + d) % 4 ≡ d = omega arith in
-      let at : digit 16 ((4 * i + d) % 4) (wordAt t (lengthsCell + 16 * k + (4 * i + d) / 4)) < l .longest .0 = omega (arith, f (4 * i + d) (omega arith), place-length (4 * i + d) (omega arith)) in
+      let at : digit 16 ((4 * i + d) % 4) (wordAt t (lengthsCell + lengthWords * k + (4 * i + d) / 4)) < l .longest .0 = omega (arith, f (4 * i + d) (omega arith), place-length (4 * i + d) (omega arith)) in
       rw (whole, part) at at
 
-  pub under-places : AllUnder t (lengthsCell + 16 * k) 16 (l .longest .0) → PlacesFit (cells t) k l
+  pub under-places : AllUnder t (lengthsCell + lengthWords * k) lengthWords (l .longest .0) → PlacesFit (cells t) k l
   under-places f i h = omega (arith, place-length i h, f (i / 4) (omega arith) (i % 4) (omega arith))
 
 -- then each record's length is within
@@ -187,5 +187,5 @@ clear-says x false e = λ c. eqb-false (bitAnd x 9223512776490647552) 0 e (clear
 pub tops-say : (x : ℕ) → Says (eqb (bitAnd x 9223512776490647552) 0) (Clear 4 x)
 tops-say x = clear-says x _ refl
 
-pub places-say : (t : List ℕ) (k r : ℕ) (l : LaneRow) (b : Bool) → k < 64 → Gathered t (lengthsCell + 16 * k) 16 (l .longest .0) r → Says b (Clear 4 r) → Says b (PlacesFit (cells t) k l)
+pub places-say : (t : List ℕ) (k r : ℕ) (l : LaneRow) (b : Bool) → k < 64 → Gathered t (lengthsCell + lengthWords * k) lengthWords (l .longest .0) r → Says b (Clear 4 r) → Says b (PlacesFit (cells t) k l)
 places-say t k r l b hk g s = says-same b _ _ (λ c. under-places t k l hk (g .shows c)) (λ f. g .clear (places-under t k l hk f)) s

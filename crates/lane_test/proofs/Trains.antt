@@ -14,7 +14,7 @@ use Rattle.round_test.specs.Shared as trains
 use Rattle.round_test.specs.Shared.{numbersAt, lengthsAt, SharedGood}
 use Rattle.round_test.proofs.Made.{shared-made}
 use Rattle.rules.specs.State.{laneDepth}
-use Rattle.table.specs.Layout.{cells, lengthsCell, entryAt, placeOf, rowAt, roundAt, trainNumber}
+use Rattle.table.specs.Layout.{cells, lengthsCell, lengthWords, entryAt, placeOf, rowAt, roundAt, trainNumber}
 use Rattle.table.specs.Means.{presentAt, recAt, sharedAt, RowAgrees, PlacesFit}
 use Rattle.table.specs.declared.LaneRow.{LaneRow}
 use Rattle.table.proofs.Places.{train-read}
@@ -22,7 +22,7 @@ use Rattle.lane_test.specs.Says.{Says, TimeGood, TrainsGood, LaneGood}
 use Rattle.lane_test.proofs.Lane.{place-length, lane-made, lane-trains}
 
 -- a is the first of the lane's trains among all halves of the bytes, b the first of its lengths among all quarters
-module _ (t : List ℕ) (k : ℕ) (l : LaneRow) (hk : k < 64) (a b : ℕ) (trains-at : a ≡ 2 * (7680 + 4 * k)) (lengths-at : b ≡ 4 * (lengthsCell + 16 * k)) where
+module _ (t : List ℕ) (k : ℕ) (l : LaneRow) (hk : k < 64) (a b : ℕ) (trains-at : a ≡ 2 * (7680 + 4 * k)) (lengths-at : b ≡ 4 * (lengthsCell + lengthWords * k)) where
   abbrev w : List ℕ
   w = cells t
 
@@ -32,8 +32,8 @@ module _ (t : List ℕ) (k : ℕ) (l : LaneRow) (hk : k < 64) (a b : ℕ) (train
   length-is : (p : ℕ) → p < 64 → entryAt w (placeOf k p) .length .0 ≡ lengthsAt t b p
   length-is p h =
       let which : p % 4 ≡ (b + p) % 4 = omega arith in
-      let where-at : lengthsCell + 16 * k + p / 4 ≡ (b + p) / 4 = omega arith in
-      place-length t k l hk p h ∙ ap (λ (x : ℕ). digit 16 x (wordAt t (lengthsCell + 16 * k + p / 4)) + 1) which ∙ ap (λ (x : ℕ). digit 16 ((b + p) % 4) (wordAt t x) + 1) where-at
+      let where-at : lengthsCell + lengthWords * k + p / 4 ≡ (b + p) / 4 = omega arith in
+      place-length t k l hk p h ∙ ap (λ (x : ℕ). digit 16 x (wordAt t (lengthsCell + lengthWords * k + p / 4)) + 1) which ∙ ap (λ (x : ℕ). digit 16 ((b + p) % 4) (wordAt t x) + 1) where-at
 
   record-is : (p : ℕ) → p < 64 → recAt w k p .len ≡ lengthsAt t b p
   unfolding recAt

@@ -7,12 +7,13 @@ ghost use mathlib.Core.Bool.{true};
 ghost use Prim.Native.Nat.{_+_, _*_, _^_, _<_, _≤_};
 ghost use Rattle.units.specs.Numbers.{perByte};
 ghost use Rattle.rules.specs.State.{group, laneDepth};
-ghost use Rattle.table.specs.Layout.{Room, cells, rowAt};
-ghost use Rattle.digits.specs.Under.{Clear};
+ghost use lib.ListN.{length};
+ghost use Rattle.table.specs.Layout.{Room, lengthWords, cells, rowAt};
+ghost use Rattle.digits.specs.Under.{Clear, Gathered};
 ghost use Rattle.table.specs.Means.{RowAgrees, PlacesFit, givenOf, presentAt};
 ghost use Rattle.lane_test.specs.Says.{Says, TimeGood, TrainsGood, LaneGood};
-use digits::gather;
 use round_test::shared_good;
+use std::num::wrapping_add_u64;
 use table::DEPTH;
 use table::LENGTH_WORDS;
 use table::LENGTHS;
@@ -32,6 +33,7 @@ use units::plus;
 use units::rounded_start;
 use units::slot;
 use units::two_slots;
+use words::word;
 
 // The numbers of a setting.
 const LEAST_WEIGHT: u64 = 1;
@@ -139,7 +141,27 @@ fn no_top(x: u64) -> bool
     x & TOPS == 0
 }
 
-// Whether each place of a lane's ring holds a length of 1 to the lane's longest, a record there or not: sixteen words without a branch.
+// 1 in each quarter.
+const ONES: u64 = 281479271743489;
+
+// A number whose quarters' top bits are all 0 exactly if each quarter of as many words from `from` on as a lane has for its lengths is below `bound`. There
+// is no branch in it, so the words are worked several at a time.
+fn gather(t: &[u8], from: usize, bound: u64) -> u64
+    requires { ⌜ (from * 8 + 8 * lengthWords ≤ length (now t)) × (0 < bound) × (bound ≤ 2 ^ 15) ⌝ }
+    ensures { λ r. ⌜ Gathered (now (t .entry)) from lengthWords bound r ⌝ }
+{
+    let more = (32768 - bound) * ONES;
+    let mut tops: u64 = 0;
+    let mut i = 0;
+    while i < LENGTH_WORDS {
+        let x = word(t, from + i);
+        tops = tops | x | wrapping_add_u64(x, more);
+        i += 1;
+    }
+    tops
+}
+
+// Whether each place of a lane's ring holds a length of 1 to the lane's longest, a record there or not.
 fn places_good(t: &[u8], k: usize, l: LaneRow) -> bool
     requires { ⌜ Room (now t) × (k < 64) × (0 < l .longest .0) × (l .longest .0 ≤ 2 ^ 15) ⌝ }
     ensures { λ r. ⌜ Says r (PlacesFit (cells (now (t .entry))) k l) ⌝ }

@@ -1,11 +1,13 @@
 -- The walk over the groups. Assumes nothing.
-use mathlib.Core.Path.{_≡_, sym, ap, subst}
+use mathlib.Core.Path.{_≡_, refl, sym, ap, subst, _∙_}
+use mathlib.Core.Bool.{Bool, true, false}
 use mathlib.Core.Logic.{⊎-elim}
 use Prim.Native.Nat.{ℕ, suc, _+_, _-_, _%_, _^_, _≤_, _<_}
 use mathlib.Core.List.{List, []}
 use native.Mathlib.Numerals.{add-one}
 use native.Mathlib.Omega.{arith}
-use borrow.Author.Tests.{eq-eqb, ne-eqb}
+use lib.Dec.{eqb}
+use borrow.Author.Tests.{eqb-true, eqb-false, eq-eqb, ne-eqb}
 use lib.Pow.{pow-pos}
 use native.Mathlib.Decide.{decLt}
 use Rattle.units.specs.Plain.{times}
@@ -16,6 +18,7 @@ use Rattle.words.proofs.Bits.{bits-same}
 use Rattle.table.specs.Means.{Next}
 use Rattle.slot_lists.specs.Lists.{groupsAt, backAt}
 use Rattle.filing.specs.Filing.{flat}
+use Rattle.lane_test.specs.Says.{Says}
 use Rattle.filing.proofs.Flat.{flat-skip, times-more, times-part}
 use Rattle.lists_test.specs.Stored.{GroupFine, ringIn, groupIn, Stored, NotYet, Adds}
 use Rattle.lists_test.proofs.WordBits.{bit-under}
@@ -89,3 +92,20 @@ module _ (t : List ℕ) where
 
     pub pass-other : met < 2 ^ 64 → lanes < 2 ^ 64 → (met ≡ lanes → ⊥) → Stored t lanes → ⊥
     pass-other a b ne stored = ne (bits-same 64 met lanes a b (λ k. omega (arith, w .adds k, ap (times k) all, stored .once k)))
+
+  -- no group has lanes: then no lane holds a record
+  pub pass-empty : (lanes : ℕ) → lanes < 2 ^ 64 → backAt t % 2 ^ 31 ≡ 0 → backAt t < 2 ^ 36 → groups ≡ 0 → Says (eqb lanes 0) (Stored t lanes)
+  pass-empty lanes fits whole small none = go (eqb lanes 0) refl
+    where
+      clear : (i : ℕ) → bit i groups ≡ 0
+      clear i = ap (bit i) none ∙ bit-above i 0 (pow-pos i)
+
+      passed : Passed 64 0
+      passed = pass-next 0 64 0 pass-none (record { on = omega arith; ends = omega arith; absent = λ i p q. clear i; present = λ q. absurd (omega arith) })
+
+      high : groups < 2 ^ 32
+      high = omega (arith, none)
+
+      go : (b : Bool) → eqb lanes 0 ≡ b → Says b (Stored t lanes)
+      go true e = pass-same 64 0 lanes passed (omega arith) high whole small (ap (λ (x : ℕ). x % 65536) none) (sym (eqb-true lanes 0 e))
+      go false e = pass-other 64 0 lanes passed (omega arith) high (omega arith) fits (λ z. eqb-false lanes 0 e (sym z))

@@ -127,6 +127,10 @@ pub fn lists_good(t: &[u8], lanes: u64) -> bool
         return false;
     }
     let groups = word(t, GROUPS);
+    // no lists: an idle table is done
+    if groups == 0 {
+        return lanes == 0;
+    }
     if groups % LOW != 0 {
         return false;
     }

@@ -18,7 +18,7 @@ use Rattle.turns.proofs.Train.{length-trains}
 use Rattle.turns.proofs.Good.{good-known, good-light, turn-known, turn-count, turn-covers}
 use Rattle.waiting.specs.Waiting.{Waiting, plain, shared, enter, handOut, tail}
 use Rattle.rules.specs.State.{laneDepth}
-use Rattle.table.specs.Layout.{CELLS, Now, cells, lengthsCell, trainsCell, lengthCell, placeOf, roundWord, roundAt, entryAt, putEntry, clearCells, trainNumber, putTrain}
+use Rattle.table.specs.Layout.{CELLS, Now, cells, lengthsCell, lengthWords, trainsCell, lengthCell, placeOf, roundWord, roundAt, entryAt, putEntry, clearCells, trainNumber, putTrain}
 use Rattle.table.specs.Means.{recAt, ringOf, sharedAt, waitingOf, PlacesFit, Housed}
 use Rattle.table.specs.declared.Entry.{Entry}
 use Rattle.table.specs.declared.LaneRow.{LaneRow}
@@ -59,10 +59,10 @@ module _ (w : List ℕ) (k : ℕ) (l : LaneRow) (hk : k < 64) (size : length w �
       (eq-or-ne (placeOf k j) (placeOf k i))
 
   -- cleared places are
-  pub places-cleared : 0 < l .longest .0 → PlacesFit (clearCells w (lengthsCell + 16 * k) 16) k l
+  pub places-cleared : 0 < l .longest .0 → PlacesFit (clearCells w (lengthsCell + lengthWords * k) lengthWords) k l
   unfolding entryAt
   places-cleared some i hi =
-      rw (clear-same w (lengthsCell + 16 * k) 16 (lengthCell (placeOf k i)) (omega arith) (omega arith) (omega arith), digit-none 16 (placeOf k i % 4)) some
+      rw (clear-same w (lengthsCell + lengthWords * k) lengthWords (lengthCell (placeOf k i)) (omega arith) (omega arith) (omega arith), digit-none 16 (placeOf k i % 4)) some
 
 -- ---- what waits
 
@@ -157,9 +157,9 @@ entered-train t t₀ t₁ k p l e hk small f le kind y j n =
       ordered = λ q. rw words (entered-ordered (cells t) k (e .train) (l .longest .0) p c (entryOf e) hk (y .train) size small f (y .room) (j .place) (j .puts));
     }
 
-module _ (t t₀ : List ℕ) (k : ℕ) (l : LaneRow) (hk : k < 64) (some : 0 < l .longest .0) (n : Now t t₀ (clearCells (cells t) (lengthsCell + 16 * k) 16)) where
+module _ (t t₀ : List ℕ) (k : ℕ) (l : LaneRow) (hk : k < 64) (some : 0 < l .longest .0) (n : Now t t₀ (clearCells (cells t) (lengthsCell + lengthWords * k) lengthWords)) where
   lengths-moved : Moved t t₀ k
-  lengths-moved = moved-now t t₀ _ k n (outside-cleared (cells t) k) (rows-cleared (cells t) k (lengthsCell + 16 * k) 16 (omega arith))
+  lengths-moved = moved-now t t₀ _ k n (outside-cleared (cells t) k) (rows-cleared (cells t) k (lengthsCell + lengthWords * k) lengthWords (omega arith))
 
   lengths-fit : PlacesFit (cells t₀) k l
   lengths-fit = rw (n .words) (places-cleared (cells t) k l hk (length-cells t) some)

@@ -9,11 +9,12 @@ use lib.ListN.{length, getD, set}
 use lib.Seq.{getD-set-same, getD-set-other}
 use Rattle.words.specs.Runs.{tab}
 use Rattle.words.proofs.Runs.{eq-or-ne, tab-ext, tab-set, getD-tab}
+use Rattle.parts.specs.Parts.{rowsFrom}
 use Rattle.rounds.specs.Round.{Shared, held}
 use Rattle.turns.specs.Turns.{sharedOf, Ordered}
 use Rattle.turns.proofs.Train.{shared-same}
 use Rattle.rules.specs.State.{noLane, laneAt}
-use Rattle.table.specs.Layout.{CELLS, presentWord, depthWord, framingWord, laneWord, roundWord, roundAt, lengthsCell, marksCell, trainsCell, placeOf, entryAt, rowAt, rowOf, trainNumber}
+use Rattle.table.specs.Layout.{CELLS, presentWord, depthWord, framingWord, laneWord, roundWord, roundAt, lengthsCell, lengthWords, marksCell, markWords, trainsCell, placeOf, entryAt, rowAt, rowOf, trainNumber}
 use Rattle.table.specs.Means.{presentAt, recOf, recAt, ringOf, sharedAt, waitingOf, rowLane, laneOf, stateOf, RowAgrees, PlacesFit, TrainsFit, Housed, Beside, withClock, withLane}
 use Rattle.table.specs.declared.LaneRow.{LaneRow}
 use Rattle.table.specs.declared.Entry.{Entry}
@@ -25,8 +26,8 @@ pub record SameLane (w u : List ℕ) (k : ℕ) : Type 0 where
   pub present : presentAt u k ≡ presentAt w k
   pub framing : getD u framingWord 0 ≡ getD w framingWord 0
   pub row : (i : ℕ) → laneWord k ≤ i → i < laneWord k + 4 → getD u i 0 ≡ getD w i 0
-  pub lengths : (i : ℕ) → lengthsCell + 16 * k ≤ i → i < lengthsCell + 16 * k + 16 → getD u i 0 ≡ getD w i 0
-  pub marks : (i : ℕ) → marksCell + 32 * k ≤ i → i < marksCell + 32 * k + 32 → getD u i 0 ≡ getD w i 0
+  pub lengths : (i : ℕ) → lengthsCell + lengthWords * k ≤ i → i < lengthsCell + lengthWords * k + lengthWords → getD u i 0 ≡ getD w i 0
+  pub marks : (i : ℕ) → marksCell + markWords * k ≤ i → i < marksCell + markWords * k + markWords → getD u i 0 ≡ getD w i 0
   pub trains : (i : ℕ) → trainsCell + 4 * k ≤ i → i < trainsCell + 4 * k + 4 → getD u i 0 ≡ getD w i 0
 
 pub present-kept : (w u : List ℕ) (k : ℕ) → getD u presentWord 0 ≡ getD w presentWord 0 → presentAt u k ≡ presentAt w k
@@ -39,8 +40,8 @@ row-kept w u k h s =
     rowOf-eq _ _ _ _ _ _ _ _ h (s (laneWord k) (omega arith) (omega arith)) (s (laneWord k + 1) (omega arith) (omega arith)) (s (laneWord k + 2) (omega arith) (omega arith))
 
 -- a lane's places
-module _ (w u : List ℕ) (k : ℕ) (lengths : (i : ℕ) → lengthsCell + 16 * k ≤ i → i < lengthsCell + 16 * k + 16 → getD u i 0 ≡ getD w i 0)
-    (marks : (i : ℕ) → marksCell + 32 * k ≤ i → i < marksCell + 32 * k + 32 → getD u i 0 ≡ getD w i 0) where
+module _ (w u : List ℕ) (k : ℕ) (lengths : (i : ℕ) → lengthsCell + lengthWords * k ≤ i → i < lengthsCell + lengthWords * k + lengthWords → getD u i 0 ≡ getD w i 0)
+    (marks : (i : ℕ) → marksCell + markWords * k ≤ i → i < marksCell + markWords * k + markWords → getD u i 0 ≡ getD w i 0) where
   pub place-kept : (i : ℕ) → entryAt u (placeOf k i) ≡ entryAt w (placeOf k i)
   place-kept i = entry-kept w u (placeOf k i) (lengths _ (omega arith) (omega arith)) (marks _ (omega arith) (omega arith))
 
@@ -88,12 +89,12 @@ lane-is w o k h = getD-tab 64 k (laneOf w) noLane h
 -- ---- a change in one lane's words but its setting
 
 pub record Outside (w u : List ℕ) (k : ℕ) : Type 0 where
-  pub kept : (i : ℕ) → ((laneWord k + 1 ≤ i) → (i < laneWord k + 4) → ⊥) → ((lengthsCell + 16 * k ≤ i) → (i < lengthsCell + 16 * k + 16) → ⊥)
-      → ((marksCell + 32 * k ≤ i) → (i < marksCell + 32 * k + 32) → ⊥) → ((trainsCell + 4 * k ≤ i) → (i < trainsCell + 4 * k + 4) → ⊥) → getD u i 0 ≡ getD w i 0
+  pub kept : (i : ℕ) → ((laneWord k + 1 ≤ i) → (i < laneWord k + 4) → ⊥) → ((lengthsCell + lengthWords * k ≤ i) → (i < lengthsCell + lengthWords * k + lengthWords) → ⊥)
+      → ((marksCell + markWords * k ≤ i) → (i < marksCell + markWords * k + markWords) → ⊥) → ((trainsCell + 4 * k ≤ i) → (i < trainsCell + 4 * k + 4) → ⊥) → getD u i 0 ≡ getD w i 0
 
 module _ (w u : List ℕ) (k : ℕ) (hk : k < 64) (o : Outside w u k) where
   -- a word that is in no lane
-  pub single-kept : (i : ℕ) → i < 80 → getD u i 0 ≡ getD w i 0
+  pub single-kept : (i : ℕ) → i < rowsFrom → getD u i 0 ≡ getD w i 0
   single-kept i h = o .kept i (λ p q. omega arith) (λ p q. omega arith) (λ p q. omega arith) (λ p q. omega arith)
 
   -- every other lane

@@ -9,7 +9,7 @@ use lib.ListN.{length, getD, set, length-set}
 use lib.Seq.{getD-set-same, getD-set-other}
 use Rattle.units.specs.Plain.{if_then_else_}
 use Rattle.words.specs.Runs.{tab, tabFrom}
-use Rattle.table.specs.Layout.{CELLS, presentWord, framingWord, laneWord, roundWord, roundAt, placeOf, lengthsCell, trainsCell, rowAt, putRow, putEntry, clearCells, entryAt, putTrain}
+use Rattle.table.specs.Layout.{CELLS, presentWord, framingWord, laneWord, roundWord, roundAt, placeOf, lengthsCell, lengthWords, trainsCell, rowAt, putRow, putEntry, clearCells, entryAt, putTrain}
 use Rattle.table.specs.Means.{presentAt, ringOf, givenOf, sharedAt, sharedIf, waitingOf, timed, rowLane, laneOf, stateOf, Housed}
 use Rattle.table.specs.declared.LaneRow.{LaneRow}
 use Rattle.table.specs.declared.Entry.{Entry}
@@ -39,8 +39,8 @@ outside-row w k l =
 pub outside-place : (w : List ℕ) (k i : ℕ) (e : Entry) → Outside w (putEntry w (placeOf k i) e) k
 outside-place w k i e = record { kept = λ j p q r y. put-other w (placeOf k i) e j (λ x. q (omega arith) (omega arith)) (λ x. r (omega arith) (omega arith)) }
 
-pub outside-cleared : (w : List ℕ) (k : ℕ) → Outside w (clearCells w (lengthsCell + 16 * k) 16) k
-outside-cleared w k = record { kept = λ j p q r x. clear-other w (lengthsCell + 16 * k) 16 j q }
+pub outside-cleared : (w : List ℕ) (k : ℕ) → Outside w (clearCells w (lengthsCell + lengthWords * k) lengthWords) k
+outside-cleared w k = record { kept = λ j p q r x. clear-other w (lengthsCell + lengthWords * k) lengthWords j q }
 
 pub outside-round : (w : List ℕ) (k v : ℕ) → Outside w (set w (roundWord k) v) k
 outside-round w k v = record { kept = λ j p q r x. getD-set-other w (roundWord k) j v 0 (λ e. p (omega arith) (omega arith)) }

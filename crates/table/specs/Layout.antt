@@ -14,6 +14,7 @@
 --   rowOf, rowAt     a lane's first three words, taken apart, with the line's framing bytes
 --   roundAt          a shared lane's fourth word: the round's number (crate turns)
 --   placeOf          the number of lane k's place i among all places, i counted on past the ring's end
+--   lengthWords      the words of the lengths of a lane's places; markWords: of their marks
 --   lengthCell       the cell of a place's length less one, four in a cell; markCell: of its mark, two in a cell
 --   entryAt          the record at a place; putEntry: the cells with a record stored there
 --   trainNumber      the number of lane k's train j (crate turns); trainPlace: its place, counted on behind those of the records
@@ -135,6 +136,13 @@ putRing w k head count = set w (laneWord k + 2) (head + laneDepth * count)
 
 abbrev pub placeOf : ℕ → ℕ → ℕ
 placeOf k i = laneDepth * k + i % laneDepth
+
+-- 16 and 32: four lengths in a word, two marks
+abbrev pub lengthWords : ℕ
+lengthWords = laneDepth / 4
+
+abbrev pub markWords : ℕ
+markWords = laneDepth / 2
 
 abbrev pub lengthCell : ℕ → ℕ
 lengthCell p = lengthsCell + p / 4

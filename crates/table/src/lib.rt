@@ -10,7 +10,7 @@
 ghost use mathlib.Core.Path.{_≡_};
 ghost use Prim.Native.Nat.{_+_, _*_, _^_, _<_, _≤_};
 ghost use lib.ListN.{getD, set};
-ghost use Rattle.table.specs.Layout.{Room, Front, marksCell, lengthsCell, trainsCell, Now, cells, rowAt, putRow, putRing, entryAt, putEntry, placeOf, clearCells, roundWord, roundAt, trainNumber, putTrain};
+ghost use Rattle.table.specs.Layout.{Room, Front, marksCell, lengthsCell, lengthWords, trainsCell, Now, cells, rowAt, putRow, putRing, entryAt, putEntry, placeOf, clearCells, roundWord, roundAt, trainNumber, putTrain};
 ghost use Rattle.rules.specs.State.{charge, laneDepth};
 ghost use Rattle.table.specs.Means.{presentAt, Next, givenOf, meant, Sound, Leaves, withClock};
 use digits::half;
@@ -184,7 +184,7 @@ pub fn set_record(t: &mut [u8], k: usize, i: u64, e: Entry)
 // Makes the length of each place of lane `k`'s ring 1: what stood there may have been anything.
 pub fn clear_lengths(t: &mut [u8], k: usize)
     requires { ⌜ Room (now t) × (k < 64) ⌝ }
-    ensures { λ _. ⌜ Now (now (t .entry)) (now (t .exit)) (clearCells (cells (now (t .entry))) (lengthsCell + 16 * k) 16) ⌝ }
+    ensures { λ _. ⌜ Now (now (t .entry)) (now (t .exit)) (clearCells (cells (now (t .entry))) (lengthsCell + lengthWords * k) lengthWords) ⌝ }
 {
     let from = LENGTHS + LENGTH_WORDS * k;
     let mut i = 0;

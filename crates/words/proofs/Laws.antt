@@ -17,8 +17,12 @@ unfolding leVal leBytes
 leVal-leBytes zero v h = omega arith
 leVal-leBytes (suc k) v h = rw (leVal-leBytes k (v / 256) (omega (arith, rw pow-suc at h))) (omega arith)
 
--- what eight reads give
-pub word-sum : (t : List ℕ) (a : ℕ) → (getD t a 0 + getD t (a + 1) 0 * 256 + (getD t (a + 2) 0 + getD t (a + 3) 0 * 256) * 65536) + (getD t (a + 4) 0 + getD t (a + 5) 0 * 256 + (getD t (a + 6) 0 + getD t (a + 7) 0 * 256) * 65536) * 4294967296 ≡ leVal (reads t a 8)
+-- what four reads give, and two runs of four
+pub half-sum : (t : List ℕ) (a : ℕ) → getD t a 0 + getD t (a + 1) 0 * 256 + (getD t (a + 2) 0 + getD t (a + 3) 0 * 256) * 65536 ≡ leVal (reads t a 4)
+unfolding leVal
+half-sum t a = simp towards-suc (omega arith)
+
+pub word-sum : (t : List ℕ) (a : ℕ) → leVal (reads t a 4) + leVal (reads t (a + 4) 4) * 4294967296 ≡ leVal (reads t a 8)
 unfolding leVal
 word-sum t a = simp towards-suc (omega arith)
 

@@ -8,7 +8,7 @@ use Rattle.lists_test.specs.Stored.{GroupSays}
 use Rattle.lists_test.specs.declared.Met.{Met}
 use Rattle.lists_test.proofs.WordBits.{bit-under, bit-over}
 use Rattle.lists_test.proofs.ListWalk.{next-word}
-use Rattle.lists_test.proofs.GroupWalk.{Passed, pass-none, pass-next, pass-step, pass-bad, pass-same, pass-other}
+use Rattle.lists_test.proofs.GroupWalk.{Passed, pass-none, pass-next, pass-step, pass-bad, pass-same, pass-other, pass-empty}
 use borrow.Author.Needs.{needs}
 use Rattle.lists_test.proofs.lists_good.Statement.{statement}
 use Rattle.lists_test.proofs.lists_good.Tie as tie
@@ -32,17 +32,23 @@ word-requires-2 : tie.Need-word-requires-2 Inv-loop μ-loop
 word-requires-2 c κs = search needs
 
 returns-3 : tie.Need-returns-3 Inv-loop μ-loop
-returns-3 c = λ stored. c .if3 .taken (ap (λ (x : ℕ). x % 65536) (c .before .word2 .ensures) ∙ stored .low)
+returns-3 c =
+    let s = c .before .before .before .before .before .before in
+    let back = c .before .before .before .before .word .ensures in
+    pass-empty _ _ (s .fits .lanes .fits) (ap (λ (x : ℕ). x % 2147483648) (sym back) ∙ c .before .before .before .if1 .left) (omega (arith, back, c .before .before .if2 .left)) (sym (c .before .word2 .ensures) ∙ c .if3 .taken)
 
 returns-4 : tie.Need-returns-4 Inv-loop μ-loop
-returns-4 c = λ stored. omega (arith, c .if4 .taken, c .before .before .word2 .ensures, stored .high)
+returns-4 c = λ stored. c .if4 .taken (ap (λ (x : ℕ). x % 65536) (c .before .before .word2 .ensures) ∙ stored .low)
+
+returns-5 : tie.Need-returns-5 Inv-loop μ-loop
+returns-5 c = λ stored. omega (arith, c .if5 .taken, c .before .before .before .word2 .ensures, stored .high)
 
 next-present-requires : tie.Need-next-present-requires Inv-loop μ-loop
 next-present-requires c κs = search needs
 
 loop-holds : tie.Need-loop-holds Inv-loop μ-loop
 loop-holds c =
-    let n = next-word _ _ _ _ (c .before .before .before .word2 .ensures) (c .next-present .ensures) in
+    let n = next-word _ _ _ _ (c .before .before .before .before .word2 .ensures) (c .next-present .ensures) in
     (pass-next _ _ _ _ (pass-none _) n, n .present, omega arith)
 
 cast-group-met : tie.Need-cast-group-met Inv-loop μ-loop
@@ -50,23 +56,23 @@ cast-group-met c = search needs
 
 group-met-requires : tie.Need-group-met-requires Inv-loop μ-loop
 group-met-requires c κs =
-    let s = c .before .before .before .before .before .before .before .before .before .before in
+    let s = c .before .before .before .before .before .before .before .before .before .before .before in
     let has = c .before .loop .inv .1 (c .loop-test .taken) in
-    let high : groupsAt (s .args .t .now) < 2 ^ 32 = omega (arith, c .before .before .before .if4 .left, c .before .before .before .before .before .word2 .ensures) in
-    let low : groupsAt (s .args .t .now) % 65536 ≡ 0 = ap (λ (x : ℕ). x % 65536) (sym (c .before .before .before .before .before .word2 .ensures)) ∙ c .before .before .before .before .if3 .left in
-    let back = c .before .before .before .before .before .before .before .before .word .ensures in
-    (s .pre, bit-over _ _ low has, omega (arith, bit-under 32 _ _ high has), back, omega (arith, c .before .before .before .before .before .before .if2 .left))
+    let high : groupsAt (s .args .t .now) < 2 ^ 32 = omega (arith, c .before .before .before .if5 .left, c .before .before .before .before .before .before .word2 .ensures) in
+    let low : groupsAt (s .args .t .now) % 65536 ≡ 0 = ap (λ (x : ℕ). x % 65536) (sym (c .before .before .before .before .before .before .word2 .ensures)) ∙ c .before .before .before .before .if4 .left in
+    let back = c .before .before .before .before .before .before .before .before .before .word .ensures in
+    (s .pre, bit-over _ _ low has, omega (arith, bit-under 32 _ _ high has), back, omega (arith, c .before .before .before .before .before .before .before .if2 .left))
 
 enum-told : tie.Need-enum-told Inv-loop μ-loop
 enum-told c = search needs
 
-returns-5 : tie.Need-returns-5 Inv-loop μ-loop
+returns-6 : tie.Need-returns-6 Inv-loop μ-loop
 unfolding GroupSays
-returns-5 c = let s = c .before .before .before .before .before .before .before .before .before .before .before .before .before in
+returns-6 c = let s = c .before .before .before .before .before .before .before .before .before .before .before .before .before .before in
     let w = c .before .before .before .before .loop in
     let has = w .inv .1 (c .before .before .before .loop-test .taken) in
-    let high : groupsAt (s .args .t .now) < 2 ^ 32 = omega (arith, c .before .before .before .before .before .before .if4 .left, c .before .before .before .before .before .before .before .before .word2 .ensures) in
-    let low : groupsAt (s .args .t .now) % 65536 ≡ 0 = ap (λ (x : ℕ). x % 65536) (sym (c .before .before .before .before .before .before .before .before .word2 .ensures)) ∙ c .before .before .before .before .before .before .before .if3 .left in
+    let high : groupsAt (s .args .t .now) < 2 ^ 32 = omega (arith, c .before .before .before .before .before .before .if5 .left, c .before .before .before .before .before .before .before .before .before .word2 .ensures) in
+    let low : groupsAt (s .args .t .now) % 65536 ≡ 0 = ap (λ (x : ℕ). x % 65536) (sym (c .before .before .before .before .before .before .before .before .before .word2 .ensures)) ∙ c .before .before .before .before .before .before .before .if4 .left in
     pass-bad _ _ _ (w .inv .0) (omega (arith, bit-under 32 _ _ high has)) has _ (bit-over _ _ low has) (subst (λ (r : Met). GroupSays (s .args .t .now) (w .g) (w .met) r) (c .enum-told .given .1) (c .before .before .group-met .ensures))
 
 enum-known-r : tie.Need-enum-known-r Inv-loop μ-loop
@@ -83,25 +89,25 @@ loop-less c = omega (arith, c .next-present2 .ensures .on, c .before .before .be
 
 loop-again : tie.Need-loop-again Inv-loop μ-loop
 unfolding GroupSays
-loop-again c = let s = c .before .before .before .before .before .before .before .before .before .before .before .before .before .before .before in
+loop-again c = let s = c .before .before .before .before .before .before .before .before .before .before .before .before .before .before .before .before in
     let w = c .before .before .before .before .before .before .loop in
     let has = w .inv .1 (c .before .before .before .before .before .loop-test .taken) in
-    let high : groupsAt (s .args .t .now) < 2 ^ 32 = omega (arith, c .before .before .before .before .before .before .before .before .if4 .left, c .before .before .before .before .before .before .before .before .before .before .word2 .ensures) in
+    let high : groupsAt (s .args .t .now) < 2 ^ 32 = omega (arith, c .before .before .before .before .before .before .before .before .if5 .left, c .before .before .before .before .before .before .before .before .before .before .before .word2 .ensures) in
     let fine = subst (λ (r : Met). GroupSays (s .args .t .now) (w .g) (w .met) r) (c .before .before .r .given .1) (c .before .before .before .before .group-met .ensures) in
-    let n = next-word _ _ _ _ (c .before .before .before .before .before .before .before .before .before .before .word2 .ensures) (c .next-present2 .ensures) in
+    let n = next-word _ _ _ _ (c .before .before .before .before .before .before .before .before .before .before .before .word2 .ensures) (c .next-present2 .ensures) in
     (pass-next _ _ _ _ (pass-step _ _ _ (w .inv .0) (omega (arith, bit-under 32 _ _ high has)) has _ (fine .0) (fine .1)) n, n .present, omega (arith, c .before .known-told .given))
-
-returns-6 : tie.Need-returns-6 Inv-loop μ-loop
-returns-6 c =
-    let s = c .before .before .before .before .before .before .before .before .before .before .before in
-    let w = c .before .before .loop in
-    pass-other _ _ _ _ (w .inv .0) (c .before .loop-test .left) (omega (arith, c .before .before .before .before .if4 .left, c .before .before .before .before .before .before .word2 .ensures)) (w .inv .2) (s .fits .lanes .fits) (c .if5 .taken)
 
 returns-7 : tie.Need-returns-7 Inv-loop μ-loop
 returns-7 c =
+    let s = c .before .before .before .before .before .before .before .before .before .before .before .before in
     let w = c .before .before .loop in
-    let back = c .before .before .before .before .before .before .before .before .before .word .ensures in
-    pass-same _ _ _ _ (w .inv .0) (c .before .loop-test .left) (omega (arith, c .before .before .before .before .if4 .left, c .before .before .before .before .before .before .word2 .ensures)) (ap (λ (x : ℕ). x % 2147483648) (sym back) ∙ c .before .before .before .before .before .before .before .before .if1 .left) (omega (arith, back, c .before .before .before .before .before .before .before .if2 .left)) (ap (λ (x : ℕ). x % 65536) (sym (c .before .before .before .before .before .before .word2 .ensures)) ∙ c .before .before .before .before .before .if3 .left) (c .if5 .left)
+    pass-other _ _ _ _ (w .inv .0) (c .before .loop-test .left) (omega (arith, c .before .before .before .before .if5 .left, c .before .before .before .before .before .before .before .word2 .ensures)) (w .inv .2) (s .fits .lanes .fits) (c .if6 .taken)
+
+returns-8 : tie.Need-returns-8 Inv-loop μ-loop
+returns-8 c =
+    let w = c .before .before .loop in
+    let back = c .before .before .before .before .before .before .before .before .before .before .word .ensures in
+    pass-same _ _ _ _ (w .inv .0) (c .before .loop-test .left) (omega (arith, c .before .before .before .before .if5 .left, c .before .before .before .before .before .before .before .word2 .ensures)) (ap (λ (x : ℕ). x % 2147483648) (sym back) ∙ c .before .before .before .before .before .before .before .before .before .if1 .left) (omega (arith, back, c .before .before .before .before .before .before .before .before .if2 .left)) (ap (λ (x : ℕ). x % 65536) (sym (c .before .before .before .before .before .before .before .word2 .ensures)) ∙ c .before .before .before .before .before .if4 .left) (c .if6 .left)
 
 pub lists-good-spec : {M : Type 1} → statement M
 lists-good-spec =
@@ -115,16 +121,17 @@ lists-good-spec =
     word-requires-2
     returns-3
     returns-4
+    returns-5
     next-present-requires
     loop-holds
     cast-group-met
     group-met-requires
     enum-told
-    returns-5
+    returns-6
     enum-known-r
     add-next-present
     next-present-requires-2
     loop-less
     loop-again
-    returns-6
-    returns-7)
+    returns-7
+    returns-8)

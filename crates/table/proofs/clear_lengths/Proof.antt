@@ -3,17 +3,17 @@ use mathlib.Core.Path.{_≡_, refl, ap, subst, _∙_}
 use Prim.Native.Nat.{ℕ, _+_, _-_, _*_, _≤_, _<_}
 use native.Mathlib.Omega.{arith}
 use lib.ListN.{length}
-use Rattle.table.specs.Layout.{Now, cells, lengthsCell, clearCells}
+use Rattle.table.specs.Layout.{Now, cells, lengthsCell, lengthWords, clearCells}
 use Rattle.table.proofs.Stores.{behind-refl, behind-then}
 use borrow.Author.Needs.{needs}
 use Rattle.table.proofs.clear_lengths.Statement.{statement}
 use Rattle.table.proofs.clear_lengths.Tie as tie
 
 abbrev Inv-loop : tie.InvT-loop
-Inv-loop t₀ k from i₀ t i = (i ≤ 16) × (length t ≡ length t₀) × Now t₀ t (clearCells (cells t₀) (lengthsCell + 16 * k) i)
+Inv-loop t₀ k from i₀ t i = (i ≤ lengthWords) × (length t ≡ length t₀) × Now t₀ t (clearCells (cells t₀) (lengthsCell + lengthWords * k) i)
 
 abbrev μ-loop : tie.MeasureT-loop
-μ-loop t₀ k from i₀ t i = 16 - i
+μ-loop t₀ k from i₀ t i = lengthWords - i
 
 mul-from : tie.Need-mul-from Inv-loop μ-loop
 mul-from c = search needs
@@ -22,7 +22,7 @@ add-from : tie.Need-add-from Inv-loop μ-loop
 add-from c = search needs
 
 loop-holds : tie.Need-loop-holds Inv-loop μ-loop
-loop-holds c = (omega arith, refl, cleared-none (c .before .args .t .now) (lengthsCell + 16 * c .before .args .k))
+loop-holds c = (omega arith, refl, cleared-none (c .before .args .t .now) (lengthsCell + lengthWords * c .before .args .k))
 
 add-set-cell : tie.Need-add-set-cell Inv-loop μ-loop
 add-set-cell c = search needs
@@ -39,7 +39,7 @@ loop-less c = search needs
 loop-again : tie.Need-loop-again Inv-loop μ-loop
 loop-again c = let s = c .before .before .before .before .before .before .before in
     let l = c .before .before .before .before .before .loop in
-    (omega (arith, c .before .before .before .before .loop-test .taken), c .before .t .given ∙ l .inv .1, cleared-more (s .args .t .now) (l .t) _ (lengthsCell + 16 * s .args .k) (l .i) (l .inv .2) (c .before .before .set-cell .ensures))
+    (omega (arith, c .before .before .before .before .loop-test .taken), c .before .t .given ∙ l .inv .1, cleared-more (s .args .t .now) (l .t) _ (lengthsCell + lengthWords * s .args .k) (l .i) (l .inv .2) (c .before .before .set-cell .ensures))
 
 same-length : tie.Need-same-length Inv-loop μ-loop
 same-length c = c .before .loop .inv .1
@@ -47,8 +47,8 @@ same-length c = c .before .loop .inv .1
 returns : tie.Need-returns Inv-loop μ-loop
 returns c = let s = c .before .before .before in
     let l = c .before .loop in
-    let all : l .i ≡ 16 = omega (arith, c .loop-test .left) in
-    subst (λ (n : ℕ). Now (s .args .t .now) (l .t) (clearCells (cells (s .args .t .now)) (lengthsCell + 16 * s .args .k) n)) all (l .inv .2)
+    let all : l .i ≡ lengthWords = omega (arith, c .loop-test .left) in
+    subst (λ (n : ℕ). Now (s .args .t .now) (l .t) (clearCells (cells (s .args .t .now)) (lengthsCell + lengthWords * s .args .k) n)) all (l .inv .2)
 
 pub clear-lengths-spec : {M : Type 1} → statement M
 clear-lengths-spec =

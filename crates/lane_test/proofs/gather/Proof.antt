@@ -1,17 +1,18 @@
 use mathlib.Core.Path.{_≡_, subst}
 use Prim.Native.Nat.{ℕ, _-_, _≤_}
 use native.Mathlib.Omega.{arith}
 use Rattle.digits.specs.Under.{Gathered}
+use Rattle.table.specs.Layout.{lengthWords}
 use Rattle.digits.proofs.Under.{gathered-none, gathered-more}
 use borrow.Author.Needs.{needs}
-use Rattle.digits.proofs.gather.Statement.{statement}
-use Rattle.digits.proofs.gather.Tie as tie
+use Rattle.lane_test.proofs.gather.Statement.{statement}
+use Rattle.lane_test.proofs.gather.Tie as tie
 
 abbrev Inv-loop : tie.InvT-loop
-Inv-loop t from bound more tops₀ i₀ tops i = (i ≤ 16) × Gathered t from i bound tops
+Inv-loop t from bound more tops₀ i₀ tops i = (i ≤ lengthWords) × Gathered t from i bound tops
 
 abbrev μ-loop : tie.MeasureT-loop
-μ-loop t from bound more tops₀ i₀ tops i = 16 - i
+μ-loop t from bound more tops₀ i₀ tops i = lengthWords - i
 
 sub-more : tie.Need-sub-more Inv-loop μ-loop
 sub-more c = omega arith
@@ -48,7 +49,7 @@ returns : tie.Need-returns Inv-loop μ-loop
 returns c =
     let s = c .before .before .before in
     let l = c .before .loop in
-    let all : l .i ≡ 16 = omega (arith, c .loop-test .left) in
+    let all : l .i ≡ lengthWords = omega (arith, c .loop-test .left) in
     subst (λ (n : ℕ). Gathered (s .args .t .now) (s .args .from) n (s .args .bound) (l .tops)) all (l .inv .1)
 
 pub gather-spec : {M : Type 1} → statement M
