@@ -9,7 +9,7 @@
 
 #include "zenfrosta.h"
 
-#define MOST 20480 /* the header: less than 20 KiB */
+#define MOST 24576 /* the header: less than 24 KiB */
 #define PAINT 0xA5
 
 static uint8_t stack[262144] __attribute__((aligned(64)));
@@ -39,6 +39,13 @@ static void show_backlog(void) { result = zf_backlog(table, sizeof table, 5, out
 static void show_record(void) { result = zf_record(table, sizeof table, 5, 0, out, sizeof out); }
 static void show_train(void) { result = zf_train_record(table, sizeof table, 7, 3, 0, out, sizeof out); }
 static void take(void) { result = zf_take(table, sizeof table, out, sizeof out); }
+static void show_edition(void) { result = zf_edition(table, sizeof table, out, sizeof out); }
+static void offer(void) {
+  static uint8_t page[ZF_PAGE_MOST];
+  static uint16_t edition = 0;
+  const size_t length = zf_page_write(++edition, setup, setup_length, page, sizeof page);
+  result = zf_offer(table, sizeof table, page, length, out, sizeof out);
+}
 static void restart(void) { result = zf_restart(table, sizeof table, out, sizeof out); }
 static void run(void) { result = zf_run(session, session_length, 1000, table, sizeof table, answers, sizeof answers, out, sizeof out); }
 static void begin(void) { result = zf_board_begin(board, sizeof board, out, sizeof out); }
@@ -83,8 +90,8 @@ int main(void) {
                {"zf_make", make},               {"zf_put", put},                 {"zf_put_train", put_train},     {"zf_put_train", put_train},
                {"zf_look", look},               {"zf_sets", sets},               {"zf_lag", lag},                 {"zf_clock", show_clock},
                {"zf_lane", show_lane},          {"zf_backlog", show_backlog},    {"zf_record", show_record},      {"zf_train_record", show_train},
-               {"zf_take", take},               {"zf_take", take},               {"zf_take", take},               {"zf_restart", restart},
-               {"zf_run", run},
+               {"zf_edition", show_edition},    {"zf_offer", offer},             {"zf_take", take},               {"zf_take", take},
+               {"zf_take", take},               {"zf_offer", offer},             {"zf_restart", restart},         {"zf_run", run},
                {"zf_board_begin", begin},       {"zf_board_record", join},       {"zf_board_record", leave},      {"zf_board_line", line},
                {"zf_board_clear", clear},       {"zf_convert", convert}};
   size_t most = 0;

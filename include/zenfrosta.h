@@ -11,7 +11,7 @@
  * A byte area is a pointer and its length in bytes. Any bytes are allowed in it, at any address. What the host must see to: a pointer may be
  * read (and written, where it is not const) over its whole length and is not null, also where the length is 0; areas of one call do not overlap;
  * no other thread uses them during the call; a length is at most PTRDIFF_MAX. The library keeps no pointer, has no state of its own, takes no
- * memory from a heap, and calls nothing but the C library's memcpy and memset. On x86-64 a call uses less than 20 KiB of stack (hosts/stack.c measures it).
+ * memory from a heap, and calls nothing but the C library's memcpy and memset. On x86-64 a call uses less than 24 KiB of stack (hosts/stack.c measures it).
  */
 #ifndef ZENFROSTA_H
 #define ZENFROSTA_H
@@ -35,8 +35,8 @@ extern "C" {
 /* The greatest limit of a run. */
 #define ZF_MOST_REQUESTS 1000
 
-/* Results. 1 to 7 and 50 to 54 come from zf_make and zf_run, 10 to 16, 70 and 71 from the other calls, 17 from zf_run, 7 and 10 from zf_convert.
- * docs/REFUSALS.md says what to mend. */
+/* Results. 1 to 7 and 50 to 54 come from zf_make and zf_run, and but for 7 from zf_offer; 10 to 16, 70 and 71 from the other calls, 17 from zf_run, 7 and
+ * 10 from zf_convert, 60 from zf_offer. docs/REFUSALS.md says what to mend. */
 #define ZF_DONE 0
 #define ZF_CUT 1             /* a field runs past the end, or the input ends before 0x7F; place: the field's tag, or the input's length */
 #define ZF_UNKNOWN_TAG 2     /* tag unknown in this part; place: the field's tag */
@@ -56,6 +56,7 @@ extern "C" {
 #define ZF_BAD_WEIGHT 52     /* a weight that is not 1 to 1,024; place: the weight's first byte */
 #define ZF_BAD_LONGEST 53    /* a longest that is not 64 to 1,500; place: the longest's first byte */
 #define ZF_BAD_FRAMING 54    /* framing over 64 in the setup; place: the framing number */
+#define ZF_OLD_EDITION 60    /* a settings page whose edition is not above the last one taken and the one that waits */
 #define ZF_NO_TRAIN 70       /* a train over 7, or over 0 in a lane that is not shared */
 #define ZF_TRAIN_FULL 71     /* the train's queue in a shared lane holds 8 records */
 #define ZF_BUFFER_SHORT 255  /* the answer buffer is shorter than 32 bytes */
@@ -93,10 +94,13 @@ uint64_t zf_sets(const uint8_t *table, size_t table_length, uint8_t *out, size_t
 /* How far the clock is ahead of a lane. out: the lag, a signed number in two's complement. */
 uint64_t zf_lag(const uint8_t *table, size_t table_length, uint8_t lane, uint8_t *out, size_t out_length);
 
-/* The five calls below show a table and change nothing. Like every call they test the whole table first: 10 if it is not good.
+/* The six calls below show a table and change nothing. Like every call they test the whole table first: 10 if it is not good.
  *
  * The clock V. out: V. */
 uint64_t zf_clock(const uint8_t *table, size_t table_length, uint8_t *out, size_t out_length);
+
+/* The editions of settings pages (zf_offer). out: the last edition taken, 0 before any; and the edition of the page that waits, 0 where none does. */
+uint64_t zf_edition(const uint8_t *table, size_t table_length, uint8_t *out, size_t out_length);
 
 /* What the setup in force gives a lane. out: weight, longest, the line's framing bytes h, and the group index, with 2^32 more where the lane is
  * shared; c is 1,048,576 / weight, rounded up. 11 if the lane is not in the setup, so the lanes 0 to 63 tell the whole setup. */
@@ -115,8 +119,37 @@ uint64_t zf_record(const uint8_t *table, size_t table_length, uint8_t lane, uint
 uint64_t zf_train_record(const uint8_t *table, size_t table_length, uint8_t lane, uint8_t train, uint64_t before, uint8_t *out,
                          size_t out_length);
 
-/* Gives the fresh table of the same setup, once no record is held. */
+/* Gives the fresh table of the same setup, once no record is held. The edition last taken stays. */
 uint64_t zf_restart(uint8_t *table, size_t table_length, uint8_t *out, size_t out_length);
+
+/* Offers a settings page: a whole setup with an edition, as a unit in the field gets it over the air (docs/PAGES.md). A page whose edition is above the
+ * last one taken and the one that waits is accepted. With no record held it is in force at once: the table is then the fresh one of its setup. Else it
+ * waits, in place of one that waited; the zf_take that hands out the last record brings it into force, and that take's answer is by the setup before. out:
+ * ZF_IN_FORCE or ZF_WAITS. Refusals: 10; then those of a page, 1 to 4, 50 to 54 and 6, with their place in the page; then 60, which has none. A refusal
+ * changes nothing. Lanes may be others after a change: ask zf_edition when it matters, or zf_lane. */
+uint64_t zf_offer(uint8_t *table, size_t table_length, const uint8_t *page, size_t page_length, uint8_t *out, size_t out_length);
+
+/* What zf_offer says of a page that it accepts. */
+#define ZF_IN_FORCE 0
+#define ZF_WAITS 1
+
+/* A page is the field 0x40 (edition), the field 0x41 (a setup) and the end field 0x7F; this many bytes more than its setup. */
+#define ZF_PAGE_MORE 11
+#define ZF_PAGE_MOST (ZF_SETUP_MOST + ZF_PAGE_MORE)
+
+/* Writes a page around a setup, which has at most 65,535 bytes. The page's length; 0 and nothing written where `length` bytes are too few or the setup is
+ * longer. Whether a unit takes it is for zf_offer to say. */
+static inline size_t zf_page_write(uint16_t edition, const uint8_t *setup, size_t setup_length, uint8_t *page, size_t length) {
+  if (setup_length > 0xFFFF || length < setup_length + ZF_PAGE_MORE) return 0;
+  const uint8_t head[] = {0x40, 0, 2, (uint8_t)(edition >> 8), (uint8_t)(edition & 0xFF),
+                          0x41, (uint8_t)(setup_length >> 8), (uint8_t)(setup_length & 0xFF)};
+  for (size_t i = 0; i < sizeof head; i++) page[i] = head[i];
+  for (size_t i = 0; i < setup_length; i++) page[sizeof head + i] = setup[i];
+  page[sizeof head + setup_length] = 0x7F;
+  page[sizeof head + setup_length + 1] = 0;
+  page[sizeof head + setup_length + 2] = 0;
+  return setup_length + ZF_PAGE_MORE;
+}
 
 /* Runs a session: a setup, requests, an end field. The answer lines stand in `answers`. out: requests answered, answer bytes written, why it
  * stopped (ZF_STOP_...), and a refusal's place. The result is 0 at the end field or the limit, else the number of the refusal. */
@@ -141,7 +174,7 @@ uint64_t zf_run(const uint8_t *session, size_t session_length, uint64_t limit, u
 uint64_t zf_old_table_size(void);
 
 /* Takes over the old table into `table`, whatever that held: the same queues, clock, lanes with their S and F, framing bytes and tie order, and room
- * for 64 records in each lane. The old table is read only. Takes answer from the new one as they would have from the old one. Refusals: 7 at
+ * for 64 records in each lane; its edition is 0, and no page waits. The old table is read only. Takes answer from the new one as they would have from the old one. Refusals: 7 at
  * place 0, `table` is shorter than ZF_TABLE_SIZE; then 10, the old table is not good, or shorter than ZF_OLD_TABLE_SIZE. `table` stays for both. */
 uint64_t zf_convert(const uint8_t *old_table, size_t old_length, uint8_t *table, size_t table_length, uint8_t *out, size_t out_length);
 
@@ -330,6 +363,11 @@ static inline uint32_t zf_out_mark(const uint8_t *out) { return (uint32_t)(zf_wo
 static inline uint64_t zf_out_length(const uint8_t *out) { return zf_word(out, 2); }
 static inline uint8_t zf_out_train(const uint8_t *out) { return (uint8_t)(zf_word(out, 3) & 0xFF); }
 
+/* After zf_edition: the last edition taken, and the one that waits or 0. After zf_offer: whether the page waits. */
+static inline uint16_t zf_out_edition(const uint8_t *out) { return (uint16_t)(zf_word(out, 0) & 0xFFFF); }
+static inline uint16_t zf_out_waiting(const uint8_t *out) { return (uint16_t)(zf_word(out, 1) & 0xFFFF); }
+static inline int zf_out_waits(const uint8_t *out) { return zf_word(out, 0) == ZF_WAITS; }
+
 /* After zf_lane: the group index, and whether trains share the lane. */
 static inline uint32_t zf_out_group(const uint8_t *out) { return (uint32_t)(zf_word(out, 3) & 0xFFFFFFFF); }
 static inline int zf_out_shared(const uint8_t *out) { return (int)(zf_word(out, 3) >> 32 & 1); }
@@ -375,6 +413,7 @@ static inline const char *zf_text(uint64_t number) {
   case ZF_BAD_FRAMING: return "a framing number is over 64";
   case ZF_PLAN_OUTSIDE: return "the plan is outside the numbers";
   case ZF_SETUP_SHORT: return "the buffer is shorter than what is to be written";
+  case ZF_OLD_EDITION: return "the edition is not above the last one taken or waiting";
   case ZF_NO_TRAIN: return "the train is over 7, or over 0 in a lane that is not shared";
   case ZF_TRAIN_FULL: return "the train's queue is full";
   case ZF_SHEET_BYTE: return "a byte that cannot stand there in a sheet";

@@ -1,4 +1,4 @@
-/* A fuzz target over the public calls, the run, the desk's board, plans and conversions, through the static library as hosts link it.
+/* A fuzz target over the public calls, the run, the desk's board, plans, settings pages and conversions, through the static library as hosts link it.
  *
  * The library's own code is not instrumented, so the lent areas lie in pages of their own: an area ends where a page begins that cannot be touched, or
  * begins where one ends. A read or a write one byte outside stops the run. Areas that a call only reads are write-protected while it runs.
@@ -11,6 +11,7 @@
  *   4  the desk's board: one made by calls, or bytes, changed byte by byte (three bytes: the line, the byte and how), then its calls
  *   8  plans: a setup that is read into a plan area and written back, or an area that is filled word by word (four bytes: the word, how, and a number)
  *  16  a table of 16 places, changed word by word as in mode 1, or cut; converted, then the calls on what was made of it
+ *  32  a settings page, offered to a table made by calls that holds records, to one that holds none, or to one with a page that waits; then the calls
  */
 #define _GNU_SOURCE
 #include <stdio.h>
@@ -94,13 +95,13 @@ static uint64_t word(int index) {
   return value;
 }
 
-enum call { PUT, TAKE, LOOK, SETS, LAG, RESTART, PUT_TRAIN, TRAIN_RECORD, CALLS };
+enum call { PUT, TAKE, LOOK, SETS, LAG, RESTART, PUT_TRAIN, TRAIN_RECORD, EDITION, CALLS };
 
 /* One call: its result is one of those that it can give, and a refused or reading call writes nothing. */
 static uint64_t ask(enum call call, uint8_t lane, uint64_t length, size_t out_length, int at_end) {
   lend(&out, out_length, at_end);
   memcpy(before, table.at, table.length);
-  int reads = call == LOOK || call == SETS || call == LAG || call == TRAIN_RECORD;
+  int reads = call == LOOK || call == SETS || call == LAG || call == TRAIN_RECORD || call == EDITION;
   /* Trains 0 to 7 mostly, and now and then one that there is not. */
   uint8_t train = (uint8_t)(length % 9);
   if (reads) only_reading(&table, 1);
@@ -113,6 +114,7 @@ static uint64_t ask(enum call call, uint8_t lane, uint64_t length, size_t out_le
     case LAG: result = zf_lag(table.at, table.length, lane, out.at, out.length); break;
     case PUT_TRAIN: result = zf_put_train(table.at, table.length, lane, train, 7, length, out.at, out.length); break;
     case TRAIN_RECORD: result = zf_train_record(table.at, table.length, lane, train, length / 9 % 9, out.at, out.length); break;
+    case EDITION: result = zf_edition(table.at, table.length, out.at, out.length); break;
     default: result = zf_restart(table.at, table.length, out.at, out.length); break;
   }
   if (reads) only_reading(&table, 0);
@@ -140,6 +142,9 @@ static uint64_t ask(enum call call, uint8_t lane, uint64_t length, size_t out_le
   }
   if (result == ZF_DONE && (call == PUT || call == PUT_TRAIN)) {
     check(word(0) < 64 && word(1) == 0 && word(2) == 0 && word(3) == 0, "a number ahead that no lane can hold");
+  }
+  if (result == ZF_DONE && call == EDITION) {
+    check(word(0) <= UINT16_MAX && word(1) <= UINT16_MAX && (word(1) == 0 || word(1) > word(0)), "editions that no table has");
   }
   if (result == ZF_DONE && call == SETS) saw(16, word(0) >> 16 ^ word(1) ^ word(2) ^ word(3));
   return result;
@@ -279,7 +284,8 @@ static void change(const struct area *area, const uint8_t *data, size_t size) {
     else if (d < 156) at = 336 + (d - 116) * 26;
     else if (d < 220) at = 1472 + d - 156;
     else if (d < 236 || area->length < ZF_TABLE_SIZE) at = 1536 + (d - 220) * 110;
-    else at = 7680 + 64 * ((d - 236) / 5) + (d - 236) % 4; /* the trains of the lanes that may be shared */
+    else if ((d - 236) % 5 == 4) at = 7936 + (d - 236) / 5; /* the editions, and the first words of a waiting plan */
+    else at = 7680 + 64 * ((d - 236) / 5) + (d - 236) % 5; /* the trains of the lanes that may be shared */
     uint64_t value, power = 1ull << (data[i + 1] & 63);
     memcpy(&value, area->at + 8 * at, 8);
     switch (data[i + 1] >> 6) {
@@ -290,6 +296,54 @@ static void change(const struct area *area, const uint8_t *data, size_t size) {
     }
     memcpy(area->at + 8 * at, &value, 8);
   }
+}
+
+/* ---- settings pages, in the area of an input */
+
+/* Offers the page; its result. */
+static uint64_t offer(const uint8_t *data, size_t size, int at_end) {
+  memcpy(lend(&input, size, at_end), data, size);
+  lend(&out, ZF_OUT_SIZE, at_end);
+  memcpy(before, table.at, table.length);
+  only_reading(&input, 1);
+  uint64_t result = zf_offer(table.at, table.length, input.at, input.length, out.at, out.length);
+  only_reading(&input, 0);
+  saw(50, result);
+  saw(51, word(0));
+  beside(&input);
+  beside(&table);
+  beside(&out);
+  check(of_setup(result) || result == ZF_NOT_GOOD || result == ZF_OLD_EDITION, "a result that an offer does not give");
+  check(result == ZF_DONE || memcmp(before, table.at, table.length) == 0, "a refused offer wrote the table");
+  int placed = result != ZF_DONE && result != ZF_NOT_GOOD && result != ZF_OLD_EDITION;
+  check(word(1) == (uint64_t)placed && word(2) == 0 && word(3) == 0, "the words of an offer");
+  check(result != ZF_DONE || word(0) <= ZF_WAITS, "in force, or waits");
+  check(!placed || word(0) <= size, "a place in the page");
+  if (table.length > ZF_TABLE_SIZE) {
+    check(memcmp(before + ZF_TABLE_SIZE, table.at + ZF_TABLE_SIZE, table.length - ZF_TABLE_SIZE) == 0, "bytes past the table were written");
+  }
+  return result;
+}
+
+static void pages(const uint8_t *data, size_t size, const uint8_t *choice, int at_end) {
+  static const uint8_t waiting[] = {0x40, 0, 2, 0, 9, 0x41, 0, 14, 1, 0, 2, 0, 2, 0x10, 0, 3, 7, 1, 0, 0x7F, 0, 0, 0x7F, 0, 0};
+  lend(&table, ZF_TABLE_SIZE + choice[0] % 8u, at_end);
+  memcpy(table.at, choice[1] & 1 ? shared_sample : sample, ZF_TABLE_SIZE);
+  int held = !(choice[1] & 2);
+  while (!held && ask(TAKE, 0, 0, ZF_OUT_SIZE, at_end) == ZF_DONE) {
+  }
+  if (choice[1] & 4) {
+    check(offer(waiting, sizeof waiting, at_end) == ZF_DONE, "the sample's page");
+    check(word(0) == (held ? ZF_WAITS : ZF_IN_FORCE), "it waits while a record is held");
+  }
+  if (offer(data, size, at_end) == ZF_DONE) {
+    check(word(0) == (held ? ZF_WAITS : ZF_IN_FORCE), "a page waits exactly while a record is held");
+    check(offer(data, size, at_end) == ZF_OLD_EDITION, "an edition that was accepted is old");
+  }
+  while (choice[1] & 8 && ask(TAKE, 0, 0, ZF_OUT_SIZE, at_end) == ZF_DONE) {
+  }
+  check(ask(LAG, 255, 0, ZF_OUT_SIZE, at_end) == ZF_NO_LANE, "a table after an offer is good");
+  calls(data, size, at_end);
 }
 
 /* ---- tables of 16 places, in the area of an input */
@@ -564,6 +618,10 @@ int LLVMFuzzerTestOneInput(const uint8_t *data, size_t size) {
   int at_end = (choice[3] & 1) == 0;
   const uint8_t *rest = data + 5;
   size_t left = size - 5;
+  if (data[0] & 32) {
+    pages(rest, left, choice, at_end);
+    return 0;
+  }
   if (data[0] & 16) {
     convert(rest, left, choice, at_end);
     return 0;

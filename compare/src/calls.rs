@@ -1,6 +1,8 @@
 //! The calls and their answers as values: what a list of demand 2 and of demand 3 is made of.
 
+use crate::fields::Fault;
 use std::fmt;
+use std::rc::Rc;
 
 /// A record that take handed out or that look names: "lane, mark and length inside it", and its train, which is 0 in a lane that is not shared.
 #[derive(Clone, Copy, Debug, PartialEq, Eq)]
@@ -11,7 +13,7 @@ pub struct Taken {
     pub length: u64,
 }
 
-#[derive(Clone, Copy, Debug, PartialEq, Eq)]
+#[derive(Clone, Debug, PartialEq, Eq)]
 pub enum Call {
     /// A put without a train means train 0.
     Put {
@@ -32,6 +34,8 @@ pub enum Call {
         lane: u8,
     },
     Restart,
+    /// A settings page is offered, as bytes (document 02, k).
+    Offer(Rc<[u8]>),
 }
 
 /// "A put's answer, a taken record and a refusal are separate cases".
@@ -44,8 +48,14 @@ pub enum Answer {
     Sets([u64; 4]),
     Lag(i64),
     Restarted,
-    /// A refusal, 10 to 16, 70 or 71.
+    /// An offered page is in force,
+    InForce,
+    /// or waits.
+    Waits,
+    /// A refusal, 10 to 16, 60, 70 or 71.
     No(u8),
+    /// An offered page cannot be read: 1 to 4, 6 or 50 to 54, with the place in the page.
+    Unread(Fault),
 }
 
 impl Call {
@@ -56,9 +66,9 @@ impl Call {
 
     /// The lane, train, mark and length of a put.
     pub fn put(&self) -> Option<(u8, u8, u32, u64)> {
-        match *self {
-            Call::Put { lane, mark, length } => Some((lane, 0, mark, length)),
-            Call::PutTrain { lane, train, mark, length } => Some((lane, train, mark, length)),
+        match self {
+            Call::Put { lane, mark, length } => Some((*lane, 0, *mark, *length)),
+            Call::PutTrain { lane, train, mark, length } => Some((*lane, *train, *mark, *length)),
             _ => None,
         }
     }
@@ -66,7 +76,7 @@ impl Call {
 
 impl Answer {
     pub fn refused(&self) -> bool {
-        matches!(self, Answer::No(_))
+        matches!(self, Answer::No(_) | Answer::Unread(_))
     }
 
     /// The session's line for it, without its line feed. "a take or look line of a shared lane ends with the train"; `shared` tells of a lane whether it is.
@@ -90,11 +100,15 @@ impl fmt::Display for Call {
             Call::Sets => write!(f, "sets"),
             Call::Lag { lane } => write!(f, "lag {lane}"),
             Call::Restart => write!(f, "restart"),
+            Call::Offer(page) => {
+                write!(f, "offer ")?;
+                page.iter().try_for_each(|byte| write!(f, "{byte:02x}"))
+            }
         }
     }
 }
 
-/// The session's line for an answer in a lane that is not shared, without its line feed ("A session in full").
+/// The session's line for an answer in a lane that is not shared, without its line feed ("A session in full"). An offer has no line in a session.
 impl fmt::Display for Answer {
     fn fmt(&self, f: &mut fmt::Formatter) -> fmt::Result {
         match self {
@@ -104,7 +118,10 @@ impl fmt::Display for Answer {
             Answer::Sets([a, b, c, d]) => write!(f, "sets {a} {b} {c} {d}"),
             Answer::Lag(n) => write!(f, "lag {n}"),
             Answer::Restarted => write!(f, "restart ok"),
+            Answer::InForce => write!(f, "in force"),
+            Answer::Waits => write!(f, "waits"),
             Answer::No(number) => write!(f, "no {number}"),
+            Answer::Unread(fault) => write!(f, "{fault}"),
         }
     }
 }

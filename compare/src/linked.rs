@@ -7,7 +7,7 @@
 
 #![allow(unsafe_code)]
 
-use crate::calls::Taken;
+use crate::calls::{Answer, Taken};
 use crate::fields::Fault;
 use crate::session::{Run, Stop};
 use crate::shown::Ask;
@@ -67,6 +67,15 @@ extern "C" {
         out_len: usize,
     ) -> u64;
     fn zf_restart(table: *mut u8, table_len: usize, out: *mut u8, out_len: usize) -> u64;
+    fn zf_offer(
+        table: *mut u8,
+        table_len: usize,
+        page: *const u8,
+        page_len: usize,
+        out: *mut u8,
+        out_len: usize,
+    ) -> u64;
+    fn zf_edition(table: *const u8, table_len: usize, out: *mut u8, out_len: usize) -> u64;
     fn zf_run(
         session: *const u8,
         session_len: usize,
@@ -190,10 +199,24 @@ impl Unit for Linked {
         plain(0, |out, len| unsafe { zf_restart(table.as_mut_ptr(), table.len(), out, len) }).map(|_| ())
     }
 
+    fn offer(&mut self, table: &mut [u8], page: &[u8]) -> Answer {
+        let (at, size) = (table.as_mut_ptr(), table.len());
+        let offered = call(|out, len| unsafe { zf_offer(at, size, page.as_ptr(), page.len(), out, len) });
+        match offered {
+            Ok([0, 0, 0, 0]) => Answer::InForce,
+            Ok([1, 0, 0, 0]) => Answer::Waits,
+            // 10 and 60 have no place, what the reader finds has one
+            Err((number @ (10 | 60), [0, 0, 0, 0])) => Answer::No(number),
+            Err((number, [place, 1, 0, 0])) => Answer::Unread(Fault { number, place }),
+            _ => Answer::No(OUT_OF_RANGE),
+        }
+    }
+
     fn show(&mut self, table: &mut [u8], ask: Ask) -> Option<Result<[u64; 4], u8>> {
         let (at, size) = (table.as_mut_ptr().cast_const(), table.len());
         Some(match ask {
             Ask::Clock => plain(1, |out, len| unsafe { zf_clock(at, size, out, len) }),
+            Ask::Edition => plain(2, |out, len| unsafe { zf_edition(at, size, out, len) }),
             Ask::Lane(lane) => plain(4, |out, len| unsafe { zf_lane(at, size, lane, out, len) }),
             Ask::Backlog(lane) => plain(2, |out, len| unsafe { zf_backlog(at, size, lane, out, len) }),
             Ask::Record(lane, before) => {
@@ -248,6 +271,7 @@ fn stop(kind: u64) -> Stop {
 pub fn short_buffers() -> Result<(), String> {
     let setup: &[u8] = &[0x01, 0, 2, 0, 1, 0x10, 0, 3, 0, 2, 0, 0x7F, 0, 0];
     let session = [setup, &[0x21, 0, 0, 0x7F, 0, 0]].concat();
+    let page = [&[0x40, 0, 2, 0, 1, 0x41, 0, setup.len() as u8][..], setup, &[0x7F, 0, 0]].concat();
     let size = Linked.table_size();
     let mut table = vec![0x33; size];
     Linked.make(setup, &mut table).map_err(|fault| format!("a valid setup gave {fault}"))?;
@@ -273,6 +297,8 @@ pub fn short_buffers() -> Result<(), String> {
                 zf_record(t, size, 0, 0, o, length),
                 zf_train_record(t, size, 0, 0, 0, o, length),
                 zf_restart(t, size, o, length),
+                zf_offer(t, size, page.as_ptr(), page.len(), o, length),
+                zf_edition(t, size, o, length),
                 zf_run(
                     session.as_ptr(),
                     session.len(),
@@ -287,7 +313,7 @@ pub fn short_buffers() -> Result<(), String> {
             ]
         };
         let written = out != [0x55; OUT] || table != before || answers.iter().any(|byte| *byte != 0x44);
-        if given != [OUT_SHORT; 14] || written {
+        if given != [OUT_SHORT; 16] || written {
             return Err(format!("an answer buffer of {length} bytes: {given:?}, written: {written}"));
         }
     }

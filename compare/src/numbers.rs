@@ -90,6 +90,8 @@ pub mod refusal {
     pub const WEIGHT: u8 = 52;
     pub const LONGEST: u8 = 53;
     pub const FRAMING: u8 = 54;
+    // Document 02, k: editions.
+    pub const OLD_EDITION: u8 = 60;
     // Document 02, l: trains.
     pub const NO_TRAIN: u8 = 70;
     pub const TRAIN_FULL: u8 = 71;

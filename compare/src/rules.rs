@@ -4,6 +4,7 @@
 //! orders lanes by who "got its present S earliest".
 
 mod back;
+mod offers;
 mod waiting;
 
 pub use back::taken_off;
@@ -11,6 +12,7 @@ pub use waiting::{Train, Trains, Waiting};
 
 use crate::calls::{Answer, Call, Taken};
 use crate::numbers::{refusal, *};
+use crate::pages::Page;
 use crate::setup::{LanePlan, Setup};
 
 #[derive(Clone, Copy, Debug, PartialEq, Eq)]
@@ -89,7 +91,7 @@ impl Lane {
     }
 }
 
-/// A table's contents: the setup's framing number and lanes by rising number, and the clock V.
+/// A table's contents: the setup's framing number and lanes by rising number, the clock V, and what is kept of settings pages.
 #[derive(Clone, Debug, PartialEq, Eq)]
 pub struct State {
     pub clock: i128,
@@ -97,6 +99,10 @@ pub struct State {
     pub lanes: Vec<Lane>,
     /// What was taken off the clock so far: V and this make the endless clock.
     pub back: i128,
+    /// The edition last taken, 0 before any.
+    pub edition: u16,
+    /// The page that waits.
+    pub page: Option<Page>,
     events: u64,
 }
 
@@ -104,13 +110,13 @@ impl State {
     /// "Fresh: V = 0, each lane idle with F = 0."
     pub fn fresh(setup: &Setup) -> State {
         let lanes = setup.lanes.iter().map(|plan| Lane::fresh(*plan, setup.framing)).collect();
-        State { clock: 0, framing: setup.framing, lanes, back: 0, events: 0 }
+        State { clock: 0, framing: setup.framing, lanes, back: 0, edition: 0, page: None, events: 0 }
     }
 
     /// Contents of any origin.
     pub fn of(clock: i128, framing: u8, lanes: Vec<Lane>, back: i128) -> State {
         let events = lanes.iter().map(|lane| lane.since).max().unwrap_or(0);
-        State { clock, framing, lanes, back, events }
+        State { clock, framing, lanes, back, edition: 0, page: None, events }
     }
 
     /// The same contents, but for the turns of lanes that no call compares: a tie is between lanes of one group with the same R.
@@ -122,6 +128,8 @@ impl State {
         (self.clock, self.framing) == (other.clock, other.framing)
             && self.lanes.iter().map(lane).eq(other.lanes.iter().map(lane))
             && self.turns() == other.turns()
+            && self.edition == other.edition
+            && self.page.as_ref().map(Page::means) == other.page.as_ref().map(Page::means)
     }
 
     /// The lanes that hold records: by group and R, and where those tie, the one first that got its present S earliest.
@@ -224,6 +232,7 @@ impl State {
                 self.clock = least;
             }
         }
+        self.settle();
         Ok(taken)
     }
 
@@ -260,14 +269,15 @@ impl State {
         Ok(i64::try_from(self.clock - from).expect("a lag fits 64 bits"))
     }
 
-    /// "Restart gives the fresh table of the same setup."
+    /// "Restart gives the fresh table of the same setup"; it keeps the edition.
     pub fn restart(&mut self) -> Result<(), u8> {
         if self.holding().next().is_some() {
             return Err(refusal::STILL_HELD);
         }
         let lanes = self.lanes.iter().map(|lane| lane.plan).collect();
         // A table has no format, and none is asked of it: each lane's longest is there.
-        *self = State::fresh(&Setup { format: *FORMATS.end(), framing: self.framing, lanes });
+        let setup = Setup { format: *FORMATS.end(), framing: self.framing, lanes };
+        *self = State { edition: self.edition, ..State::fresh(&setup) };
         Ok(())
     }
 
@@ -276,17 +286,18 @@ impl State {
         self.lane(number).is_some_and(|lane| lane.plan.shared)
     }
 
-    pub fn answer(&mut self, call: Call) -> Answer {
+    pub fn answer(&mut self, call: &Call) -> Answer {
         let answer = match call {
-            Call::Put { lane, mark, length } => self.put(lane, mark, length).map(Answer::Put),
+            Call::Put { lane, mark, length } => self.put(*lane, *mark, *length).map(Answer::Put),
             Call::PutTrain { lane, train, mark, length } => {
-                self.put_train(lane, train, mark, length).map(Answer::Put)
+                self.put_train(*lane, *train, *mark, *length).map(Answer::Put)
             }
             Call::Take => self.take().map(Answer::Taken),
             Call::Look => self.look().map(Answer::Looked),
             Call::Sets => Ok(Answer::Sets(self.sets())),
-            Call::Lag { lane } => self.lag(lane).map(Answer::Lag),
+            Call::Lag { lane } => self.lag(*lane).map(Answer::Lag),
             Call::Restart => self.restart().map(|()| Answer::Restarted),
+            Call::Offer(page) => Ok(self.offer(page)),
         };
         answer.unwrap_or_else(Answer::No)
     }

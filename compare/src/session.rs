@@ -96,7 +96,7 @@ pub fn walk(session: &[u8], limit: u64) -> Outcome {
             Err(fault) => break Stop::Refused(fault),
             Ok(Request::End) => break Stop::End,
             Ok(Request::Call(call, next)) => {
-                let line = state.answer(call).line(|lane| state.shared(lane));
+                let line = state.answer(&call).line(|lane| state.shared(lane));
                 writeln!(text, "{line}").expect("a string takes every line");
                 answered += 1;
                 place = next;

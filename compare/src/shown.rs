@@ -1,4 +1,4 @@
-//! What a table shows to a host that asks: the clock, a lane's setting, its backlog, and the records that wait, by train.
+//! What a table shows to a host that asks: the clock, the editions, a lane's setting, its backlog, and the records that wait, by train.
 
 use crate::numbers::{refusal, TRAINS};
 use crate::rules::State;
@@ -6,6 +6,8 @@ use crate::rules::State;
 #[derive(Clone, Copy, Debug, PartialEq, Eq)]
 pub enum Ask {
     Clock,
+    /// The edition last taken, and the one that waits or 0.
+    Edition,
     Lane(u8),
     Backlog(u8),
     /// The record of a lane with so many before it; of a shared lane train 0's.
@@ -26,6 +28,10 @@ pub fn shown(state: &State, ask: Ask) -> Result<[u64; 4], u8> {
     };
     match ask {
         Ask::Clock => Ok([word(state.clock), 0, 0, 0]),
+        Ask::Edition => {
+            let waits = state.page.as_ref().map_or(0, |page| page.edition);
+            Ok([state.edition.into(), waits.into(), 0, 0])
+        }
         Ask::Lane(number) => {
             let lane = lane(number)?;
             let group = u64::from(lane.group) + (u64::from(lane.plan.shared) << 32);
@@ -43,8 +49,8 @@ pub fn shown(state: &State, ask: Ask) -> Result<[u64; 4], u8> {
 
 /// The questions that tell of everything that a table holds, but for turns, and some that are refused.
 pub fn all(state: &State) -> Vec<Ask> {
-    let mut asks =
-        vec![Ask::Clock, Ask::Lane(64), Ask::Backlog(255), Ask::Record(64, 0), Ask::TrainRecord(64, 8, 0)];
+    let mut asks = vec![Ask::Clock, Ask::Edition, Ask::Lane(64), Ask::Backlog(255)];
+    asks.extend([Ask::Record(64, 0), Ask::TrainRecord(64, 8, 0)]);
     for lane in &state.lanes {
         let number = lane.plan.number;
         asks.extend([Ask::Lane(number), Ask::Backlog(number), Ask::TrainRecord(number, TRAINS, 0)]);

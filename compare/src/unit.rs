@@ -31,6 +31,8 @@ pub trait Unit {
     fn sets(&mut self, table: &mut [u8]) -> Result<[u64; 4], u8>;
     fn lag(&mut self, table: &mut [u8], lane: u8) -> Result<i64, u8>;
     fn restart(&mut self, table: &mut [u8]) -> Result<(), u8>;
+    /// Whether the page is in force or waits, or a refusal, with a place where the page cannot be read.
+    fn offer(&mut self, table: &mut [u8], page: &[u8]) -> Answer;
     fn run(&mut self, session: &[u8], limit: u64, table: &mut [u8], answers: &mut [u8]) -> Run;
 
     /// What the table shows, if the unit has calls for that.
@@ -44,17 +46,18 @@ pub trait Unit {
         layout::lift(table, up);
     }
 
-    fn answer(&mut self, table: &mut [u8], call: Call) -> Answer {
+    fn answer(&mut self, table: &mut [u8], call: &Call) -> Answer {
         let answer = match call {
-            Call::Put { lane, mark, length } => self.put(table, lane, mark, length).map(Answer::Put),
+            Call::Put { lane, mark, length } => self.put(table, *lane, *mark, *length).map(Answer::Put),
             Call::PutTrain { lane, train, mark, length } => {
-                self.put_train(table, lane, train, mark, length).map(Answer::Put)
+                self.put_train(table, *lane, *train, *mark, *length).map(Answer::Put)
             }
             Call::Take => self.take(table).map(Answer::Taken),
             Call::Look => self.look(table).map(Answer::Looked),
             Call::Sets => self.sets(table).map(Answer::Sets),
-            Call::Lag { lane } => self.lag(table, lane).map(Answer::Lag),
+            Call::Lag { lane } => self.lag(table, *lane).map(Answer::Lag),
             Call::Restart => self.restart(table).map(|()| Answer::Restarted),
+            Call::Offer(page) => Ok(self.offer(table, page)),
         };
         answer.unwrap_or_else(Answer::No)
     }
@@ -126,6 +129,15 @@ impl Unit for Reference {
 
     fn restart(&mut self, table: &mut [u8]) -> Result<(), u8> {
         self.change(table, State::restart)
+    }
+
+    fn offer(&mut self, table: &mut [u8], page: &[u8]) -> Answer {
+        let Some(state) = self.shelf.open(table) else { return Answer::No(refusal::NOT_GOOD) };
+        let answer = state.offer(page);
+        if !answer.refused() {
+            self.shelf.sign(table);
+        }
+        answer
     }
 
     fn lift(&mut self, table: &mut [u8], up: u64) {

@@ -24,6 +24,8 @@ fn the_reference_with_itself_and_with_the_stand_in() {
     assert!(itself.refused.iter().enumerate().all(|(at, count)| at == 4 || *count > 100), "{itself}");
     assert!(itself.refused_trains.iter().all(|count| *count > 100), "{itself}");
     assert!(itself.taken_of_trains > 1_000 && itself.train_ends > 10_000, "{itself}");
+    assert!(itself.offers.iter().all(|count| *count > 100), "{itself}");
+    assert!(itself.changes > 200 && itself.changes_by_take > 100, "{itself}");
     assert!(itself.taken_back > 500 && itself.refused[4] == 0, "{itself}");
     assert!(itself.words.iter().all(|count| *count > 10), "{itself}");
 }

@@ -98,12 +98,12 @@ fn the_calls_of_that_time() {
     let mut state = fresh(&[(0, 512, 100), (1, 100, 100)]);
     let put = |lane: u8, length: u64| Call::Put { lane, mark: 7, length };
     for ahead in 0..16 {
-        assert_eq!(old::answer(&mut state, put(0, 50)), Answer::Put(ahead));
+        assert_eq!(old::answer(&mut state, &put(0, 50)), Answer::Put(ahead));
     }
-    assert_eq!(old::answer(&mut state, put(0, 50)), Answer::No(13));
-    assert_eq!(old::answer(&mut state, put(0, 101)), Answer::No(12), "12 before 13");
-    assert_eq!(old::answer(&mut state, put(2, 50)), Answer::No(11));
-    assert_eq!(old::answer(&mut state, put(1, 50)), Answer::Put(0));
+    assert_eq!(old::answer(&mut state, &put(0, 50)), Answer::No(13));
+    assert_eq!(old::answer(&mut state, &put(0, 101)), Answer::No(12), "12 before 13");
+    assert_eq!(old::answer(&mut state, &put(2, 50)), Answer::No(11));
+    assert_eq!(old::answer(&mut state, &put(1, 50)), Answer::Put(0));
 }
 
 #[test]

@@ -137,14 +137,14 @@ fn the_laws_count_charged_bytes() {
     let fresh = framed(64, &lanes);
     assert_eq!((fresh.lanes[0].group, fresh.lanes[1].group), (18, 19));
     let mut fairness = Fairness::new(&fresh);
-    let mut step = |(call, answer)| fairness.step(call, answer);
+    let mut step = |(call, answer): (Call, Answer)| fairness.step(&call, answer);
     step(put(0)).unwrap();
     step(put(1)).unwrap();
     let sent = (0..1_000).position(|_| step(put(1)).is_err() || step(take(1)).is_err());
     assert_eq!(sent, Some(17), "17 x 65 = 1,105 bytes are let pass, and 18 x 65 are not");
     // Compared: 65 x 4,096 for each record, below 4 (2^18 + 2^19) + 2 x 1,024 x 128 = 3,407,872.
     let mut compared = Compared::new(&fresh);
-    let mut step = |(call, answer)| compared.step(call, answer);
+    let mut step = |(call, answer): (Call, Answer)| compared.step(&call, answer);
     step(put(0)).unwrap();
     step(put(1)).unwrap();
     let sent = (0..1_000).position(|_| step(put(1)).is_err() || step(take(1)).is_err());

@@ -20,9 +20,9 @@ fn random_lists() {
         let mut caller = Caller::new(&mut rng);
         for _ in 0..rng.between(1, 400) {
             let call = caller.next(&mut rng, &state);
-            let answer = state.answer(call);
+            let answer = state.answer(&call);
             caller.heard(answer);
-            laws.step(call, answer, &state).unwrap_or_else(|broken| panic!("seed {seed}: {broken}"));
+            laws.step(&call, answer, &state).unwrap_or_else(|broken| panic!("seed {seed}: {broken}"));
             blocked += u32::from(state.sets()[2] != 0);
         }
         laws.end(&state).unwrap_or_else(|broken| panic!("seed {seed}: {broken}"));
@@ -110,11 +110,11 @@ fn one_pass_finds_what_every_stretch_finds() {
         let fresh = fresh(&[(0, 512, 64), (1, 256, 64), (2, 256, 1_500)]);
         let list = unfair(&mut Rng::new(seed), &fresh, 60);
         let mut law = Fairness::new(&fresh);
-        let kept = list.iter().all(|(call, answer)| law.step(*call, *answer).is_ok());
+        let kept = list.iter().all(|(call, answer)| law.step(call, *answer).is_ok());
         assert_eq!(kept, demand_3(&fresh, &list), "seed {seed}");
         demand[usize::from(kept)] += 1;
         let mut law = Compared::new(&fresh);
-        let kept = list.iter().all(|(call, answer)| law.step(*call, *answer).is_ok());
+        let kept = list.iter().all(|(call, answer)| law.step(call, *answer).is_ok());
         assert_eq!(kept, two_lanes_compared(&fresh, &list), "seed {seed}");
         compared[usize::from(kept)] += 1;
     }
@@ -128,11 +128,11 @@ fn by_turns(fresh: &State, takes: usize) -> Result<(), String> {
     let lanes: Vec<u8> = fresh.lanes.iter().map(|lane| lane.plan.number).collect();
     let put = |lane| Call::Put { lane, mark: 0, length: 1_000 };
     for &lane in lanes.iter().chain(&lanes) {
-        compared.step(put(lane), Answer::Put(0))?;
+        compared.step(&put(lane), Answer::Put(0))?;
     }
     for &lane in lanes.iter().cycle().take(takes) {
-        compared.step(Call::Take, Answer::Taken(Taken { lane, train: 0, mark: 0, length: 1_000 }))?;
-        compared.step(put(lane), Answer::Put(1))?;
+        compared.step(&Call::Take, Answer::Taken(Taken { lane, train: 0, mark: 0, length: 1_000 }))?;
+        compared.step(&put(lane), Answer::Put(1))?;
     }
     Ok(())
 }
@@ -155,7 +155,7 @@ fn a_lane_that_runs_dry_ends_the_stretch() {
     let mut compared = Compared::new(&fresh);
     let put = |lane| (Call::Put { lane, mark: 0, length: 1_500 }, Answer::Put(0));
     let take = |lane| (Call::Take, Answer::Taken(Taken { lane, train: 0, mark: 0, length: 1_500 }));
-    let mut step = |(call, answer)| compared.step(call, answer);
+    let mut step = |(call, answer): (Call, Answer)| compared.step(&call, answer);
     step(put(0)).unwrap();
     step(put(1)).unwrap();
     // Lane 1 alone is served, and runs dry each time: no stretch has both busy.
@@ -176,7 +176,7 @@ fn demand_3_is_lost_when_a_lane_is_shut_out() {
     let mut fairness = Fairness::new(&fresh);
     let put = |lane| (Call::Put { lane, mark: 0, length: 1_000 }, Answer::Put(0));
     let take = |lane| (Call::Take, Answer::Taken(Taken { lane, train: 0, mark: 0, length: 1_000 }));
-    let step = |fairness: &mut Fairness, (call, answer)| fairness.step(call, answer);
+    let step = |fairness: &mut Fairness, (call, answer)| fairness.step(&call, answer);
     step(&mut fairness, put(0)).unwrap();
     // Lane 0 waits: fewer than 17,884 bytes of lane 1 may go out.
     for _ in 0..17 {
@@ -192,17 +192,17 @@ fn records_out_of_order_or_invented() {
     let put = |mark| Call::Put { lane: 0, mark, length: 5 };
     let take = |mark, length| Answer::Taken(Taken { lane: 0, train: 0, mark, length });
     let mut order = Order::default();
-    order.step(put(1), Answer::Put(0)).unwrap();
-    order.step(put(2), Answer::Put(1)).unwrap();
-    order.step(put(3), Answer::No(13)).unwrap();
+    order.step(&put(1), Answer::Put(0)).unwrap();
+    order.step(&put(2), Answer::Put(1)).unwrap();
+    order.step(&put(3), Answer::No(13)).unwrap();
     assert!(order.end(&fresh(&[(0, 1, 64)])).is_err(), "two records are lost");
-    assert!(order.step(Call::Restart, Answer::Restarted).is_err());
-    assert!(order.step(Call::Take, take(2, 5)).is_err());
+    assert!(order.step(&Call::Restart, Answer::Restarted).is_err());
+    assert!(order.step(&Call::Take, take(2, 5)).is_err());
 
     let mut order = Order::default();
-    order.step(put(1), Answer::Put(0)).unwrap();
-    assert!(order.step(Call::Take, take(1, 6)).is_err());
-    assert!(order.step(Call::Take, take(1, 5)).is_err(), "handed out twice");
+    order.step(&put(1), Answer::Put(0)).unwrap();
+    assert!(order.step(&Call::Take, take(1, 6)).is_err());
+    assert!(order.step(&Call::Take, take(1, 5)).is_err(), "handed out twice");
 }
 
 #[test]
@@ -212,10 +212,10 @@ fn a_number_ahead_that_is_not_the_lane_s() {
         let mut order = Order::default();
         let mut held = [0; 2];
         for &lane in before {
-            order.step(put(lane), Answer::Put(held[usize::from(lane)])).unwrap();
+            order.step(&put(lane), Answer::Put(held[usize::from(lane)])).unwrap();
             held[usize::from(lane)] += 1;
         }
-        order.step(put(0), Answer::Put(told)).is_ok()
+        order.step(&put(0), Answer::Put(told)).is_ok()
     };
     assert!(told(&[], 0) && !told(&[], 1), "it does not count itself");
     assert!(told(&[0, 1, 0], 2) && !told(&[0, 1, 0], 3), "it does not count other lanes");
@@ -281,11 +281,18 @@ fn beside_itself() -> (State, Endless) {
 fn an_endless_clock_gives_the_same() {
     let (mut state, mut endless) = beside_itself();
     let put = Call::Put { lane: 2, mark: 2, length: 64 };
-    for call in
-        [Call::Sets, put, Call::Lag { lane: 1 }, Call::Sets, Call::Take, Call::Take, put, Call::Restart]
-    {
-        let answer = state.answer(call);
-        endless.step(call, answer, &state).unwrap();
+    for call in [
+        Call::Sets,
+        put.clone(),
+        Call::Lag { lane: 1 },
+        Call::Sets,
+        Call::Take,
+        Call::Take,
+        put,
+        Call::Restart,
+    ] {
+        let answer = state.answer(&call);
+        endless.step(&call, answer, &state).unwrap();
     }
     assert!(state.clock < 1 << 34, "the clock was taken back");
     endless::early(&state).unwrap();
@@ -323,8 +330,8 @@ fn what_an_endless_clock_would_not_give() {
         },
     ];
     let look = |state: &mut State, endless: &mut Endless| {
-        let answer = state.answer(Call::Sets);
-        endless.step(Call::Sets, answer, state)
+        let answer = state.answer(&Call::Sets);
+        endless.step(&Call::Sets, answer, state)
     };
     let (mut state, mut endless) = beside_itself();
     state.lower(off);
@@ -335,6 +342,6 @@ fn what_an_endless_clock_would_not_give() {
         assert!(look(&mut state, &mut endless).is_err(), "{at}");
     }
     let (state, mut endless) = beside_itself();
-    assert!(endless.step(Call::Lag { lane: 1 }, Answer::Lag(1), &state).is_err(), "another answer");
-    assert!(endless.step(Call::Lag { lane: 1 }, Answer::No(14), &state).is_err(), "a refusal");
+    assert!(endless.step(&Call::Lag { lane: 1 }, Answer::Lag(1), &state).is_err(), "another answer");
+    assert!(endless.step(&Call::Lag { lane: 1 }, Answer::No(14), &state).is_err(), "a refusal");
 }

@@ -50,6 +50,9 @@ const SESSION: &[(usize, u64)] = &[
     (1_383, 0),
     (1_398, 1),
     (1_399, 1),
+    // No page was taken, and none waits.
+    (7_936, 0),
+    (7_937, 0),
 ];
 
 /// The rings of the two lists, 192 and 224: one lane in each, at place 63 where a first place of all ones leads.
@@ -320,7 +323,7 @@ fn a_good_table_of_other_origin_may_lead_to_one_that_is_not() {
     [0, 81, 85].iter().for_each(|at| layout::set_word(&mut bytes, *at, last));
     slots::write(&layout::read(&bytes).state.expect("contents"), &mut bytes);
     let mut state = layout::read(&bytes).good().expect("a good table");
-    assert_eq!(state.answer(Call::Take).to_string(), "take 0 1 1000");
+    assert_eq!(state.answer(&Call::Take).to_string(), "take 0 1 1000");
     layout::write(&state, &mut bytes);
     assert_eq!(layout::read(&bytes).broken, [Clause::Clock]);
 }

@@ -143,8 +143,8 @@ fn as_far_apart_as_two_trains_come() {
     let mut state = fresh.clone();
     let mut law = trains::Even::new(&fresh);
     let mut step = |state: &mut State, call: Call| {
-        let answer = state.answer(call);
-        law.step(call, answer).unwrap();
+        let answer = state.answer(&call);
+        law.step(&call, answer).unwrap();
         answer
     };
     for (train, length) in puts {
@@ -168,14 +168,14 @@ fn trains_that_are_too_far_apart() {
     let mut law = trains::Even::new(&fresh_shared(&[(0, 512, 64)]));
     let put = |train| Call::PutTrain { lane: 0, train, mark: 1, length: 64 };
     let taken = |train, length| Answer::Taken(Taken { lane: 0, train, mark: 1, length });
-    law.step(put(0), Answer::Put(0)).unwrap();
+    law.step(&put(0), Answer::Put(0)).unwrap();
     for ahead in 0..4 {
-        law.step(put(1), Answer::Put(ahead)).unwrap();
+        law.step(&put(1), Answer::Put(ahead)).unwrap();
     }
     for length in [64, 64, 62] {
-        law.step(Call::Take, taken(1, length)).unwrap();
+        law.step(&Call::Take, taken(1, length)).unwrap();
     }
-    assert!(law.step(Call::Take, taken(1, 1)).is_err(), "191 bytes while train 0 waits");
+    assert!(law.step(&Call::Take, taken(1, 1)).is_err(), "191 bytes while train 0 waits");
 }
 
 #[test]
@@ -185,17 +185,17 @@ fn order_by_train() {
     let begun = || {
         let mut order = Order::default();
         for (train, mark, ahead) in [(0, 1, 0), (1, 2, 0), (0, 3, 1)] {
-            order.step(put(train, mark), Answer::Put(ahead)).unwrap();
+            order.step(&put(train, mark), Answer::Put(ahead)).unwrap();
         }
         order
     };
     let mut order = begun();
     for answer in [taken(1, 2), taken(0, 1), taken(0, 3)] {
-        order.step(Call::Take, answer).unwrap();
+        order.step(&Call::Take, answer).unwrap();
     }
-    assert!(begun().step(Call::Take, taken(0, 3)).is_err(), "out of the train's order");
-    assert!(begun().step(Call::Take, taken(1, 1)).is_err(), "another train's record");
-    assert!(begun().step(put(1, 4), Answer::Put(3)).is_err(), "the lane's number in place of the train's");
+    assert!(begun().step(&Call::Take, taken(0, 3)).is_err(), "out of the train's order");
+    assert!(begun().step(&Call::Take, taken(1, 1)).is_err(), "another train's record");
+    assert!(begun().step(&put(1, 4), Answer::Put(3)).is_err(), "the lane's number in place of the train's");
 }
 
 #[test]

@@ -14,6 +14,7 @@ mod journal;
 #[cfg(test)]
 mod noise;
 mod page;
+mod pages;
 mod picture;
 mod plans;
 mod script;

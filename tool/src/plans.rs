@@ -1,9 +1,10 @@
-//! Plans of lanes, read from whatever holds one: a sheet, a setup, a session or a session's text.
+//! Plans of lanes, read from whatever holds one: a sheet, a setup, a settings page, a session or a session's text.
 
 use crate::args::Args;
 use crate::fault::Fault;
 use crate::fields::setup_of;
 use crate::files::Input;
+use crate::pages;
 use crate::script;
 use crate::text::digits;
 use zenfrosta::{Plan, PlanLane, Refusal};
@@ -11,9 +12,10 @@ use zenfrosta::{Plan, PlanLane, Refusal};
 /// The options that edit a plan, for `setup` and `sheet`.
 pub const EDITS: &[&str] = &["--format", "--framing", "--lane", "--remove", "--output"];
 
-/// What an input is, by its first byte: bytes begin with the tag 01, and a line of a sheet begins with a digit.
+/// What an input is, by its first byte: bytes begin with the tag 01, a page with the tag 40, and a line of a sheet begins with a digit.
 pub enum Kind {
     Bytes,
+    Page,
     Sheet,
     Text,
 }
@@ -21,6 +23,7 @@ pub enum Kind {
 pub fn kind(bytes: &[u8]) -> Kind {
     match bytes.first() {
         Some(0x01) => Kind::Bytes,
+        Some(0x40) => Kind::Page,
         Some(b'0'..=b'9') => Kind::Sheet,
         _ => Kind::Text,
     }
@@ -48,6 +51,7 @@ pub fn read(input: &Input) -> Result<Plan, Fault> {
     let place = |refusal: &Refusal| refusal.place.unwrap_or(0) as usize;
     match kind(&input.bytes) {
         Kind::Bytes => Plan::from_setup(setup_of(&input.bytes)).map_err(|refusal| at_byte(input, refusal)),
+        Kind::Page => pages::read(input).map(|page| page.plan),
         Kind::Sheet => Plan::from_sheet(&input.bytes)
             .map_err(|refusal| input.text_fault(place(&refusal), words(refusal))),
         Kind::Text => {

@@ -23,6 +23,7 @@ impl Session {
                     "a session begins with 'format', 'lane' or a comment; this looks like a sheet",
                 ))
             }
+            Kind::Page => return Err(input.fault("a settings page, and no session")),
             Kind::Text => Some(script::read(&input)?),
         };
         Ok(Session { input, said })

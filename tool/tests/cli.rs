@@ -88,7 +88,9 @@ fn what_it_prints() {
 #[test]
 fn help_and_version() {
     let help = fine(&["--help"], b"").text().to_string();
-    for command in ["plan", "setup", "sheet", "session", "run", "picture", "table", "board", "explain"] {
+    for command in
+        ["plan", "setup", "sheet", "page", "session", "run", "picture", "table", "board", "explain"]
+    {
         assert!(help.contains(&format!("\n  {command} ")), "{command}");
         let own = fine(&[command, "--help"], b"").text().to_string();
         assert!(own.starts_with(&format!("zenfrosta {command} ")), "{command}");
@@ -308,6 +310,66 @@ fn pictures() {
     let cut = tool(&["picture"], b"lane 0 5\nput 0 1 9\ntake\ncut");
     assert_eq!((cut.status, cut.said.contains("refused with 1")), (1, true));
     elements(cut.text());
+}
+
+#[test]
+fn pages() {
+    let sheet = b"0 512 1500\n1 256 576\n";
+    let page = fine(&["page", "--edition", "7"], sheet).out;
+    assert_eq!(&page[..8], [0x40, 0, 2, 0, 7, 0x41, 0, 24]);
+    let hex = fine(&["page", "--edition=7", "--hex"], sheet);
+    assert!(hex.text().starts_with("40 0002 0007              # edition 7\n41 0018"), "{}", hex.text());
+    assert!(hex.text().ends_with("7F 0000                   # the page's end\n"), "{}", hex.text());
+    // A page is shown, and its plan goes on as one.
+    let shown = fine(&["page"], &page);
+    let plan = fine(&["plan"], sheet);
+    assert_eq!(shown.text(), format!("a settings page of edition 7\n{}", plan.text()));
+    assert_eq!(fine(&["plan"], &page).out, plan.out);
+    assert_eq!(fine(&["sheet"], &page).out, sheet);
+    let next = fine(&["page", "--edition", "300", "--remove", "1"], &page).out;
+    assert_eq!(fine(&["sheet"], &next).out, b"0 512 1500\n");
+    let none = fine(&["page"], &fine(&["page", "--edition", "0"], sheet).out);
+    assert!(none.text().contains("every unit refuses it with 60"), "{}", none.text());
+    let newer = [&page[..5], &[0xC0, 0, 2, 1, 2], &page[5..]].concat();
+    assert!(fine(&["page"], &newer).text().contains("field C0 of 2 bytes, which units of today skip\n"));
+    // Places count from the page's first byte.
+    let mut wrong = page.clone();
+    wrong[17] = 9;
+    let done = tool(&["page"], &wrong);
+    assert!(done.said.starts_with("standard input: byte 17: refused with 52: "), "{}", done.said);
+    assert_eq!(done.status, 1);
+    refused(
+        &["page", "--edition", "65536"],
+        "",
+        2,
+        "zenfrosta: page: --edition is '65536', and not a number from 0 to 65535 ('zenfrosta page --help' says how)",
+    );
+}
+
+#[test]
+fn pages_offered_to_a_table() {
+    let (table, after) = (file("offer.table", b""), file("offered.table", b""));
+    fine(&["run", "--table", &table, "-"], b"lane 0 512 1500\nlane 1 256 1500\nput 0 1 1000");
+    let page = |edition: &str| fine(&["page", "--edition", edition], b"0 64 200\n5 128 300\n").out;
+    let offer = |table: &str, edition: &str| fine(&["page", "--table", table, "-o", &after], &page(edition));
+    assert_eq!(offer(&table, "7").text(), "waits until no record is held; last edition 0, edition 7 waits\n");
+    let shown = fine(&["table", &after], b"");
+    assert!(shown.text().contains("\nsettings pages: last edition 0, edition 7 waits\n"), "{}", shown.text());
+    let old = tool(&["page", "--table", &after], &page("7"));
+    assert!(
+        old.said.starts_with("standard input: refused with 60: the edition is not above"),
+        "{}",
+        old.said
+    );
+    fine(&["run", "--table", &table, "-"], b"lane 0 512 1500");
+    assert_eq!(offer(&table, "7").text(), "in force; last edition 7\n");
+    let shown = fine(&["table", &after], b"");
+    assert!(shown.text().contains("a good table of 2 lanes"), "{}", shown.text());
+    let text = file("no.table", b"lane");
+    let done = tool(&["page", "--table", &text], &page("8"));
+    assert!(done.said.contains("4 bytes, and a table has 65,536"), "{}", done.said);
+    let both = tool(&["page", "--table", &text, "--edition", "8"], b"");
+    assert_eq!(both.status, 2);
 }
 
 #[test]

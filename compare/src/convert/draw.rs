@@ -34,7 +34,7 @@ pub fn called(rng: &mut Rng) -> State {
     let mut caller = Caller::new(rng);
     for _ in 0..rng.below(CALLS) {
         let call = caller.next(rng, &state);
-        caller.heard(old::answer(&mut state, call));
+        caller.heard(old::answer(&mut state, &call));
     }
     state
 }

@@ -60,9 +60,9 @@ pub enum Slip {
 /// Every slip.
 pub fn slips() -> Vec<Slip> {
     use Slip::*;
-    let old = CLAUSES
-        .iter()
-        .filter(|clause| !matches!(clause, Clause::Depth | Clause::Places) && !clause.of_trains());
+    let old = CLAUSES.iter().filter(|clause| {
+        !matches!(clause, Clause::Depth | Clause::Places) && !clause.of_trains() && !clause.of_pages()
+    });
     let others = [
         ClockStrict,
         RecordsStrict,

@@ -66,7 +66,7 @@ impl<'a, U: Unit> Drive<'a, U> {
     }
 
     fn call(&mut self, call: Call) -> Result<Answer, Found> {
-        let (expected, answer) = (self.state.answer(call), self.unit.answer(&mut self.table, call));
+        let (expected, answer) = (self.state.answer(&call), self.unit.answer(&mut self.table, &call));
         self.tally.calls += 1;
         let (calls, clock) = (self.tally.calls, self.state.clock);
         let found = |what: String| {
@@ -75,7 +75,7 @@ impl<'a, U: Unit> Drive<'a, U> {
         if answer != expected {
             return Err(found(format!("at V = {clock}: {call} gave {answer}, the rules say {expected}")));
         }
-        self.endless.answers(call, answer).map_err(found)?;
+        self.endless.answers(&call, answer).map_err(found)?;
         endless::early(&self.state).map_err(found)?;
         if call.only_reads() {
             self.endless.beside(&self.state).map_err(found)?;

@@ -101,8 +101,8 @@ fn same_contents<U: Unit>(
     calls.extend((0..=held).map(|_| Call::Take));
     calls.extend(look_around(&state));
     for call in calls {
-        let expected = state.answer(call);
-        let answer = unit.answer(table.bytes(), call);
+        let expected = state.answer(&call);
+        let answer = unit.answer(table.bytes(), &call);
         tally.shown += 1;
         if answer != expected {
             return Err(format!("then {call}: the unit gave {answer}, the rules {expected}"));

@@ -37,12 +37,14 @@ pub fn case<U: Unit>(unit: &mut U, rng: &mut Rng, tally: &mut Tally) -> Result<(
     tally.closest = tally.closest.max(list.laws.fairness.closest);
     tally.pair_ends += list.laws.compared.checked;
     tally.closest_pair = tally.closest_pair.max(list.laws.compared.closest);
+    tally.changes += list.laws.editions.changes;
+    tally.changes_by_take += list.laws.editions.by_take;
     tally.train_ends += list.laws.trains.checked;
     tally.closest_trains = tally.closest_trains.max(list.laws.trains.closest);
     let (mut calls, unit) = (list.calls, list.unit);
     result.map_err(|what| {
         let mut differs = |calls: &[Call]| replay(unit, &bytes, &fresh, lifts, calls);
-        let short = shrink::list(calls.iter().map(|(call, _)| *call).collect(), &mut differs);
+        let short = shrink::list(calls.iter().map(|(call, _)| call.clone()).collect(), &mut differs);
         let what = match short {
             Some((list, what)) => {
                 calls = list;
@@ -70,7 +72,7 @@ fn replay<U: Unit>(
     unit.make(setup, table.bytes()).ok()?;
     let mut list = List::new(unit, table, fresh.clone(), lifts);
     let mut tally = Tally::default();
-    let differs = calls.iter().find_map(|call| list.call(*call, &mut tally).err());
+    let differs = calls.iter().find_map(|call| list.call(call.clone(), &mut tally).err());
     let differs = differs.or_else(|| list.laws.end(&list.state).err()).or_else(|| list.contents().err());
     let differs = differs.or_else(|| list.shown(&mut Tally::default()).err());
     differs.map(|what| (list.calls, what))
@@ -173,10 +175,10 @@ impl<U: Unit> List<'_, U> {
             1..=9 => rng.between(1, 40),
             _ => rng.between(1, 1_500),
         };
-        let mut caller = Caller::new(rng);
+        let mut caller = Caller::offering(rng);
         for _ in 0..length {
             let call = caller.next(rng, &self.state);
-            caller.heard(self.call(call, tally)?);
+            caller.heard(self.call(call.clone(), tally)?);
             if rng.once_in(200) {
                 self.table = self.table.moved(rng);
             }
@@ -191,12 +193,12 @@ impl<U: Unit> List<'_, U> {
     fn call(&mut self, call: Call, tally: &mut Tally) -> Result<Answer, String> {
         self.lift()?;
         let back = self.state.back;
-        let expected = self.state.answer(call);
-        tally.taken_back += u64::from(self.state.back > back && !matches!(call, Call::Restart));
-        self.calls.push((call, expected));
+        let expected = self.state.answer(&call);
+        tally.taken_back += u64::from(self.state.back > back && call.put().is_some());
+        self.calls.push((call.clone(), expected));
         let stays = call.only_reads() || expected.refused();
         let before = stays.then(|| self.table.copy());
-        let answer = self.unit.answer(self.table.bytes(), call);
+        let answer = self.unit.answer(self.table.bytes(), &call);
         if answer != expected {
             return Err(format!("the unit's answer to the last call: {answer}"));
         }
@@ -205,7 +207,7 @@ impl<U: Unit> List<'_, U> {
         }
         self.table.guarded()?;
         tally.call(answer);
-        self.laws.step(call, answer, &self.state)?;
+        self.laws.step(&call, answer, &self.state)?;
         Ok(answer)
     }
 
@@ -214,7 +216,7 @@ impl<U: Unit> List<'_, U> {
         let before = self.table.copy();
         let size = self.unit.table_size();
         let length = if rng.once_in(2) { size - 1 } else { rng.index(size) };
-        let answer = self.unit.answer(self.table.short(length), call);
+        let answer = self.unit.answer(self.table.short(length), &call);
         if answer != Answer::No(refusal::NOT_GOOD) {
             return Err(format!("{call} on the table's first {length} bytes gave: {answer}"));
         }
@@ -236,6 +238,7 @@ impl<U: Unit> List<'_, U> {
         if rng.once_in(2) {
             return Ok(());
         }
+        // The page that waits, if one does, comes into force here.
         while self.call(Call::Take, tally)? != Answer::No(refusal::NOTHING_HELD) {
             if rng.once_in(8) {
                 self.call(Call::Sets, tally)?;

@@ -18,6 +18,11 @@ pub struct Tally {
     pub asked: u64,
     /// Calls refused, by the refusal's last digit: 0 for 10, up to 6 for 16. 14 is not given any more.
     pub refused: [u64; 7],
+    /// Pages offered: those in force at once, those that wait, refused by 60, and not read.
+    pub offers: [u64; 4],
+    /// Changes of setup, and how many of them a take brought.
+    pub changes: u64,
+    pub changes_by_take: u64,
     /// Puts refused by 70 and by 71.
     pub refused_trains: [u64; 2],
     /// Puts that took the clock back, in the lists and on tables that no call made.
@@ -35,7 +40,7 @@ pub struct Tally {
     /// Tables that no call made, how many of them were good, and how many broke each clause of "A good table" and no other.
     pub tables: u64,
     pub tables_good: u64,
-    pub broken_alone: [u64; CLAUSES.len()],
+    pub broken_alone: Vec<u64>,
     /// Calls on them, and how many good tables a call made into one that is not.
     pub table_calls: u64,
     pub tables_lost: u64,
@@ -59,6 +64,10 @@ impl Tally {
         self.calls += 1;
         match answer {
             Answer::No(number @ 10..=16) => self.refused[usize::from(number) - 10] += 1,
+            Answer::InForce => self.offers[0] += 1,
+            Answer::Waits => self.offers[1] += 1,
+            Answer::No(60) => self.offers[2] += 1,
+            Answer::Unread(_) => self.offers[3] += 1,
             Answer::No(number @ 70..=71) => self.refused_trains[usize::from(number) - 70] += 1,
             Answer::Taken(taken) => {
                 self.taken += 1;
@@ -77,6 +86,7 @@ impl Tally {
     pub fn table(&mut self, reading: &Reading) {
         self.tables += 1;
         self.tables_good += u64::from(reading.broken.is_empty());
+        self.broken_alone.resize(CLAUSES.len(), 0);
         for (count, clause) in self.broken_alone.iter_mut().zip(CLAUSES) {
             *count += u64::from(reading.broken == [*clause]);
         }
@@ -131,6 +141,12 @@ impl Tally {
             .map(|(number, n)| format!("{number}: {n}"))
             .collect();
         write!(f, "\n  calls refused by {}", refused.join(", "))?;
+        let [now, waits, old, unread] = self.offers;
+        write!(
+            f,
+            "\n  pages offered: {now} in force at once, {waits} that wait, {old} refused by 60, {unread} by the reader; {} changes of setup, {} by a take",
+            self.changes, self.changes_by_take
+        )?;
         write!(
             f,
             "\n  the clock taken back {} times; every answer that of an endless clock",
@@ -181,7 +197,7 @@ impl Tally {
             self.tables_lost
         )?;
         let alone: Vec<String> =
-            CLAUSES.iter().zip(self.broken_alone).map(|(clause, n)| format!("{clause:?} {n}")).collect();
+            CLAUSES.iter().zip(&self.broken_alone).map(|(clause, n)| format!("{clause:?} {n}")).collect();
         write!(f, "\n  those that break one clause alone: {}", alone.join(", "))
     }
 }

@@ -34,5 +34,10 @@ pub fn list(calls: Vec<Call>, differs: &mut impl FnMut(&[Call]) -> Option<Replay
 
 fn without<T>(calls: &[(Call, T)], from: usize, part: usize) -> Vec<Call> {
     let left_out = from..from + part;
-    calls.iter().enumerate().filter(|(at, _)| !left_out.contains(at)).map(|(_, (call, _))| *call).collect()
+    calls
+        .iter()
+        .enumerate()
+        .filter(|(at, _)| !left_out.contains(at))
+        .map(|(_, (call, _))| call.clone())
+        .collect()
 }

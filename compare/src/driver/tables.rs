@@ -7,7 +7,7 @@
 use super::lent::Lent;
 use super::report::{Found, Tally};
 use crate::calls::{Answer, Call};
-use crate::gen::{caller::Caller, setups, tables};
+use crate::gen::{caller::Caller, offers, setups, tables};
 use crate::laws::endless::Endless;
 use crate::layout::{self, Reading, NOW};
 use crate::numbers::refusal;
@@ -50,11 +50,11 @@ fn made<U: Unit>(unit: &mut U, rng: &mut Rng) -> Result<Vec<u8>, Found> {
     let mut state = State::fresh(&setup);
     unit.make(&setups::bytes(rng, &setup), &mut bytes)
         .map_err(|fault| Found::new(format!("a valid setup gave {fault}"), vec![]))?;
-    let mut caller = Caller::new(rng);
+    let mut caller = Caller::offering(rng);
     for _ in 0..rng.below(120) {
         let call = caller.next(rng, &state);
-        caller.heard(state.answer(call));
-        unit.answer(&mut bytes, call);
+        caller.heard(state.answer(&call));
+        unit.answer(&mut bytes, &call);
     }
     match layout::read(&bytes).good() {
         Some(read) if read.alike(&state) && read.back == state.back => Ok(bytes),
@@ -117,7 +117,11 @@ impl<U: Unit> Table<'_, U> {
         let length = rng.pick(&[1, 64, longest, longest, longest + 1, 0]);
         let train = rng.pick(&[0, 0, 1, 2, 3, 4, 5, 6, 7, 8, any]);
         let mark = rng.word() as u32;
+        let state = self.reading.state.clone();
+        let state = state.unwrap_or_else(|| State::fresh(&setups::setup(rng)));
         vec![
+            offers::offer(rng, &state),
+            offers::offer(rng, &state),
             Call::Put { lane, mark: rng.word() as u32, length },
             Call::Put { lane: own, mark: rng.word() as u32, length: longest.max(1) },
             Call::PutTrain { lane, train, mark, length },
@@ -135,11 +139,11 @@ impl<U: Unit> Table<'_, U> {
     fn call(&mut self, call: Call, reading: &Reading) -> Result<Reading, String> {
         let mut state = reading.clone().good();
         let back = state.as_ref().map(|state| state.back);
-        let expected = state.as_mut().map_or(Answer::No(refusal::NOT_GOOD), |state| state.answer(call));
+        let expected = state.as_mut().map_or(Answer::No(refusal::NOT_GOOD), |state| state.answer(&call));
         let taken_back = call.put().is_some() && state.as_ref().map(|state| state.back) != back;
         self.tally.tables_taken_back += u64::from(taken_back);
         let before = self.lent.copy();
-        let answer = self.unit.answer(self.lent.bytes(), call);
+        let answer = self.unit.answer(self.lent.bytes(), &call);
         self.tally.table_call();
         self.last = answer;
         if answer != expected {
@@ -170,8 +174,9 @@ impl<U: Unit> Table<'_, U> {
     fn shown(&mut self) -> Result<(), String> {
         self.lay();
         let state = self.reading.clone().good();
-        let asks =
-            state.as_ref().map_or(vec![Ask::Clock, Ask::Lane(0), Ask::TrainRecord(0, 0, 0)], shown::all);
+        let asks = state
+            .as_ref()
+            .map_or(vec![Ask::Clock, Ask::Edition, Ask::Lane(0), Ask::TrainRecord(0, 0, 0)], shown::all);
         for ask in asks {
             let Some(answer) = self.unit.show(self.lent.bytes(), ask) else { return Ok(()) };
             let expected = state.as_ref().map_or(Err(refusal::NOT_GOOD), |state| shown::shown(state, ask));
@@ -189,19 +194,19 @@ impl<U: Unit> Table<'_, U> {
 
     /// Calls one after another, as long as the table is good and at most once more.
     fn walk(&mut self, rng: &mut Rng) -> Result<(), String> {
-        let mut caller = Caller::new(rng);
+        let mut caller = Caller::offering(rng);
         let mut reading = self.reading.clone();
         let mut endless = reading.state.as_ref().map(Endless::new);
         for _ in 0..rng.below(WALK + 1) {
             let Some(state) = &reading.state else { return Ok(()) };
             let call = caller.next(rng, state);
             let good = reading.broken.is_empty();
-            reading = self.call(call, &reading)?;
+            reading = self.call(call.clone(), &reading)?;
             if !good {
                 return Ok(());
             }
             if let (Some(endless), Some(after)) = (&mut endless, &reading.state) {
-                endless.step(call, self.last, after)?;
+                endless.step(&call, self.last, after)?;
             }
             self.tally.tables_lost += u64::from(!reading.broken.is_empty());
         }
@@ -213,7 +218,7 @@ impl<U: Unit> Table<'_, U> {
         let length = if rng.once_in(2) { layout::TABLE_SIZE - 1 } else { rng.index(layout::TABLE_SIZE) };
         self.lay();
         for call in self.each_call(rng) {
-            let answer = self.unit.answer(self.lent.short(length), call);
+            let answer = self.unit.answer(self.lent.short(length), &call);
             self.tally.table_call();
             if answer != Answer::No(refusal::NOT_GOOD) {
                 return Err(format!("{call} on the table's first {length} bytes gave {answer}"));

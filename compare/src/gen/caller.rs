@@ -1,6 +1,7 @@
 //! Lists of calls. A caller has a mood for a while (a burst of puts, a drain, a steady load, ...) and then takes
 //! up another; calls that must be refused and calls that only look are strewn in.
 
+use super::offers;
 use crate::calls::{Answer, Call};
 use crate::numbers::{DEPTH, TRAINS, TRAIN_DEPTH};
 use crate::rng::Rng;
@@ -58,6 +59,8 @@ pub struct Caller {
     trains: Vec<u8>,
     same_marks: bool,
     mark: u32,
+    /// Of so many calls about one offers a page.
+    offers: Option<u64>,
     last: Option<Answer>,
 }
 
@@ -73,8 +76,15 @@ impl Caller {
             trains: vec![0],
             same_marks,
             mark,
+            offers: None,
             last: None,
         }
+    }
+
+    /// A caller that offers pages, too: now and then, often, or in half of the lists not at all.
+    pub fn offering(rng: &mut Rng) -> Caller {
+        let offers = rng.pick(&[None, None, Some(12), Some(60), Some(300)]);
+        Caller { offers, ..Caller::new(rng) }
     }
 
     /// The answer to the last call, which the steady mood goes by.
@@ -87,6 +97,9 @@ impl Caller {
             self.turn(rng, state);
         }
         self.left -= 1;
+        if self.offers.is_some_and(|every| rng.once_in(every)) {
+            return offers::offer(rng, state);
+        }
         match rng.below(40) {
             0 => return Call::Look,
             1 | 2 => return Call::Sets,
@@ -110,9 +123,12 @@ impl Caller {
     }
 
     fn turn(&mut self, rng: &mut Rng, state: &State) {
-        self.mood = rng.pick(MOODS);
+        // A page that waits should come into force now and then.
+        let settles = state.page.is_some() && rng.once_in(3);
+        self.mood = if settles { Mood::Drain } else { rng.pick(MOODS) };
         self.left = match self.mood {
             Mood::Late => rng.between(100, 800),
+            _ if settles => state.lanes.iter().map(|lane| lane.waiting.len() as u64).sum::<u64>() + 8,
             _ if rng.once_in(3) => rng.between(1, 8),
             _ => rng.between(1, 160),
         };
@@ -208,6 +224,8 @@ impl Caller {
 
     /// A put for this train, or for one that the caller likes.
     fn put_for(&mut self, rng: &mut Rng, state: &State, lane: u8, train: Option<u8>) -> Call {
+        // Another setup may be in force since the mood began.
+        let lane = state.lane(lane).map_or_else(|| own_lane(rng, state), |lane| lane.plan.number);
         let longest = u64::from(state.lane(lane).expect("a lane of the setup").plan.longest);
         let length = match self.lengths {
             Lengths::One => 1,

@@ -24,6 +24,7 @@ pub fn request(call: Call) -> Vec<u8> {
         Call::Sets => vec![SETS, 0, 0],
         Call::Lag { lane } => vec![LAG, 0, 1, lane],
         Call::Restart => vec![RESTART, 0, 0],
+        Call::Offer(_) => unreachable!("offering is no request"),
     }
 }
 
@@ -35,7 +36,7 @@ pub fn fields(rng: &mut Rng, count: usize) -> Vec<Vec<u8>> {
     let mut caller = Caller::new(rng);
     for _ in 0..count {
         let call = caller.next(rng, &state);
-        caller.heard(state.answer(call));
+        caller.heard(state.answer(&call));
         fields.push(request(call));
     }
     fields.push(vec![END, 0, 0]);

@@ -1,8 +1,9 @@
 //! Tables that no call made: contents at the edges of "A good table", words and bits changed, and noise; in today's layout or in the one before it.
 
-use super::{setups, trains};
+use super::{offers, setups, trains};
 use crate::layout::*;
 use crate::numbers::*;
+use crate::pages::Page;
 use crate::rng::Rng;
 use crate::rules::{taken_off, Lane, Record, State, Waiting};
 use crate::setup::LanePlan;
@@ -51,7 +52,23 @@ pub fn laid(rng: &mut Rng, form: &Form) -> Vec<u8> {
         }
     }
     let back = back(rng);
-    written(rng, form, &State::of(clock, framing, lanes, back))
+    let mut state = State::of(clock, framing, lanes, back);
+    if form.pages {
+        lay_page(rng, &mut state);
+    }
+    written(rng, form, &state)
+}
+
+/// An edition that was taken, and mostly where a record is held a page that waits.
+fn lay_page(rng: &mut Rng, state: &mut State) {
+    let any = rng.below(65_536) as u16;
+    state.edition = rng.pick(&[0, 0, 1, 65_534, 65_535, any]);
+    let held = state.holding().next().is_some();
+    if rng.once_in(if held { 2 } else { 24 }) {
+        let (above, any) =
+            (state.edition.saturating_add(1), state.edition.saturating_add(rng.below(65_536) as u16));
+        state.page = Some(Page { edition: rng.pick(&[above, any, 65_535]), setup: setups::setup(rng) });
+    }
 }
 
 /// The clock was taken back by some multiple of 2^31, or never.
@@ -138,6 +155,9 @@ pub fn held(rng: &mut Rng, longest: u64) -> Record {
 
 /// One fault or change, told in words; some leave the table good, or even as it was.
 pub fn damage(rng: &mut Rng, form: &Form, bytes: &mut [u8]) -> String {
+    if form.pages && rng.once_in(6) {
+        return offers::damage(rng, bytes);
+    }
     if rng.once_in(3) {
         return super::slots::damage(rng, bytes);
     }
@@ -322,7 +342,9 @@ fn field_of_setting(rng: &mut Rng, setting: u64) -> u64 {
     let mask = (1 << width) - 1;
     let value = setting >> at & mask;
     let edges = [0, 1, 15, 16, 31, 32, 63, 64, 65, 1_024, 1_025, 1_500, 1_501, 1 << 20, mask];
-    let new = match rng.below(4) {
+    let new = match rng.below(5) {
+        // A weight of 0 is the one that breaks no other clause.
+        4 => 0,
         0 => rng.pick(&edges),
         1 => value + 1,
         2 => value.wrapping_sub(1),

@@ -46,7 +46,7 @@ pub fn damage(rng: &mut Rng, form: &Form, bytes: &mut [u8], lane: u8) -> String 
     let longest = (word(bytes, setting(lane)) & 0xFFFF) as u32;
     let place = place_of(train, first.into());
     let length = (form.record)(bytes, lane, place).length.min(65_536) as u32;
-    let new = match rng.below(12) {
+    let new = match rng.below(14) {
         // The deficit at each edge.
         0..=3 => {
             let twice = 2 * longest.max(1);
@@ -55,7 +55,7 @@ pub fn damage(rng: &mut Rng, form: &Form, bytes: &mut [u8], lane: u8) -> String 
             number_of(first, count, rng.pick(&edges))
         }
         // How many records, with or without the row.
-        4 => {
+        4 | 12 | 13 => {
             let other = rng.pick(&[0, 1, 7, 8, 9, 9, 9, 9, 15, count + 1, count.saturating_sub(1)]) % 16;
             if !rng.once_in(4) {
                 let row = word(bytes, ring(lane));

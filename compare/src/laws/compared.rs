@@ -49,10 +49,15 @@ impl Compared {
         Compared { lanes, framing: fresh.framing, least, margins: 2 * margin, closest: 0, checked: 0 }
     }
 
-    pub fn step(&mut self, call: Call, answer: Answer) -> Result<(), String> {
+    /// The stretches by the setup that came into force behind these, with the counts so far.
+    pub fn after(fresh: &State, before: &Compared) -> Compared {
+        Compared { closest: before.closest, checked: before.checked, ..Compared::new(fresh) }
+    }
+
+    pub fn step(&mut self, call: &Call, answer: Answer) -> Result<(), String> {
         match (call, answer) {
             (Call::Put { lane, .. } | Call::PutTrain { lane, .. }, Answer::Put(_)) => {
-                let at = self.at(lane)?;
+                let at = self.at(*lane)?;
                 self.lanes[at].held += 1;
                 if self.lanes[at].held == 1 {
                     self.begins(at);

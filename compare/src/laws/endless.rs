@@ -16,12 +16,12 @@ impl Endless {
     }
 
     /// One more call, its answer, and the table's contents after it.
-    pub fn step(&mut self, call: Call, answer: Answer, after: &State) -> Result<(), String> {
+    pub fn step(&mut self, call: &Call, answer: Answer, after: &State) -> Result<(), String> {
         self.answers(call, answer)?;
         self.beside(after)
     }
 
-    pub fn answers(&mut self, call: Call, answer: Answer) -> Result<(), String> {
+    pub fn answers(&mut self, call: &Call, answer: Answer) -> Result<(), String> {
         let endless = self.twin.answer_endless(call);
         if answer != endless {
             return Err(format!("{call} gave {answer}, where an endless clock gives {endless}"));

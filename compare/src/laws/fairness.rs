@@ -55,10 +55,15 @@ impl Fairness {
         Fairness { lanes, framing: fresh.framing, margin, closest: 0, checked: 0 }
     }
 
-    pub fn step(&mut self, call: Call, answer: Answer) -> Result<(), String> {
+    /// The stretches by the setup that came into force behind these, with the counts so far.
+    pub fn after(fresh: &State, before: &Fairness) -> Fairness {
+        Fairness { closest: before.closest, checked: before.checked, ..Fairness::new(fresh) }
+    }
+
+    pub fn step(&mut self, call: &Call, answer: Answer) -> Result<(), String> {
         match (call, answer) {
             (Call::Put { lane, .. } | Call::PutTrain { lane, .. }, Answer::Put(_)) => {
-                let watch = self.lanes.iter_mut().find(|watch| watch.number == lane);
+                let watch = self.lanes.iter_mut().find(|watch| watch.number == *lane);
                 let watch = watch.ok_or("a put to a lane that is not in the setup was accepted")?;
                 watch.held += 1;
                 if watch.held == 1 {

@@ -13,7 +13,7 @@ pub struct Order {
 }
 
 impl Order {
-    pub fn step(&mut self, call: Call, answer: Answer) -> Result<(), String> {
+    pub fn step(&mut self, call: &Call, answer: Answer) -> Result<(), String> {
         if let (Some((lane, train, mark, length)), Answer::Put(told)) = (call.put(), answer) {
             let waiting = self.waiting.entry((lane, train)).or_default();
             let ahead = waiting.len() as u64;

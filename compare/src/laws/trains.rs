@@ -46,7 +46,12 @@ impl Even {
         Even { lanes, closest: 0, checked: 0 }
     }
 
-    pub fn step(&mut self, call: Call, answer: Answer) -> Result<(), String> {
+    /// The stretches by the setup that came into force behind these, with the counts so far.
+    pub fn after(fresh: &State, before: &Even) -> Even {
+        Even { closest: before.closest, checked: before.checked, ..Even::new(fresh) }
+    }
+
+    pub fn step(&mut self, call: &Call, answer: Answer) -> Result<(), String> {
         match (call.put(), answer) {
             (Some((lane, train, ..)), Answer::Put(_)) => {
                 let Some(watch) = self.lanes.iter_mut().find(|watch| watch.number == lane) else {

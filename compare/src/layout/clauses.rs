@@ -60,6 +60,16 @@ pub enum Clause {
     Lists,
     /// The stored start of a group is the least R of its lanes.
     Starts,
+    /// The edition last taken has two bytes,
+    LastEdition,
+    /// and so has that of a page that waits,
+    NewEdition,
+    /// "where its edition is above the last taken".
+    EditionAbove,
+    /// "A page waits only while a record is held, in a good table too"
+    PageHeld,
+    /// The waiting page's plan is within the numbers.
+    PagePlan,
 }
 
 pub const CLAUSES: &[Clause] = &[
@@ -91,6 +101,11 @@ pub const CLAUSES: &[Clause] = &[
     Clause::Marks,
     Clause::Lists,
     Clause::Starts,
+    Clause::LastEdition,
+    Clause::NewEdition,
+    Clause::EditionAbove,
+    Clause::PageHeld,
+    Clause::PagePlan,
 ];
 
 impl Clause {
@@ -101,6 +116,12 @@ impl Clause {
             self,
             TrainsCounted | TrainRecords | Round | EmptyDeficit | TurnCovers | TurnBelow | OthersBelow
         )
+    }
+
+    /// Whether it speaks of settings pages, which old tables have not either.
+    pub fn of_pages(self) -> bool {
+        use Clause::*;
+        matches!(self, LastEdition | NewEdition | EditionAbove | PageHeld | PagePlan)
     }
 
     /// Whether a call on a good table may leave one that breaks the clause: "a good table of other origin may lead to one that gives 10". What is

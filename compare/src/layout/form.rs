@@ -1,6 +1,6 @@
 //! A table read and written, over what tells one layout from another: today's ([`NOW`](super::NOW)) and the one before it ([`THEN`](super::old::THEN)).
 
-use super::{clock_word, present, ring, set_word, setting, setting_of, trains, word, Clause, Reading};
+use super::{clock_word, part, present, ring, set_word, setting, setting_of, trains, word, Clause, Reading};
 use super::{CLOCK, FRAMING_WORD, PRESENT, SHARED_BIT};
 use crate::numbers::*;
 use crate::rules::{Lane, Record, State, Waiting};
@@ -16,6 +16,8 @@ pub struct Form {
     pub depth_word: Option<usize>,
     /// Whether a setting's top bit says that trains share the lane; else it is c's.
     pub trains: bool,
+    /// Whether there is a page's part.
+    pub pages: bool,
     /// V of a good table is below this.
     pub clock_end: i128,
     /// The record at a place of a lane's ring; places are counted on past the ring's end.
@@ -81,7 +83,11 @@ impl Form {
         for clause in slots::broken(bytes, &lanes) {
             reading.breaks(clause, true);
         }
-        reading.state = Some(State::of(clock, framing, lanes, i128::from(word(bytes, slots::BACK))));
+        let mut state = State::of(clock, framing, lanes, i128::from(word(bytes, slots::BACK)));
+        if self.pages {
+            (state.edition, state.page) = part::read(bytes, held, &mut reading);
+        }
+        reading.state = Some(state);
         reading
     }
 
@@ -143,6 +149,9 @@ impl Form {
             set_word(bytes, at, self.depth);
         }
         slots::write(state, bytes);
+        if self.pages {
+            part::write(state.edition, state.page.as_ref(), bytes);
+        }
         for lane in &state.lanes {
             let (at, plan) = (lane.plan.number, lane.plan);
             let units = number(lane.units_per_byte);

@@ -4,11 +4,13 @@
 //! - [`clauses`] — the clauses, and what a reader says of bytes
 //! - [`form`] — reading and writing, over what tells one layout from another
 //! - [`trains`] — a shared lane's trains and round
+//! - [`part`] — what is kept of settings pages
 //! - [`old`] — the layout before this one, with 16 places in a lane
 
 pub mod clauses;
 pub mod form;
 pub mod old;
+pub mod part;
 pub mod trains;
 
 pub use clauses::{Clause, Reading, CLAUSES};
@@ -19,10 +21,10 @@ use crate::rules::{Record, State};
 use crate::slots;
 
 /// A table is 65,536 bytes: 1,408 words of 64 bits, low byte first; the bytes of the slot lists' rings; the words of the marks; those of the shared lanes'
-/// trains; bytes that mean nothing.
+/// trains; the page's part; bytes that mean nothing.
 pub const WORDS: usize = 1_408;
 pub const TABLE_SIZE: usize = 65_536;
-/// Where the trains' numbers end, and with them what a call looks at.
+/// Where the trains' numbers end, and the page's part begins.
 pub const KEPT: usize = 63_488;
 
 /// Where the words lie.
@@ -49,6 +51,7 @@ pub const NOW: Form = Form {
     depth: DEPTH as u64,
     depth_word: Some(DEPTH_WORD),
     trains: true,
+    pages: true,
     clock_end: CLOCK_END,
     record: |bytes, lane, place| {
         let length: [u8; 2] = bytes[length_byte(lane, place)..][..2].try_into().expect("two bytes");

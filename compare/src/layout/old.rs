@@ -12,6 +12,7 @@ pub const THEN: Form = Form {
     depth: OLD_DEPTH as u64,
     depth_word: None,
     trains: false,
+    pages: false,
     clock_end: OLD_CLOCK_END,
     record: |bytes, lane, place| {
         let word = word(bytes, at(lane, place));
@@ -29,12 +30,12 @@ fn at(lane: u8, place: u64) -> usize {
 
 /// The rules of that time on contents: a put to a lane that holds 16 gave 13. All else was as it is; the clock's far end, where a put gave 14 and is taken
 /// back today, is further on than the lists of that time come here.
-pub fn answer(state: &mut State, call: Call) -> Answer {
+pub fn answer(state: &mut State, call: &Call) -> Answer {
     if let Call::Put { lane, length, .. } = call {
         let full = |lane: &&crate::rules::Lane| {
-            lane.waiting.len() >= OLD_DEPTH && (1..=u64::from(lane.plan.longest)).contains(&length)
+            lane.waiting.len() >= OLD_DEPTH && (1..=u64::from(lane.plan.longest)).contains(length)
         };
-        if state.lane(lane).filter(full).is_some() {
+        if state.lane(*lane).filter(full).is_some() {
             return Answer::No(refusal::LANE_FULL);
         }
     }

@@ -29,12 +29,32 @@ pub enum Lapse {
     RecordsStrict,
     /// A word that means nothing must be 0.
     FreeWordRead,
-    /// So must the bytes that are kept behind the marks.
+    /// So must the bytes behind the page's part.
     KeptRead,
     /// The places of an idle lane must hold lengths within its numbers too.
     IdlePlacesRead,
     /// A put to an idle lane leaves the lengths of the other places as they are.
     PlacesLeft,
+    /// The edition last taken must be below 65,535.
+    LastStrict,
+    /// A waiting page's edition must be above the last one and one more.
+    AboveStrict,
+    /// The page's words must be a plan where no page waits, too.
+    IdlePlanRead,
+    /// A waiting page must be of format 2.
+    PageFormatRead,
+    /// A restart writes edition 0.
+    RestartForgetsEdition,
+    /// A page that waits is stored without its framing number,
+    PageFramingLost,
+    /// or without its shared lanes.
+    PageSharedLost,
+    /// A page that came into force is still there as one that waits.
+    PageNotCleared,
+    /// A refused offer leaves its edition.
+    RefusedOfferStays,
+    /// A page's edition is shown as the last one taken while it waits.
+    WaitingShownAsLast,
     /// The train in turn must have more than its first record's length.
     TurnStrict,
     /// Its deficit must be below twice the longest less 1.
@@ -125,6 +145,16 @@ pub fn lapses() -> Vec<Lapse> {
         KeptRead,
         IdlePlacesRead,
         PlacesLeft,
+        LastStrict,
+        AboveStrict,
+        IdlePlanRead,
+        PageFormatRead,
+        RestartForgetsEdition,
+        PageFramingLost,
+        PageSharedLost,
+        PageNotCleared,
+        RefusedOfferStays,
+        WaitingShownAsLast,
         TurnStrict,
         TurnBelowStrict,
         OthersStrict,

@@ -5,10 +5,11 @@ mod lapses;
 
 pub use lapses::{lapses, Lapse};
 
-use crate::calls::Taken;
+use crate::calls::{Answer, Taken};
 use crate::fields::Fault;
-use crate::layout::{self, trains, Clause, NOW, TABLE_SIZE};
+use crate::layout::{self, part, trains, Clause, NOW, TABLE_SIZE};
 use crate::numbers::*;
+use crate::plans::words::plan;
 use crate::rules::{taken_off, Lane, State, Train, Waiting};
 use crate::session::{self, Run};
 use crate::setup;
@@ -58,7 +59,11 @@ impl OnWords {
             | Lapse::PlainTrainsRead
             | Lapse::SharedRingRead => state.lanes.iter().any(|lane| self.refuses_trains(table, lane)),
             Lapse::FreeWordRead => layout::word(table, 2) != 0,
-            Lapse::KeptRead => table[layout::KEPT..TABLE_SIZE].iter().any(|byte| *byte != 0),
+            Lapse::KeptRead => table[part::END..TABLE_SIZE].iter().any(|byte| *byte != 0),
+            Lapse::LastStrict => state.edition == u16::MAX,
+            Lapse::AboveStrict => state.page.as_ref().is_some_and(|page| page.edition == state.edition + 1),
+            Lapse::IdlePlanRead => plan(&table[part::PLAN..]).is_none(),
+            Lapse::PageFormatRead => state.page.as_ref().is_some_and(|page| page.setup.format != 2),
             Lapse::IdlePlacesRead => {
                 let over = |lane: &Lane, place: u64| {
                     (NOW.record)(table, lane.plan.number, place).length > lane.plan.longest.into()
@@ -225,6 +230,9 @@ impl OnWords {
             table[at..at + 2].copy_from_slice(&length);
         }
         self.spoil_trains(&state, &was, table);
+        if self.lapse == Lapse::PageNotCleared && was.page.is_some() && state.page.is_none() {
+            layout::set_word(table, part::NEW, state.edition.into());
+        }
         let off = state.back - back;
         match self.lapse {
             Lapse::BackForgotten if off > 0 => layout::set_word(table, slots::BACK, back as u64),
@@ -313,7 +321,41 @@ impl Unit for OnWords {
     }
 
     fn restart(&mut self, table: &mut [u8]) -> Result<(), u8> {
-        self.change(table, State::restart)
+        self.change(table, |state| {
+            state.restart()?;
+            if self.lapse == Lapse::RestartForgetsEdition {
+                state.edition = 0;
+            }
+            Ok(())
+        })
+    }
+
+    fn offer(&mut self, table: &mut [u8], page: &[u8]) -> Answer {
+        let mut answer = Answer::InForce;
+        let changed = self.read(table).and_then(|mut state| {
+            answer = state.offer(page);
+            let refused = answer.refused();
+            if !refused || self.lapse == Lapse::RefusedOfferStays {
+                self.change(table, |state| {
+                    state.offer(page);
+                    if let (true, [0x40, 0, 2, high, low, ..]) = (refused, page) {
+                        state.edition = u16::from_be_bytes([*high, *low]).max(state.edition);
+                    }
+                    if let Some(page) = &mut state.page {
+                        match self.lapse {
+                            Lapse::PageFramingLost => page.setup.framing = 0,
+                            Lapse::PageSharedLost => {
+                                page.setup.lanes.iter_mut().for_each(|lane| lane.shared = false)
+                            }
+                            _ => {}
+                        }
+                    }
+                    Ok(())
+                })?;
+            }
+            Ok(())
+        });
+        changed.map_or_else(Answer::No, |()| answer)
     }
 
     fn show(&mut self, table: &mut [u8], ask: Ask) -> Option<Result<[u64; 4], u8>> {
@@ -323,6 +365,9 @@ impl Unit for OnWords {
         };
         let answer = shown(&state, ask);
         Some(match (self.lapse, ask) {
+            (Lapse::WaitingShownAsLast, Ask::Edition) => {
+                answer.map(|[last, waits, ..]| [last.max(waits), waits, 0, 0])
+            }
             (Lapse::SharedNotShown, Ask::Lane(_)) => answer.map(|[w, l, h, group]| [w, l, h, group & 0xFF]),
             (Lapse::OneTrainCounted, Ask::Backlog(lane)) => answer.map(|[count, time, ..]| {
                 let queue = state.lane(lane).and_then(|lane| lane.waiting.queue(0));

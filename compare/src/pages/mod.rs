@@ -13,7 +13,7 @@ pub mod reader;
 pub mod slips;
 
 use crate::fields::Fault;
-use crate::setup::Setup;
+use crate::setup::{LanePlan, Setup};
 
 pub const EDITION: u8 = 0x40;
 pub const SETTINGS: u8 = 0x41;
@@ -25,6 +25,13 @@ pub const SKIPPED: u8 = 0x80;
 pub struct Page {
     pub edition: u16,
     pub setup: Setup,
+}
+
+impl Page {
+    /// What a unit heeds of it: a table knows no format.
+    pub fn means(&self) -> (u16, u8, &[LanePlan]) {
+        (self.edition, self.setup.framing, &self.setup.lanes)
+    }
 }
 
 /// What reads pages.

@@ -168,7 +168,7 @@ fn write<D: Depot>(
 }
 
 /// One change of an area: a number at an edge, or any bit.
-fn edit(rng: &mut Rng, area: &mut [u8]) {
+pub fn edit(rng: &mut Rng, area: &mut [u8]) {
     let mut all = words(area);
     let lane = 1 + rng.index(64);
     let sum: u64 = all[1..].iter().map(|word| word & 0xFFFF).sum();

@@ -39,7 +39,7 @@ impl State {
     }
 
     /// The answer of an endless clock.
-    pub fn answer_endless(&mut self, call: Call) -> Answer {
+    pub fn answer_endless(&mut self, call: &Call) -> Answer {
         match call.put() {
             Some((lane, train, mark, length)) => {
                 self.put_endless(lane, train, mark, length).map_or_else(Answer::No, Answer::Put)

@@ -23,12 +23,15 @@ impl Flow {
 }
 
 pub struct Engine {
-    slip: Slip,
-    clock: u64,
+    pub(super) slip: Slip,
+    pub(super) clock: u64,
     /// Bytes that the line adds to each record.
-    framing: u64,
-    flows: Vec<Option<Flow>>,
+    pub(super) framing: u64,
+    pub(super) flows: Vec<Option<Flow>>,
     turns: Vec<usize>,
+    /// The edition last taken, and the page that waits.
+    pub(super) edition: u64,
+    pub(super) page: Option<(u64, Plan)>,
 }
 
 impl Engine {
@@ -46,10 +49,10 @@ impl Engine {
             let queue = Junction::new(shared, longest, plan.framing, slip);
             flows[number] = Some(Flow { weight, longest, cost, group, start: 0, finish: 0, queue });
         }
-        Engine { slip, clock: 0, framing: plan.framing, flows, turns: vec![] }
+        Engine { slip, clock: 0, framing: plan.framing, flows, turns: vec![], edition: 0, page: None }
     }
 
-    fn held(&self) -> impl Iterator<Item = (usize, &Flow)> {
+    pub(super) fn held(&self) -> impl Iterator<Item = (usize, &Flow)> {
         let flows = self.flows.iter().enumerate();
         flows
             .filter_map(|(n, flow)| flow.as_ref().map(|flow| (n, flow)))
@@ -121,6 +124,9 @@ impl Engine {
 
     /// How many records of its train wait before this one.
     pub fn put(&mut self, lane: u8, train: u8, mark: u32, mut length: u64) -> Result<u64, u8> {
+        if self.slip == Slip::PageComesWithPut {
+            self.settle();
+        }
         if self.slip == Slip::LengthCut {
             length &= 0xFFFF;
         }
@@ -264,6 +270,9 @@ impl Engine {
         if self.slip != Slip::ClockBeforeNewStart {
             self.jump(None);
         }
+        if !matches!(self.slip, Slip::PageWaitsOn | Slip::PageComesWithPut) {
+            self.settle();
+        }
         Ok(taken)
     }
 
@@ -319,7 +328,8 @@ impl Engine {
             .collect();
         let framing = if self.slip == Slip::RestartDropsFraming { 0 } else { self.framing };
         let clock = if self.slip == Slip::RestartKeepsClock { self.clock } else { 0 };
-        *self = Engine { clock, ..Engine::new(&Plan { format: 0, framing, lanes }, self.slip) };
+        let edition = if self.slip == Slip::RestartForgetsEdition { 0 } else { self.edition };
+        *self = Engine { clock, edition, ..Engine::new(&Plan { format: 0, framing, lanes }, self.slip) };
         Ok(())
     }
 }

@@ -3,13 +3,14 @@
 
 mod engine;
 mod junction;
+mod offers;
 mod reader;
 mod session;
 mod slips;
 
 pub use slips::{Slip, ALL};
 
-use crate::calls::Taken;
+use crate::calls::{Answer, Taken};
 use crate::fields::Fault;
 use crate::session::Run;
 use crate::shelf::{Shelf, TABLE_SIZE};
@@ -102,6 +103,15 @@ impl Unit for StandIn {
         self.on(table, Engine::restart)?;
         self.shelf.sign(table);
         Ok(())
+    }
+
+    fn offer(&mut self, table: &mut [u8], page: &[u8]) -> Answer {
+        let Some(engine) = self.shelf.open(table) else { return Answer::No(10) };
+        let answer = engine.offer(page);
+        if !answer.refused() || self.slip == Slip::RefusedOfferWrites {
+            self.shelf.sign(table);
+        }
+        answer
     }
 
     fn run(&mut self, session: &[u8], limit: u64, table: &mut [u8], answers: &mut [u8]) -> Run {

@@ -177,6 +177,44 @@ slips! {
     /// A framing field among the requests gives 4 in place of 2.
     FramingOutOfOrderInRequests,
 
+    // Settings pages.
+    /// A page is in force while a record is held, and is said to wait.
+    PageAtOnce,
+    /// A page waits with nothing held.
+    PageWaitsIdle,
+    /// The take that hands out the last record leaves a page waiting,
+    PageWaitsOn,
+    /// or the next put brings it.
+    PageComesWithPut,
+    /// Restart forgets the edition.
+    RestartForgetsEdition,
+    /// A page that comes into force does not change the edition last taken.
+    EditionNotTaken,
+    /// An edition equal to the last one is taken,
+    EqualEditionTaken,
+    /// or edition 0 before any.
+    EditionZeroTaken,
+    /// 60 goes by the edition last taken alone,
+    WaitingEditionUnread,
+    /// or by the one that waits alone.
+    LastEditionUnread,
+    /// Editions from 32,768 on count as below 0.
+    EditionSigned,
+    /// 60 is told before what is wrong with the page.
+    EditionBeforePage,
+    /// A page offered while one waits does not take its place.
+    FirstPageStays,
+    /// A refused page drops the one that waits,
+    RefusedPageDrops,
+    /// or writes the table.
+    RefusedOfferWrites,
+    /// At a change of setup the clock goes on,
+    ChangeKeepsClock,
+    /// the page's framing number is forgotten,
+    ChangeDropsFraming,
+    /// or lanes of the old setup stay beside those of the page.
+    ChangeKeepsLanes,
+
     // Refusals and lent bytes.
     /// 12 is told before 11.
     LengthBeforeLane,

@@ -254,7 +254,7 @@ pub fn later(t: &mut [u8], s: u64, start: u64, b: usize, map: u64) {
 // Writes a case's name, and whether its table is good.
 pub fn say(name: &[u8], t: &[u8]) {
     io::write_all(STDOUT_FILENO, name);
-    if good::good(t) {
+    if paged::good_unit(t) {
         io::write_all(STDOUT_FILENO, b" good\n");
     } else {
         io::write_all(STDOUT_FILENO, b" bad\n");

@@ -7,7 +7,7 @@ use mathlib.Core.List.{List, _++_}
 use mathlib.Core.Option.{none}
 use borrow.Author.Tests.{lt-ltb, le-ltb}
 use lib.ListN.{length, drop, length-append}
-use Rattle.table.specs.Layout.{Room}
+use Rattle.table.specs.Layout.{tableSize}
 use Rattle.lines.specs.Line.{noLine, Line}
 use Rattle.walk.specs.Script.{script}
 use Rattle.session.specs.Ran.{Ran}
@@ -27,7 +27,7 @@ prints-long s a a′ n h l m =
     let t : printed s ≡ noLine 18 none = rw (lt-ltb 32768 (length s) h) in
     record { is = rw t e; size = rw t f; within = front (noLine 18 none) _ a′ n e f }
 
-pub prints-run : (s t t′ a a′ : List ℕ) (r : RunResult) → length s ≤ 32768 → Room t → 64 * 1002 ≤ length a → Ran s 1000 t t′ a a′ r → Prints s a a′ (r .written)
+pub prints-run : (s t t′ a a′ : List ℕ) (r : RunResult) → length s ≤ 32768 → tableSize ≤ length t → 64 * 1002 ≤ length a → Ran s 1000 t t′ a a′ r → Prints s a a′ (r .written)
 prints-run s t t′ a a′ r h room m ran =
     let x = rw (run-right s 1000 (length t) (length a) (omega arith) (omega arith) room) at ran in
     let p : printed s ≡ script s 1000 .text = rw (le-ltb 32768 (length s) h) in

@@ -4,7 +4,7 @@
 ghost use Prim.Native.Nat.{_*_, _≤_, _<_};
 ghost use lib.ListN.{length};
 ghost use Rattle.io.specs.Counts.{Counts};
-ghost use Rattle.table.specs.Layout.{Room};
+ghost use Rattle.table.specs.Layout.{tableSize};
 ghost use Rattle.console.specs.Prints.{Prints};
 use rules::Refusal;
 
@@ -19,7 +19,7 @@ pub const AREA: usize = 64128;
 
 // The text of an input, in the answer area; how many bytes it has.
 pub fn answered(input: &[u8], table: &mut [u8], area: &mut [u8]) -> usize
-    requires { ⌜ Room (now table) × (64 * 1002 ≤ length (now area)) ⌝ }
+    requires { ⌜ (tableSize ≤ length (now table)) × (64 * 1002 ≤ length (now area)) ⌝ }
     ensures { λ r. ⌜ Prints (now (input .entry)) (now (area .entry)) (now (area .exit)) r ⌝ }
 {
     if input.len() > MOST_INPUT {
@@ -41,7 +41,7 @@ fn read_input(buffer: &mut [u8]) -> usize
 pub fn serve() {
     let mut input = [0u8; INPUT];
     let n = read_input(&mut input);
-    let mut table = [0u8; table::SIZE];
+    let mut table = [0u8; table::TABLE_SIZE];
     let mut area = [0u8; AREA];
     let m = answered(&input[..n], &mut table, &mut area);
     io::write_all(libc::STDOUT_FILENO, &area[..m]);

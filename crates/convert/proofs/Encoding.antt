@@ -16,8 +16,6 @@ use Rattle.table.specs.Means.{laneOf, stateOf, meant}
 use Rattle.table.specs.Encodes.{Encodes}
 use Rattle.table.proofs.Footprint.{present-kept}
 use Rattle.table.proofs.Lists.{order-same, solid-same, agrees-same}
-use Rattle.good.specs.Table.{GoodTable}
-use Rattle.good.proofs.Encodes.{encodes-good}
 use Rattle.old_table.specs.Old.{oldLane, oldMeant, OldTable}
 use Rattle.convert.specs.Over.{Over}
 use Rattle.convert.proofs.Moving.{agrees-over}
@@ -46,6 +44,3 @@ module _ (old t : List ℕ) (g : OldTable old) (room : Room t) (o : Over old t 6
           agrees = subst (Agrees (backAt t) (listAt t) (startAt t)) (sym state-over) (agrees-same old t (o .carried .lists) (oldMeant old) (g .agrees .lists));
         };
       }
-
-  pub good-over : GoodTable t
-  good-over = encodes-good t (oldMeant old) encodes-over (g .good .good)

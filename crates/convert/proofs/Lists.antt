@@ -1,7 +1,7 @@
 -- A list of calls that began before the update goes on after it. Assumes nothing.
 use Prim.Native.Nat.{ℕ, _<_}
 use mathlib.Core.Path.{_≡_, refl, sym, ap, subst}
-use mathlib.Core.List.{List, [], _∷_, _++_}
+use mathlib.Core.List.{List, [], _∷_, _++_, map}
 use mathlib.Core.Option.{Option, none, some}
 use borrow.Author.Tests.{lt-leb}
 use Rattle.rules.specs.State.{Rec, Setting, State, clockFar}
@@ -13,7 +13,13 @@ use Rattle.rules.proofs.Runs.{after-append}
 use Rattle.rules.proofs.AlwaysGood.{fresh-reached, reached, reached-good}
 use Rattle.alike.specs.Alike.{Alike}
 use Rattle.alike.proofs.Alike.{alike-sym, alike-trans, step-alike}
-use Rattle.scheduler.proofs.Chains.{led-by}
+use Rattle.pages.specs.Device.{Device, freshDevice, ruled}
+use Rattle.pages.specs.Offers.{deviceAfter}
+use Rattle.pages.specs.Carried.{WithoutOffers}
+use Rattle.pages.proofs.Carried.{without-offers}
+use Rattle.paged.specs.Paged.{EncodesDevice}
+use Rattle.scheduler.proofs.Chains.{led-by, all-ruled}
+use Rattle.scheduler.proofs.Steps.{alike-encoded}
 use Rattle.old_table.specs.Old.{oldMeant}
 use Rattle.convert.specs.Lists.{Early, OldList, makes, does, ListsGoOn}
 
@@ -52,8 +58,8 @@ list-alike {gs} (does {cs} {t} {u} c l h e) =
     (alike-trans (oldMeant u) ((step (oldMeant t) c) .state) ((step s c) .state) (subst (Alike (oldMeant u)) (same-early (oldMeant t) c h) (e .alike)) (alike-sym ((step s c) .state) ((step (oldMeant t) c) .state) (one .state)))
 
 pub lists-go-on : ListsGoOn
-unfolding ListsGoOn
+unfolding ListsGoOn WithoutOffers
 lists-go-on gs cs old before t l o =
     let e = o .encodes in
-    led-by gs cs t (list-setup l)
-    (record { room = e .room; alike = alike-trans _ (oldMeant old) (after (fresh gs) cs) (e .alike) (list-alike l); beside = e .beside; listed = e .listed })
+    led-by gs (map ruled cs) t (list-setup l) (all-ruled cs)
+    (subst (EncodesDevice t) (sym (without-offers gs cs .1)) (alike-encoded t _ _ (record { state = list-alike l; edition = refl; waiting = refl }) e))

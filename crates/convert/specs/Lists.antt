@@ -11,11 +11,12 @@
 -- Assumes nothing.
 use Prim.Native.Nat.{ℕ, _<_}
 use mathlib.Core.Path.{_≡_}
-use mathlib.Core.List.{List, [], _∷_, _++_}
+use mathlib.Core.List.{List, [], _∷_, _++_, map}
 use Rattle.rules.specs.State.{Setting, State, clockFar}
 use Rattle.rules.specs.Setup.{Setup}
 use Rattle.rules.specs.Calls.{Call, put, take, look, sets, lag, restart, fresh}
-use Rattle.rules.specs.Runs.{trace}
+use Rattle.pages.specs.Device.{freshDevice, ruled}
+use Rattle.pages.specs.Offers.{deviceTrace}
 use Rattle.rules.specs.Endless.{endless}
 use Rattle.scheduler.specs.Chain.{Led}
 use Rattle.old_table.specs.Old.{oldMeant, OldEncodes}
@@ -34,4 +35,4 @@ pub data OldList (gs : List Setting) : List Call → List ℕ → Type 0 where
   does : {cs : List Call} {t u : List ℕ} (c : Call) → OldList gs cs t → Early c (oldMeant t) → OldEncodes u ((endless (oldMeant t) c) .state) → OldList gs (cs ++ c ∷ []) u
 
 unfoldable pub ListsGoOn : Type 0
-ListsGoOn = (gs : List Setting) (cs : List Call) (old before after : List ℕ) → OldList gs cs old → TakenOver old before after → Led gs (trace (fresh gs) cs) after
+ListsGoOn = (gs : List Setting) (cs : List Call) (old before after : List ℕ) → OldList gs cs old → TakenOver old before after → Led gs (deviceTrace (freshDevice gs) (map ruled cs)) after

@@ -15,10 +15,9 @@ use mathlib.Core.List.{List, [], _∷_}
 use mathlib.Core.Option.{none}
 use lib.ListN.{length}
 use Rattle.rules.specs.Calls.{Reply, refused, take, step}
-use Rattle.rules.specs.Reads.{reads}
-use Rattle.rules.specs.declared.Answer.{Answer}
-use Rattle.table.specs.Layout.{SIZE}
-use Rattle.scheduler.specs.Step.{Step}
+use Rattle.pages.specs.Device.{ruled, answered}
+use Rattle.table.specs.Layout.{tableSize}
+use Rattle.scheduler.specs.Step.{UnitStep}
 use Rattle.old_table.specs.Old.{oldMeant, OldTable, OldEncodes}
 use Rattle.convert.specs.Converts.{Converts}
 use Rattle.convert.specs.declared.Converting.{Converting}
@@ -34,7 +33,7 @@ pub data OldTakes : List ℕ → List Reply → List ℕ → Type 0 where
 
 pub data Takes : List ℕ → List Reply → List ℕ → Type 0 where
   done : {t : List ℕ} → Takes t [] t
-  then : {t u v : List ℕ} {a : Answer} {rs : List Reply} → Step take t a u → Takes u rs v → Takes t (reads a ∷ rs) v
+  then : {t u v : List ℕ} {r : Reply} {rs : List Reply} → UnitStep (ruled take) t (answered r) u → Takes u rs v → Takes t (r ∷ rs) v
 
 unfoldable pub UntilTen : List Reply → List Reply → Type 0
 UntilTen [] qs = Unit {0}
@@ -43,5 +42,5 @@ UntilTen (r ∷ rs) (q ∷ qs) = (r ≡ refused 10 none) ⊎ ((r ≡ q) × Until
 
 unfoldable pub SameTakes : Type 0
 SameTakes =
-    (old before after : List ℕ) (a : Converting) → SIZE ≤ length before → OldTable old → Converts old before a after
+    (old before after : List ℕ) (a : Converting) → tableSize ≤ length before → OldTable old → Converts old before a after
     → (rs qs : List Reply) (u v : List ℕ) → OldTakes old rs u → Takes after qs v → UntilTen rs qs

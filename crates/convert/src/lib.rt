@@ -4,7 +4,8 @@
 // What it promises is `Converts` (specs/Converts.antt), whole; specs/Takes.antt says that takes answer from both tables alike.
 //
 // The bytes that both layouts have in the same places go over as they are: single words, rows and slot lists. Then the depth number is written, and of
-// each lane in the setup the ring word anew, with the records from place 0 on, lengths and marks apart.
+// each lane in the setup the ring word anew, with the records from place 0 on, lengths and marks apart. A table of that time has taken no settings page: its
+// last edition is 0, and none waits.
 ghost use mathlib.Core.Path.{_≡_};
 ghost use mathlib.Core.Bool.{true};
 ghost use Prim.Native.Nat.{_≤_, _<_};
@@ -17,6 +18,7 @@ ghost use Rattle.table.specs.Means.{presentAt};
 ghost use Rattle.old_table.specs.Old.{oldSize, oldRing, OldTable};
 ghost use Rattle.convert.specs.Over.{Copied, Carried, Filled, Moved, Over, unrolled};
 ghost use Rattle.convert.specs.Converts.{Converts};
+use editions::set_taken;
 use old_table::record_at;
 use old_table::row;
 use rules::Refusal;
@@ -36,7 +38,7 @@ use units::Clock;
 // The fixed sizes of a table then and now, in bytes.
 pub const OLD_SIZE: usize = old_table::SIZE;
 
-pub const NEW_SIZE: usize = table::SIZE;
+pub const NEW_SIZE: usize = table::TABLE_SIZE;
 
 pub enum Converting {
     // The new bytes are a table with the old one's queues, clock, lanes and tie order.
@@ -133,5 +135,6 @@ pub fn convert(old: &[u8], new: &mut [u8]) -> Converting
         return Converting::Refused(Refusal::NotGood);
     }
     write(old, new);
+    set_taken(&mut new[table::SIZE..], 0);
     Converting::Converted
 }

@@ -1,6 +1,6 @@
 -- The table of marked examples: what the rules compute, carried to the public calls by `as-ruled`. Assumes nothing.
 use Prim.Native.Nat.{ℕ}
-use mathlib.Core.Path.{_≡_, refl, sym, subst}
+use mathlib.Core.Path.{_≡_, refl, sym, ap, subst, _∙_}
 use mathlib.Core.List.{List, [], _∷_, _++_, map}
 use mathlib.Core.Option.{none}
 use lib.IntN.{subℕ}
@@ -9,6 +9,11 @@ use Rattle.rules.specs.State.{Setting, Lane, noLane}
 use Rattle.rules.specs.Calls.{Call, put, take, lag, Reply, accepted, taken, lagged, refused, fresh}
 use Rattle.rules.specs.Runs.{Event, after, trace}
 use Rattle.rules.proofs.Computes.{rules}
+use Rattle.pages.specs.Device.{freshDevice, DeviceCall, ruled}
+use Rattle.pages.specs.Offers.{DeviceEvent, deviceAfter, deviceTrace, ofRules}
+use Rattle.pages.specs.Carried.{WithoutOffers}
+use Rattle.pages.proofs.Carried.{without-offers}
+use Rattle.paged.specs.Paged.{EncodesDevice}
 use Rattle.fields.specs.Bytes.{big}
 use Rattle.plan.specs.Fields.{fieldOf, itemAt}
 use Rattle.plan.specs.Judge.{laneOutside, judgedAt}
@@ -26,14 +31,16 @@ replies es = map (λ (e : Event). e .reply) es
 given : (gs : List Setting) (calls : List Call) (P : List Reply → ℕ → List Lane → Type 0)
     → P (replies (trace (fresh gs) calls)) (after (fresh gs) calls .clock) (after (fresh gs) calls .lanes)
     → Given gs calls (λ rs s. P rs (s .clock) (s .lanes))
-unfolding AsRuled
+unfolding AsRuled WithoutOffers
 given gs calls P h t u es b ch same =
     let r = as-ruled gs t u es b ch in
-    let s = after (fresh gs) (callsOf es) in
-    let ruled : P (replies (trace (fresh gs) (callsOf es))) (s .clock) (s .lanes) = subst (λ (cs : List Call). P (replies (trace (fresh gs) cs)) (after (fresh gs) cs .clock) (after (fresh gs) cs .lanes)) (sym same) h in
-    subst (λ (ls : List Lane). P (replies es) (meant u .clock) ls) (sym (r .1 .alike .lanes))
-    (subst (λ (v : ℕ). P (replies es) v (s .lanes)) (sym (r .1 .alike .clock))
-    (subst (λ (xs : List Event). P (replies xs) (s .clock) (s .lanes)) (r .0) ruled))
+    let s = after (fresh gs) calls in
+    let plain = without-offers gs calls in
+    let events : ofRules es ≡ trace (fresh gs) calls = ap ofRules (sym (r .0)) ∙ ap (λ (cs : List DeviceCall). ofRules (deviceTrace (freshDevice gs) cs)) same ∙ plain .0 in
+    let left = subst (EncodesDevice u) (ap (deviceAfter (freshDevice gs)) same ∙ plain .1) (r .1) in
+    subst (λ (ls : List Lane). P (replies (ofRules es)) (meant u .clock) ls) (sym (left .core .alike .lanes))
+    (subst (λ (v : ℕ). P (replies (ofRules es)) v (s .lanes)) (sym (left .core .alike .clock))
+    (subst (λ (xs : List Event). P (replies xs) (s .clock) (s .lanes)) (sym events) h))
 
 pub marked : Marked
 unfolding rules acceptedTo readSetup readPlan walk judgedAt itemAt fieldOf laneOutside big

@@ -22,6 +22,8 @@ use lib.ListN.{replicate, set}
 use Rattle.rules.specs.State.{Setting, State, rate, group, laneAt}
 use Rattle.rules.specs.Calls.{Call, put, take, sets, lag, Reply, accepted, taken, words, lagged, refused}
 use Rattle.rules.specs.Runs.{Event}
+use Rattle.pages.specs.Device.{ruled}
+use Rattle.pages.specs.Offers.{DeviceEvent, ofRules}
 use Rattle.plan.specs.Read.{noLanes, readSetup}
 use Rattle.plan.specs.Read as plan
 use Rattle.plan.specs.Examples.{formatField, endField, sessionSetup, twoWeights, twoLanes}
@@ -39,7 +41,8 @@ abbrev pub alone : Setting → List Setting
 alone g = set noLanes 0 g
 
 abbrev pub Given : List Setting → List Call → (List Reply → State → Type 0) → Type 0
-Given gs calls P = (t u : List ℕ) (es : List Event) → Begins gs t → Chain t es u → callsOf es ≡ calls → P (map (λ (e : Event). e .reply) es) (meant u)
+Given gs calls P =
+    (t u : List ℕ) (es : List DeviceEvent) → Begins gs t → Chain t es u → callsOf es ≡ map ruled calls → P (map (λ (e : Event). e .reply) (ofRules es)) (meant u)
 
 -- R16.3, without its last take
 abbrev pub toThird : List Call

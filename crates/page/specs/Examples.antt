@@ -30,7 +30,7 @@ settings n setup = 65 ∷ 0 ∷ n ∷ setup
 abbrev pub end : List ℕ
 end = 127 ∷ 0 ∷ 0 ∷ []
 
--- The setup of the first session (R16.1) has 24 bytes. That with weights 1,000 and w has 22, and the second weight stands at its byte 17.
+-- R19.18: the setup of the first session (R16.1) has 24 bytes. That with weights 1,000 and w has 22, and the second weight stands at its byte 17.
 pub record Shown : Type 0 where
   pub plain : readPage (edition ++ (settings 24 sessionSetup ++ end)) ≡ read 7 1 (twoLanes 512 256 1500) 2
   pub with-skipped : readPage (edition ++ (skipped ++ (settings 24 sessionSetup ++ (skipped ++ (skipped ++ end))))) ≡ read 7 1 (twoLanes 512 256 1500) 2

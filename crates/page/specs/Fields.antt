@@ -30,11 +30,11 @@ pub data Item : Type 0 where
   whole : PageField → ℕ → Item
   bad : ℕ → Option ℕ → Item
 
--- A page knows 0x40, 0x41, 0x7F, and every tag of 0x80 and above, which it skips.
+-- R19.3: A page knows 0x40, 0x41, 0x7F, and every tag of 0x80 and above, which it skips.
 abbrev pub known : ℕ → Bool
 known tag = eqb tag 64 || (eqb tag 65 || (eqb tag 127 || leb 128 tag))
 
--- An edition has two bytes and 0x7F none; a setup and a skipped field have any number.
+-- R19.3: an edition has two bytes and 0x7F none; a setup and a skipped field have any number.
 abbrev pub fitting : ℕ → ℕ → Bool
 fitting tag n = if eqb tag 64 then eqb n 2 else (if eqb tag 127 then eqb n 0 else true)
 
@@ -42,7 +42,7 @@ fitting tag n = if eqb tag 64 then eqb n 2 else (if eqb tag 127 then eqb n 0 els
 unfoldable pub fieldOf : List ℕ → ℕ → ℕ → ℕ → PageField
 fieldOf s tag at n = if eqb tag 64 then Edition (big s at 2) else (if eqb tag 65 then Settings at n else (if eqb tag 127 then End else Skipped))
 
--- In a field 1 (header), 2, 3, 1 (value): a header that was read, judged in this order.
+-- R19.3: in a field 1 (header), 2, 3, 1 (value): a header that was read, judged in this order.
 abbrev pub taken : List ℕ → ℕ → Field → Item
 taken s at Nothing = bad 1 (some (length s))
 taken s at Cut = bad 1 (some at)
@@ -51,7 +51,7 @@ taken s at (Header tag value n) =
     else (if not (fitting tag n) then bad 3 (some at)
     else (if not (leb (value + n) (length s)) then bad 1 (some at) else whole (fieldOf s tag value n) (value + n)))
 
--- A page that just stops is cut at its length.
+-- R19.3: A page that just stops is cut at its length.
 unfoldable pub itemAt : List ℕ → ℕ → Item
 itemAt s at = taken s at (headerAt s at)
 

@@ -36,11 +36,12 @@ two n = n / 256 ∷ n % 256 ∷ []
 abbrev pub fieldBytes : ℕ → List ℕ → List ℕ
 fieldBytes tag value = tag ∷ (two (length value) ++ value)
 
+-- R19.2
 pub record Extra : Type 0 where
   pub tag : ℕ
   pub value : List ℕ
 
--- A tag of 0x80 or above, and any length that two bytes can say.
+-- R19.2: A tag of 0x80 or above, and any length that two bytes can say.
 pub record Skippable (x : Extra) : Type 0 where
   pub high : 128 ≤ x .tag
   pub short : length (x .value) < 65536
@@ -49,6 +50,7 @@ unfoldable pub AllSkippable : List Extra → Type 0
 AllSkippable [] = Unit
 AllSkippable (x ∷ xs) = Skippable x × AllSkippable xs
 
+-- R19.2
 unfoldable pub extraBytes : List Extra → List ℕ
 extraBytes [] = []
 extraBytes (x ∷ xs) = fieldBytes (x .tag) (x .value) ++ extraBytes xs
@@ -57,13 +59,13 @@ extraBytes (x ∷ xs) = fieldBytes (x .tag) (x .value) ++ extraBytes xs
 unfoldable pub uptoSetup : ℕ → List Extra → List ℕ → List ℕ → List ℕ
 uptoSetup edition xs setup rest = fieldBytes 64 (two edition) ++ (extraBytes xs ++ (fieldBytes 65 setup ++ rest))
 
--- .. which in a page is fields that are skipped, and 0x7F.
+-- R19.1: .. which in a page is fields that are skipped, and 0x7F.
 abbrev pub pageBytes : ℕ → List Extra → List ℕ → List Extra → List ℕ
 pageBytes edition xs setup ys = uptoSetup edition xs setup (extraBytes ys ++ fieldBytes 127 [])
 
 -- ---- what is read, and what is refused
 
--- The page's bytes are of the form, its edition is 0 to 65,535, and the one setup reader reads the setup inside, as if it were the whole input.
+-- R19.1: the page's bytes are of the form, its edition is 0 to 65,535, and the one setup reader reads the setup inside, as if it were the whole input.
 pub record Accepted (s : List ℕ) (edition format : ℕ) (gs : List Setting) (n : ℕ) : Type 0 where
   pub between : List Extra
   pub setup : List ℕ

@@ -54,7 +54,7 @@ pastSkipped s at = skipping (length s - at) s at
 
 -- ---- 0x7F
 
--- A byte after the 0x7F is out of order.
+-- R19.4: A byte after the 0x7F is out of order.
 abbrev pub closed : List ℕ → ℕ → Reply → Reply
 closed s next r = if ltb next (length s) then refused 4 (some next) else r
 
@@ -65,19 +65,22 @@ ended s at r (whole (Settings value n) next) = refused 4 (some at)
 ended s at r (whole Skipped next) = refused 4 (some at)
 ended s at r (whole End next) = closed s next r
 
+-- R19.3, R19.4
 unfoldable pub endAt : List ℕ → ℕ → Reply → Reply
 endAt s at r = ended s at r (itemAt s at)
 
 -- ---- 0x41
 
+-- R19.5
 unfoldable pub valueAt : List ℕ → ℕ → ℕ → List ℕ
 valueAt s at n = take n (drop at s)
 
+-- R19.5
 abbrev pub moved : ℕ → Option ℕ → Option ℕ
 moved by none = none
 moved by (some place) = some (by + place)
 
--- What the setup inside was read as, whose value stands at a place: a refusal of it is the page's, before any later field is looked at.
+-- R19.5: what the setup inside was read as, whose value stands at a place: a refusal of it is the page's, before any later field is looked at.
 abbrev pub inside : List ℕ → ℕ → ℕ → ℕ → plan.Reply → Reply
 inside s edition value next (plan.refused n place) = refused n (moved value place)
 inside s edition value next (plan.read format gs n end) = endAt s (pastSkipped s next) (read edition format gs n)
@@ -89,6 +92,7 @@ settled s edition at (whole (Settings value n) next) = inside s edition value ne
 settled s edition at (whole Skipped next) = refused 4 (some at)
 settled s edition at (whole End next) = refused 4 (some at)
 
+-- R19.3, R19.4
 unfoldable pub settingsAt : List ℕ → ℕ → ℕ → Reply
 settingsAt s edition at = settled s edition at (itemAt s at)
 
@@ -101,7 +105,7 @@ begun s (whole (Settings value n) next) = refused 4 (some 0)
 begun s (whole Skipped next) = refused 4 (some 0)
 begun s (whole End next) = refused 4 (some 0)
 
--- 0x40, 0x41 and 0x7F, in that order and once each; between two of them any fields of 0x80 and above are passed over.
+-- R14.48, R19.3, R19.4: 0x40, 0x41 and 0x7F, in that order and once each; between two of them any fields of 0x80 and above are passed over.
 unfoldable pub readPage : List ℕ → Reply
 readPage s = begun s (itemAt s 0)
 

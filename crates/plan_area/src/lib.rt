@@ -85,7 +85,7 @@ fn format_in(area: &[u8]) -> u16
 // The plan of an area, in or out of the numbers.
 pub fn plan_in(area: &[u8]) -> Plan
     requires { ⌜ Room (now area) ⌝ }
-    ensures { λ r. ⌜ planned r ≡ planIn (now (area .entry)) ⌝ }
+    ensures { λ r. ⌜ (planned r ≡ planIn (now (area .entry))) × (length (settings r) ≡ 64) ⌝ }
 {
     let format = format_in(area);
     let h = word(area, 0) / UNIT;

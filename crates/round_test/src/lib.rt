@@ -79,7 +79,7 @@ pub fn shared_good(
     longest: u64,
     count: u64,
 ) -> bool
-    requires { ⌜ ((trains + 8) / 2 * 8 + 8 ≤ length (now t)) × ((lengths + 64) / 4 * 8 + 8 ≤ length (now t)) × (0 < longest) × (longest ≤ 2 ^ 15) × PlacesFit longest (lengthsAt (now t) lengths) ⌝ }
+    requires { ⌜ ((trains + 7) / 2 * 8 + 8 ≤ length (now t)) × ((lengths + 63) / 4 * 8 + 8 ≤ length (now t)) × (0 < longest) × (longest ≤ 2 ^ 15) × PlacesFit longest (lengthsAt (now t) lengths) ⌝ }
     ensures { λ r. ⌜ Says r (SharedGood longest (numbersAt (now (t .entry)) trains) (lengthsAt (now (t .entry)) lengths) round count) ⌝ }
 {
     let named = round / NAMED_UNIT;

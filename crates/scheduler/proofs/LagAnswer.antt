@@ -9,7 +9,7 @@ use Rattle.units.specs.Plain.{if_then_else_}
 use Rattle.rules.specs.State.{State, laneAt}
 use Rattle.rules.specs.Calls.{lag, lagged, no, lagOf, doLag, step}
 use Rattle.table.specs.Means.{meant}
-use Rattle.good.proofs.Encodes.{good-encodes}
+use Rattle.scheduler.proofs.Steps.{step-says}
 use Rattle.engine.proofs.LagRange.{lag-range}
 use Rattle.scheduler.specs.LagAnswer.{LagCall}
 
@@ -24,4 +24,4 @@ lag-is s j z = go (ltb (laneAt s j .given .weight) 1)
 
 pub lag-call : LagCall
 unfolding LagCall
-lag-call t u a j z g p e = (lag-is (meant t) j z (sym e ∙ p .reply g (meant t) (good-encodes t g)), lag-range (meant t) (g .good) j)
+lag-call t u a j z g p e = (lag-is (meant t) j z (sym e ∙ step-says (lag j) t _ u g p), lag-range (meant t) (g .core .good) j)

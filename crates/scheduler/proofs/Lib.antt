@@ -1,5 +1,7 @@
 pub mod Steps
+pub mod Taken
 pub mod Made
+pub mod Offered
 pub mod Chains
 pub mod Begins
 pub mod Ahead
@@ -9,6 +11,7 @@ pub mod Endless
 pub mod Drained
 pub mod Demands
 pub mod One
+pub mod Pages
 pub mod SetsAnswer
 pub mod TakeAnswer
 pub mod PutLocal

@@ -4,29 +4,25 @@ use native.Mathlib.Omega.{arith}
 use mathlib.Core.Path.{_≡_, refl, sym, ap, subst, _∙_}
 use mathlib.Core.List.{List}
 use lib.ListN.{length}
-use Rattle.rules.specs.State.{State}
 use Rattle.rules.specs.Setup.{Setup}
-use Rattle.rules.specs.Calls.{fresh}
 use Rattle.rules.specs.declared.Refusal.{Refusal}
 use Rattle.rules.specs.declared.Refusal.the-variants.{TableShort}
+use Rattle.pages.specs.Device.{freshDevice}
 use Rattle.plan.specs.Read as plan
 use Rattle.plan.specs.Read.{readSetup, came, settings}
 use Rattle.plan.specs.declared.Reading.{Reading}
 use Rattle.plan.specs.declared.Outcome.the-variants.{Read}
 use Rattle.plan.specs.declared.Outcome.the-variants as outcome
 use Rattle.plan.proofs.Accepted.{accepted-setup}
-use Rattle.alike.specs.Alike.{Alike}
-use Rattle.alike.proofs.Alike.{alike-refl}
-use Rattle.table.specs.Layout.{SIZE}
-use Rattle.table.proofs.Lists.{empty-listed}
-use Rattle.fresh.specs.Makes.{Makes}
+use Rattle.table.specs.Layout.{tableSize}
+use Rattle.paged.specs.Settles.{Leads}
 use Rattle.scheduler.specs.Make.{reads, Follows, MakeStep}
 use Rattle.scheduler.specs.declared.Making.the-variants.{Made, Refused}
 
-pub make-short : (setup t : List ℕ) → length t < SIZE → MakeStep setup t (Refused TableShort) t
+pub make-short : (setup t : List ℕ) → length t < tableSize → MakeStep setup t (Refused TableShort) t
 make-short setup t h = record { short = λ _. (refl, refl); follows = λ q. absurd (omega arith); size = refl }
 
-pub make-refused : (setup t : List ℕ) (x : Refusal) → SIZE ≤ length t → (r : Reading) → plan.reads r ≡ readSetup setup → r .outcome ≡ outcome.Refused x → MakeStep setup t (Refused x) t
+pub make-refused : (setup t : List ℕ) (x : Refusal) → tableSize ≤ length t → (r : Reading) → plan.reads r ≡ readSetup setup → r .outcome ≡ outcome.Refused x → MakeStep setup t (Refused x) t
 make-refused setup t x h r e o = record {
   short = λ q. absurd (omega arith);
   follows = λ _. subst (λ (y : plan.Reply). Follows y t (Refused x) t) (sym (ap (came (r .plan)) o) ∙ e) (refl, refl);
@@ -36,11 +32,10 @@ make-refused setup t x h r e o = record {
 pub read-setup-good : (setup : List ℕ) (r : Reading) (p : ℕ) → plan.reads r ≡ readSetup setup → r .outcome ≡ Read p → Setup (settings (r .plan))
 read-setup-good setup r p e o = accepted-setup r setup p e o .0 .setup
 
-pub make-made : (setup t u : List ℕ) → SIZE ≤ length t → (r : Reading) (p : ℕ) → plan.reads r ≡ readSetup setup → r .outcome ≡ Read p → length u ≡ length t → Makes t u (settings (r .plan))
-    → MakeStep setup t (Made (r .plan .count)) u
+pub make-made : (setup t u : List ℕ) → tableSize ≤ length t → (r : Reading) (p : ℕ) → plan.reads r ≡ readSetup setup → r .outcome ≡ Read p → length u ≡ length t
+    → Leads t u (freshDevice (settings (r .plan))) → MakeStep setup t (Made (r .plan .count)) u
 make-made setup t u h r p e o len m = record {
   short = λ q. absurd (omega arith);
-  follows = λ _. subst (λ (y : plan.Reply). Follows y t (Made (r .plan .count)) u) (sym (ap (came (r .plan)) o) ∙ e)
-      (refl, record { room = omega arith; alike = subst (λ (x : State). Alike x (fresh (settings (r .plan)))) (sym (m .state)) (alike-refl (fresh (settings (r .plan)))); beside = m .beside; listed = empty-listed u (settings (r .plan)) (m .state) (m .empty) }, m .rest);
+  follows = λ _. subst (λ (y : plan.Reply). Follows y t (Made (r .plan .count)) u) (sym (ap (came (r .plan)) o) ∙ e) (refl, m .encodes, m .rest);
   size = len;
 }

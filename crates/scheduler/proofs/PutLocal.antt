@@ -7,7 +7,7 @@ use Rattle.rules.specs.State.{Rec, State}
 use Rattle.rules.specs.Calls.{put, refused, putRefusal, putOf, doPut, step}
 use Rattle.rules.proofs.Local.{put-local}
 use Rattle.table.specs.Means.{meant}
-use Rattle.good.proofs.Encodes.{good-encodes}
+use Rattle.scheduler.proofs.Steps.{step-says}
 use Rattle.scheduler.specs.PutLocal.{PutLocal}
 
 refused-by : (s : State) (j r : ℕ) (x : Rec) (o : Option ℕ) → (putOf s j x o) .reply ≡ refused r none → o ≡ some r
@@ -27,6 +27,5 @@ put-local-calls t t′ u u′ a a′ j k m m′ n r g g′ given waiting p p′ 
     let s′ = meant t′ in
     let x : Rec = record { train = k; mark = m; len = n } in
     let x′ : Rec = record { train = k; mark = m′; len = n } in
-    let is = refused-by s j r x (putRefusal s j x) (sym (p .reply g s (good-encodes t g)) ∙ e) in
-    p′ .reply g′ s′ (good-encodes t′ g′)
-    ∙ ap (λ (o : Option ℕ). (putOf s′ j x′ o) .reply) (any-mark s′ j k m′ m n ∙ sym (put-local s s′ j x given waiting) ∙ is)
+    let is = refused-by s j r x (putRefusal s j x) (sym (step-says (put j k m n) t _ u g p) ∙ e) in
+    step-says (put j k m′ n) t′ _ u′ g′ p′ ∙ ap (λ (o : Option ℕ). (putOf s′ j x′ o) .reply) (any-mark s′ j k m′ m n ∙ sym (put-local s s′ j x given waiting) ∙ is)

@@ -15,7 +15,7 @@ use Rattle.rules.specs.Calls.{sets, look, words, seen, pickFirst, pickOf, picke
 use Rattle.rules.proofs.Word.{word-lt, word-bit}
 use Rattle.rules.proofs.BySets.{sets-rule}
 use Rattle.table.specs.Means.{meant}
-use Rattle.good.proofs.Encodes.{good-encodes}
+use Rattle.scheduler.proofs.Steps.{step-says}
 use Rattle.scheduler.specs.SetsAnswer.{SetsAnswer, SetsCall}
 
 -- a look names the chosen lane
@@ -61,8 +61,8 @@ pub sets-call : SetsCall
 unfolding SetsCall step doSets
 sets-call t u a er ir eb ib g p e =
     let s = meant t in
-    let q : words er ir eb ib ≡ (step s sets) .reply = sym e ∙ p .reply g s (good-encodes t g) in
-    let w = words-say s (g .good) in
+    let q : words er ir eb ib ≡ (step s sets) .reply = sym e ∙ step-says sets t _ u g p in
+    let w = words-say s (g .core .good) in
     let e₁ : setWord ready s ≡ er = cc in
     let e₂ : setWord ineligibleReady s ≡ ir = cc in
     let e₃ : setWord eligibleBlocked s ≡ eb = cc in

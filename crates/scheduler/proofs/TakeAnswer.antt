@@ -11,7 +11,7 @@ use Rattle.rules.specs.Calls.{Pick, take, look, taken, seen, refused, step, doT
 use Rattle.rules.specs.Reads.{reads}
 use Rattle.rules.proofs.Chosen.{Ahead, Chosen, Choice, chosen}
 use Rattle.table.specs.Means.{meant}
-use Rattle.good.proofs.Encodes.{good-encodes}
+use Rattle.scheduler.proofs.Steps.{step-says}
 use Rattle.scheduler.specs.TakeAnswer.{Served, TakeCall, LookTakes}
 
 module _ (s : State) (j k m n : ℕ) where
@@ -51,7 +51,7 @@ module _ (s : State) (j k m n : ℕ) where
 
 pub take-call : TakeCall
 unfolding TakeCall
-take-call t u a j k m n g p e = take-served (meant t) j k m n (sym (p .reply g (meant t) (good-encodes t g)) ∙ e)
+take-call t u a j k m n g p e = take-served (meant t) j k m n (sym (step-says take t _ u g p) ∙ e)
 
 look-of : (s : State) (o : Option Pick) (j k m n : ℕ) → (takeOf s o) .reply ≡ taken j k m n → (lookOf s o) .reply ≡ seen j k m n
 unfolding takeOf lookOf
@@ -72,7 +72,8 @@ pub look-takes : LookTakes
 unfolding LookTakes step doTake doLook
 look-takes t u a b g p q =
     let s = meant t in
-    let e = good-encodes t g in (
-      λ j k m n h. q .reply g s e ∙ look-of s (picked s) j k m n (sym (p .reply g s e) ∙ h),
-      λ h. q .reply g s e ∙ look-none s (picked s) (sym (p .reply g s e) ∙ h),
+    let taking = step-says take t (reads a) u g p in
+    let looking = step-says look t (reads b) t g q in (
+      λ j k m n h. looking ∙ look-of s (picked s) j k m n (sym taking ∙ h),
+      λ h. looking ∙ look-none s (picked s) (sym taking ∙ h),
     )

@@ -13,24 +13,25 @@ use Rattle.rounds.specs.Round.{trainDepth}
 use Rattle.rules.specs.State.{Setting, settingAt, laneAt, laneDepth}
 use Rattle.rules.specs.Calls.{put, accepted, ahead}
 use Rattle.rules.specs.Reads.{reads}
-use Rattle.rules.specs.Runs.{Event, acceptedOf, sentOf, ofTrain}
+use Rattle.rules.specs.Runs.{acceptedOf, sentOf, ofTrain}
 use Rattle.rules.specs.declared.Answer.{Answer}
 use Rattle.table.specs.Means.{meant}
-use Rattle.good.specs.Table.{GoodTable}
+use Rattle.pages.specs.Device.{ruled, answered}
+use Rattle.pages.specs.Offers.{DeviceEvent, ofRules, inForce}
+use Rattle.paged.specs.Paged.{GoodUnit}
 use Rattle.scheduler.specs.Step.{Step}
-use Rattle.scheduler.specs.Chain.{inForce}
 
 -- how many records the queue of a lane of this setting has room for, or each of its trains' queues
 abbrev pub roomOf : Setting → ℕ
 roomOf g = if g .shared then trainDepth else laneDepth
 
 -- of the records of the put's train that the lane accepted before, those not yet handed out
-unfoldable pub AheadTold : List Setting → List Event → Type 0
+unfoldable pub AheadTold : List Setting → List DeviceEvent → Type 0
 AheadTold gs es =
-    (past rest : List Event) (j t m l n : ℕ) → es ≡ past ++ record { call = put j t m l; reply = accepted n } ∷ rest
-    → (length (ofTrain t (acceptedOf j past)) ≡ length (ofTrain t (sentOf j past)) + n) × (n < roomOf (settingAt (inForce gs past) j))
+    (past rest : List DeviceEvent) (j t m l n : ℕ) → es ≡ past ++ record { call = ruled (put j t m l); reply = answered (accepted n) } ∷ rest
+    → (length (ofTrain t (acceptedOf j (ofRules past))) ≡ length (ofTrain t (sentOf j (ofRules past))) + n) × (n < roomOf (settingAt (inForce gs past) j))
 
 unfoldable pub PutAhead : Type 0
 PutAhead =
-    (b u : List ℕ) (a : Answer) (j t m l n : ℕ) → GoodTable b → Step (put j t m l) b a u → reads a ≡ accepted n
+    (b u : List ℕ) (a : Answer) (j t m l n : ℕ) → GoodUnit b → Step (put j t m l) b a u → reads a ≡ accepted n
     → (n ≡ ahead (meant b) j t) × (n < roomOf (laneAt (meant b) j .given))

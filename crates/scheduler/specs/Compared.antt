@@ -12,33 +12,33 @@ use mathlib.Core.List.{List, _++_}
 use Rattle.units.specs.Numbers.{lineRate}
 use Rattle.rules.specs.State.{Setting, settingAt, rate, slot}
 use Rattle.rules.specs.Setup.{framingOf, longestCharge, margin}
-use Rattle.rules.specs.Runs.{Event}
-use Rattle.rules.specs.Fair.{bytesSent, bytesSentOf, Holding}
-use Rattle.scheduler.specs.Chain.{inForce}
+use Rattle.rules.specs.Fair.{bytesSent, bytesSentOf}
+use Rattle.pages.specs.Offers.{DeviceEvent, ofRules, inForce}
+use Rattle.pages.specs.Claims.{HeldThroughout}
 
 -- R15.10 with any figure M, by the setup in force: neither lane's bytes, each times c, run ahead by 4 s(a) + 4 s(b) + 2 M. Whole numbers are compared as sums.
-unfoldable pub ComparedBy : (List Setting → ℕ) → List Setting → List Event → Type 0
+unfoldable pub ComparedBy : (List Setting → ℕ) → List Setting → List DeviceEvent → Type 0
 ComparedBy M gs es =
-    (past stretch rest : List Event) → es ≡ past ++ stretch ++ rest
-    → (a b : ℕ) → ((p q : List Event) → p ++ q ≡ stretch → Holding a (past ++ p)) → ((p q : List Event) → p ++ q ≡ stretch → Holding b (past ++ p))
-    → rate (settingAt (inForce gs past) a) * bytesSentOf (inForce gs past) a stretch
-    < rate (settingAt (inForce gs past) b) * bytesSentOf (inForce gs past) b stretch
+    (past stretch rest : List DeviceEvent) → es ≡ past ++ stretch ++ rest
+    → (a b : ℕ) → HeldThroughout a past stretch → HeldThroughout b past stretch
+    → rate (settingAt (inForce gs past) a) * bytesSentOf (inForce gs past) a (ofRules stretch)
+    < rate (settingAt (inForce gs past) b) * bytesSentOf (inForce gs past) b (ofRules stretch)
     + 4 * slot (settingAt (inForce gs past) a) + 4 * slot (settingAt (inForce gs past) b) + 2 * M (inForce gs past)
 
 -- what a record of 1,500 bytes costs the line
-abbrev pub ComparedCalls : List Setting → List Event → Type 0
+abbrev pub ComparedCalls : List Setting → List DeviceEvent → Type 0
 ComparedCalls = ComparedBy (λ (gs : List Setting). margin (framingOf gs))
 
 -- R15.9: what the costliest record of the setup costs the line
 abbrev pub tightest : List Setting → ℕ
 tightest gs = lineRate * longestCharge gs
 
-abbrev pub ComparedTight : List Setting → List Event → Type 0
+abbrev pub ComparedTight : List Setting → List DeviceEvent → Type 0
 ComparedTight = ComparedBy tightest
 
-unfoldable pub FairTight : List Setting → List Event → Type 0
+unfoldable pub FairTight : List Setting → List DeviceEvent → Type 0
 FairTight gs es =
-    (past stretch rest : List Event) → es ≡ past ++ stretch ++ rest
-    → (k : ℕ) → ((p q : List Event) → p ++ q ≡ stretch → Holding k (past ++ p))
-    → lineRate * bytesSent (inForce gs past) stretch
-    < rate (settingAt (inForce gs past) k) * bytesSentOf (inForce gs past) k stretch + 4 * slot (settingAt (inForce gs past) k) + tightest (inForce gs past)
+    (past stretch rest : List DeviceEvent) → es ≡ past ++ stretch ++ rest
+    → (k : ℕ) → HeldThroughout k past stretch
+    → lineRate * bytesSent (inForce gs past) (ofRules stretch)
+    < rate (settingAt (inForce gs past) k) * bytesSentOf (inForce gs past) k (ofRules stretch) + 4 * slot (settingAt (inForce gs past) k) + tightest (inForce gs past)

@@ -8,21 +8,21 @@
 use Prim.Native.Nat.{ℕ, _+_, _^_, _<_}
 use mathlib.Core.Path.{_≡_}
 use mathlib.Core.List.{List}
-use Rattle.rules.specs.State.{Setting, State}
-use Rattle.rules.specs.Calls.{fresh}
-use Rattle.rules.specs.Runs.{Event}
-use Rattle.rules.specs.Endless.{endlessAfter, endlessTrace, Beside}
-use Rattle.table.specs.Encodes.{Encodes}
+use Rattle.rules.specs.State.{Setting}
+use Rattle.rules.specs.Endless.{endless}
+use Rattle.pages.specs.Device.{Device, freshDevice}
+use Rattle.pages.specs.Offers.{DeviceEvent, deviceAfterBy, deviceTraceBy}
+use Rattle.pages.specs.Other.{DeviceBeside}
+use Rattle.paged.specs.Paged.{EncodesDevice}
 use Rattle.scheduler.specs.Chain.{callsOf}
 
--- of a state that the bytes encode: V, and S and F of each lane that holds records, are a multiple of 2^31 below the endless clock's, and so is the greater
+-- of a unit that the bytes encode, its edition and the page that waits being the endless one's: V, and S and F of each lane that holds records, are a multiple of 2^31 below the endless clock's, and so is the greater
 -- of F and V of each idle lane; settings, records and the tie order are the same
-pub record EndlessCalls (gs : List Setting) (es : List Event) (u : List ℕ) : Type 0 where
-  pub answers : endlessTrace (fresh gs) (callsOf es) ≡ es
-  pub state : State
-  pub table : Encodes u state
-  pub off : ℕ
-  pub beside : Beside off state (endlessAfter (fresh gs) (callsOf es))
+pub record EndlessCalls (gs : List Setting) (es : List DeviceEvent) (u : List ℕ) : Type 0 where
+  pub answers : deviceTraceBy endless (freshDevice gs) (callsOf es) ≡ es
+  pub device : Device
+  pub table : EncodesDevice u device
+  pub beside : DeviceBeside device (deviceAfterBy endless (freshDevice gs) (callsOf es))
 
 unfoldable pub ClockEarly : List ℕ → Type 0
-ClockEarly u = (s : State) → Encodes u s → s .clock < 2 ^ 61 + 2 ^ 44
+ClockEarly u = (d : Device) → EncodesDevice u d → d .state .clock < 2 ^ 61 + 2 ^ 44

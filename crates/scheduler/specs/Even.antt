@@ -10,27 +10,30 @@ use Prim.Native.Nat.{ℕ, _+_, _*_, _≤_}
 use mathlib.Core.Path.{_≡_}
 use mathlib.Core.List.{List, _++_}
 use Rattle.rules.specs.State.{Setting, settingAt}
-use Rattle.rules.specs.Runs.{Event}
-use Rattle.rules.specs.Even.{HoldingTrain, bytesOf, BothThroughout}
-use Rattle.scheduler.specs.Chain.{inForce}
+use Rattle.rules.specs.Even.{HoldingTrain, bytesOf}
+use Rattle.pages.specs.Offers.{DeviceEvent, ofRules, inForce}
+
+-- a train holds a record before the stretch and after each call in it
+abbrev pub TrainThroughout : ℕ → ℕ → List DeviceEvent → List DeviceEvent → Type 0
+TrainThroughout k t past stretch = (p q : List DeviceEvent) → p ++ q ≡ stretch → HoldingTrain k t (ofRules (past ++ p))
 
 -- Any stretch of the list (what comes before it, the stretch, what follows), any lane k and any two of its trains that both hold a record before the stretch
 -- and after each call in it. The two may be exchanged, so this bounds the difference either way.
-unfoldable pub EvenCalls : List Setting → List Event → Type 0
+unfoldable pub EvenCalls : List Setting → List DeviceEvent → Type 0
 EvenCalls gs es =
-    (past stretch rest : List Event) → es ≡ past ++ stretch ++ rest
-    → (k a b : ℕ) → BothThroughout k a b past stretch
-    → bytesOf k a stretch ≤ bytesOf k b stretch + 3 * (settingAt (inForce gs past) k) .longest
+    (past stretch rest : List DeviceEvent) → es ≡ past ++ stretch ++ rest
+    → (k a b : ℕ) → TrainThroughout k a past stretch → TrainThroughout k b past stretch
+    → bytesOf k a (ofRules stretch) ≤ bytesOf k b (ofRules stretch) + 3 * (settingAt (inForce gs past) k) .longest
 
-unfoldable pub EvenTightCalls : List Setting → List Event → Type 0
+unfoldable pub EvenTightCalls : List Setting → List DeviceEvent → Type 0
 EvenTightCalls gs es =
-    (past stretch rest : List Event) → es ≡ past ++ stretch ++ rest
-    → (k a b : ℕ) → (a ≡ b → ⊥) → BothThroughout k a b past stretch
-    → bytesOf k a stretch + 2 ≤ bytesOf k b stretch + 3 * (settingAt (inForce gs past) k) .longest
+    (past stretch rest : List DeviceEvent) → es ≡ past ++ stretch ++ rest
+    → (k a b : ℕ) → (a ≡ b → ⊥) → TrainThroughout k a past stretch → TrainThroughout k b past stretch
+    → bytesOf k a (ofRules stretch) + 2 ≤ bytesOf k b (ofRules stretch) + 3 * (settingAt (inForce gs past) k) .longest
 
 -- train a holds a record throughout, and b may come and go
-unfoldable pub OthersTightCalls : List Setting → List Event → Type 0
+unfoldable pub OthersTightCalls : List Setting → List DeviceEvent → Type 0
 OthersTightCalls gs es =
-    (past stretch rest : List Event) → es ≡ past ++ stretch ++ rest
-    → (k a b : ℕ) → (a ≡ b → ⊥) → ((p q : List Event) → p ++ q ≡ stretch → HoldingTrain k a (past ++ p))
-    → bytesOf k b stretch + 2 ≤ bytesOf k a stretch + 3 * (settingAt (inForce gs past) k) .longest
+    (past stretch rest : List DeviceEvent) → es ≡ past ++ stretch ++ rest
+    → (k a b : ℕ) → (a ≡ b → ⊥) → TrainThroughout k a past stretch
+    → bytesOf k b (ofRules stretch) + 2 ≤ bytesOf k a (ofRules stretch) + 3 * (settingAt (inForce gs past) k) .longest

@@ -8,11 +8,11 @@ use Rattle.rules.specs.Calls.{lag, lagged, lagOf}
 use Rattle.rules.specs.Reads.{reads}
 use Rattle.rules.specs.declared.Answer.{Answer}
 use Rattle.table.specs.Means.{meant}
-use Rattle.good.specs.Table.{GoodTable}
+use Rattle.paged.specs.Paged.{GoodUnit}
 use Rattle.engine.specs.LagRange.{LagRange}
 use Rattle.scheduler.specs.Step.{Step}
 
 unfoldable pub LagCall : Type 0
 LagCall =
-    (t u : List ℕ) (a : Answer) (j : ℕ) (z : ℤ) → GoodTable t → Step (lag j) t a u → reads a ≡ lagged z
+    (t u : List ℕ) (a : Answer) (j : ℕ) (z : ℤ) → GoodUnit t → Step (lag j) t a u → reads a ≡ lagged z
     → (z ≡ lagOf (meant t .clock) (laneAt (meant t) j)) × LagRange (meant t) j

@@ -13,3 +13,4 @@ pub mod TakeAnswer
 pub mod PutLocal
 pub mod OrderFrom
 pub mod LagAnswer
+pub mod Pages

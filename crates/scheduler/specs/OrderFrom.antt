@@ -7,12 +7,13 @@ use mathlib.Core.Path.{_≡_}
 use mathlib.Core.List.{List, _++_}
 use Rattle.waiting.specs.Waiting.{queueOf}
 use Rattle.rules.specs.State.{laneAt}
-use Rattle.rules.specs.Runs.{Event, acceptedOf, sentOf, ofTrain}
+use Rattle.rules.specs.Runs.{acceptedOf, sentOf, ofTrain}
+use Rattle.pages.specs.Offers.{DeviceEvent, ofRules}
 use Rattle.table.specs.Means.{meant}
-use Rattle.good.specs.Table.{GoodTable}
+use Rattle.paged.specs.Paged.{GoodUnit}
 use Rattle.scheduler.specs.Chain.{Chain}
 
 unfoldable pub OrderFrom : Type 0
 OrderFrom =
-    (b u : List ℕ) (es : List Event) → GoodTable b → Chain b es u
-    → (k t : ℕ) → queueOf (laneAt (meant b) k .waiting) t ++ ofTrain t (acceptedOf k es) ≡ ofTrain t (sentOf k es) ++ queueOf (laneAt (meant u) k .waiting) t
+    (b u : List ℕ) (es : List DeviceEvent) → GoodUnit b → Chain b es u
+    → (k t : ℕ) → queueOf (laneAt (meant b) k .waiting) t ++ ofTrain t (acceptedOf k (ofRules es)) ≡ ofTrain t (sentOf k (ofRules es)) ++ queueOf (laneAt (meant u) k .waiting) t

@@ -17,7 +17,7 @@ use Rattle.rules.specs.Calls.{sets, look, words, seen, step}
 use Rattle.rules.specs.Reads.{reads}
 use Rattle.rules.specs.declared.Answer.{Answer}
 use Rattle.table.specs.Means.{meant}
-use Rattle.good.specs.Table.{GoodTable}
+use Rattle.paged.specs.Paged.{GoodUnit}
 use Rattle.scheduler.specs.Step.{Step}
 
 pub record SetsAnswer (s : State) (er ir eb ib : ℕ) : Type 0 where
@@ -33,5 +33,5 @@ pub record SetsAnswer (s : State) (er ir eb ib : ℕ) : Type 0 where
 -- R4.5 to R4.8
 unfoldable pub SetsCall : Type 0
 SetsCall =
-    (t u : List ℕ) (a : Answer) (er ir eb ib : ℕ) → GoodTable t → Step sets t a u → reads a ≡ words er ir eb ib
+    (t u : List ℕ) (a : Answer) (er ir eb ib : ℕ) → GoodUnit t → Step sets t a u → reads a ≡ words er ir eb ib
     → SetsAnswer (meant t) er ir eb ib

@@ -16,7 +16,7 @@ use Rattle.rules.specs.Calls.{take, look, taken, seen, refused}
 use Rattle.rules.specs.Reads.{reads}
 use Rattle.rules.specs.declared.Answer.{Answer}
 use Rattle.table.specs.Means.{meant}
-use Rattle.good.specs.Table.{GoodTable}
+use Rattle.paged.specs.Paged.{GoodUnit}
 use Rattle.scheduler.specs.Step.{Step}
 
 pub record Served (s : State) (j k m n : ℕ) : Type 0 where
@@ -31,9 +31,9 @@ pub record Served (s : State) (j k m n : ℕ) : Type 0 where
       → group (laneAt s i .given) ≤ group (laneAt s j .given) → place j (s .order) ≤ place i (s .order)
 
 unfoldable pub TakeCall : Type 0
-TakeCall = (t u : List ℕ) (a : Answer) (j k m n : ℕ) → GoodTable t → Step take t a u → reads a ≡ taken j k m n → Served (meant t) j k m n
+TakeCall = (t u : List ℕ) (a : Answer) (j k m n : ℕ) → GoodUnit t → Step take t a u → reads a ≡ taken j k m n → Served (meant t) j k m n
 
 unfoldable pub LookTakes : Type 0
 LookTakes =
-    (t u : List ℕ) (a b : Answer) → GoodTable t → Step take t a u → Step look t b t
+    (t u : List ℕ) (a b : Answer) → GoodUnit t → Step take t a u → Step look t b t
     → ((j k m n : ℕ) → reads a ≡ taken j k m n → reads b ≡ seen j k m n) × (reads a ≡ refused 16 none → reads b ≡ refused 16 none)

@@ -11,7 +11,7 @@ use mathlib.Core.Option.{none, some}
 use borrow.Author.Tests.{lt-ltb, le-ltb}
 use Rattle.rules.specs.Reads.{number, placeOf}
 use Rattle.rules.specs.declared.Refusal.{Refusal}
-use Rattle.table.specs.Layout.{SIZE}
+use Rattle.table.specs.Layout.{tableSize}
 use Rattle.walk.specs.Script.{script, nothing, runOf}
 use Rattle.walk.specs.Follows.{Follows}
 use Rattle.walk.specs.declared.Stop.the-variants.{Refused}
@@ -30,10 +30,10 @@ module _ (s : List ℕ) (limit table area : ℕ) where
   unfolding runOf
   run-area l h = rw (le-ltb 1000 limit l, lt-ltb area (64 * (limit + 2)) h)
 
-  pub run-table : limit ≤ 1000 → 64 * (limit + 2) ≤ area → table < SIZE → runOf s limit table area ≡ nothing 7 (some 0)
+  pub run-table : limit ≤ 1000 → 64 * (limit + 2) ≤ area → table < tableSize → runOf s limit table area ≡ nothing 7 (some 0)
   unfolding runOf
-  run-table l h t = rw (le-ltb 1000 limit l, le-ltb area (64 * (limit + 2)) h, lt-ltb table SIZE t)
+  run-table l h t = rw (le-ltb 1000 limit l, le-ltb area (64 * (limit + 2)) h, lt-ltb table tableSize t)
 
-  pub run-right : limit ≤ 1000 → 64 * (limit + 2) ≤ area → SIZE ≤ table → runOf s limit table area ≡ script s limit
+  pub run-right : limit ≤ 1000 → 64 * (limit + 2) ≤ area → tableSize ≤ table → runOf s limit table area ≡ script s limit
   unfolding runOf
-  run-right l h t = rw (le-ltb 1000 limit l, le-ltb area (64 * (limit + 2)) h, le-ltb table SIZE t)
+  run-right l h t = rw (le-ltb 1000 limit l, le-ltb area (64 * (limit + 2)) h, le-ltb table tableSize t)

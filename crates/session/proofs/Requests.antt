@@ -17,7 +17,7 @@ use Rattle.rules.proofs.SameSetup.{same-setup, fresh-setup}
 use Rattle.rules.proofs.Fair.{demand3, two-lanes}
 use Rattle.plan.specs.Read as plan
 use Rattle.plan.proofs.Accepted.{accepted}
-use Rattle.table.specs.Layout.{SIZE}
+use Rattle.table.specs.Layout.{tableSize}
 use Rattle.lines.specs.Line.{lanesLine}
 use Rattle.requests.specs.Request.{Item, request, last, bad, itemAt}
 use Rattle.answers.specs.Lines.{lineBy}
@@ -81,7 +81,7 @@ module _ (s : List ℕ) (limit : ℕ) (σ : State) where
 
 pub run-lists : RunLists
 unfolding RunLists runOf script
-run-lists s limit table area σ = go (ltb 1000 limit || ltb area (64 * (limit + 2))) (ltb table SIZE)
+run-lists s limit table area σ = go (ltb 1000 limit || ltb area (64 * (limit + 2))) (ltb table tableSize)
   where
     go : (a b : Bool) → (if a then nothing 17 none else (if b then nothing 7 (some 0) else begun s limit (plan.readPlan s 0))) .state ≡ some σ
         → Lists s limit (if a then nothing 17 none else (if b then nothing 7 (some 0) else begun s limit (plan.readPlan s 0)))

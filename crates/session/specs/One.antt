@@ -8,9 +8,9 @@ use Prim.Native.Nat.{ℕ}
 use mathlib.Core.Path.{_≡_}
 use mathlib.Core.List.{List}
 use lib.ListN.{drop}
-use Rattle.alike.specs.Alike.{Alike}
-use Rattle.table.specs.Layout.{SIZE}
-use Rattle.table.specs.Means.{meant}
+use Rattle.alike.specs.AlikeDevice.{AlikeDevice}
+use Rattle.table.specs.Layout.{tableSize}
+use Rattle.paged.specs.Paged.{deviceOf}
 use Rattle.walk.specs.Follows.{whyIs}
 use Rattle.session.specs.Ran.{Ran}
 use Rattle.walk.specs.declared.RunResult.{RunResult}
@@ -21,8 +21,8 @@ pub record SameRun (r r′ : RunResult) (a a′ t t′ : List ℕ) : Type 0 wher
   pub written : r .written ≡ r′ .written
   pub why : whyIs (r .why) ≡ whyIs (r′ .why)
   pub answers : a ≡ a′
-  pub table : Alike (meant t) (meant t′)
-  pub rest : drop SIZE t ≡ drop SIZE t′
+  pub table : AlikeDevice (deviceOf t) (deviceOf t′)
+  pub rest : drop tableSize t ≡ drop tableSize t′
 
 unfoldable pub OneRun : Type 0
 OneRun =

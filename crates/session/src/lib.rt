@@ -6,7 +6,7 @@
 ghost use mathlib.Core.Path.{_≡_};
 ghost use Rattle.session.specs.Ran.{Ran};
 use rules::Refusal;
-use table::SIZE;
+use table::TABLE_SIZE;
 use walk::RunResult;
 use walk::Stop;
 use walk::begun;
@@ -37,7 +37,7 @@ pub fn run(session: &[u8], limit: u64, table: &mut [u8], answers: &mut [u8]) -> 
     if answers.len() < LINE * (limit as usize + 2) {
         return nothing(Refusal::RunBounds);
     }
-    if table.len() < SIZE {
+    if table.len() < TABLE_SIZE {
         return nothing(Refusal::TableShort);
     }
     begun(session, limit, table, answers)

@@ -17,7 +17,7 @@ use walk::Stop;
 const FRAME: usize = 10;
 
 // The most bytes of table, a few past the fixed size, and of answer area.
-const TABLE: usize = table::SIZE + 20;
+const TABLE: usize = table::TABLE_SIZE + 20;
 
 const AREA: usize = 65000;
 

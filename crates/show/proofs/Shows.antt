@@ -5,63 +5,80 @@ use native.Mathlib.Nat.{pos-of-ne-zero}
 use mathlib.Core.Path.{_≡_, refl, sym, ap, subst, _∙_}
 use mathlib.Core.Bool.{Bool, true, false}
 use mathlib.Core.List.{List}
-use mathlib.Core.Option.{none}
-use lib.Dec.{ltb}
+use mathlib.Core.Option.{none, some}
+use lib.Dec.{ltb, eqb}
 use lib.ListN.{getD}
-use borrow.Author.Tests.{lt-ltb, le-ltb}
+use borrow.Author.Tests.{lt-ltb, le-ltb, eqb-true}
 use Rattle.units.specs.Plain.{if_then_else_}
 use Rattle.waiting.specs.Waiting.{Waiting, plain, held, queueOf, GoodWaiting}
 use Rattle.words.proofs.Runs.{getD-tab}
-use Rattle.rules.specs.State.{State, Lane, group, holds, laneAt, laneDepth, noLane}
-use Rattle.alike.specs.Alike.{Alike}
+use Rattle.rules.specs.State.{Lane, group, holds, laneAt, laneDepth, noLane}
 use Rattle.table.specs.Layout.{cells, rowAt, placeOf, entryAt}
 use Rattle.table.specs.Means.{presentAt, givenOf, meant}
 use Rattle.table.specs.declared.LaneRow.{LaneRow}
 use Rattle.table.specs.declared.Entry.{Entry}
 use Rattle.table.proofs.Footprint.{lane-is}
 use Rattle.table.proofs.Rows.{waiting-row}
-use Rattle.good.specs.Table.{GoodTable}
+use Rattle.alike.specs.AlikeDevice.{AlikeDevice}
+use Rattle.pages.specs.Device.{Page, Device}
+use Rattle.editions.specs.Part.{lastIn, newIn, planOf, waitingIn}
 use Rattle.good.proofs.Encodes.{good-sound}
+use Rattle.paged.specs.Paged.{partOf, deviceOf, GoodUnit}
+use Rattle.scheduler.proofs.Steps.{encoded-alike}
 use Rattle.engine.proofs.RowIs.{RowIs, row-is, row-weighs, count-holds, count-idle}
 use Rattle.rules.specs.declared.Refusal.the-variants as why
-use Rattle.show.specs.Views.{Ask, View, clock, lane, backlog, waits, clockIs, refused, backlogIs, settingIs, recordIs, noRec, timeOf, view}
+use Rattle.show.specs.Views.{Ask, View, clock, lane, backlog, waits, edition, clockIs, refused, backlogIs, settingIs, recordIs, editionIs, noRec, timeOf, waitingEdition, view}
 use Rattle.show.specs.Shows.{reads, Shows, FindIs}
 use Rattle.show.specs.declared.Shown.{Shown}
 use Rattle.show.specs.declared.Shown.the-variants.{Refused}
 use Rattle.show.specs.declared.Found.{Found}
 use Rattle.show.specs.declared.Found.the-variants.{NotGood, NoLane, Row}
 
--- what a state shows is not of its tie order
-view-alike : (a : Ask) (s u : State) → Alike s u → view s a ≡ view u a
+-- what a unit shows is not of its tie order
+view-alike : (a : Ask) (d e : Device) → AlikeDevice d e → view d a ≡ view e a
 unfolding view
-view-alike clock s u e = rw (e .clock)
-view-alike (lane k) s u e = rw (e .lanes)
-view-alike (backlog k) s u e = rw (e .lanes)
-view-alike (waits k t i) s u e = rw (e .lanes)
+view-alike clock d e a = rw (a .state .clock)
+view-alike (lane k) d e a = rw (a .state .lanes)
+view-alike (backlog k) d e a = rw (a .state .lanes)
+view-alike (waits k t i) d e a = rw (a .state .lanes)
+view-alike edition d e a = rw (a .edition, a .waiting)
 
-pub bad-shows : (a : Ask) (t : List ℕ) → (GoodTable t → ⊥) → Shows a t (Refused why.NotGood)
+pub bad-shows : (a : Ask) (t : List ℕ) → (GoodUnit t → ⊥) → Shows a t (Refused why.NotGood)
 bad-shows a t b = record { not-good = λ _. refl; shown = λ g. absurd (b g) }
 
-pub good-shows : (a : Ask) (t : List ℕ) (r : Shown) → GoodTable t → reads r ≡ view (meant t) a → Shows a t r
-good-shows a t r g e = record { not-good = λ b. absurd (b g); shown = λ _ s n. e ∙ view-alike a (meant t) s (n .alike) }
+pub good-shows : (a : Ask) (t : List ℕ) (r : Shown) → GoodUnit t → reads r ≡ view (deviceOf t) a → Shows a t r
+good-shows a t r g e = record { not-good = λ b. absurd (b g); shown = λ _ d n. e ∙ view-alike a (deviceOf t) d (encoded-alike t d n) }
 
-pub shows-clock : (t : List ℕ) (v : ℕ) → v ≡ meant t .clock → clockIs v ≡ view (meant t) clock
-unfolding view
+pub shows-clock : (t : List ℕ) (v : ℕ) → v ≡ meant t .clock → clockIs v ≡ view (deviceOf t) clock
+unfolding view deviceOf
 shows-clock t v e = ap clockIs e
+
+-- the word of the waiting page's edition is 0 where none waits
+waits-as : (p : List ℕ) → newIn p ≡ waitingEdition (waitingIn p)
+unfolding waitingIn
+waits-as p = go (eqb (newIn p) 0) refl
+  where
+    go : (b : Bool) → eqb (newIn p) 0 ≡ b → newIn p ≡ waitingEdition (if b then none else some (record { edition = newIn p; settings = planOf p .lanes }))
+    go true e = eqb-true (newIn p) 0 e
+    go false e = refl
+
+pub shows-edition : (t : List ℕ) (n m : ℕ) → n ≡ lastIn (partOf t) → m ≡ newIn (partOf t) → editionIs n m ≡ view (deviceOf t) edition
+unfolding view deviceOf
+shows-edition t n m e f = ap (λ (x : ℕ). editionIs x m) e ∙ ap (editionIs (lastIn (partOf t))) (f ∙ waits-as (partOf t))
 
 -- ---- a lane that is not in the setup
 
-module _ (s : State) (k : ℕ) (e : laneAt s k ≡ noLane) where
-  none-lane : refused 11 none ≡ view s (lane k)
-  unfolding view
+module _ (d : Device) (k : ℕ) (e : laneAt (d .state) k ≡ noLane) where
+  none-lane : refused 11 none ≡ view d (lane k)
+  unfolding view deviceOf
   none-lane = rw e
 
-  none-backlog : refused 11 none ≡ view s (backlog k)
-  unfolding view
+  none-backlog : refused 11 none ≡ view d (backlog k)
+  unfolding view deviceOf
   none-backlog = rw e
 
-  none-waits : (j i : ℕ) → refused 11 none ≡ view s (waits k j i)
-  unfolding view
+  none-waits : (j i : ℕ) → refused 11 none ≡ view d (waits k j i)
+  unfolding view deviceOf
   none-waits j i = rw e
 
 -- ---- a lane by its row
@@ -71,21 +88,21 @@ module _ (t : List ℕ) (k : ℕ) (l : LaneRow) (f : FindIs t k (Row l)) where
   lane-k = laneAt (meant t) k
 
   pub found : RowIs lane-k l
-  found = rw (f .3) (row-is t (good-sound t (f .0)) k (f .1) (f .2))
+  found = rw (f .3) (row-is t (good-sound t (f .0 .core)) k (f .1) (f .2))
 
   pub weighs : ltb (lane-k .given .weight) 1 ≡ false
   weighs = le-ltb (lane-k .given .weight) 1 (row-weighs lane-k l found)
 
-  pub shows-setting : settingIs (givenOf l) (l .group) ≡ view (meant t) (lane k)
-  unfolding view
+  pub shows-setting : settingIs (givenOf l) (l .group) ≡ view (deviceOf t) (lane k)
+  unfolding view deviceOf
   shows-setting = rw (weighs, found .grouped, found .given)
 
   time-is : (b : Bool) → holds lane-k ≡ b → l .time .0 ≡ (if b then lane-k .start else lane-k .finish)
   time-is true e = sym (found .busy e)
   time-is false e = sym (found .idle e)
 
-  pub shows-backlog : backlogIs (l .count) (l .time .0) ≡ view (meant t) (backlog k)
-  unfolding view
+  pub shows-backlog : backlogIs (l .count) (l .time .0) ≡ view (deviceOf t) (backlog k)
+  unfolding view deviceOf
   shows-backlog = rw (weighs, found .held, time-is (holds lane-k) refl)
 
 -- ---- by what was found
@@ -100,14 +117,18 @@ pub find-row : (t : List ℕ) (k : ℕ) (r : Found) (l : LaneRow) → r ≡ Row 
 find-row t k r l e f = found-as t k r (Row l) e f
 
 module _ (t : List ℕ) (k : ℕ) (r : Found) (e : r ≡ NoLane) (f : FindIs t k r) where
-  absent : GoodTable t × (laneAt (meant t) k ≡ noLane)
+  absent : GoodUnit t × (laneAt (meant t) k ≡ noLane)
   absent = found-as t k r NoLane e f
 
+  held-as : laneAt (meant t) k ≡ noLane → laneAt (deviceOf t .state) k ≡ noLane
+  unfolding deviceOf
+  held-as e = e
+
   pub find-no-lane : Shows (lane k) t (Refused why.NoLane)
-  find-no-lane = good-shows (lane k) t (Refused why.NoLane) (absent .0) (none-lane (meant t) k (absent .1))
+  find-no-lane = good-shows (lane k) t (Refused why.NoLane) (absent .0) (none-lane (deviceOf t) k (held-as (absent .1)))
 
   pub find-no-backlog : Shows (backlog k) t (Refused why.NoLane)
-  find-no-backlog = good-shows (backlog k) t (Refused why.NoLane) (absent .0) (none-backlog (meant t) k (absent .1))
+  find-no-backlog = good-shows (backlog k) t (Refused why.NoLane) (absent .0) (none-backlog (deviceOf t) k (held-as (absent .1)))
 
   pub find-no-waits : (j i : ℕ) → Shows (waits k j i) t (Refused why.NoLane)
-  find-no-waits j i = good-shows (waits k j i) t (Refused why.NoLane) (absent .0) (none-waits (meant t) k (absent .1) j i)
+  find-no-waits j i = good-shows (waits k j i) t (Refused why.NoLane) (absent .0) (none-waits (deviceOf t) k (held-as (absent .1)) j i)

@@ -24,6 +24,7 @@ use Rattle.table.specs.declared.LaneRow.{LaneRow}
 use Rattle.table.specs.declared.Entry.{Entry}
 use Rattle.table.proofs.Footprint.{lane-is}
 use Rattle.table.proofs.Rows.{waiting-row, waiting-plain, waiting-none, waiting-shared, waiting-kind, length-ring}
+use Rattle.paged.specs.Paged.{deviceOf}
 use Rattle.show.specs.Views.{waits, refused, recordIs, noRec, view}
 use Rattle.show.specs.Shows.{RowFound, SpotIs}
 use Rattle.show.specs.declared.Spot.{Spot}
@@ -53,7 +54,7 @@ module _ (t : List ℕ) (k : ℕ) (l : LaneRow) (f : RowFound t k l) where
 
   -- no more than a lane has room for
   pub few : l .count ≤ laneDepth
-  few = omega (arith, found t k l f .held, held-most (laneAt (meant t) k .given .longest) q (f .0 .good .waiting k))
+  few = omega (arith, found t k l f .held, held-most (laneAt (meant t) k .given .longest) q (f .0 .core .good .waiting k))
 
   -- ---- a shared lane
 
@@ -92,8 +93,7 @@ module _ (t : List ℕ) (k : ℕ) (l : LaneRow) (f : RowFound t k l) where
         spot-train p = rw e (
           knows h,
           omega (arith, size, ap countOf e),
-          ap (λ (x : List round.Rec). getD x i noRec) train-queue
-              ∙ getD-tab (countOf n) i (λ a. recAt (cells t) k (turns.placeOf j (headOf n + a))) noRec (omega (arith, ap countOf e)),
+          ap (λ (x : List round.Rec). getD x i noRec) train-queue ∙ getD-tab (countOf n) i (λ a. recAt (cells t) k (turns.placeOf j (headOf n + a))) noRec (omega (arith, ap countOf e)),
         )
 
   -- ---- a lane that is not shared
@@ -127,17 +127,16 @@ module _ (t : List ℕ) (k : ℕ) (l : LaneRow) (f : RowFound t k l) where
     spot-as : (x : Spot) → r ≡ x → SpotIs t k j i x
     spot-as x e = subst (SpotIs t k j i) e found-at
 
-    pub shows-no-train : r ≡ NoTrain → refused 70 none ≡ view (meant t) (waits k j i)
-    unfolding view
+    pub shows-no-train : r ≡ NoTrain → refused 70 none ≡ view (deviceOf t) (waits k j i)
+    unfolding view deviceOf
     shows-no-train is = rw (weighs t k l f, spot-as NoTrain is)
 
-    pub shows-nothing : r ≡ Nothing → refused 16 none ≡ view (meant t) (waits k j i)
-    unfolding view
+    pub shows-nothing : r ≡ Nothing → refused 16 none ≡ view (deviceOf t) (waits k j i)
+    unfolding view deviceOf
     shows-nothing is = let e = spot-as Nothing is in rw (weighs t k l f, e .0, le-ltb i (length (queueOf q j)) (e .1))
 
-    pub shows-record : (p : ℕ) → r ≡ At p → (e : Entry) → e ≡ entryAt (cells t) (placeOf k p)
-        → recordIs k (withTrain j (recOf e)) ≡ view (meant t) (waits k j i)
-    unfolding view
+    pub shows-record : (p : ℕ) → r ≡ At p → (e : Entry) → e ≡ entryAt (cells t) (placeOf k p) → recordIs k (withTrain j (recOf e)) ≡ view (deviceOf t) (waits k j i)
+    unfolding view deviceOf
     shows-record p is x read =
         let e = spot-as (At p) is in
         rw (weighs t k l f, e .0, lt-ltb i (length (queueOf q j)) (e .1), e .2) (ap (λ (y : Entry). recordIs k (withTrain j (recOf y))) read)

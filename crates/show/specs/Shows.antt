@@ -13,16 +13,16 @@ use mathlib.Core.List.{List}
 use mathlib.Core.Option.{none}
 use lib.ListN.{length, getD}
 use Rattle.waiting.specs.Waiting.{queueOf, known}
-use Rattle.rules.specs.State.{State, laneAt, laneDepth, noLane}
+use Rattle.rules.specs.State.{laneAt, laneDepth, noLane}
 use Rattle.rules.specs.Reads as rules
 use Rattle.table.specs.Layout.{cells, rowAt, placeOf, entryAt}
 use Rattle.table.specs.Means.{presentAt, recOf, meant}
 use Rattle.table.specs.declared.LaneRow.{LaneRow}
-use Rattle.table.specs.Encodes.{Encodes}
-use Rattle.good.specs.Table.{GoodTable}
-use Rattle.show.specs.Views.{Ask, View, clockIs, settingIs, backlogIs, recordIs, refused, noRec, view}
+use Rattle.pages.specs.Device.{Device}
+use Rattle.paged.specs.Paged.{EncodesDevice, GoodUnit}
+use Rattle.show.specs.Views.{Ask, View, clockIs, settingIs, backlogIs, recordIs, editionIs, refused, noRec, view}
 use Rattle.show.specs.declared.Shown.{Shown}
-use Rattle.show.specs.declared.Shown.the-variants.{Clock, Setting, Backlog, Record, Refused}
+use Rattle.show.specs.declared.Shown.the-variants.{Clock, Setting, Backlog, Record, Edition, Refused}
 use Rattle.show.specs.declared.Found.{Found}
 use Rattle.show.specs.declared.Found.the-variants.{NotGood, NoLane, Row}
 use Rattle.show.specs.declared.Spot.{Spot}
@@ -33,21 +33,22 @@ reads (Clock v) = clockIs (v .0)
 reads (Setting g) = settingIs (record { weight = g .weight; longest = g .longest .0; framing = g .framing .0; shared = g .shared }) (g .group)
 reads (Backlog b) = backlogIs (b .count) (b .time .0)
 reads (Record r) = recordIs (r .lane) (record { train = r .train; mark = r .mark; len = r .length .0 })
+reads (Edition e) = editionIs (e .last) (e .waiting)
 reads (Refused x) = refused (rules.number x) (rules.placeOf x)
 
 pub record Shows (a : Ask) (t : List ℕ) (r : Shown) : Type 0 where
   -- R17.1: 10 for bytes that are no good table
-  pub not-good : (GoodTable t → ⊥) → reads r ≡ refused 10 none
-  -- R17.1: on a good table, of any origin: what any state shows that the bytes encode
-  pub shown : GoodTable t → (s : State) → Encodes t s → reads r ≡ view s a
+  pub not-good : (GoodUnit t → ⊥) → reads r ≡ refused 10 none
+  -- R17.1: on a good table, of any origin: what any unit shows that the bytes encode
+  pub shown : GoodUnit t → (d : Device) → EncodesDevice t d → reads r ≡ view d a
 
 -- l is the row of lane k, which the setup has
 abbrev pub RowFound : List ℕ → ℕ → LaneRow → Type 0
-RowFound t k l = GoodTable t × (k < 64) × (presentAt (cells t) k ≡ true) × (l ≡ rowAt (cells t) k) × (l .head < laneDepth)
+RowFound t k l = GoodUnit t × (k < 64) × (presentAt (cells t) k ≡ true) × (l ≡ rowAt (cells t) k) × (l .head < laneDepth)
 
 abbrev pub FindIs : List ℕ → ℕ → Found → Type 0
-FindIs t k NotGood = GoodTable t → ⊥
-FindIs t k NoLane = GoodTable t × (laneAt (meant t) k ≡ noLane)
+FindIs t k NotGood = GoodUnit t → ⊥
+FindIs t k NoLane = GoodUnit t × (laneAt (meant t) k ≡ noLane)
 FindIs t k (Row l) = RowFound t k l
 
 -- of train j's record with i before it; p is a place of lane k

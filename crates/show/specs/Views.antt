@@ -1,21 +1,24 @@
--- What a state shows (docs/RULES.md, R17).
+-- What a unit shows (docs/RULES.md, R17).
 --
---   Ask      what a host asks for: the clock; a lane's setting; its backlog; the record of a train with i of that train before it
+--   Ask      what a host asks for: the clock; a lane's setting; its backlog; the record of a train with i of that train before it;
+--            the editions
 --   View     what it is told
 --   timeOf   a lane's time: S while it holds records, F while it is idle
---   view     what a state shows, by the refusals' numbers: 11 for a lane that is not in the setup, 70 for a train that the lane does not know, 16 for a record
+--   waitingEdition   the edition of a page that waits, 0 where none does
+--   view     what a unit shows, by the refusals' numbers: 11 for a lane that is not in the setup, 70 for a train that the lane does not know, 16 for a record
 --            that is not there
 --
 -- Assumes nothing.
 use Prim.Native.Nat.{ℕ}
 use mathlib.Core.Bool.{not}
-use mathlib.Core.Option.{Option, none}
+use mathlib.Core.Option.{Option, none, some}
 use lib.Dec.{ltb}
 use lib.ListN.{length, getD}
 use Rattle.units.specs.Plain.{if_then_else_}
 use Rattle.rounds.specs.Round as round
 use Rattle.waiting.specs.Waiting.{held, queueOf, known, withTrain}
-use Rattle.rules.specs.State.{Rec, Setting, Lane, State, group, holds, laneAt}
+use Rattle.rules.specs.State.{Rec, Setting, Lane, group, holds, laneAt}
+use Rattle.pages.specs.Device.{Page, Device}
 
 -- R17.2 to R17.5, R17.7
 pub data Ask : Type 0 where
@@ -23,6 +26,7 @@ pub data Ask : Type 0 where
   lane : ℕ → Ask
   backlog : ℕ → Ask
   waits : ℕ → ℕ → ℕ → Ask
+  edition : Ask
 
 -- R17.2 to R17.5, R17.7
 pub data View : Type 0 where
@@ -33,6 +37,8 @@ pub data View : Type 0 where
   backlogIs : ℕ → ℕ → View
   -- its lane, and the record
   recordIs : ℕ → Rec → View
+  -- the edition last taken, and that of the page that waits
+  editionIs : ℕ → ℕ → View
   refused : ℕ → Option ℕ → View
 
 -- R17.4
@@ -54,9 +60,15 @@ recordOf k l t i =
 abbrev pub ofLane : Lane → View → View
 ofLane l v = if ltb (l .given .weight) 1 then refused 11 none else v
 
--- R17.2 to R17.5, R17.7
-unfoldable pub view : State → Ask → View
-view s clock = clockIs (s .clock)
-view s (lane k) = ofLane (laneAt s k) (settingIs (laneAt s k .given) (group (laneAt s k .given)))
-view s (backlog k) = ofLane (laneAt s k) (backlogIs (held (laneAt s k .waiting)) (timeOf (laneAt s k)))
-view s (waits k t i) = ofLane (laneAt s k) (recordOf k (laneAt s k) t i)
+-- R17.9: no page that waits has edition 0 (crate editions)
+abbrev pub waitingEdition : Option Page → ℕ
+waitingEdition none = 0
+waitingEdition (some p) = p .edition
+
+-- R17.9, R17.2 to R17.5, R17.7
+unfoldable pub view : Device → Ask → View
+view d clock = clockIs (d .state .clock)
+view d (lane k) = ofLane (laneAt (d .state) k) (settingIs (laneAt (d .state) k .given) (group (laneAt (d .state) k .given)))
+view d (backlog k) = ofLane (laneAt (d .state) k) (backlogIs (held (laneAt (d .state) k .waiting)) (timeOf (laneAt (d .state) k)))
+view d (waits k t i) = ofLane (laneAt (d .state) k) (recordOf k (laneAt (d .state) k) t i)
+view d edition = editionIs (d .edition) (waitingEdition (d .waiting))

@@ -1,13 +1,16 @@
-// What a lent table holds, told to its host: the clock, a lane's setting, its backlog, and each record that waits, by its train. Nothing is taken and nothing
-// is written.
+// What a lent table holds, told to its host: the clock, a lane's setting, its backlog, each record that waits, by its train, and the editions of its settings
+// pages. Nothing is taken and nothing is written.
 //
 // Each call tests the whole table first, as every public call does, and refuses by number: 10, 11, 70 for a train that the lane does not know, and 16 for a
 // record that is not there. What each promises is `Shows` (specs/Shows.antt), whole.
 //
 // The setup in force is what `lane` tells of the lanes 0 to 63.
+ghost use mathlib.Core.Path.{_≡_};
+ghost use Rattle.editions.specs.Part.{lastIn, newIn};
+ghost use Rattle.paged.specs.Paged.{partOf, GoodUnit};
 ghost use Rattle.show.specs.Views as Views;
 ghost use Rattle.show.specs.Shows.{Shows, FindIs, RowFound, SpotIs};
-use good::good;
+use paged::good_unit;
 use rules::Record;
 use rules::Refusal;
 use table::LaneRow;
@@ -34,11 +37,18 @@ pub struct LaneQueue {
     pub time: Clock,
 }
 
+// The edition last taken, 0 before any, and that of the page that waits, 0 where none does.
+pub struct Editions {
+    pub last: u64,
+    pub waiting: u64,
+}
+
 pub enum Shown {
     Clock(Clock),
     Setting(Setting),
     Backlog(LaneQueue),
     Record(Record),
+    Edition(Editions),
     Refused(Refusal),
 }
 
@@ -52,7 +62,7 @@ pub enum Found {
 fn find(t: &[u8], lane: u8) -> Found
     ensures { λ r. ⌜ FindIs (now (t .entry)) lane r ⌝ }
 {
-    if !good(t) {
+    if !good_unit(t) {
         return Found::NotGood;
     }
     let k = lane as usize;
@@ -69,7 +79,7 @@ fn find(t: &[u8], lane: u8) -> Found
 pub fn clock(t: &[u8]) -> Shown
     ensures { λ r. ⌜ Shows Views.clock (now (t .entry)) r ⌝ }
 {
-    if !good(t) {
+    if !good_unit(t) {
         return Shown::Refused(Refusal::NotGood);
     }
     Shown::Clock(table::clock(t))
@@ -171,4 +181,24 @@ pub fn record(t: &[u8], lane: u8, train: u8, i: u64) -> Shown
             }
         }
     }
+}
+
+// The edition last taken, and that of the page that waits.
+pub fn edition(t: &[u8]) -> Shown
+    ensures { λ r. ⌜ Shows Views.edition (now (t .entry)) r ⌝ }
+{
+    if !good_unit(t) {
+        return Shown::Refused(Refusal::NotGood);
+    }
+    Shown::Edition(editions_of(t))
+}
+
+// The editions of a good table.
+fn editions_of(t: &[u8]) -> Editions
+    requires { ⌜ GoodUnit (now t) ⌝ }
+    ensures { λ r. ⌜ (r .last ≡ lastIn (partOf (now (t .entry)))) × (r .waiting ≡ newIn (partOf (now (t .entry)))) ⌝ }
+{
+    let last = editions::last(&t[table::SIZE..]);
+    let waiting = editions::new(&t[table::SIZE..]);
+    Editions { last, waiting }
 }

@@ -1,12 +1,13 @@
 -- Where a table's parts lie (docs/TABLE.md), and what a store leaves. First come single words, the lanes' rows and their records' lengths, 1,360 words;
 -- then the slot lists (crate slot_lists); then the records' marks, and the numbers of the shared lanes' trains.
 --
---   SIZE, Room       the fixed size of a table, in bytes; bytes that are long enough for it
---   keptBytes        the last bytes of a table, which mean nothing
+--   SIZE, Room       the size, in bytes, of what the calls of the rules know: the core of a table; bytes that are long enough for it
+--   pageBytes        the bytes behind the core, for the settings page that waits (crate editions)
+--   tableSize        the fixed size of a table, in bytes: both
 --   Front            bytes that are long enough for the words before the slot lists
 --   CELLS, cells     the words before and behind the slot lists, one after another; their number
 --   wordOf           the word that a cell is
---   Behind           the bytes that are no cell stay: the slot lists, and all past the table
+--   Behind           the bytes that are no cell stay: the slot lists, and all past the core
 --   Now              what a store in the cells leaves
 --   laneWord         the first of lane k's words: setting, clock, ring, round
 --   depthWord        the word of a lane's room, which tells this layout from those before it
@@ -52,13 +53,17 @@ trainsCell = marksCell + 64 * laneDepth / 2
 abbrev pub CELLS : ℕ
 CELLS = trainsCell + 64 * trainCount / 2
 
--- bytes behind them that no call looks at, kept for what is to come (docs/TABLE.md)
-abbrev pub keptBytes : ℕ
-keptBytes = 2048
+-- R6.1: 63,488: the inner calls promise that all bytes behind it stay, so what is kept there needs no word of theirs
+abbrev pub SIZE : ℕ
+SIZE = trainsEnd
+
+-- the last edition and a waiting page, and room for what is to come (docs/TABLE.md)
+abbrev pub pageBytes : ℕ
+pageBytes = 2048
 
 -- R6.1, R13.7: 65,536
-abbrev pub SIZE : ℕ
-SIZE = trainsEnd + keptBytes
+abbrev pub tableSize : ℕ
+tableSize = SIZE + pageBytes
 
 -- R6.1
 abbrev pub Room : List ℕ → Type 0

@@ -57,11 +57,14 @@ pub const LENGTH_WORDS: usize = PLACES / 4;
 // Words of the numbers of a lane's trains, two in a word.
 pub const TRAIN_WORDS: usize = TRAINS / 2;
 
-// Bytes behind them that no call looks at (docs/TABLE.md).
-const KEPT: usize = 2048;
+// The size of a table's core, in bytes: 63,488. Inner calls know no byte behind it.
+pub const SIZE: usize = END + 4 * LANES * PLACES + 4 * LANES * TRAINS;
+
+// Bytes behind the core: the last edition and a waiting page (crate `editions`), and room for what is to come (docs/TABLE.md).
+const PAGE_BYTES: usize = 2048;
 
 // The fixed size of a table, in bytes: 65,536.
-pub const SIZE: usize = END + 4 * LANES * PLACES + 4 * LANES * TRAINS + KEPT;
+pub const TABLE_SIZE: usize = SIZE + PAGE_BYTES;
 
 // Where weight, group and c begin in a setting word, after longest.
 pub const WEIGHT_UNIT: u64 = 65536;

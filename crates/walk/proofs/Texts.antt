@@ -18,17 +18,19 @@ use Rattle.rules.specs.State.{Setting}
 use Rattle.rules.specs.Reads.{number, placeOf}
 use Rattle.rules.specs.declared.Refusal.{Refusal}
 use Rattle.plan.specs.Read as plan
+use Rattle.table.specs.Layout.{tableSize}
 use Rattle.table.specs.Means.{meant}
 use Rattle.fresh.specs.Makes.{Makes}
 use Rattle.lines.specs.Line.{noLine, lanesLine, endLine, Wrote, Line}
 use Rattle.lines.proofs.Writing.{wrote-both}
 use Rattle.walk.specs.Script as Script
 use Rattle.walk.specs.Script.{walk, closing, finished, script}
-use Rattle.walk.specs.Follows.{whyIs, Follows}
+use Rattle.walk.specs.Follows.{whyIs, Follows, FollowsCore}
 use Rattle.walk.specs.Walks.{Walks, Closes}
 use Rattle.walk.specs.declared.Stop.the-variants.{End, Limit, Refused}
 use Rattle.walk.specs.declared.Walked as Walked
 use Rattle.walk.specs.declared.RunResult.{RunResult}
+use Rattle.walk.proofs.Blank.{Blank, blank-tabled}
 
 pub written : (a a′ text : List ℕ) {n : ℕ} → Wrote a a′ 0 text n → length text ≤ length a → a′ ≡ text ++ drop (length text) a
 written a a′ text w h = w .is ∙ sets-eq text a 0 (omega arith) ∙ rw (zero-add (length text))
@@ -48,7 +50,7 @@ module _ {a a′ : List ℕ} {at n next : ℕ} where
 
 pub requested-is : (lanes : ℕ) {limit : ℕ} {t t′ a a₁ a₂ a₃ : List ℕ} {start end : ℕ} {r : Walked.Walked} {w : Script.Walked}
     → Line a a₁ 0 (lanesLine lanes) start → Walks limit t t′ a₁ a₂ start r w → Closes a₂ a₃ (r .next) (r .why) (r .answered) end → 64 * (limit + 2) ≤ length a
-    → Follows t t′ a a₃ (record { answered = r .answered; written = end; why = r .why }) (finished lanes w)
+    → FollowsCore t t′ a a₃ (record { answered = r .answered; written = end; why = r .why }) (finished lanes w)
 requested-is lanes {limit} {t} {t′} {a} {a₁} {a₂} {a₃} {start} {end} {r} {w} l k c h =
     let last : List ℕ = closing (whyIs (r .why)) (r .answered) in
     let same : last ≡ closing (w .why) (w .count) = rw (k .why, k .count) in
@@ -77,14 +79,14 @@ module _ (s : List ℕ) (limit : ℕ) where
       })
 
   -- the requests on the fresh table
-  pub begun-is : (v : ℕ) (gs : List Setting) (lanes at : ℕ) {t t₁ t′ a a′ : List ℕ} {r : RunResult} → plan.readPlan s 0 ≡ plan.read v gs lanes at
-      → Makes t t₁ gs → Follows t₁ t′ a a′ r (finished lanes (walk limit s at 0 [] (meant t₁))) → Follows t t′ a a′ r (script s limit)
+  pub begun-is : (v : ℕ) (gs : List Setting) (lanes at : ℕ) {t t₀ t₁ t′ a a′ : List ℕ} {r : RunResult} → plan.readPlan s 0 ≡ plan.read v gs lanes at
+      → tableSize ≤ length t′ → Blank t t₀ → Makes t₀ t₁ gs → FollowsCore t₁ t′ a a′ r (finished lanes (walk limit s at 0 [] (meant t₁))) → Follows t t′ a a′ r (script s limit)
   unfolding script
-  begun-is v gs lanes at e m x =
+  begun-is v gs lanes at {t} {t₀} {t₁} {t′} e room b m x =
       rw e (let y = rw (m .state) at x in record {
         count = y .count;
         written = y .written;
         why = y .why;
         answers = y .answers;
-        table = record { encodes = y .table .encodes; rest = y .table .rest ∙ m .rest };
+        table = blank-tabled t t₀ t′ _ room b (y .table .encodes) (y .table .rest ∙ m .rest);
       })

@@ -1,8 +1,8 @@
 -- A run that follows a script: its result, the answer area and the table.
 --
 --   whyIs     the code's reason as the script gives it
---   Table     what a run leaves of the lent table: untouched, or the script's state
---   Follows   the result, the answer area and the table are those of a script
+--   Table     what a run leaves of the lent table: untouched, or a unit with the script's state that has taken no page; Core: the same of the table's core alone
+--   Follows   the result, the answer area and the table are those of a script; FollowsBy: with what is said of the table; FollowsCore: with its core alone
 --
 -- Assumes nothing.
 use Prim.Native.Nat.{ℕ}
@@ -12,8 +12,9 @@ use mathlib.Core.Option.{Option, none, some}
 use lib.ListN.{length, drop}
 use Rattle.rules.specs.State.{State}
 use Rattle.rules.specs.Reads.{number, placeOf}
-use Rattle.table.specs.Layout.{SIZE}
+use Rattle.table.specs.Layout.{SIZE, tableSize}
 use Rattle.table.specs.Encodes.{Encodes}
+use Rattle.paged.specs.Paged.{EncodesDevice}
 use Rattle.walk.specs.Script.{Why, atEnd, atLimit, refusal, Script}
 use Rattle.walk.specs.declared.Stop as Stop
 use Rattle.walk.specs.declared.RunResult.{RunResult}
@@ -26,6 +27,11 @@ whyIs (Stop.the-variants.Refused x) = refusal (number x) (placeOf x)
 
 -- R10.11: the table is as the answered requests left it, and what is lent past its fixed size stays
 pub record Tabled (t t′ : List ℕ) (σ : State) : Type 0 where
+  pub encodes : EncodesDevice t′ (record { state = σ; edition = 0; waiting = none })
+  pub rest : drop tableSize t′ ≡ drop tableSize t
+
+-- the requests know the core, and leave all behind it
+pub record Worked (t t′ : List ℕ) (σ : State) : Type 0 where
   pub encodes : Encodes t′ σ
   pub rest : drop SIZE t′ ≡ drop SIZE t
 
@@ -34,8 +40,12 @@ abbrev pub Table : List ℕ → List ℕ → Option State → Type 0
 Table t t′ none = t′ ≡ t
 Table t t′ (some σ) = Tabled t t′ σ
 
+abbrev pub Core : List ℕ → List ℕ → Option State → Type 0
+Core t t′ none = t′ ≡ t
+Core t t′ (some σ) = Worked t t′ σ
+
 -- R10.11: a run on a table t and an answer area a, which leaves t′ and a′ and answers r.
-pub record Follows (t t′ a a′ : List ℕ) (r : RunResult) (x : Script) : Type 0 where
+pub record FollowsBy (Left : List ℕ → List ℕ → Option State → Type 0) (t t′ a a′ : List ℕ) (r : RunResult) (x : Script) : Type 0 where
   -- the requests answered are those that the script counts
   pub count : r .answered ≡ x .count
   -- the bytes are those of its text
@@ -43,4 +53,11 @@ pub record Follows (t t′ a a′ : List ℕ) (r : RunResult) (x : Script) : Typ
   pub why : whyIs (r .why) ≡ x .why
   -- the text stands at the front, and what stood behind the last line stays
   pub answers : a′ ≡ x .text ++ drop (length (x .text)) a
-  pub table : Table t t′ (x .state)
+  pub table : Left t t′ (x .state)
+
+-- R10.11
+abbrev pub Follows : List ℕ → List ℕ → List ℕ → List ℕ → RunResult → Script → Type 0
+Follows = FollowsBy Table
+
+abbrev pub FollowsCore : List ℕ → List ℕ → List ℕ → List ℕ → RunResult → Script → Type 0
+FollowsCore = FollowsBy Core

@@ -18,7 +18,7 @@ use Rattle.units.specs.Plain.{if_then_else_}
 use Rattle.rules.specs.State.{State, setupOf}
 use Rattle.rules.specs.Calls.{fresh, step}
 use Rattle.plan.specs.Read as plan
-use Rattle.table.specs.Layout.{SIZE}
+use Rattle.table.specs.Layout.{tableSize}
 use Rattle.lines.specs.Line.{noLine, lanesLine, endLine}
 use Rattle.requests.specs.Request.{Item, request, last, bad, itemAt}
 use Rattle.answers.specs.Lines.{lineBy}
@@ -94,4 +94,4 @@ nothing r p = record { text = []; count = 0; why = refusal r p; state = none }
 unfoldable pub runOf : List ℕ → ℕ → ℕ → ℕ → Script
 runOf s limit table area =
     if ltb 1000 limit || ltb area (64 * (limit + 2)) then nothing 17 none
-    else (if ltb table SIZE then nothing 7 (some 0) else script s limit)
+    else (if ltb table tableSize then nothing 7 (some 0) else script s limit)

@@ -9,17 +9,19 @@ ghost use mathlib.Core.Path.{_≡_};
 ghost use mathlib.Core.List.{[]};
 ghost use Prim.Native.Nat.{_+_, _*_, _≤_, _<_};
 ghost use lib.ListN.{length};
-ghost use Rattle.table.specs.Layout.{Room};
+ghost use Rattle.table.specs.Layout.{tableSize};
 ghost use Rattle.table.specs.Means.{meant};
 ghost use Rattle.answers.specs.Answers.{Made};
 ghost use Rattle.walk.specs.Script.{closed, walk, finished, script};
-ghost use Rattle.walk.specs.Follows.{whyIs, Follows};
+ghost use Rattle.walk.specs.Follows.{whyIs, Follows, FollowsCore};
 ghost use Rattle.walk.specs.Walks.{lineCount, Walks, Closes};
 use answers::Tally;
+use editions::set_taken;
 use plan::Outcome;
 use requests::END;
 use requests::Head;
 use rules::Refusal;
+use table::SIZE;
 
 // Why a run stopped.
 pub enum Stop {
@@ -122,7 +124,7 @@ fn put_closing(a: &mut [u8], at: usize, why: Stop, n: u64) -> usize
 // The requests on a fresh table, from a place on: `lanes N`, their lines, and the last lines.
 fn requested(s: &[u8], at: usize, limit: u64, t: &mut [u8], a: &mut [u8], lanes: u64) -> RunResult
     requires { ⌜ Made (now t) × (limit ≤ 1000) × (64 * (limit + 2) ≤ length (now a)) ⌝ }
-    ensures { λ r. ⌜ Follows (now (t .entry)) (now (t .exit)) (now (a .entry)) (now (a .exit)) r (finished lanes (walk limit (now (s .entry)) at 0 [] (meant (now (t .entry))))) ⌝ }
+    ensures { λ r. ⌜ FollowsCore (now (t .entry)) (now (t .exit)) (now (a .entry)) (now (a .exit)) r (finished lanes (walk limit (now (s .entry)) at 0 [] (meant (now (t .entry))))) ⌝ }
 {
     let start = lines::put_lanes(a, 0, lanes);
     let w = walk(s, at, limit, t, a, start);
@@ -137,7 +139,7 @@ fn requested(s: &[u8], at: usize, limit: u64, t: &mut [u8], a: &mut [u8], lanes:
 
 // A run whose limit, answer area and table are right: the setup, then the requests. Nothing is written to the table before the whole setup is read.
 pub fn begun(s: &[u8], limit: u64, t: &mut [u8], a: &mut [u8]) -> RunResult
-    requires { ⌜ Room (now t) × (limit ≤ 1000) × (64 * (limit + 2) ≤ length (now a)) ⌝ }
+    requires { ⌜ (tableSize ≤ length (now t)) × (limit ≤ 1000) × (64 * (limit + 2) ≤ length (now a)) ⌝ }
     ensures { λ r. ⌜ Follows (now (t .entry)) (now (t .exit)) (now (a .entry)) (now (a .exit)) r (script (now (s .entry)) limit) ⌝ }
 {
     let reading = plan::read_plan(s, 0);
@@ -154,6 +156,8 @@ pub fn begun(s: &[u8], limit: u64, t: &mut [u8], a: &mut [u8]) -> RunResult
         Outcome::Read(at) => {
             let plan = reading.plan;
             let lanes = plan.lanes;
+            // A run's table has taken no settings page.
+            set_taken(&mut t[SIZE..], 0);
             fresh::write(t, lanes);
             requested(s, at, limit, t, a, plan.count as u64)
         }

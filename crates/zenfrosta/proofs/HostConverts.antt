@@ -9,7 +9,7 @@ use Rattle.words.proofs.Runs.{le-or-lt}
 use Rattle.rules.specs.Calls.{Reply, take}
 use Rattle.rules.specs.Reads.{reads}
 use Rattle.rules.specs.declared.Refusal.{Refusal}
-use Rattle.table.specs.Layout.{SIZE}
+use Rattle.table.specs.Layout.{tableSize}
 use Rattle.old_table.specs.Old.{OldTable}
 use Rattle.convert.specs.Converts as converting
 use Rattle.convert.specs.Converts.{TakenOver, Converts}
@@ -32,9 +32,9 @@ heard-takes {t} p (oldThen x more) (short h y rest) = heard-takes (subst (Along 
 heard-takes p (oldThen (refuses bad) more) (whole h y rest) = inl refl
 heard-takes {t} {u = u} p (oldThen {u = t₁} (takes g after) more) (whole {u = u₁} {out′ = out′} {r = r} h y rest) =
     let told = y .told h in
-    let one = along-take t u t₁ u₁ p (told .0) g after (told .1) in
+    let one = along-take t u t₁ u₁ p (reads (told .0)) g after (told .1) in
     let back : heard take (code (reads (told .0))) (values (reads (told .0))) ≡ reads (told .0)
-    = subst (λ (x : Reply). heard take (code x) (values x) ≡ x) (sym (one .ruled)) (heard-back (p .state) (one .good) take) in
+    = subst (λ (x : Reply). heard take (code x) (values x) ≡ x) (sym (one .by-rules)) (heard-back (p .state) (one .good) take) in
     let hears : heard take r (wordsIn out′) ≡ reads (told .0)
     = ap (λ (n : ℕ). heard take n (wordsIn out′)) (told .2) ∙ ap (heard take (code (reads (told .0)))) (told .3 .read) ∙ back in
     inr (one .same ∙ sym hears, heard-takes (one .next) more rest)
@@ -43,24 +43,24 @@ module _ (old before after : List ℕ) where
   done : Converts old before Converted after → GoesOn old before after
   done c =
       let g = c .was-good refl in
-      let over = by-room g (le-or-lt SIZE (length before)) in
+      let over = by-room g (le-or-lt tableSize (length before)) in
       record {
         was-good = g;
         over = over;
         takes = λ rs qs u v x y. heard-takes (along-over old before after over) x y;
       }
     where
-      by-room : OldTable old → (SIZE ≤ length before) ⊎ (length before < SIZE) → TakenOver old before after
+      by-room : OldTable old → (tableSize ≤ length before) ⊎ (length before < tableSize) → TakenOver old before after
       by-room g (inl h) = c .converts h g .1
       by-room g (inr h) = let is = c .short h .0 in let z : _≡_ {A = ℕ} 0 1 = cc in absurd (omega arith)
 
   stays : (x : Refusal) → Converts old before (Refused x) after → after ≡ before
-  stays x c = by-room (le-or-lt SIZE (length before))
+  stays x c = by-room (le-or-lt tableSize (length before))
     where
-      bad : SIZE ≤ length before → OldTable old → ⊥
+      bad : tableSize ≤ length before → OldTable old → ⊥
       bad h g = let is = c .converts h g .0 in let z : _≡_ {A = ℕ} 0 1 = cc in absurd (omega arith)
 
-      by-room : (SIZE ≤ length before) ⊎ (length before < SIZE) → after ≡ before
+      by-room : (tableSize ≤ length before) ⊎ (length before < tableSize) → after ≡ before
       by-room (inl h) = c .not-good h (bad h) .1
       by-room (inr h) = c .short h .1
 

@@ -6,20 +6,30 @@ use mathlib.Core.Logic.{_⊎_, inl, inr}
 use mathlib.Core.List.{List}
 use lib.ListN.{length}
 use Rattle.words.proofs.Runs.{le-or-lt}
-use Rattle.rules.specs.Reads.{number}
+use mathlib.Core.Option.{Option, none, some}
+use lib.Dec.{eqb}
+use borrow.Author.Tests.{ne-eqb}
+use Rattle.units.specs.Plain.{if_then_else_}
+use Rattle.rules.specs.Calls.{refused}
+use Rattle.rules.specs.Reads.{number, placeOf}
+use Rattle.pages.specs.Device.{answered}
+use Rattle.scheduler.specs.Step.{offering}
+use Rattle.scheduler.specs.declared.Offering.{Offering}
+use Rattle.scheduler.specs.declared.Offering.the-variants.{InForce, Waits, Old}
+use Rattle.scheduler.specs.declared.Offering.the-variants as offers
 use Rattle.rules.specs.declared.Refusal.{Refusal}
 use Rattle.rules.specs.declared.Refusal.the-variants.{Cut, UnknownTag, WrongLength, OutOfOrder, WeightsOver, TableShort, NotGood, NoLane, BadLength, LaneFull, StillHolds, NothingHeld, RunBounds, InputLong, FormatOutside, LaneOutside, WeightOutside, LongestOutside, FramingOutside, WrongByte, SheetCut, NoSheet, NoTrain, TrainFull}
 use Rattle.plan.specs.Read as plan
 use Rattle.plan.specs.Read.{readSetup}
-use Rattle.table.specs.Layout.{SIZE}
+use Rattle.table.specs.Layout.{tableSize}
 use Rattle.scheduler.specs.Make as making
 use Rattle.scheduler.specs.Make.{MakeStep}
 use Rattle.scheduler.specs.declared.Making.{Making}
 use Rattle.scheduler.specs.declared.Making.the-variants.{Made, Refused}
 use Rattle.scheduler.proofs.Begins.{by-make}
-use Rattle.zenfrosta.specs.Crossing.{makeCode, makeValues, Spoken}
+use Rattle.zenfrosta.specs.Crossing.{refusalWords, makeCode, makeValues, offerCode, offerValues, Spoken}
 use Rattle.zenfrosta.specs.declared.Four.{Four}
-use Rattle.zenfrosta.specs.Heard.{Begun, HostMakes}
+use Rattle.zenfrosta.specs.Heard.{heardOffer, Begun, HostMakes}
 
 -- no refusal has the number 0
 pub number-not-0 : (x : Refusal) → number x ≡ 0 → ⊥
@@ -48,8 +58,20 @@ number-not-0 NoSheet e = omega arith
 number-not-0 NoTrain e = omega arith
 number-not-0 TrainFull e = omega arith
 
+-- what a host hears of an offer is what it answered
+place-back : (p : Option ℕ) → (if eqb (refusalWords p .b) 1 then some (refusalWords p .a) else none) ≡ p
+place-back none = refl
+place-back (some p) = refl
+
+pub offer-back : (o : Offering) → heardOffer (offerCode (offering o)) (offerValues (offering o)) ≡ offering o
+unfolding heardOffer
+offer-back InForce = refl
+offer-back Waits = refl
+offer-back Old = refl
+offer-back (offers.Refused x) = rw (ne-eqb (number x) 0 (number-not-0 x)) (ap (λ (p : Option ℕ). answered (refused (number x) p)) (place-back (placeOf x)))
+
 module _ (setup before t out out′ : List ℕ) (n : ℕ) (m : MakeStep setup before (Made n) t) (w : Spoken out (makeValues (making.made n)) out′) where
-  by-plan : SIZE ≤ length before → (y : plan.Reply) → readSetup setup ≡ y → making.Follows y before (Made n) t → Begun setup t out′
+  by-plan : tableSize ≤ length before → (y : plan.Reply) → readSetup setup ≡ y → making.Follows y before (Made n) t → Begun setup t out′
   by-plan h (plan.refused k p) e f = let is = f .0 in let z : _≡_ {A = ℕ} 0 1 = cc in absurd (omega arith)
   by-plan h (plan.read v gs k at) e f =
       let is = f .0 in
@@ -63,7 +85,7 @@ module _ (setup before t out out′ : List ℕ) (n : ℕ) (m : MakeStep setup be
         led = by-make gs t (record { setup = setup; before = before; answer = Made n; format = v; lanes = k; at = at; reads-it = e; room = h; makes = m });
       }
 
-  by-room : (SIZE ≤ length before) ⊎ (length before < SIZE) → Begun setup t out′
+  by-room : (tableSize ≤ length before) ⊎ (length before < tableSize) → Begun setup t out′
   by-room (inl h) = by-plan h (readSetup setup) refl (m .follows h)
   by-room (inr h) = let is = m .short h .0 in let z : _≡_ {A = ℕ} 0 1 = cc in absurd (omega arith)
 
@@ -72,7 +94,7 @@ unfolding HostMakes
 host-makes setup before t out out′ r x zero = go (le-or-lt 32 (length out))
   where
     made : (a : Making) → MakeStep setup before a t → r ≡ makeCode (making.reads a) → Spoken out (makeValues (making.reads a)) out′ → Begun setup t out′
-    made (Made n) m c w = by-room setup before t out out′ n m w (le-or-lt SIZE (length before))
+    made (Made n) m c w = by-room setup before t out out′ n m w (le-or-lt tableSize (length before))
     made (Refused y) m c w = absurd (number-not-0 y (sym c ∙ zero))
 
     go : (32 ≤ length out) ⊎ (length out < 32) → Begun setup t out′

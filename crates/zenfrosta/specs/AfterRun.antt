@@ -7,11 +7,11 @@
 --
 -- Both are of every run that made a table: `RunLists` (session/specs/Requests.antt) gives its `Lists`. Assumes nothing.
 use Prim.Native.Nat.{ℕ}
-use mathlib.Core.List.{List, _++_}
+use mathlib.Core.List.{List, _++_, map}
 use lib.ListN.{length}
 use Rattle.rules.specs.State.{Setting}
-use Rattle.rules.specs.Calls.{fresh}
-use Rattle.rules.specs.Runs.{Event, trace}
+use Rattle.pages.specs.Device.{freshDevice, ruled}
+use Rattle.pages.specs.Offers.{DeviceEvent, deviceTrace}
 use Rattle.scheduler.specs.Chain.{Chain, Led}
 use Rattle.scheduler.specs.Demands.{Demands}
 use Rattle.walk.specs.Script.{runOf}
@@ -19,8 +19,8 @@ use Rattle.walk.specs.declared.RunResult.{RunResult}
 use Rattle.session.specs.Ran.{Ran}
 use Rattle.session.specs.Requests.{requestsOf, Lists}
 
-abbrev pub answered : List ℕ → ℕ → List Setting → ℕ → List Event
-answered s limit gs at = trace (fresh gs) (requestsOf limit s at)
+abbrev pub answered : List ℕ → ℕ → List Setting → ℕ → List DeviceEvent
+answered s limit gs at = deviceTrace (freshDevice gs) (map ruled (requestsOf limit s at))
 
 unfoldable pub ByRun : Type 0
 ByRun =
@@ -30,5 +30,5 @@ ByRun =
 unfoldable pub AfterRun : Type 0
 AfterRun =
     (s : List ℕ) (limit : ℕ) (t t′ a a′ : List ℕ) (r : RunResult) → Ran s limit t t′ a a′ r
-    → (l : Lists s limit (runOf s limit (length t) (length a))) (calls : List Event) (u : List ℕ) → Chain t′ calls u
+    → (l : Lists s limit (runOf s limit (length t) (length a))) (calls : List DeviceEvent) (u : List ℕ) → Chain t′ calls u
     → Demands (l .settings) (answered s limit (l .settings) (l .at) ++ calls) u

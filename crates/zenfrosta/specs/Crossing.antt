@@ -3,7 +3,8 @@
 --   code, values   of a reply: 0 or the refusal's number; what stands in the four words
 --   refusalWords   of a refusal: its place, and whether it has one
 --   spoken         a buffer with these words at its start; wordsIn: the words that a host reads there
---   Crosses        the promise of an exported call; CrossesCall of those on a table, CrossesMaking of zf_make, CrossesRun of zf_run
+--   offerCode, offerValues   of an offer's answer
+--   Crosses        the promise of an exported call; CrossesCall of those on a table, CrossesMaking of zf_make, CrossesOffer of zf_offer, CrossesRun of zf_run
 --
 -- Assumes nothing.
 use Prim.Native.Nat.{ℕ, _≤_, _<_}
@@ -17,7 +18,9 @@ use Rattle.words.specs.Words.{wordAt, putWord}
 use Rattle.rules.specs.Calls.{Call, Reply, accepted, taken, seen, words, lagged, restarted, refused}
 use Rattle.rules.specs.Reads.{reads}
 use Rattle.rules.specs.declared.Answer.{Answer}
-use Rattle.scheduler.specs.Step.{Step}
+use Rattle.pages.specs.Device.{DeviceReply, answered, inForceNow, waitsNow}
+use Rattle.scheduler.specs.Step.{Step, offering}
+use Rattle.scheduler.specs.declared.Offering.{Offering}
 use Rattle.scheduler.specs.Make as making
 use Rattle.scheduler.specs.Make.{made, notMade}
 use Rattle.scheduler.specs.declared.Making.{Making}
@@ -63,6 +66,18 @@ makeCode (notMade n p) = n
 abbrev pub makeValues : making.Reply → Four
 makeValues (made n) = four n 0 0 0
 makeValues (notMade n p) = refusalWords p
+
+-- R19.17
+abbrev pub offerCode : DeviceReply → ℕ
+offerCode (answered r) = code r
+offerCode inForceNow = 0
+offerCode waitsNow = 0
+
+-- R19.17: 0 in force, 1 waits; or a refusal
+abbrev pub offerValues : DeviceReply → Four
+offerValues (answered r) = values r
+offerValues inForceNow = four 0 0 0 0
+offerValues waitsNow = four 1 0 0 0
 
 -- R13.6: 0 if the run went as far as the end field or the limit, else the number of the refusal that it stopped at
 abbrev pub stopCode : Why → ℕ
@@ -113,6 +128,11 @@ CrossesCall c t u out r out′ = Crosses (λ a. Step c t a u) (u ≡ t) out r ou
 pub record CrossesMaking (Make : Making → Type 0) (same : Type 0) (out : List ℕ) (r : ℕ) (out′ : List ℕ) : Type 0 where
   pub short : length out < 32 → (r ≡ 255) × same × (out′ ≡ out)
   pub told : 32 ≤ length out → (a : Making) × Make a × (r ≡ makeCode (making.reads a)) × Spoken out (makeValues (making.reads a)) out′
+
+-- R19.17, R13.2
+pub record CrossesOffer (Offer : Offering → Type 0) (same : Type 0) (out : List ℕ) (r : ℕ) (out′ : List ℕ) : Type 0 where
+  pub short : length out < 32 → (r ≡ 255) × same × (out′ ≡ out)
+  pub told : 32 ≤ length out → (o : Offering) × Offer o × (r ≡ offerCode (offering o)) × Spoken out (offerValues (offering o)) out′
 
 -- R13.2, R13.6
 pub record CrossesRun (Run : RunResult → Type 0) (same : Type 0) (out : List ℕ) (r : ℕ) (out′ : List ℕ) : Type 0 where

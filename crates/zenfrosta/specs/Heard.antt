@@ -1,6 +1,6 @@
 -- R13.8: lists of exported calls, by what a host gets of each: a result, and the four words in its buffer.
 --
---   heard       the reply that a result and four words tell, by the call that was made
+--   heard       the reply that a result and four words tell, by the call that was made; heardOffer: of an offer
 --   Crossed     a list of exported calls, each on the bytes that the last one left, with the replies that the host heard. A call that gave 255 adds nothing
 --   HostLists   on a table that a list led to, such a list is one of public calls: what the host heard is what they answered, and all of `Demands` holds of it
 --   HostMakes   zf_make gave 0: a list may begin with its table
@@ -18,12 +18,14 @@ use mir.Val.{toZ}
 use Rattle.units.specs.Plain.{if_then_else_}
 use Rattle.rules.specs.State.{Setting}
 use Rattle.rules.specs.Calls.{Call, put, take, look, sets, lag, restart, Reply, accepted, taken, seen, words, lagged, restarted, refused}
-use Rattle.rules.specs.Runs.{Event}
+use Rattle.pages.specs.Device.{ruled, DeviceReply, answered, inForceNow, waitsNow}
+use Rattle.pages.specs.Offers.{DeviceEvent}
 use Rattle.plan.specs.Read.{read, readSetup}
+use Rattle.scheduler.specs.Step.{offered, OfferStep}
 use Rattle.scheduler.specs.Make.{MakeStep}
 use Rattle.scheduler.specs.Chain.{Chain, Led}
 use Rattle.scheduler.specs.Demands.{Demands}
-use Rattle.zenfrosta.specs.Crossing.{wordsIn, CrossesCall, CrossesMaking}
+use Rattle.zenfrosta.specs.Crossing.{wordsIn, CrossesCall, CrossesMaking, CrossesOffer}
 use Rattle.zenfrosta.specs.declared.Four.{Four}
 
 -- a call that gave 0
@@ -38,15 +40,26 @@ heardDone restart w = restarted
 unfoldable pub heard : Call → ℕ → Four → Reply
 heard c r w = if eqb r 0 then heardDone c w else refused r (if eqb (w .b) 1 then some (w .a) else none)
 
-pub data Crossed : List ℕ → List Event → List ℕ → Type 0 where
+-- R19.17: an offer that gave 0 is in force, or waits, by word 0
+unfoldable pub heardOffer : ℕ → Four → DeviceReply
+heardOffer r w =
+    if eqb r 0 then (if eqb (w .a) 0 then inForceNow else waitsNow)
+    else answered (refused r (if eqb (w .b) 1 then some (w .a) else none))
+
+pub data Crossed : List ℕ → List DeviceEvent → List ℕ → Type 0 where
   nothing : {t : List ℕ} → Crossed t [] t
-  short : {t u v out out′ : List ℕ} {c : Call} {r : ℕ} {es : List Event} → length out < 32 → CrossesCall c t u out r out′ → Crossed u es v → Crossed t es v
-  whole : {t u v out out′ : List ℕ} {c : Call} {r : ℕ} {es : List Event} → 32 ≤ length out → CrossesCall c t u out r out′ → Crossed u es v
-      → Crossed t (record { call = c; reply = heard c r (wordsIn out′) } ∷ es) v
+  short : {t u v out out′ : List ℕ} {c : Call} {r : ℕ} {es : List DeviceEvent} → length out < 32 → CrossesCall c t u out r out′ → Crossed u es v → Crossed t es v
+  whole : {t u v out out′ : List ℕ} {c : Call} {r : ℕ} {es : List DeviceEvent} → 32 ≤ length out → CrossesCall c t u out r out′ → Crossed u es v
+      → Crossed t (record { call = ruled c; reply = answered (heard c r (wordsIn out′)) } ∷ es) v
+  shortOffer : {t u v out out′ : List ℕ} {r : ℕ} {es : List DeviceEvent} (bytes : List ℕ) → length out < 32
+      → CrossesOffer (λ o. OfferStep bytes t o u) (u ≡ t) out r out′ → Crossed u es v → Crossed t es v
+  wholeOffer : {t u v out out′ : List ℕ} {r : ℕ} {es : List DeviceEvent} (bytes : List ℕ) → 32 ≤ length out
+      → CrossesOffer (λ o. OfferStep bytes t o u) (u ≡ t) out r out′ → Crossed u es v
+      → Crossed t (record { call = offered bytes; reply = heardOffer r (wordsIn out′) } ∷ es) v
 
 unfoldable pub HostLists : Type 0
 HostLists =
-    (gs : List Setting) (first calls : List Event) (t u : List ℕ) → Led gs first t → Crossed t calls u
+    (gs : List Setting) (first calls : List DeviceEvent) (t u : List ℕ) → Led gs first t → Crossed t calls u
     → Chain t calls u × Demands gs (first ++ calls) u
 
 -- the setup that zf_make read, and its number of lanes, which is word 0

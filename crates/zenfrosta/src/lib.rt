@@ -13,11 +13,12 @@ ghost use mir.Val.{ofZ};
 ghost use lib.ListN.{length};
 ghost use Rattle.rules.specs.Calls as Calls;
 ghost use Rattle.rules.specs.Reads as Reads;
-ghost use Rattle.table.specs.Layout.{SIZE};
+ghost use Rattle.table.specs.Layout.{tableSize};
 ghost use Rattle.scheduler.specs.Make as Make;
 ghost use Rattle.walk.specs.Follows.{whyIs};
 ghost use Rattle.session.specs.Ran.{Ran};
-ghost use Rattle.zenfrosta.specs.Crossing.{four, code, values, stopCode, runValues, refusalWords, Spoken, CrossesCall, CrossesMaking, CrossesRun};
+ghost use Rattle.zenfrosta.specs.Crossing.{four, code, values, stopCode, runValues, refusalWords, offerCode, offerValues, Spoken, CrossesCall, CrossesMaking, CrossesOffer, CrossesRun};
+ghost use Rattle.scheduler.specs.Step.{offering, OfferStep};
 
 pub mod board;
 pub mod old;
@@ -31,6 +32,7 @@ use rules::Answer;
 use rules::Record;
 use rules::Refusal;
 use scheduler::Making;
+use scheduler::Offering;
 use units::Bytes;
 use walk::RunResult;
 use walk::Stop;
@@ -196,7 +198,7 @@ fn tell(out: &mut [u8], x: Answer) -> u64
 // The fixed size of a table, in bytes.
 #[no_mangle]
 pub extern "C" fn zf_table_size() -> u64
-    ensures { λ r. ⌜ r ≡ SIZE ⌝ }
+    ensures { λ r. ⌜ r ≡ tableSize ⌝ }
 {
     scheduler::SIZE as u64
 }
@@ -305,6 +307,44 @@ pub extern "C" fn zf_restart(table: &mut [u8], out: &mut [u8]) -> u64
         return 255;
     }
     tell(out, scheduler::restart(table))
+}
+
+// Tells the answer to an offer.
+fn tell_offer(out: &mut [u8], x: Offering) -> u64
+    requires { ⌜ 32 ≤ length (now out) ⌝ }
+    ensures { λ r. ⌜ (r ≡ offerCode (offering x)) × Spoken (now (out .entry)) (offerValues (offering x)) (now (out .exit)) ⌝ }
+{
+    match x {
+        Offering::InForce => {
+            speak(out, 0, 0, 0, 0);
+            0
+        }
+        Offering::Waits => {
+            speak(out, 1, 0, 0, 0);
+            0
+        }
+        Offering::Old => {
+            speak(out, 0, 0, 0, 0);
+            60
+        }
+        Offering::Refused(f) => {
+            let w = refusal_words(f);
+            speak(out, w.a, w.b, w.c, w.d);
+            lines::number(f)
+        }
+    }
+}
+
+// Offers a settings page: word 0 is 0 where it is in force, 1 where it waits.
+#[no_mangle]
+pub extern "C" fn zf_offer(table: &mut [u8], page: &[u8], out: &mut [u8]) -> u64
+    ensures { λ r. ⌜ CrossesOffer (λ o. OfferStep (now (page .entry)) (now (table .entry)) o (now (table .exit))) (now (table .exit) ≡ now (table .entry)) (now (out .entry)) r (now (out .exit)) ⌝ }
+{
+    // First: a page that is in force and cannot be told so would be offered again.
+    if out.len() < 32 {
+        return 255;
+    }
+    tell_offer(out, scheduler::offer(table, page))
 }
 
 // Runs a session on the lent table, and writes its lines into the answer area.

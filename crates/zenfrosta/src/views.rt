@@ -48,6 +48,10 @@ fn tell_view(out: &mut [u8], x: Shown) -> u64
             speak(out, w.a, w.b, w.c, w.d);
             0
         }
+        Shown::Edition(e) => {
+            speak(out, e.last, e.waiting, 0, 0);
+            0
+        }
         Shown::Refused(f) => {
             let w = refusal_words(f);
             speak(out, w.a, w.b, w.c, w.d);
@@ -109,4 +113,16 @@ pub extern "C" fn zf_train_record(table: &[u8], lane: u8, train: u8, i: u64, out
         return 255;
     }
     tell_view(out, show::record(table, lane, train, i))
+}
+
+// The edition last taken, and that of the page that waits.
+#[no_mangle]
+// R17.9
+pub extern "C" fn zf_edition(table: &[u8], out: &mut [u8]) -> u64
+    ensures { λ r. ⌜ CrossesView Views.edition (now (table .entry)) (now (out .entry)) r (now (out .exit)) ⌝ }
+{
+    if out.len() < 32 {
+        return 255;
+    }
+    tell_view(out, show::edition(table))
 }

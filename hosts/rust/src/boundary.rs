@@ -57,6 +57,8 @@ extern "C" {
         out: *mut u8,
         out_len: usize,
     ) -> u64;
+    fn zf_edition(t: *const u8, t_len: usize, out: *mut u8, out_len: usize) -> u64;
+    fn zf_offer(t: *mut u8, t_len: usize, p: *const u8, p_len: usize, out: *mut u8, out_len: usize) -> u64;
     fn zf_restart(t: *mut u8, t_len: usize, out: *mut u8, out_len: usize) -> u64;
     fn zf_run(
         s: *const u8,
@@ -142,6 +144,14 @@ pub fn record(t: &[u8], lane: u8, before: u64) -> Told {
 
 pub fn train_record(t: &[u8], lane: u8, train: u8, before: u64) -> Told {
     told(|out, n| unsafe { zf_train_record(t.as_ptr(), t.len(), lane, train, before, out, n) })
+}
+
+pub fn edition(t: &[u8]) -> Told {
+    told(|out, n| unsafe { zf_edition(t.as_ptr(), t.len(), out, n) })
+}
+
+pub fn offer(t: &mut [u8], p: &[u8]) -> Told {
+    told(|out, n| unsafe { zf_offer(t.as_mut_ptr(), t.len(), p.as_ptr(), p.len(), out, n) })
 }
 
 pub fn restart(t: &mut [u8]) -> Told {

@@ -2,17 +2,19 @@
 //!
 //! A table is [`TABLE_SIZE`] bytes or more that [`make`] has written; it may be kept, moved or copied between calls. One that was kept over the
 //! update from lanes of 16 records is taken over by [`convert`], once. [`Board`] is the desk's board of which train is in which cell; it has
-//! nothing to do with a table. [`Plan`] is a setup or a text sheet to be edited.
+//! nothing to do with a table. [`Plan`] is a setup or a text sheet to be edited. [`offer`] brings a unit in the field a new setup, while records wait too.
 
 #![deny(missing_docs, unsafe_code)]
 
 mod board;
 mod boundary;
+mod pages;
 mod plan;
 pub mod refusals;
 mod version;
 
 pub use board::{board_size, Board, BoardRefusal, Handover, Kind, BOARD_SIZE, LINES};
+pub use pages::{edition, offer, page, Editions, Offered, PAGE_MORE};
 pub use plan::{plan_size, Plan, PlanLane, PLAN_SIZE, SETUP_MOST, SHEET_MOST};
 pub use refusals::RefusalKind;
 pub use version::{version, Version, VERSION};
@@ -37,7 +39,7 @@ pub const fn answer_area(limit: u64) -> usize {
 pub struct Refusal {
     /// Document 01's number; `include/zenfrosta.h` has the list.
     pub number: u64,
-    /// A place in the setup's or the session's bytes.
+    /// A place in the setup's, the page's or the session's bytes.
     pub place: Option<u64>,
 }
 
@@ -174,7 +176,7 @@ pub fn old_table_size() -> u64 {
 }
 
 /// Takes over a table from before lanes had room for 64 records into the lent bytes, whatever they held: the same records, clock, lanes and tie
-/// order. Takes answer from it as they would have from the old one, which may then be dropped.
+/// order; edition 0. Takes answer from it as they would have from the old one, which may then be dropped.
 ///
 /// Refused with 7 at place 0 if `table` is shorter than [`TABLE_SIZE`], then with 10 if the old table is not good or shorter than
 /// [`OLD_TABLE_SIZE`]. What kind a kept table is, the host knows by its length: `old` must not be a table of today.
@@ -215,7 +217,7 @@ pub fn lag(table: &[u8], lane: u8) -> Result<i64, Refusal> {
     answer(boundary::lag(table, lane)).map(|words| words[0] as i64)
 }
 
-/// The clock V. This call and the four below show a table, and change nothing.
+/// The clock V. This call, the four below and [`edition`] show a table, and change nothing.
 pub fn clock(table: &[u8]) -> Result<u64, Refusal> {
     answer(boundary::clock(table)).map(|words| words[0])
 }
@@ -247,7 +249,7 @@ pub fn waiting_of(table: &[u8], lane: u8, train: u8, before: u64) -> Result<Reco
     record(boundary::train_record(table, lane, train, before))
 }
 
-/// Gives the fresh table of the same setup, once no record is held.
+/// Gives the fresh table of the same setup, once no record is held. The edition last taken stays.
 pub fn restart(table: &mut [u8]) -> Result<(), Refusal> {
     answer(boundary::restart(table)).map(|_| ())
 }

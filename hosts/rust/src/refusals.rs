@@ -100,6 +100,8 @@ refusals! {
         "mend the number that is outside; take a lane out by clearing all of it";
     SETUP_SHORT SetupShort 56 "the buffer is shorter than what is to be written",
         "lend 780 bytes, which every setup fits, or 698, which every sheet does";
+    OLD_EDITION OldEdition 60 "the edition is not above the last one taken or waiting",
+        "give the page an edition above both; edition 0 is above none";
     NO_TRAIN NoTrain 70 "the train is over 7, or over 0 in a lane that is not shared",
         "give a train from 0 to 7, or make the lane shared in the setup";
     TRAIN_FULL TrainFull 71 "the train's queue is full",

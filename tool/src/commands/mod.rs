@@ -2,6 +2,7 @@
 
 mod board;
 mod explain;
+mod page;
 mod picture;
 mod plan;
 mod run;
@@ -28,6 +29,12 @@ pub const ALL: &[Command] = &[
     },
     Command { name: "setup", does: "write the bytes of a setup", help: setup::HELP, run: setup::run },
     Command { name: "sheet", does: "write a text sheet", help: setup::SHEET_HELP, run: setup::sheet },
+    Command {
+        name: "page",
+        does: "a settings page: written, shown, or offered to a table",
+        help: page::HELP,
+        run: page::run,
+    },
     Command {
         name: "session",
         does: "a session's text to bytes and back",

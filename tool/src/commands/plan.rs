@@ -11,8 +11,8 @@ use zenfrosta::{Plan, PlanLane};
 pub const HELP: &str = "\
 zenfrosta plan [FILE] [--rate BITS] [--ahead N] [-o FILE]
 
-Shows a plan of lanes as a table. FILE is a text sheet, the bytes of a setup or of a session, or a session's text;
-standard input if none is named.
+Shows a plan of lanes as a table. FILE is a text sheet, the bytes of a setup, of a settings page or of a session, or a
+session's text; standard input if none is named.
 
   --rate BITS   the line's rate in bits a second: waits in seconds too
   --ahead N     waits with so many records of the same lane before it, each of the lane's longest (0); in a shared
@@ -43,7 +43,7 @@ fn percent(part: u64, whole: u64) -> String {
     format!("{}.{}%", tenths / 10, tenths % 10)
 }
 
-fn shown(plan: &Plan, rate: Option<u64>, ahead: u64) -> String {
+pub fn shown(plan: &Plan, rate: Option<u64>, ahead: u64) -> String {
     let lanes: Vec<(usize, PlanLane)> =
         plan.lanes.iter().enumerate().filter_map(|(i, lane)| lane.map(|lane| (i, lane))).collect();
     let sum: u64 = lanes.iter().map(|(_, lane)| u64::from(lane.weight)).sum();

@@ -9,8 +9,9 @@ use crate::script;
 pub const HELP: &str = "\
 zenfrosta setup [FILE] [EDITS] [--hex] [-o FILE]
 
-Writes the bytes of a setup. FILE is a text sheet, the bytes of a setup or of a session, or a session's text; standard
-input if none is named. A sheet gives a plan of format 2 with no framing bytes and no shared lane.
+Writes the bytes of a setup. FILE is a text sheet, the bytes of a setup, of a settings page or of a session, or a
+session's text; standard input if none is named. A sheet gives a plan of format 2 with no framing bytes and no shared
+lane.
 
   --hex            write the bytes as hexadecimal digits, a field on a line
   -o FILE          write to a file

@@ -1,13 +1,14 @@
 //! `zenfrosta table`: a table that was kept, shown by the library's own calls that show one. The order in which records go out is that of takes on a
 //! copy. Nothing here reads the table's own layout.
 
+use super::page::editions;
 use crate::args::Args;
 use crate::fault::Fault;
 use crate::files::{self, Input};
 use crate::plans;
 use crate::text::{count, signed, table, thousands};
 use zenfrosta::refusals::{NOTHING_HELD, NOT_GOOD, NO_LANE};
-use zenfrosta::{LaneSetting, Record, Refusal, OLD_TABLE_SIZE, TABLE_SIZE};
+use zenfrosta::{Editions, LaneSetting, Record, Refusal, OLD_TABLE_SIZE, TABLE_SIZE};
 
 pub const HELP: &str = "\
 zenfrosta table [FILE] [--order] [--converted FILE] [-o FILE]
@@ -91,6 +92,7 @@ fn waiting(bytes: &[u8], number: u8, shared: bool) -> Result<Vec<Record>, Refusa
 struct Shown {
     size: usize,
     clock: u64,
+    editions: Editions,
     lanes: Vec<Lane>,
     /// The records in the order in which takes hand them out.
     order: Vec<Record>,
@@ -99,6 +101,7 @@ struct Shown {
 impl Shown {
     fn of(bytes: &[u8]) -> Result<Shown, Refusal> {
         let clock = zenfrosta::clock(bytes)?;
+        let editions = zenfrosta::edition(bytes)?;
         let mut lanes = Vec::new();
         for number in 0..64 {
             match zenfrosta::lane(bytes, number) {
@@ -115,7 +118,7 @@ impl Shown {
         // 16 ends the takes; a table of other origin may be refused with 10 before.
         let mut copy = bytes.to_vec();
         let order = std::iter::from_fn(|| zenfrosta::take(&mut copy).ok()).collect();
-        Ok(Shown { size: bytes.len(), clock, lanes, order })
+        Ok(Shown { size: bytes.len(), clock, editions, lanes, order })
     }
 
     /// Whether a record waits in a shared lane.
@@ -143,6 +146,9 @@ impl Shown {
             count(held.iter().map(|record| record.length).sum(), "byte"),
             thousands(self.clock)
         );
+        if self.editions != (Editions { last: 0, waiting: None }) {
+            text += &format!("settings pages: {}\n", editions(self.editions));
+        }
         if let Some(next) = self.order.first() {
             text += &format!(
                 "next out: lane {}, record {}{}, {}\n",

@@ -7,7 +7,7 @@ mod read;
 mod write;
 
 pub use read::{read, Script};
-pub use write::{hex, requests, write};
+pub use write::{hex, page_hex, requests, write};
 
 /// How far a session has come.
 #[derive(Clone, Copy, PartialEq)]

@@ -85,6 +85,23 @@ pub fn write(session: &[u8]) -> String {
     text
 }
 
+/// A settings page as hexadecimal digits: its own fields, and those of the setup inside.
+pub fn page_hex(page: &[u8]) -> String {
+    let mut text = String::new();
+    for field in Fields::new(page) {
+        let digits: String = field.value.iter().map(|byte| format!("{byte:02X}")).collect();
+        let head = format!("{:02X} {:04X}", field.tag, field.value.len());
+        match field.tag {
+            0x40 => writeln!(text, "{:<26}# edition {}", format!("{head} {digits}"), field.number(0, 2)),
+            0x41 => writeln!(text, "{head:<26}# a setup of so many bytes")
+                .and_then(|()| write!(text, "{}", hex(field.value))),
+            _ => writeln!(text, "{head:<26}# the page's end"),
+        }
+        .expect("a String takes all");
+    }
+    text
+}
+
 /// The bytes as hexadecimal digits, a field on a line with what it says.
 pub fn hex(session: &[u8]) -> String {
     let mut text = String::new();

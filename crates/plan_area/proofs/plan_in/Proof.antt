@@ -64,7 +64,11 @@ loop-again c =
     (c .if1 .came)
 
 returns : tie.Need-returns Inv-loop μ-loop
-returns c = let l = c .before .loop in fill-all (c .before .before .before .before .before .before .args .area .now) (l .lanes) (l .count) (l .k) (l .inv) (c .loop-test .left) (c .before .before .before .before .format-in .result) (c .before .before .before .before .format-in .ensures)
+returns c =
+    let l = c .before .loop in (
+      fill-all (c .before .before .before .before .before .before .args .area .now) (l .lanes) (l .count) (l .k) (l .inv) (c .loop-test .left) (c .before .before .before .before .format-in .result) (c .before .before .before .before .format-in .ensures),
+      l .inv .size,
+    )
 
 pub plan-in-spec : {M : Type 1} → statement M
 plan-in-spec =

@@ -1,11 +1,12 @@
 -- `make` meets its contract. Assumes nothing.
 use Rattle.scheduler.proofs.Made.{make-short, make-refused, make-made, read-setup-good}
+use native.Mathlib.Omega.{arith}
 use borrow.Author.Needs.{needs}
 use Rattle.scheduler.proofs.make.Statement.{statement}
 use Rattle.scheduler.proofs.make.Tie as tie
 use Rattle.scheduler.proofs.make.Reads as reads
 use Rattle.scheduler.proofs.make.Lts as lts
-use Rattle.fresh.proofs.write.Reads as write-reads
+use Rattle.paged.proofs.come_in_force.Reads as come-in-force-reads
 use Rattle.plan.proofs.read_setup.Reads as read-setup-reads
 
 returns : tie.Need-returns
@@ -20,11 +21,11 @@ enum-known-outcome c = search needs
 enum-told : tie.Need-enum-told
 enum-told c = search needs
 
-write-requires : tie.Need-write-requires
-write-requires c κs =
+come-in-force-requires : tie.Need-come-in-force-requires
+come-in-force-requires c κs =
     let r = c .before .before .before .before .before .read-setup in
     let o = c .before .before .before .enum-told .given in
-    (c .before .before .before .before .before .before .if1 .left, read-setup-good (c .before .before .before .before .before .before .before .before .before .args .setup .now) (r .result) (o .0 .0) (r .ensures) (o .1))
+    (c .before .before .before .before .before .before .if1 .left, omega arith, read-setup-good (c .before .before .before .before .before .before .before .before .before .args .setup .now) (r .result) (o .0 .0) (r .ensures) (o .1))
 
 returns-2 : tie.Need-returns-2
 returns-2 c = make-refused (c .before .before .before .before .before .before .before .args .setup .now) (c .before .before .before .before .before .before .before .args .t .now) _ (c .before .before .before .before .if1 .left) (c .before .before .before .read-setup .result) (c .before .before .before .read-setup .ensures) (c .before .outcome .given .1)
@@ -37,7 +38,7 @@ returns-3 c =
     let s = c .before .before .before .before .before .before .before .before .before .before .before .before in
     let r = c .before .before .before .before .before .before .before .before .read-setup in
     let o = c .before .before .before .before .before .before .enum-told .given in
-    let w = c .before .before .write in
+    let w = c .before .before .come-in-force in
     make-made (s .args .setup .now) (s .args .t .now) _ (c .before .before .before .before .before .before .before .before .before .if1 .left) (r .result) (o .0 .0) (r .ensures) (o .1) (w .kept .0) (w .ensures)
 
 pub make-spec : {M : Type 1} → statement M
@@ -48,7 +49,7 @@ make-spec =
     read-setup-requires
     enum-known-outcome
     enum-told
-    write-requires
+    come-in-force-requires
     returns-2
     same-length
     returns-3)

@@ -51,11 +51,17 @@ speak-requires-4 c κs = search needs
 enum-known-x-5 : tie.Need-enum-known-x-5
 enum-known-x-5 c = search needs
 
+speak-requires-5 : tie.Need-speak-requires-5
+speak-requires-5 c κs = search needs
+
+enum-known-x-6 : tie.Need-enum-known-x-6
+enum-known-x-6 c = search needs
+
 refusal-words-requires : tie.Need-refusal-words-requires
 refusal-words-requires c κs = search needs
 
-speak-requires-5 : tie.Need-speak-requires-5
-speak-requires-5 c κs = search needs
+speak-requires-6 : tie.Need-speak-requires-6
+speak-requires-6 c κs = search needs
 
 number-requires : tie.Need-number-requires
 number-requires c κs = search needs
@@ -97,8 +103,16 @@ same-length-5 c = search needs
 
 returns-5 : tie.Need-returns-5
 returns-5 c =
-    let e = c .before .before .before .before .before .before .before .x5 .given .1 in
-    (c .number .ensures .0 ∙ rw e, told-as _ _ _ _ (c .before .before .before .before .before .refusal-words .ensures ∙ rw e) (c .before .before .before .speak5 .ensures))
+    let e = c .before .before .before .before .before .x5 .given .1 in
+    (rw e, told-as _ _ _ _ (rw e) (c .before .before .speak5 .ensures))
+
+same-length-6 : tie.Need-same-length-6
+same-length-6 c = search needs
+
+returns-6 : tie.Need-returns-6
+returns-6 c =
+    let e = c .before .before .before .before .before .before .before .x6 .given .1 in
+    (c .number .ensures .0 ∙ rw e, told-as _ _ _ _ (c .before .before .before .before .before .refusal-words .ensures ∙ rw e) (c .before .before .before .speak6 .ensures))
 
 pub tell-view-spec : {M : Type 1} → statement M
 tell-view-spec =
@@ -117,8 +131,10 @@ tell-view-spec =
     record-words-requires
     speak-requires-4
     enum-known-x-5
-    refusal-words-requires
     speak-requires-5
+    enum-known-x-6
+    refusal-words-requires
+    speak-requires-6
     number-requires
     same-length
     returns
@@ -129,4 +145,6 @@ tell-view-spec =
     same-length-4
     returns-4
     same-length-5
-    returns-5)
+    returns-5
+    same-length-6
+    returns-6)

@@ -1,0 +1,6 @@
+pub mod Core
+pub mod Groups
+pub mod Units
+pub mod Lending
+pub mod Settled
+pub mod Tested

@@ -1,0 +1,108 @@
+-- `settle` meets its contract. Assumes nothing.
+use borrow.Author.Needs.{needs}
+use Prim.Native.Nat.{ℕ}
+use mathlib.Core.Path.{sym, ap, subst, _∙_}
+use mathlib.Core.List.{List}
+use native.Mathlib.Omega.{arith}
+use lib.ListN.{length-drop}
+use Rattle.rules.specs.Setup.{Setup}
+use Rattle.editions.specs.Part.{Room, newIn, planOf}
+use Rattle.editions.proofs.Lent.{tail-all}
+use Rattle.table.specs.Layout.{SIZE}
+use Rattle.paged.proofs.Settled.{ready-plan, settled-held, settled-none, settled-comes}
+use Rattle.paged.proofs.settle.Statement.{statement}
+use Rattle.paged.proofs.settle.Tie as tie
+use Rattle.paged.proofs.settle.Reads as reads
+use Rattle.paged.proofs.settle.Lts as lts
+use Rattle.editions.proofs.new.Reads as new-reads
+use Rattle.editions.proofs.plan.Reads as plan-reads
+use Rattle.paged.proofs.come_in_force.Reads as come-in-force-reads
+use Rattle.paged.proofs.held.Reads as held-reads
+
+held-requires : tie.Need-held-requires
+held-requires c κs = search needs
+
+same-length : tie.Need-same-length
+same-length c = search needs
+
+returns : tie.Need-returns
+returns c =
+    let s = c .before .before .before .before in
+    settled-held (s .args .t .now) (s .pre) (sym (c .before .held .ensures) ∙ c .if1 .taken)
+
+sub-new : tie.Need-sub-new
+sub-new c = search needs
+
+part-new-start : tie.Need-part-new-start
+part-new-start c = search needs
+
+part-new-end : tie.Need-part-new-end
+part-new-end c = search needs
+
+new-requires : tie.Need-new-requires
+new-requires c κs = search needs
+
+same-length-2 : tie.Need-same-length-2
+same-length-2 c = search needs
+
+returns-2 : tie.Need-returns-2
+returns-2 c =
+    let s = c .before .before .before .before .before .before .before .before in
+    settled-none (s .args .t .now) (s .pre) (ap newIn (sym (tail-all SIZE (s .args .t .now))) ∙ sym (c .before .new .ensures) ∙ c .if2 .taken)
+
+sub-plan : tie.Need-sub-plan
+sub-plan c = search needs
+
+part-plan-start : tie.Need-part-plan-start
+part-plan-start c = search needs
+
+part-plan-end : tie.Need-part-plan-end
+part-plan-end c = search needs
+
+plan-requires : tie.Need-plan-requires
+plan-requires c κs =
+    let s = c .before .before .before .before .before .before .before .before .before .before in
+    let t = s .args .t .now in
+    subst Room (sym (tail-all SIZE t)) (omega (arith, s .pre .room, length-drop SIZE t))
+
+come-in-force-requires : tie.Need-come-in-force-requires
+come-in-force-requires c κs =
+    let s = c .before .before .before .before .before .before .before .before .before .before .before .before .before in
+    let t = s .args .t .now in
+    let new = c .before .before .before .before .before .before .new .ensures ∙ ap newIn (tail-all SIZE t) in (
+      s .pre .room,
+      omega (arith, new, s .pre .fits .new),
+      subst Setup (sym (c .before .before .plan .ensures .1 ∙ ap (λ (p : List ℕ). planOf p .lanes) (tail-all SIZE t))) (ready-plan t (s .pre) (λ z. c .before .before .before .before .before .if2 .left (new ∙ z))),
+    )
+
+same-length-3 : tie.Need-same-length-3
+same-length-3 c = search needs
+
+returns-3 : tie.Need-returns-3
+returns-3 c =
+    let s = c .before .before .before .before .before .before .before .before .before .before .before .before .before .before .before .before in
+    let t = s .args .t .now in
+    let new = c .before .before .before .before .before .before .before .before .before .new .ensures ∙ ap newIn (tail-all SIZE t) in
+    let plan = c .before .before .before .before .before .plan .ensures .1 ∙ ap (λ (p : List ℕ). planOf p .lanes) (tail-all SIZE t) in
+    settled-comes t (s .pre) (sym (c .before .before .before .before .before .before .before .before .before .before .before .before .before .held .ensures) ∙ c .before .before .before .before .before .before .before .before .before .before .before .before .if1 .left) (λ z. c .before .before .before .before .before .before .before .before .if2 .left (new ∙ z)) _ _ _ new plan (c .before .before .come-in-force .ensures)
+
+pub settle-spec : {M : Type 1} → statement M
+settle-spec =
+    tie.close
+    (tie.spec
+    held-requires
+    same-length
+    returns
+    sub-new
+    part-new-start
+    part-new-end
+    new-requires
+    same-length-2
+    returns-2
+    sub-plan
+    part-plan-start
+    part-plan-end
+    plan-requires
+    come-in-force-requires
+    same-length-3
+    returns-3)

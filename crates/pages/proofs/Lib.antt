@@ -1,0 +1,12 @@
+pub mod Parts
+pub mod PartHeld
+pub mod Events
+pub mod Run
+pub mod Stretch
+pub mod Fair
+pub mod Answers
+pub mod Ahead
+pub mod OneCall
+pub mod Carried
+pub mod Other
+pub mod Examples
