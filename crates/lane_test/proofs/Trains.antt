@@ -14,6 +14,7 @@ use Rattle.round_test.specs.Shared as trains
 use Rattle.round_test.specs.Shared.{numbersAt, lengthsAt, SharedGood}
 use Rattle.round_test.proofs.Made.{shared-made}
 use Rattle.rules.specs.State.{laneDepth}
+use Rattle.parts.specs.Parts.{marksEnd}
 use Rattle.table.specs.Layout.{cells, lengthsCell, lengthWords, entryAt, placeOf, rowAt, roundAt, trainNumber}
 use Rattle.table.specs.Means.{presentAt, recAt, sharedAt, RowAgrees, PlacesFit}
 use Rattle.table.specs.declared.LaneRow.{LaneRow}
@@ -22,7 +23,7 @@ use Rattle.lane_test.specs.Says.{Says, TimeGood, TrainsGood, LaneGood}
 use Rattle.lane_test.proofs.Lane.{place-length, lane-made, lane-trains}
 
 -- a is the first of the lane's trains among all halves of the bytes, b the first of its lengths among all quarters
-module _ (t : List ℕ) (k : ℕ) (l : LaneRow) (hk : k < 64) (a b : ℕ) (trains-at : a ≡ 2 * (7680 + 4 * k)) (lengths-at : b ≡ 4 * (lengthsCell + lengthWords * k)) where
+module _ (t : List ℕ) (k : ℕ) (l : LaneRow) (hk : k < 64) (a b : ℕ) (trains-at : a ≡ 2 * (marksEnd / 8 + 4 * k)) (lengths-at : b ≡ 4 * (lengthsCell + lengthWords * k)) where
   abbrev w : List ℕ
   w = cells t
 

@@ -2,7 +2,7 @@
 use mathlib.Core.Path.{_≡_, refl, sym, ap, subst, _∙_}
 use mathlib.Core.Bool.{Bool, true, false, false≢true}
 use mathlib.Core.Logic.{_⊎_, inl, inr, ⊎-elim}
-use Prim.Native.Nat.{ℕ, _+_, _-_, _*_, _^_, _≤_, _<_}
+use Prim.Native.Nat.{ℕ, _+_, _-_, _*_, _/_, _^_, _≤_, _<_}
 use mathlib.Core.List.{List, [], _∷_, _++_}
 use mathlib.Core.Option.{Option, none, some}
 use native.Mathlib.Omega.{arith}
@@ -48,7 +48,7 @@ ring-word t j v i hj =
     (tab-ext _ _ _ (λ x p. above t j v (placeByte i (getD t (headByte i) 0 + x)) hj (omega arith)))
 
 pub rest-word : (t : List ℕ) (j v : ℕ) → j < wordsEnd → drop ringsEnd (putWord t j v) ≡ drop ringsEnd t
-rest-word t j v hj = drop-putWord 5632 t j v (omega arith)
+rest-word t j v hj = drop-putWord (ringsEnd / 8) t j v (omega arith)
 
 -- ---- a group's words
 

@@ -1,7 +1,8 @@
 use Rattle.lane_test.proofs.Trains.{fit-is, trains-say}
-use Prim.Native.Nat.{_+_, _*_}
+use Prim.Native.Nat.{_+_, _*_, _/_}
 use native.Mathlib.Omega.{arith}
-use Rattle.table.specs.Layout.{lengthsCell}
+use Rattle.parts.specs.Parts.{marksEnd}
+use Rattle.table.specs.Layout.{lengthsCell, lengthWords}
 use borrow.Author.Needs.{needs}
 use Rattle.lane_test.proofs.trains_good.Statement.{statement}
 use Rattle.lane_test.proofs.trains_good.Tie as tie
@@ -30,12 +31,12 @@ mul-shared-good-4 c = search needs
 shared-good-requires : tie.Need-shared-good-requires
 shared-good-requires c κs =
     let s = c .before .before in
-    (omega (arith, s .pre .0, s .pre .1), omega (arith, s .pre .0, s .pre .1), s .pre .2, s .pre .3, fit-is (s .args .t .now) (s .args .k) (s .args .l) (s .pre .1) (2 * (7680 + 4 * s .args .k)) (4 * (lengthsCell + 16 * s .args .k)) (omega arith) (omega arith) (s .pre .4))
+    (omega (arith, s .pre .0, s .pre .1), omega (arith, s .pre .0, s .pre .1), s .pre .2, s .pre .3, fit-is (s .args .t .now) (s .args .k) (s .args .l) (s .pre .1) (2 * (marksEnd / 8 + 4 * s .args .k)) (4 * (lengthsCell + lengthWords * s .args .k)) (omega arith) (omega arith) (s .pre .4))
 
 returns : tie.Need-returns
 returns c =
     let s = c .before .before .before in
-    trains-say (s .args .t .now) (s .args .k) (s .args .l) (s .pre .1) (2 * (7680 + 4 * s .args .k)) (4 * (lengthsCell + 16 * s .args .k)) (omega arith) (omega arith) (s .pre .4) (c .before .round .result) (c .shared-good .result) (c .before .round .ensures) (c .shared-good .ensures)
+    trains-say (s .args .t .now) (s .args .k) (s .args .l) (s .pre .1) (2 * (marksEnd / 8 + 4 * s .args .k)) (4 * (lengthsCell + lengthWords * s .args .k)) (omega arith) (omega arith) (s .pre .4) (c .before .round .result) (c .shared-good .result) (c .before .round .ensures) (c .shared-good .ensures)
 
 pub trains-good-spec : {M : Type 1} → statement M
 trains-good-spec =
