@@ -16,7 +16,7 @@ use Rattle.rules.proofs.NotTen.{NotTen, step-not-ten}
 use Rattle.rules.proofs.Keep.{PickIs, pick-is}
 use Rattle.rules.proofs.AlwaysGood.{Reached, reached-good}
 use Rattle.pages.specs.Device.{Page, Device, startPage, freshDevice, DeviceReply, inForceOf, DeviceCall, ruled, offer, unread, answered, DeviceOutcome, settledDevice, newestEdition, doOffer, deviceStep, deviceStepBy}
-use Rattle.pages.specs.Offers.{deviceAfter, DeviceEvent, eventOf, deviceTrace, ofRule, ofRules, anyHeld, acceptedPage, newest, freeFrom, pageIn, deviceAfterBy, deviceTraceBy}
+use Rattle.pages.specs.Offers.{deviceAfter, DeviceEvent, eventOf, deviceTrace, Read, AllRead, ofRule, ofRules, anyHeld, acceptedPage, newest, freeFrom, pageIn, deviceAfterBy, deviceTraceBy}
 use Rattle.pages.specs.Claims.{GoodDevice, RefusedKeeps}
 use Rattle.pages.specs.Carried.{RestartHeldPages, NeverTenPages, HandsOut, DrainsPages, WithoutOffers}
 use Rattle.pages.proofs.PartHeld.{held-holds}
@@ -47,30 +47,30 @@ restart-held-pages gs s cs a past rest e x k h c =
 
 -- ---- 10
 
-offer-not-ten : (d : Device) (p : Page) → (doOffer d p) .reply ≡ answered (refused 10 none) → ⊥
+offer-not-ten : (d : Device) (p : Page) (q : Option ℕ) → (doOffer d p) .reply ≡ answered (refused 10 q) → ⊥
 unfolding doOffer
-offer-not-ten d p =
-    if-ind (λ (o : DeviceOutcome). o .reply ≡ answered (refused 10 none) → ⊥) (leb (p .edition) (newestEdition (d .edition) (d .waiting))) _ _
+offer-not-ten d p q =
+    if-ind (λ (o : DeviceOutcome). o .reply ≡ answered (refused 10 q) → ⊥) (leb (p .edition) (newestEdition (d .edition) (d .waiting))) _ _
     (λ t e. let z : _≡_ {A = ℕ} 60 10 = cc in omega arith)
     (λ t.
-    if-ind (λ (o : DeviceOutcome). o .reply ≡ answered (refused 10 none) → ⊥) (anyHolds (d .state .lanes)) _ _
+    if-ind (λ (o : DeviceOutcome). o .reply ≡ answered (refused 10 q) → ⊥) (anyHolds (d .state .lanes)) _ _
     (λ u e. let z : _≡_ {A = ℕ} 0 1 = cc in omega arith) (λ u e. let z : _≡_ {A = ℕ} 0 1 = cc in omega arith))
 
-call-not-ten : (d : Device) (c : DeviceCall) → (deviceStep d c) .reply ≡ answered (refused 10 none) → ⊥
-unfolding deviceStepBy
-call-not-ten d (ruled c) e = let r : (step (d .state) c) .reply ≡ refused 10 none = cc in subst NotTen r (step-not-ten (d .state) c) refl
-call-not-ten d (offer p) e = offer-not-ten d p e
-call-not-ten d (unread n at) e = let z : _≡_ {A = ℕ} 0 1 = cc in omega arith
+call-not-ten : (d : Device) (c : DeviceCall) (q : Option ℕ) → Read c → (deviceStep d c) .reply ≡ answered (refused 10 q) → ⊥
+unfolding deviceStepBy Read
+call-not-ten d (ruled c) q read e = let r : (step (d .state) c) .reply ≡ refused 10 q = cc in subst NotTen r (step-not-ten (d .state) c) refl
+call-not-ten d (offer p) q read e = offer-not-ten d p q e
+call-not-ten d (unread n at) q read e = read (let z : n ≡ 10 = cc in z)
 
 pub never-ten-pages : NeverTenPages
-unfolding NeverTenPages deviceTraceBy
-never-ten-pages gs s cs a past rest e x ten =
+unfolding NeverTenPages deviceTraceBy AllRead
+never-ten-pages gs s cs a past rest e p x ten =
     let t = stretch-of gs s cs a past (e ∷ []) rest (x ∙ sym (append-assoc past (e ∷ []) rest)) in
-    go (t .device) (t .calls) (t .is)
+    go (t .device) (t .calls) (t .read) (t .is)
   where
-    go : (d : Device) (cs : List DeviceCall) → deviceTrace d cs ≡ e ∷ [] → ⊥
-    go d [] t = let z : _≡_ {A = ℕ} 0 1 = cc in omega arith
-    go d (y ∷ cs) t = let first : eventOf d y ≡ e = cc in call-not-ten d y (ap (λ (u : DeviceEvent). u .reply) first ∙ ten)
+    go : (d : Device) (cs : List DeviceCall) → AllRead cs → deviceTrace d cs ≡ e ∷ [] → ⊥
+    go d [] b t = let z : _≡_ {A = ℕ} 0 1 = cc in omega arith
+    go d (y ∷ cs) b t = let first : eventOf d y ≡ e = cc in call-not-ten d y p (b .0) (ap (λ (u : DeviceEvent). u .reply) first ∙ ten)
 
 -- ---- draining
 

@@ -1,7 +1,7 @@
 -- The other promises, of lists with offers.
 --
 --   RestartHeldPages   wherever a lane holds a record by the count, a restart gives 15
---   NeverTenPages      no answer in such a list is 10
+--   NeverTenPages      no answer in such a list is 10, with a place or without
 --   DrainsPages        a take hands a record out or gives 16, and a restart right after a 16 is accepted
 --   WithoutOffers      a list with no offer, as a session's, is one of the rules, and its setup stays in force
 --
@@ -10,7 +10,7 @@ use Prim.Native.Nat.{ℕ}
 use mathlib.Core.Path.{_≡_}
 use mathlib.Core.List.{List, _∷_, _++_, map}
 use mathlib.Core.Logic.{_⊎_}
-use mathlib.Core.Option.{none}
+use mathlib.Core.Option.{Option, none}
 use Rattle.rules.specs.State.{Setting}
 use Rattle.rules.specs.Setup.{Setup}
 use Rattle.rules.specs.Calls.{Call, take, restart, taken, restarted, refused, fresh}
@@ -29,7 +29,7 @@ RestartHeldPages =
 unfoldable pub NeverTenPages : Type 0
 NeverTenPages =
     (gs : List Setting) → Setup gs → (calls : List DeviceCall) → AllRead calls
-    → (past rest : List DeviceEvent) (e : DeviceEvent) → deviceTrace (freshDevice gs) calls ≡ past ++ (e ∷ rest) → e .reply ≡ answered (refused 10 none) → ⊥
+    → (past rest : List DeviceEvent) (e : DeviceEvent) (p : Option ℕ) → deviceTrace (freshDevice gs) calls ≡ past ++ (e ∷ rest) → e .reply ≡ answered (refused 10 p) → ⊥
 
 -- an answer hands a record out
 pub record HandsOut (r : DeviceReply) : Type 0 where

@@ -1,7 +1,7 @@
 -- Lists of calls to a unit with pages, and what can be counted from their arguments and answers alone.
 --
 --   deviceAfter, deviceTrace   the unit after a list of calls; the calls with their answers; deviceAfterBy, deviceTraceBy: with other rules
---   Read, AllRead              the pages that were read are setups within the numbers
+--   Read, AllRead              the pages that were read are setups within the numbers, and one that was not is refused by a number of its own, not by a table's 10
 --   ofRules                    the events of the rules' own calls: all counting of records and bytes is over these
 --   Held                       a lane holds a record after these events, by the count of its records; heldTest: the same as a test; anyHeld: some lane does
 --   newest                     the page last accepted, in force or waiting
@@ -10,6 +10,7 @@
 --
 -- Assumes nothing.
 use Prim.Native.Nat.{ℕ}
+use mathlib.Core.Path.{_≡_}
 use mathlib.Core.Bool.{Bool}
 use mathlib.Core.List.{List, [], _∷_, _++_}
 use lib.Dec.{ltb}
@@ -47,7 +48,7 @@ deviceTrace = deviceTraceBy step
 unfoldable pub Read : DeviceCall → Type 0
 Read (ruled c) = Unit {0}
 Read (offer p) = Setup (p .settings)
-Read (unread n at) = Unit {0}
+Read (unread n at) = n ≡ 10 → ⊥
 
 unfoldable pub AllRead : List DeviceCall → Type 0
 AllRead [] = Unit {0}

@@ -1,6 +1,7 @@
 -- A list of public calls goes on as the rules' own run does. Assumes nothing.
 use Prim.Native.Nat.{ℕ}
 use mathlib.Core.Path.{_≡_, refl, sym, ap, subst, _∙_}
+use mathlib.Core.Bool.{false≢true}
 use mathlib.Core.List.{List, [], _∷_, _++_, map}
 use Rattle.rules.specs.State.{Setting}
 use Rattle.rules.specs.Setup.{Setup}
@@ -12,21 +13,22 @@ use Rattle.pages.specs.Claims.{GoodDevice}
 use Rattle.pages.proofs.Run.{Run, step-run, run-all}
 use Rattle.page.specs.Read as page
 use Rattle.page.specs.Read.{readPage}
-use Rattle.page.specs.Promises.{PagesWithin}
-use Rattle.page.proofs.Promises.{pages-within}
+use Rattle.plan.specs.Accepted.{refusals, among}
+use Rattle.page.specs.Promises.{PagesWithin, RefusesInside}
+use Rattle.page.proofs.Promises.{pages-within, refuses-inside}
 use Rattle.paged.specs.Paged.{EncodesDevice, GoodUnit, EncodesGoodDevice}
 use Rattle.paged.proofs.Units.{units-good}
 use Rattle.scheduler.specs.Step.{offered, offeredAs, UnitStep}
 use Rattle.scheduler.specs.Chain.{Chain, done, then, offers, callsOf, Led}
 
--- a page that the reader reads is a setup within the numbers
+-- a page that the reader reads is a setup within the numbers, and 10 is none of the reader's own numbers
 pub page-read : (bytes : List ℕ) → Read (offered bytes)
-unfolding Read PagesWithin
+unfolding Read PagesWithin RefusesInside
 page-read bytes = go (readPage bytes) refl
   where
     go : (r : page.Reply) → readPage bytes ≡ r → Read (offeredAs r)
     go (page.read n f gs k) e = pages-within bytes n f gs k e .setup
-    go (page.refused n p) e = tt
+    go (page.refused n p) e = λ ten. false≢true (ap (among refusals) (sym ten) ∙ refuses-inside bytes n p e .listed)
 
 pub run-good : (gs : List Setting) (past : List DeviceEvent) (d : Device) → Run gs past d → GoodDevice d
 run-good gs past d r = record { state = reached-good (d .state) (r .reached); waiting = r .waiting }

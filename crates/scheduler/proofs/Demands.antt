@@ -69,7 +69,7 @@ module _ (gs : List Setting) (es : List DeviceEvent) (u : List ℕ) (l : Led gs 
 
   never-ten : NeverTen es u
   unfolding NeverTen NeverTenPages
-  never-ten = (led-good gs es u l, λ past rest e q ten. never-ten-pages gs (l .setup) (callsOf es) (l .read) past rest e (l .answers ∙ q) ten)
+  never-ten = (led-good gs es u l, λ past rest e p q ten. never-ten-pages gs (l .setup) (callsOf es) (l .read) past rest e p (l .answers ∙ q) ten)
 
   order-kept : OrderKept es u
   unfolding OrderKept InOrderPages

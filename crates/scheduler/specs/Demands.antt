@@ -22,7 +22,7 @@ use Prim.Native.Nat.{ℕ, _+_, _*_, _<_}
 use mathlib.Core.Path.{_≡_}
 use mathlib.Core.Logic.{_⊎_}
 use mathlib.Core.List.{List, [], _∷_, _++_}
-use mathlib.Core.Option.{none}
+use mathlib.Core.Option.{Option, none}
 use lib.Dec.{leb, eqb}
 use Rattle.units.specs.Numbers.{lineRate}
 use Rattle.units.specs.Plain.{if_then_else_}
@@ -69,7 +69,7 @@ SameSetup gs es =
     → (k : ℕ) → HeldThroughout k past stretch → (p q : List DeviceEvent) → p ++ q ≡ stretch → pageIn gs (past ++ p) ≡ pageIn gs past
 
 unfoldable pub NeverTen : List DeviceEvent → List ℕ → Type 0
-NeverTen es u = GoodUnit u × ((past rest : List DeviceEvent) (e : DeviceEvent) → es ≡ past ++ e ∷ rest → e .reply ≡ answered (refused 10 none) → ⊥)
+NeverTen es u = GoodUnit u × ((past rest : List DeviceEvent) (e : DeviceEvent) (p : Option ℕ) → es ≡ past ++ e ∷ rest → e .reply ≡ answered (refused 10 p) → ⊥)
 
 unfoldable pub OrderKept : List DeviceEvent → List ℕ → Type 0
 OrderKept es u =
