@@ -83,7 +83,7 @@ def functions(crate):
 def contract(ensures, crate):
     """The record, or where there is none the definition, by which a function's promise is said."""
     words = [w.rstrip(".").split(".")[-1] for w in re.findall(r"[A-Za-z][\w.′-]*", ensures.replace("λ r.", "").replace("λ p.", ""))]
-    upper = [w for w in words if w[0].isupper() and w not in ("Says", "Unit") and defined_in(w, crate)]
+    upper = [w for w in words if w[0].isupper() and w not in ("Says", "Tells", "Unit") and defined_in(w, crate)]
     right = re.search(r"≡ (\w+)", ensures)
     return upper[0] if upper else right[1] if right and not right[1].isdigit() else None
 
