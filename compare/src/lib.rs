@@ -5,6 +5,7 @@
 //! [`shown`] is what a table shows to a host that asks.
 //! [`journal`] is a second journal of the desk, [`plans`] a second writer of setups, [`sheets`] a second reader and writer of text
 //! sheets and [`convert`] a second converter of old tables, each with its own comparison; [`pages`] is a second reader of settings pages.
+//! [`flips`] turns single bits of tables over.
 //! The machinery: [`rng`], [`gen`], [`laws`], [`unit`], [`stand_in`], [`on_words`], [`driver`], [`pipes`]; [`loads`] and, with the feature `inner`,
 //! `inner` are the benchmark's.
 //!
@@ -17,6 +18,7 @@ pub mod calls;
 pub mod convert;
 pub mod driver;
 pub mod fields;
+pub mod flips;
 pub mod gen;
 #[cfg(feature = "inner")]
 pub mod inner;

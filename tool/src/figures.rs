@@ -1,4 +1,4 @@
-//! What follows from a lane's numbers: document 01's c, group and slot, and how long a record can wait (docs/FAIRNESS.md).
+//! What follows from a lane's numbers: c, group and slot (docs/RULES.md, R1), and how long a record can wait (docs/FAIRNESS.md).
 
 /// What the clock moves by for a byte of the line.
 pub const LINE_RATE: u64 = 1_024;

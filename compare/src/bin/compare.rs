@@ -3,6 +3,7 @@
 use compare::convert;
 use compare::driver::report::{Found, Tally};
 use compare::driver::{self, Budget, Kind};
+use compare::flips;
 use compare::journal;
 use compare::on_words::{lapses, OnWords};
 use compare::pipes;
@@ -31,6 +32,7 @@ compare conversions --seconds N | --cases N [--seed N] [--case N]
 compare sessions PROGRAM... [--cases N] [--seed N] [--case N]
                                                sessions by pipe; --case N begins at that case
 compare clock --pairs N                        one lane, N pairs of put and take: the clock is taken back once in some 1,466 million
+compare flips [--case N]                       each bit of some tables, or of table N of them, turned over: how many are seen
 compare slips [--seed N]                       each slip and each lapse, and the case that finds it
 ";
 
@@ -213,6 +215,7 @@ fn main() -> ExitCode {
             None => help(),
         },
         ("sessions", false) => sessions(&options),
+        ("flips", true) => flipped(&options),
         ("slips", true) => slips(&options),
         _ => help(),
     }
@@ -348,6 +351,32 @@ fn clock(pairs: u64) -> ExitCode {
         }
         Err(found) => differs(&format!("{:?}: {}", found.shown_by, found.what)),
     }
+}
+
+fn flipped(options: &Options) -> ExitCode {
+    let mut unit = under_test();
+    if !unit.documented_layout() {
+        println!("The tables of docs/TABLE.md are asked for: build with --features unit.");
+        return ExitCode::FAILURE;
+    }
+    const HEAD: &str = "bits | mean nothing | 10 | of 100 that mean something | unseen | next take differs | differ to the end";
+    let mut parts = vec![flips::Count::default(); flips::PARTS.len()];
+    println!("| table | {HEAD} |\n|{}", "---|".repeat(8));
+    let chosen = |at: usize| options.case.map_or(true, |case| case == at as u64);
+    for (_, (name, table)) in flips::tables(&mut unit).into_iter().enumerate().filter(|(at, _)| chosen(*at)) {
+        match flips::count(&mut unit, &table, flips::bits()) {
+            Ok(counts) => {
+                println!("| {name} | {} |", flips::total(&counts));
+                parts.iter_mut().zip(&counts).for_each(|(sum, count)| *sum = flips::total(&[*sum, *count]));
+            }
+            Err(what) => return differs(&what),
+        }
+    }
+    println!("\n| part, in all of these tables | {HEAD} |\n|{}", "---|".repeat(8));
+    for ((name, _), count) in flips::PARTS.iter().zip(&parts) {
+        println!("| {name} | {count} |");
+    }
+    ExitCode::SUCCESS
 }
 
 fn sessions(options: &Options) -> ExitCode {

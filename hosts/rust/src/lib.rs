@@ -34,10 +34,10 @@ pub const fn answer_area(limit: u64) -> usize {
     64 * (lines as usize + 2)
 }
 
-/// Why something is refused: document 01's number, and the place of the fault where the list has one.
+/// Why something is refused: its number (docs/RULES.md, R14), and the place of the fault where the list has one.
 #[derive(Clone, Copy, Debug, PartialEq, Eq)]
 pub struct Refusal {
-    /// Document 01's number; `include/zenfrosta.h` has the list.
+    /// Its number; `include/zenfrosta.h` has the list.
     pub number: u64,
     /// A place in the setup's, the page's or the session's bytes.
     pub place: Option<u64>,

@@ -1,4 +1,4 @@
-//! Document 01's session through the calls and through the run, and a refusal of each shape.
+//! The first session (docs/RULES.md, R16.3) through the calls and through the run, and a refusal of each shape.
 
 use zenfrosta::*;
 

@@ -22,7 +22,7 @@ session's text; standard input if none is named.
   share         of the line, when every lane has something to send
   at least      of the line in the long run, whatever the others do, while this lane has something to send
   c             clock units for a byte of the lane
-  group         document 01's group index; the slot is 2^group
+  group         the group index; the slot is 2^group
   worst wait    all lanes together send fewer bytes than this, framing counted, from a put until its record is
                 handed out
   shared        up to 8 trains share the lane and take turns by bytes
