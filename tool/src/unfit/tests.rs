@@ -1,0 +1,110 @@
+//! The explanation held to the library: a damaged table is explained exactly where it is refused.
+
+use super::*;
+use crate::noise::Noise;
+use zenfrosta::{Plan, PlanLane, TABLE_SIZE};
+
+fn lane(weight: u16, longest: u16, shared: bool) -> Option<PlanLane> {
+    Some(PlanLane { weight, longest, shared })
+}
+
+/// A table of four lanes, two of them shared, with records in some.
+fn made(noise: &mut Noise) -> Vec<u8> {
+    let mut plan = Plan::new();
+    plan.framing = [0, 20, 64][noise.below(3)];
+    plan.lanes[0] = lane(512, 1_500, false);
+    plan.lanes[3] = lane(16, 64, true);
+    plan.lanes[40] = lane(16, 64, false);
+    plan.lanes[63] = lane(100, 576, true);
+    let mut table = vec![0xA5; TABLE_SIZE];
+    zenfrosta::make(&plan.to_setup().expect("a setup"), &mut table).expect("a table");
+    for mark in 0..noise.below(60) as u32 {
+        let lane = [0, 3, 40, 63][noise.below(4)];
+        let train = if [3, 63].contains(&lane) { noise.below(8) as u8 } else { 0 };
+        let _ = zenfrosta::put_train(&mut table, lane, train, mark, 1 + noise.below(64) as u64);
+        if noise.below(3) == 0 {
+            let _ = zenfrosta::take(&mut table);
+        }
+    }
+    if noise.below(2) == 0 {
+        zenfrosta::offer(&mut table, &plan.to_page(7).expect("a page")).expect("a newer page");
+    }
+    table
+}
+
+/// The bytes that mean something in such a table, and some that do not.
+fn places() -> Vec<usize> {
+    let rows = [0, 3, 40, 63].map(|lane: u8| layout::setting(lane)..layout::setting(lane) + 32);
+    let lengths = [0, 3, 40, 63].map(|lane: u8| layout::length(lane, 0)..layout::length(lane, 64));
+    let trains = [3, 63].map(|lane: u8| layout::train(lane, 0)..layout::train(lane, 8));
+    let words = [0..40, layout::MARKED..layout::MARKED + 512, layout::LAST_EDITION..layout::PAGE_PLAN + 520];
+    let rings = [layout::standing(16, 0) - 512..layout::standing(16, 0) + 512 + 64 * 512];
+    // Often in the small parts, seldom in the lists' rings.
+    let often = words.into_iter().chain(rows).chain(trains).flatten();
+    let often: Vec<usize> = often.collect();
+    let once = lengths.into_iter().chain(rings).flatten();
+    std::iter::repeat(often).take(8).flatten().chain(once).collect()
+}
+
+#[test]
+fn explained_exactly_where_refused() {
+    let mut noise = Noise(19);
+    let places = places();
+    let (mut good, mut refused) = (0, 0);
+    for _ in 0..400 {
+        let table = made(&mut noise);
+        assert_eq!(why(&table), None);
+        for _ in 0..60 {
+            let mut damaged = table.clone();
+            for _ in 0..1 + noise.below(2) {
+                let at = places[noise.below(places.len())];
+                match noise.below(3) {
+                    0 => damaged[at] ^= 1 << noise.below(8),
+                    1 => damaged[at] = damaged[at].wrapping_add(1),
+                    _ => damaged[at] = damaged[at].wrapping_sub(1),
+                }
+            }
+            let verdict = zenfrosta::clock(&damaged);
+            let said = why(&damaged);
+            assert_eq!(verdict.is_err(), said.is_some(), "{verdict:?}, {said:?}");
+            match verdict {
+                Ok(_) => good += 1,
+                Err(_) => refused += 1,
+            }
+        }
+    }
+    assert!(good > 1_000 && refused > 5_000, "{good} good, {refused} refused");
+}
+
+/// What is said of a table in which a byte has another value.
+fn with(change: impl FnOnce(&mut [u8])) -> String {
+    let mut noise = Noise(5);
+    let mut table = made(&mut noise);
+    while zenfrosta::look(&table).is_err() {
+        table = made(&mut noise);
+    }
+    change(&mut table);
+    assert!(zenfrosta::clock(&table).is_err());
+    why(&table).expect("a reason")
+}
+
+#[test]
+fn reasons() {
+    assert_eq!(
+        with(|table| table[layout::DEPTH] = 16),
+        "byte 24: the depth number is 16, and not 64: a table of another kind, or none"
+    );
+    assert_eq!(with(|table| table[layout::PRESENT..][..8].fill(0)), "byte 8: no lane is in the setup");
+    assert_eq!(with(|table| table[layout::FRAMING] = 65), "byte 32: 65 framing bytes, and 64 is the most");
+    assert_eq!(
+        with(|table| table[layout::setting(40) + 2] = 0),
+        "byte 1,920: lane 40: the weight 0 is not 1 to 1,024"
+    );
+    assert_eq!(
+        with(|table| table[layout::setting(40) + 3] = 2),
+        "byte 1,920: lane 40: with its weight 528 the weights sum to 1,056, and 1,024 is the most"
+    );
+    assert!(with(|table| table[layout::CLOCK + 7] = 0x50).ends_with("and not below 2^62 + 2^44"));
+    let noise = with(|table| table.fill(0xA5));
+    assert!(noise.starts_with("byte 24: the depth number is 11,936,128,518,282,651,045,"), "{noise}");
+}
