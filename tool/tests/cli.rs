@@ -387,7 +387,9 @@ fn tables() {
     let mut table = std::fs::read(&path).expect("the table");
     table[8] ^= 4;
     let done = tool(&["table"], &table);
-    assert_eq!(done.said.split(" (").next(), Some("standard input: refused with 10: the table is not good"));
+    let said: Vec<&str> = done.said.lines().collect();
+    assert_eq!(said[0].split(" (").next(), Some("standard input: refused with 10: the table is not good"));
+    assert_eq!(said[1..], ["standard input: byte 704: lane 2: the weight 0 is not 1 to 1,024"]);
     assert_eq!(done.status, 1);
     let short = tool(&["table"], &table[..zenfrosta::OLD_TABLE_SIZE - 1]);
     assert!(short.said.contains("too short"), "{}", short.said);
