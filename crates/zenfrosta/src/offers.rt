@@ -1,4 +1,4 @@
-// Settings pages offered to a table, exported: the call of crate scheduler. Answers cross as those of lib.rt do (specs/Crossing.antt).
+// Settings pages offered to a table, exported (R13.9): the call of crate scheduler. Answers cross as those of lib.rt do (specs/Crossing.antt).
 ghost use mathlib.Core.Path.{_≡_};
 ghost use Prim.Native.Nat.{_≤_};
 ghost use lib.ListN.{length};

@@ -1,4 +1,4 @@
-// The run of a session, exported: the call of crate session. Answers cross as those of lib.rt do, but for a refusal's place (specs/Crossing.antt).
+// The run of a session, exported (R13.9): the call of crate session. Answers cross as those of lib.rt do, but for a refusal's place (specs/Crossing.antt).
 ghost use mathlib.Core.Path.{_≡_};
 ghost use Rattle.walk.specs.Follows.{whyIs};
 ghost use Rattle.session.specs.Ran.{Ran};
