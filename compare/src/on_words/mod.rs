@@ -381,7 +381,10 @@ impl Unit for OnWords {
                 [queue.map_or(count, |queue| queue.len() as u64), time, 0, 0]
             }),
             (Lapse::PlaceShownAsLast, Ask::Record(lane, before)) if answer == Err(refusal::NOTHING_HELD) => {
-                let count = state.lane(lane).and_then(|lane| lane.waiting.queue(0)).map_or(0, |queue| queue.len() as u64);
+                let count = state
+                    .lane(lane)
+                    .and_then(|lane| lane.waiting.queue(0))
+                    .map_or(0, |queue| queue.len() as u64);
                 shown(&state, Ask::Record(lane, before.min(count.saturating_sub(1))))
             }
             (Lapse::TrainShownAsLane, Ask::TrainRecord(lane, _, before)) => {
