@@ -93,8 +93,7 @@ fn lanes(table: &Table) -> Option<Wrong> {
     let eligible = holding.iter().any(|lane| rounded(&table.row(*lane)) <= clock);
     asked(eligible || holding.is_empty(), layout::CLOCK, || {
         format!(
-            "{} hold records, and the clock is at {}, before the start of each: none could be served",
-            count(holding.len() as u64, "lane"),
+            "no lane could be served: the clock is at {}, before the start of every lane that holds records",
             thousands(clock)
         )
     })

@@ -6,13 +6,13 @@ use crate::text::thousands;
 
 pub fn wrong(table: &Table) -> Option<Wrong> {
     let (last, new) = (table.word(layout::LAST_EDITION), table.word(layout::NEW_EDITION));
-    let edition = |number: u64, at: usize, says: &str| {
+    let edition = |number: u64, at: usize, which: &str| {
         asked(number <= 65_535, at, || {
-            format!("{says} edition {}, and 65,535 is the last", thousands(number))
+            format!("the edition {which} is {}, and 65,535 is the most", thousands(number))
         })
     };
-    edition(last, layout::LAST_EDITION, "the last")
-        .or_else(|| edition(new, layout::NEW_EDITION, "a page waits of"))
+    edition(last, layout::LAST_EDITION, "last taken")
+        .or_else(|| edition(new, layout::NEW_EDITION, "of a page that waits"))
         .or_else(|| {
             if new == 0 {
                 return None;

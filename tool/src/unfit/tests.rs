@@ -2,6 +2,7 @@
 
 use super::*;
 use crate::noise::Noise;
+use std::collections::BTreeSet;
 use zenfrosta::{Plan, PlanLane, TABLE_SIZE};
 
 fn lane(weight: u16, longest: u16, shared: bool) -> Option<PlanLane> {
@@ -43,7 +44,7 @@ fn places() -> Vec<usize> {
     let often = words.into_iter().chain(rows).chain(trains).flatten();
     let often: Vec<usize> = often.collect();
     let once = lengths.into_iter().chain(rings).flatten();
-    std::iter::repeat(often).take(8).flatten().chain(once).collect()
+    std::iter::repeat(often).take(60).flatten().chain(once).collect()
 }
 
 #[test]
@@ -51,6 +52,7 @@ fn explained_exactly_where_refused() {
     let mut noise = Noise(19);
     let places = places();
     let (mut good, mut refused) = (0, 0);
+    let mut kinds = BTreeSet::new();
     for _ in 0..400 {
         let table = made(&mut noise);
         assert_eq!(why(&table), None);
@@ -67,13 +69,17 @@ fn explained_exactly_where_refused() {
             let verdict = zenfrosta::clock(&damaged);
             let said = why(&damaged);
             assert_eq!(verdict.is_err(), said.is_some(), "{verdict:?}, {said:?}");
-            match verdict {
-                Ok(_) => good += 1,
-                Err(_) => refused += 1,
+            match said {
+                None => good += 1,
+                Some(said) => {
+                    refused += 1;
+                    kinds.insert(said.replace(|letter: char| letter.is_ascii_digit() || letter == ',', ""));
+                }
             }
         }
     }
     assert!(good > 1_000 && refused > 5_000, "{good} good, {refused} refused");
+    assert!(kinds.len() >= 40, "{} kinds of reasons: {kinds:#?}", kinds.len());
 }
 
 /// What is said of a table in which a byte has another value.
