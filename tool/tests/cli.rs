@@ -299,7 +299,16 @@ fn pictures() {
     assert!(
         trains.contains("weight 512, shared<")
             && trains.contains("lane 0 sends record 3 of train 0, 60 bytes")
+            && trains.contains(">of a train in a shared lane</text>")
+            && !svg.contains("of a train in a shared lane")
     );
+    // Where the width is small the legend has more rows.
+    let narrow = fine(&["picture", "examples/junction.txt", "--width", "600"], b"").text().to_string();
+    let clock = |svg: &str| {
+        svg.find(">the clock jumps</text>")
+            .map(|end| svg[..end].rsplit_once("y=\"").map(|(_, y)| y[..5].to_string()))
+    };
+    assert_eq!((clock(&svg), clock(&narrow)), (Some(Some("74.0\"".into())), Some(Some("128.0".into()))));
     // Nothing is sent, nothing is put, and a title that is no XML.
     for text in
         ["lane 0 5\nput 0 1 9", "lane 0 5", "lane 0 1 64\nput 0 1 64\ntake\nrestart\nput 0 1 64\nput 0 1 65"]
