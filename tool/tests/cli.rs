@@ -374,6 +374,10 @@ fn pages_offered_to_a_table() {
     assert_eq!(offer(&table, "7").text(), "in force; last edition 7\n");
     let shown = fine(&["table", &after], b"");
     assert!(shown.text().contains("a good table of 2 lanes"), "{}", shown.text());
+    let mut wrong = std::fs::read(&after).expect("the table");
+    wrong[24] = 16;
+    let done = tool(&["page", "--table", &file("wrong.table", &wrong)], &page("8"));
+    assert!(done.said.contains("wrong.table: byte 24: the depth number is 16, and not 64"), "{}", done.said);
     let text = file("no.table", b"lane");
     let done = tool(&["page", "--table", &text], &page("8"));
     assert!(done.said.contains("4 bytes, and a table has 65,536"), "{}", done.said);
