@@ -1,8 +1,11 @@
 //! Where the numbers of a lent table lie: docs/TABLE.md, and nothing else. What a table holds is for the library's calls to show; only [`unfit`](crate::unfit)
 //! reads one by its places, to say what is wrong with a table that they refuse. A place is the first byte of its number.
 
-/// A lane's room, and the depth number that says so.
+/// The depth number: a lane's room.
 pub const ROOM: u64 = 64;
+/// A lane's room in the tables before these, which had no depth number, no shared lanes and no page's part. All else lay where it lies, but for the
+/// records.
+const OLD_ROOM: u64 = 16;
 pub const TRAINS: u8 = 8;
 /// The places of a train in a shared lane.
 pub const TRAIN_ROOM: u64 = 8;
@@ -49,9 +52,9 @@ pub fn round(lane: u8) -> usize {
     setting(lane) + 24
 }
 
-/// The length less one of a place.
-pub fn length(lane: u8, place: u64) -> usize {
-    2_688 + 128 * usize::from(lane) + 2 * place as usize
+/// The lengths of a lane's places: each less one and in 16 bits; in the tables before these in the upper half of a word of its own, as it is.
+pub fn lengths(lane: u8) -> usize {
+    2_688 + 128 * usize::from(lane)
 }
 
 pub fn train(lane: u8, train: u8) -> usize {
@@ -76,8 +79,11 @@ pub fn standing(group: u32, list: u32) -> usize {
     11_776 + ring_of(group, list)
 }
 
-/// A table's bytes, all 65,536 of them.
-pub struct Table<'a>(pub &'a [u8]);
+/// A table's bytes, all of them, and whether it is one of those before.
+pub struct Table<'a> {
+    pub bytes: &'a [u8],
+    pub old: bool,
+}
 
 /// The numbers of a lane's row.
 pub struct Row {
@@ -100,7 +106,7 @@ pub struct Train {
 
 impl Table<'_> {
     pub fn word(&self, at: usize) -> u64 {
-        u64::from_le_bytes(self.0[at..at + 8].try_into().expect("eight bytes"))
+        u64::from_le_bytes(self.bytes[at..at + 8].try_into().expect("eight bytes"))
     }
 
     /// The lanes of the setup.
@@ -108,27 +114,60 @@ impl Table<'_> {
         bits(self.word(PRESENT)).map(|bit| bit as u8).collect()
     }
 
+    pub fn room(&self) -> u64 {
+        if self.old {
+            OLD_ROOM
+        } else {
+            ROOM
+        }
+    }
+
     pub fn row(&self, lane: u8) -> Row {
-        let (setting, pace) = (self.word(setting(lane)), self.word(pace(lane)));
+        let setting = self.word(setting(lane));
+        let pace = if self.old { setting } else { self.word(pace(lane)) };
         Row {
             longest: setting & 0xFFFF,
             weight: setting >> 16 & 0xFFFF,
-            shared: setting >> 63 == 1,
-            c: pace >> 40 & 0x7F_FFFF,
+            shared: !self.old && setting >> 63 == 1,
+            c: pace >> 40 & if self.old { 0xFF_FFFF } else { 0x7F_FFFF },
             group: pace >> 32 & 0xFF,
             time: self.word(time(lane)),
-            held: self.word(ring(lane)) / ROOM,
+            held: self.word(ring(lane)) / self.room(),
+        }
+    }
+
+    /// The places of a lane that holds records at which a length must fit: every one; in the tables before these, those with a record.
+    pub fn places(&self, lane: u8) -> Vec<u64> {
+        let (first, held) = (self.word(ring(lane)) % self.room(), self.row(lane).held);
+        match self.old {
+            true => (0..held.min(OLD_ROOM)).map(|place| (first + place) % OLD_ROOM).collect(),
+            false => (0..ROOM).collect(),
+        }
+    }
+
+    /// Where a place's length is.
+    pub fn length_at(&self, lane: u8, place: u64) -> usize {
+        match self.old {
+            true => lengths(lane) + 8 * place as usize + 4,
+            false => lengths(lane) + 2 * place as usize,
         }
     }
 
     pub fn length(&self, lane: u8, place: u64) -> u64 {
-        let at = length(lane, place);
-        u64::from(u16::from_le_bytes([self.0[at], self.0[at + 1]])) + 1
+        let at = self.length_at(lane, place);
+        match self.old {
+            true => self.half(at),
+            false => u64::from(u16::from_le_bytes([self.bytes[at], self.bytes[at + 1]])) + 1,
+        }
+    }
+
+    /// A number of 32 bits.
+    fn half(&self, at: usize) -> u64 {
+        u64::from(u32::from_le_bytes(self.bytes[at..at + 4].try_into().expect("four bytes")))
     }
 
     pub fn train(&self, lane: u8, number: u8) -> Train {
-        let at = train(lane, number);
-        let word = u64::from(u32::from_le_bytes(self.0[at..at + 4].try_into().expect("four bytes")));
+        let word = self.half(train(lane, number));
         Train { first: word % 8, held: word / 8 % 16, deficit: word / 128 }
     }
 
@@ -146,9 +185,9 @@ impl Table<'_> {
     /// The lanes that stand in a list, the first first.
     pub fn list(&self, group: u32, list: u32) -> Vec<u8> {
         let i = ring_of(group, list);
-        let first = usize::from(self.0[11_264 + i]);
-        let count = usize::from(self.0[standing(group, list)]);
-        (0..count).map(|place| self.0[12_288 + RING * i + (first + place) % RING]).collect()
+        let first = usize::from(self.bytes[11_264 + i]);
+        let count = usize::from(self.bytes[standing(group, list)]);
+        (0..count).map(|place| self.bytes[12_288 + RING * i + (first + place) % RING]).collect()
     }
 }
 

@@ -6,7 +6,7 @@ use crate::files::Input;
 use crate::layout::{self, Row, Table};
 use crate::plans;
 use crate::text::{count, thousands};
-use zenfrosta::{refusals::NOT_GOOD, Refusal};
+use zenfrosta::{refusals::NOT_GOOD, Refusal, TABLE_SIZE};
 
 mod lists;
 mod page;
@@ -14,23 +14,31 @@ mod page;
 mod tests;
 mod trains;
 
-/// A refusal of an input that is a table by its length: in a second line what is wrong with it, where the refusal is 10.
+/// A refusal of an input that is a table by its length, or an old one: in a second line what is wrong with it, where the refusal is 10.
 pub fn fault(input: &Input, refusal: Refusal) -> Fault {
-    let mut says = plans::words(refusal);
-    if refusal.number == NOT_GOOD {
-        let why = why(&input.bytes).unwrap_or_else(|| "what is wrong is not known to this tool".to_string());
-        says += &format!("\n{}: {why}", input.name);
-    }
-    input.fault(says)
+    input.fault(words(input, refusal))
 }
 
-/// The first condition that the bytes of a table break, with the place of a number in it; nothing where none is found.
+pub fn words(input: &Input, refusal: Refusal) -> String {
+    let words = plans::words(refusal);
+    if refusal.number != NOT_GOOD {
+        return words;
+    }
+    let why = why(&input.bytes).unwrap_or_else(|| "what is wrong is not known to this tool".to_string());
+    format!("{words}\n{}: {why}", input.name)
+}
+
+/// The first condition that the bytes of a table break, with the place of a number in it; nothing where none is found. A shorter table is one from before
+/// lanes had room for 64 records.
 pub fn why(bytes: &[u8]) -> Option<String> {
-    let table = Table(bytes);
-    let wrong = head(&table)
-        .or_else(|| lanes(&table))
-        .or_else(|| lists::wrong(&table))
-        .or_else(|| page::wrong(&table));
+    let table = Table { bytes, old: bytes.len() < TABLE_SIZE };
+    let wrong = head(&table).or_else(|| lanes(&table)).or_else(|| lists::wrong(&table)).or_else(|| {
+        if table.old {
+            None
+        } else {
+            page::wrong(&table)
+        }
+    });
     wrong.map(|Wrong(at, says)| format!("byte {}: {says}", thousands(at as u64)))
 }
 
@@ -46,7 +54,8 @@ fn head(table: &Table) -> Option<Wrong> {
     let depth = table.word(layout::DEPTH);
     let clock = table.word(layout::CLOCK);
     let framing = table.word(layout::FRAMING);
-    asked(depth == layout::ROOM, layout::DEPTH, || {
+    let far = if table.old { 42 } else { 44 };
+    asked(table.old || depth == layout::ROOM, layout::DEPTH, || {
         format!(
             "the depth number is {}, and not {}: a table of another kind, or none",
             thousands(depth),
@@ -60,8 +69,8 @@ fn head(table: &Table) -> Option<Wrong> {
         })
     })
     .or_else(|| {
-        asked(clock < (1 << 62) + (1 << 44), layout::CLOCK, || {
-            format!("the clock is at {}, and not below 2^62 + 2^44", thousands(clock))
+        asked(clock < (1 << 62) + (1 << far), layout::CLOCK, || {
+            format!("the clock is at {}, and not below 2^62 + 2^{far}", thousands(clock))
         })
     })
 }
@@ -122,7 +131,7 @@ fn pace_of(table: &Table, row: &Row) -> (u64, u64) {
 }
 
 fn pace(table: &Table, lane: u8, row: &Row) -> Option<Wrong> {
-    if row.held == 0 && !layout::IDLE_HAS_PACE {
+    if row.held == 0 && !table.old && !layout::IDLE_HAS_PACE {
         return None;
     }
     let (c, group) = pace_of(table, row);
@@ -145,16 +154,19 @@ fn waiting(table: &Table, lane: u8, row: &Row) -> Option<Wrong> {
     if row.held == 0 {
         return None;
     }
-    asked(row.shared || row.held <= layout::ROOM, layout::ring(lane), || {
-        format!("lane {lane}: it counts {}, and has room for {}", count(row.held, "record"), layout::ROOM)
+    asked(row.shared || row.held <= table.room(), layout::ring(lane), || {
+        format!("lane {lane}: it counts {}, and has room for {}", count(row.held, "record"), table.room())
     })
     .or_else(|| {
-        let place = (0..layout::ROOM).find(|place| table.length(lane, *place) > row.longest)?;
+        let place = table
+            .places(lane)
+            .into_iter()
+            .find(|place| !(1..=row.longest).contains(&table.length(lane, *place)))?;
         let length = table.length(lane, place);
         Some(Wrong(
-            layout::length(lane, place),
+            table.length_at(lane, place),
             format!(
-                "lane {lane}: place {place} has the length {}, and the lane's longest is {}",
+                "lane {lane}: place {place} has the length {}, and not 1 to the lane's longest, {}",
                 thousands(length),
                 thousands(row.longest)
             ),

@@ -473,6 +473,11 @@ fn tables_from_before() {
         "{}",
         done.said
     );
+    assert!(
+        done.said.ends_with("\nstandard input: byte 704: lane 2: the weight 0 is not 1 to 1,024\n"),
+        "{}",
+        done.said
+    );
     let today = std::fs::read(&path).expect("the table");
     assert_eq!(tool(&["table", "--converted", &path], &today).status, 1);
 }

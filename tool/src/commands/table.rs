@@ -5,7 +5,6 @@ use super::page::editions;
 use crate::args::Args;
 use crate::fault::Fault;
 use crate::files::{self, Input};
-use crate::plans;
 use crate::text::{count, signed, table, thousands};
 use crate::unfit;
 use zenfrosta::refusals::{NOTHING_HELD, NOT_GOOD, NO_LANE};
@@ -37,7 +36,7 @@ pub fn run(words: &[String]) -> Result<u8, Fault> {
             input.fault(format!(
                 "{}, as of a table of 16 places: {}",
                 count(before as u64, "byte"),
-                plans::words(refusal)
+                unfit::words(&input, refusal)
             ))
         })?;
         input.bytes = table;
