@@ -368,7 +368,21 @@ static inline uint16_t zf_out_edition(const uint8_t *out) { return (uint16_t)(zf
 static inline uint16_t zf_out_waiting(const uint8_t *out) { return (uint16_t)(zf_word(out, 1) & 0xFFFF); }
 static inline int zf_out_waits(const uint8_t *out) { return zf_word(out, 0) == ZF_WAITS; }
 
-/* After zf_lane: the group index, and whether trains share the lane. */
+/* After zf_clock: V. After zf_backlog: how many records wait, and S or F. */
+static inline uint64_t zf_out_clock(const uint8_t *out) { return zf_word(out, 0); }
+static inline uint64_t zf_out_held(const uint8_t *out) { return zf_word(out, 0); }
+static inline uint64_t zf_out_time(const uint8_t *out) { return zf_word(out, 1); }
+
+/* After zf_run: requests answered, answer bytes written, why it stopped (ZF_STOP_...), and the place where that is ZF_STOP_AT_PLACE. */
+static inline uint64_t zf_out_answered(const uint8_t *out) { return zf_word(out, 0); }
+static inline uint64_t zf_out_written(const uint8_t *out) { return zf_word(out, 1); }
+static inline uint64_t zf_out_stop(const uint8_t *out) { return zf_word(out, 2); }
+static inline uint64_t zf_out_stop_place(const uint8_t *out) { return zf_word(out, 3); }
+
+/* After zf_lane: weight, longest, framing bytes, the group index, and whether trains share the lane. */
+static inline uint64_t zf_out_weight(const uint8_t *out) { return zf_word(out, 0); }
+static inline uint64_t zf_out_longest(const uint8_t *out) { return zf_word(out, 1); }
+static inline uint64_t zf_out_framing(const uint8_t *out) { return zf_word(out, 2); }
 static inline uint32_t zf_out_group(const uint8_t *out) { return (uint32_t)(zf_word(out, 3) & 0xFFFFFFFF); }
 static inline int zf_out_shared(const uint8_t *out) { return (int)(zf_word(out, 3) >> 32 & 1); }
 

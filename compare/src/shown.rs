@@ -1,6 +1,7 @@
 //! What a table shows to a host that asks: the clock, the editions, a lane's setting, its backlog, and the records that wait, by train.
 
-use crate::numbers::{refusal, TRAINS};
+use crate::numbers::{refusal, LANES, TRAINS};
+use crate::rng::Rng;
 use crate::rules::State;
 
 #[derive(Clone, Copy, Debug, PartialEq, Eq)]
@@ -62,4 +63,36 @@ pub fn all(state: &State) -> Vec<Ask> {
         }
     }
     asks
+}
+
+/// One question of any kind: mostly about a lane of the setup and a place near its queue's end, else about any.
+pub fn drawn(rng: &mut Rng, state: &State) -> Ask {
+    let own = if state.lanes.is_empty() { 0 } else { state.lanes[rng.index(state.lanes.len())].plan.number };
+    let lane = match rng.below(8) {
+        0 => rng.byte(),
+        1 => LANES - 1 + rng.below(2) as u8,
+        _ => own,
+    };
+    let train = match rng.below(8) {
+        0 => rng.byte(),
+        1 => TRAINS - 1 + rng.below(2) as u8,
+        _ => rng.below(TRAINS.into()) as u8,
+    };
+    let before = |rng: &mut Rng, train: u8| {
+        let queue = state.lane(lane).and_then(|lane| lane.waiting.queue(train));
+        let held = queue.map_or(0, |queue| queue.len() as u64);
+        match rng.below(8) {
+            0 => rng.word(),
+            1 => rng.pick(&[7, 8, 63, 64, u64::from(u32::MAX) + 1, u64::MAX]),
+            _ => rng.below(held + 2),
+        }
+    };
+    match rng.below(6) {
+        0 => Ask::Clock,
+        1 => Ask::Edition,
+        2 => Ask::Lane(lane),
+        3 => Ask::Backlog(lane),
+        4 => Ask::Record(lane, before(rng, 0)),
+        _ => Ask::TrainRecord(lane, train, before(rng, train)),
+    }
 }

@@ -10,7 +10,7 @@ use crate::rules::State;
 use crate::session::{self, Run};
 use crate::setup;
 use crate::shelf::{Shelf, TABLE_SIZE};
-use crate::shown::Ask;
+use crate::shown::{shown, Ask};
 
 pub trait Unit {
     /// The table's fixed size in bytes.
@@ -138,6 +138,10 @@ impl Unit for Reference {
             self.shelf.sign(table);
         }
         answer
+    }
+
+    fn show(&mut self, table: &mut [u8], ask: Ask) -> Option<Result<[u64; 4], u8>> {
+        Some(self.read(table, |state| shown(state, ask)))
     }
 
     fn lift(&mut self, table: &mut [u8], up: u64) {

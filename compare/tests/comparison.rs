@@ -17,8 +17,11 @@ fn run<U: Unit>(mut unit: U, seed: u64, cases: u64) -> Tally {
 
 #[test]
 fn the_reference_with_itself_and_with_the_stand_in() {
-    let itself = run(Reference::default(), 5, 600);
+    let mut itself = run(Reference::default(), 5, 600);
     let other = run(StandIn::new(Slip::None), 5, 600);
+    // The stand-in has no calls that show a table.
+    assert!(itself.asked > 20_000 && other.asked == 0, "{itself}");
+    itself.asked = 0;
     assert_eq!(itself, other, "the same seed gives the same cases");
     assert!(itself.calls > 100_000 && itself.inputs() > 5_000, "{itself}");
     assert!(itself.refused.iter().enumerate().all(|(at, count)| at == 4 || *count > 100), "{itself}");

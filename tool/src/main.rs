@@ -11,6 +11,7 @@ mod fields;
 mod figures;
 mod files;
 mod journal;
+mod layout;
 #[cfg(test)]
 mod noise;
 mod page;
@@ -21,6 +22,7 @@ mod script;
 mod sessions;
 mod text;
 mod trace;
+mod unfit;
 
 use fault::Fault;
 use std::process::ExitCode;

@@ -299,7 +299,16 @@ fn pictures() {
     assert!(
         trains.contains("weight 512, shared<")
             && trains.contains("lane 0 sends record 3 of train 0, 60 bytes")
+            && trains.contains(">of a train in a shared lane</text>")
+            && !svg.contains("of a train in a shared lane")
     );
+    // Where the width is small the legend has more rows.
+    let narrow = fine(&["picture", "examples/junction.txt", "--width", "600"], b"").text().to_string();
+    let clock = |svg: &str| {
+        svg.find(">the clock jumps</text>")
+            .map(|end| svg[..end].rsplit_once("y=\"").map(|(_, y)| y[..5].to_string()))
+    };
+    assert_eq!((clock(&svg), clock(&narrow)), (Some(Some("74.0\"".into())), Some(Some("128.0".into()))));
     // Nothing is sent, nothing is put, and a title that is no XML.
     for text in
         ["lane 0 5\nput 0 1 9", "lane 0 5", "lane 0 1 64\nput 0 1 64\ntake\nrestart\nput 0 1 64\nput 0 1 65"]
@@ -365,6 +374,10 @@ fn pages_offered_to_a_table() {
     assert_eq!(offer(&table, "7").text(), "in force; last edition 7\n");
     let shown = fine(&["table", &after], b"");
     assert!(shown.text().contains("a good table of 2 lanes"), "{}", shown.text());
+    let mut wrong = std::fs::read(&after).expect("the table");
+    wrong[24] = 16;
+    let done = tool(&["page", "--table", &file("wrong.table", &wrong)], &page("8"));
+    assert!(done.said.contains("wrong.table: byte 24: the depth number is 16, and not 64"), "{}", done.said);
     let text = file("no.table", b"lane");
     let done = tool(&["page", "--table", &text], &page("8"));
     assert!(done.said.contains("4 bytes, and a table has 65,536"), "{}", done.said);
@@ -387,7 +400,9 @@ fn tables() {
     let mut table = std::fs::read(&path).expect("the table");
     table[8] ^= 4;
     let done = tool(&["table"], &table);
-    assert_eq!(done.said.split(" (").next(), Some("standard input: refused with 10: the table is not good"));
+    let said: Vec<&str> = done.said.lines().collect();
+    assert_eq!(said[0].split(" (").next(), Some("standard input: refused with 10: the table is not good"));
+    assert_eq!(said[1..], ["standard input: byte 704: lane 2: the weight 0 is not 1 to 1,024"]);
     assert_eq!(done.status, 1);
     let short = tool(&["table"], &table[..zenfrosta::OLD_TABLE_SIZE - 1]);
     assert!(short.said.contains("too short"), "{}", short.said);
@@ -455,6 +470,11 @@ fn tables_from_before() {
     assert_eq!(
         (done.status, done.said.contains("45,056 bytes, as of a table of 16 places: refused with 10")),
         (1, true),
+        "{}",
+        done.said
+    );
+    assert!(
+        done.said.ends_with("\nstandard input: byte 704: lane 2: the weight 0 is not 1 to 1,024\n"),
         "{}",
         done.said
     );

@@ -10,7 +10,7 @@ use crate::layout;
 use crate::numbers::{refusal, CLOCK_FAR, CLOCK_STEP};
 use crate::rng::Rng;
 use crate::rules::State;
-use crate::shown;
+use crate::shown::{self, Ask};
 use crate::slots;
 use crate::unit::Unit;
 use std::fmt;
@@ -152,10 +152,14 @@ impl<U: Unit> List<'_, U> {
 
     /// What the table shows to a host that asks.
     fn shown(&mut self, tally: &mut Tally) -> Result<(), String> {
+        self.asked(&shown::all(&self.state), tally)
+    }
+
+    fn asked(&mut self, asks: &[Ask], tally: &mut Tally) -> Result<(), String> {
         let before = self.table.copy();
-        for ask in shown::all(&self.state) {
-            let Some(answer) = self.unit.show(self.table.bytes(), ask) else { return Ok(()) };
-            let expected = shown::shown(&self.state, ask);
+        for ask in asks {
+            let Some(answer) = self.unit.show(self.table.bytes(), *ask) else { return Ok(()) };
+            let expected = shown::shown(&self.state, *ask);
             if answer != expected {
                 return Err(format!("{ask:?} is shown as {answer:?}, and is {expected:?}"));
             }
@@ -179,6 +183,9 @@ impl<U: Unit> List<'_, U> {
         for _ in 0..length {
             let call = caller.next(rng, &self.state);
             caller.heard(self.call(call.clone(), tally)?);
+            if rng.once_in(8) {
+                self.asked(&[shown::drawn(rng, &self.state)], tally)?;
+            }
             if rng.once_in(200) {
                 self.table = self.table.moved(rng);
             }
@@ -220,10 +227,15 @@ impl<U: Unit> List<'_, U> {
         if answer != Answer::No(refusal::NOT_GOOD) {
             return Err(format!("{call} on the table's first {length} bytes gave: {answer}"));
         }
+        let ask = shown::drawn(rng, &self.state);
+        let answer = self.unit.show(self.table.short(length), ask);
+        if answer.is_some_and(|answer| answer != Err(refusal::NOT_GOOD)) {
+            return Err(format!("{ask:?} on the table's first {length} bytes gave: {answer:?}"));
+        }
         if !self.table.same(&before) {
             return Err(format!("{call} on a table cut short changed it"));
         }
-        tally.call(answer);
+        tally.call(Answer::No(refusal::NOT_GOOD));
         self.table.guarded()
     }
 

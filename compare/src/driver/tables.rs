@@ -95,7 +95,7 @@ impl<U: Unit> Table<'_, U> {
         if rng.once_in(4) {
             self.cut_short(rng)?;
         }
-        self.shown()?;
+        self.shown(rng)?;
         self.lay();
         if self.reading.broken.is_empty() {
             self.walk(rng)?;
@@ -135,6 +135,15 @@ impl<U: Unit> Table<'_, U> {
         ]
     }
 
+    /// Every call that shows a table at least once.
+    fn each_ask(&self, rng: &mut Rng) -> Vec<Ask> {
+        let lanes: Vec<u8> = layout::present(self.bytes).collect();
+        let lane = if lanes.is_empty() || rng.once_in(4) { rng.byte() } else { rng.pick(&lanes) };
+        let before = rng.pick(&[0, 0, 1, 64, u64::MAX]);
+        let record = Ask::TrainRecord(lane, rng.below(9) as u8, before);
+        vec![Ask::Clock, Ask::Edition, Ask::Lane(lane), Ask::Backlog(lane), Ask::Record(lane, before), record]
+    }
+
     /// One call on the table that is lent, which reads as `reading`: the answer, and the bytes after it.
     fn call(&mut self, call: Call, reading: &Reading) -> Result<Reading, String> {
         let mut state = reading.clone().good();
@@ -171,12 +180,10 @@ impl<U: Unit> Table<'_, U> {
     }
 
     /// What the table shows to a host that asks: 10 and nothing else, if it is not good.
-    fn shown(&mut self) -> Result<(), String> {
+    fn shown(&mut self, rng: &mut Rng) -> Result<(), String> {
         self.lay();
         let state = self.reading.clone().good();
-        let asks = state
-            .as_ref()
-            .map_or(vec![Ask::Clock, Ask::Edition, Ask::Lane(0), Ask::TrainRecord(0, 0, 0)], shown::all);
+        let asks = state.as_ref().map_or_else(|| self.each_ask(rng), shown::all);
         for ask in asks {
             let Some(answer) = self.unit.show(self.lent.bytes(), ask) else { return Ok(()) };
             let expected = state.as_ref().map_or(Err(refusal::NOT_GOOD), |state| shown::shown(state, ask));

@@ -83,6 +83,12 @@ pub enum Lapse {
     OneTrainCounted,
     /// A train's records are shown as train 0's.
     TrainShownAsLane,
+    /// A lane's backlog is shown of a table that is not good, too.
+    BacklogUntested,
+    /// A place behind the last record is shown as the last one.
+    PlaceShownAsLast,
+    /// A call that shows a table writes it.
+    ShowWrites,
     /// A put forgets the tie order: the lanes of a list stand by their number.
     OrderLost,
     /// A group's start may be off by a multiple of 32 slots, which is the same list.
@@ -169,6 +175,9 @@ pub fn lapses() -> Vec<Lapse> {
         SharedNotShown,
         OneTrainCounted,
         TrainShownAsLane,
+        BacklogUntested,
+        PlaceShownAsLast,
+        ShowWrites,
         OrderLost,
         StartModulo,
         ListsAdded,

@@ -361,8 +361,15 @@ impl Unit for OnWords {
     fn show(&mut self, table: &mut [u8], ask: Ask) -> Option<Result<[u64; 4], u8>> {
         let state = match self.read(table) {
             Ok(state) => state,
+            Err(_) if self.lapse == Lapse::BacklogUntested && matches!(ask, Ask::Backlog(_)) => {
+                return Some(Ok([0, 0, 0, 0]));
+            }
             Err(number) => return Some(Err(number)),
         };
+        if self.lapse == Lapse::ShowWrites {
+            // A word that means nothing.
+            table[16] ^= 1;
+        }
         let answer = shown(&state, ask);
         Some(match (self.lapse, ask) {
             (Lapse::WaitingShownAsLast, Ask::Edition) => {
@@ -373,6 +380,13 @@ impl Unit for OnWords {
                 let queue = state.lane(lane).and_then(|lane| lane.waiting.queue(0));
                 [queue.map_or(count, |queue| queue.len() as u64), time, 0, 0]
             }),
+            (Lapse::PlaceShownAsLast, Ask::Record(lane, before)) if answer == Err(refusal::NOTHING_HELD) => {
+                let count = state
+                    .lane(lane)
+                    .and_then(|lane| lane.waiting.queue(0))
+                    .map_or(0, |queue| queue.len() as u64);
+                shown(&state, Ask::Record(lane, before.min(count.saturating_sub(1))))
+            }
             (Lapse::TrainShownAsLane, Ask::TrainRecord(lane, _, before)) => {
                 shown(&state, Ask::Record(lane, before))
             }

@@ -1,9 +1,8 @@
 // The unit's program (docs/RULES.md, R10.15). It reads standard input, runs it as a session with a limit of 1,000, and writes the lines.
 //
 // `answered` is the work, on slices, with its promise (specs/Prints.antt); `serve` adds standard input and output, of which no contract can speak.
-ghost use Prim.Native.Nat.{_*_, _≤_, _<_};
+ghost use Prim.Native.Nat.{_*_, _≤_};
 ghost use lib.ListN.{length};
-ghost use Rattle.io.specs.Counts.{Counts};
 ghost use Rattle.table.specs.Layout.{tableSize};
 ghost use Rattle.console.specs.Prints.{Prints};
 use rules::Refusal;
@@ -29,20 +28,21 @@ pub fn answered(input: &[u8], table: &mut [u8], area: &mut [u8]) -> usize
     result.written
 }
 
-// Reads standard input until it ends or the buffer is full, which must have room for a byte more than the most: else a longer input would be cut and read.
-fn read_input(buffer: &mut [u8]) -> usize
-    requires { ⌜ 32768 < length (now buffer) ⌝ }
-    ensures { λ r. ⌜ Counts r (now (buffer .exit)) ⌝ }
-{
-    io::read_full(libc::STDIN_FILENO, buffer)
-}
-
-// Writes the text of standard input to standard output. Short reads and writes are gone on with.
+// Answers standard input's text on standard output, if no read of it failed; crate streams tells what fails on standard error.
 pub fn serve() {
+    if !streams::alone(
+        b"unit: no arguments are taken: a session's bytes on standard input, its answer lines on standard output\n",
+    ) {
+        return;
+    }
     let mut input = [0u8; INPUT];
-    let n = read_input(&mut input);
+    let came = streams::read_input(&mut input);
+    if !came.whole {
+        return;
+    }
+    let n = came.count;
     let mut table = [0u8; table::TABLE_SIZE];
     let mut area = [0u8; AREA];
     let m = answered(&input[..n], &mut table, &mut area);
-    io::write_all(libc::STDOUT_FILENO, &area[..m]);
+    streams::write_output(&area[..m]);
 }

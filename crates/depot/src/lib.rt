@@ -3,9 +3,8 @@
 //
 // `setup_of_sheet` and `sheet_of_setup` are the work, on slices, with their promises (specs/Prints.antt); `serve_setup` and `serve_sheet` add standard input
 // and output, of which no contract can speak.
-ghost use Prim.Native.Nat.{_≤_, _<_};
+ghost use Prim.Native.Nat.{_≤_};
 ghost use lib.ListN.{length};
-ghost use Rattle.io.specs.Counts.{Counts};
 ghost use Rattle.depot.specs.Prints.{asSetup, asSheet, Prints};
 use plan::Outcome;
 use rules::Refusal;
@@ -65,28 +64,38 @@ pub fn sheet_of_setup(input: &[u8], out: &mut [u8]) -> usize
     }
 }
 
-// Reads standard input until it ends or the buffer is full, which must have room for a byte more than the most: else a longer input would be cut and read.
-fn read_input(buffer: &mut [u8]) -> usize
-    requires { ⌜ 32768 < length (now buffer) ⌝ }
-    ensures { λ r. ⌜ Counts r (now (buffer .exit)) ⌝ }
-{
-    io::read_full(libc::STDIN_FILENO, buffer)
-}
-
 // A sheet on standard input, its setup on standard output.
 pub fn serve_setup() {
+    if !streams::alone(
+        b"sheet_setup: no arguments are taken: a text sheet on standard input, its setup's bytes on standard output\n",
+    ) {
+        return;
+    }
     let mut input = [0u8; INPUT];
-    let n = read_input(&mut input);
+    let came = streams::read_input(&mut input);
+    if !came.whole {
+        return;
+    }
+    let n = came.count;
     let mut out = [0u8; ROOM];
     let m = setup_of_sheet(&input[..n], &mut out);
-    io::write_all(libc::STDOUT_FILENO, &out[..m]);
+    streams::write_output(&out[..m]);
 }
 
 // A setup on standard input, its sheet on standard output.
 pub fn serve_sheet() {
+    if !streams::alone(
+        b"setup_sheet: no arguments are taken: a setup's bytes on standard input, its text sheet on standard output\n",
+    ) {
+        return;
+    }
     let mut input = [0u8; INPUT];
-    let n = read_input(&mut input);
+    let came = streams::read_input(&mut input);
+    if !came.whole {
+        return;
+    }
+    let n = came.count;
     let mut out = [0u8; ROOM];
     let m = sheet_of_setup(&input[..n], &mut out);
-    io::write_all(libc::STDOUT_FILENO, &out[..m]);
+    streams::write_output(&out[..m]);
 }

@@ -94,7 +94,7 @@ fn unread(at: usize) -> Figure
 }
 
 // A line that begins at a place.
-pub fn begin(at: usize) -> Line
+pub(crate) fn begin(at: usize) -> Line
     ensures { λ r. ⌜ r ≡ begin at ⌝ }
 {
     let none = unread(at);
@@ -159,7 +159,7 @@ fn closed(f: Line, at: usize) -> Step
 }
 
 // What the byte at a place does to a line.
-pub fn read_byte(f: Line, at: usize, b: u64) -> Step
+pub(crate) fn read_byte(f: Line, at: usize, b: u64) -> Step
     requires { ⌜ (at + 1 < 2 ^ 64) × ((f .begun ≡ false) → f .last .value ≡ 0) ⌝ }
     ensures { λ r. ⌜ r ≡ step f at b ⌝ }
 {

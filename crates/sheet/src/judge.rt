@@ -33,7 +33,7 @@ fn within(low: u16, high: u16, n: u64) -> bool
 }
 
 // The first refusal of a line, if there is one.
-pub fn judged(seen: Seen, row: Row) -> Verdict
+pub(crate) fn judged(seen: Seen, row: Row) -> Verdict
     requires { ⌜ (seen .total ≤ 1024) × (row .weight .value < 100000) ⌝ }
     ensures { λ r. ⌜ r ≡ verdict seen row ⌝ }
 {
@@ -59,7 +59,7 @@ pub fn judged(seen: Seen, row: Row) -> Verdict
 }
 
 // What a line that was taken fixes for the next one.
-pub fn after(seen: Seen, row: Row) -> Seen
+pub(crate) fn after(seen: Seen, row: Row) -> Seen
     requires { ⌜ (seen .total ≤ 1024) × ((seen .count ≤ 64) × ((row .weight .value ≤ 1024) × (row .lane .value ≤ 63))) ⌝ }
     ensures { λ r. ⌜ r ≡ after seen (Lane (fieldOf row)) ⌝ }
 {

@@ -15,14 +15,13 @@ ghost use Rattle.rules.specs.Calls as Calls;
 ghost use Rattle.rules.specs.Reads as Reads;
 ghost use Rattle.table.specs.Layout.{tableSize};
 ghost use Rattle.scheduler.specs.Make as Make;
-ghost use Rattle.walk.specs.Follows.{whyIs};
-ghost use Rattle.session.specs.Ran.{Ran};
-ghost use Rattle.zenfrosta.specs.Crossing.{four, code, values, stopCode, runValues, refusalWords, offerCode, offerValues, Spoken, CrossesCall, CrossesMaking, CrossesOffer, CrossesRun};
-ghost use Rattle.scheduler.specs.Step.{offering, OfferStep};
+ghost use Rattle.zenfrosta.specs.Crossing.{four, code, values, refusalWords, Spoken, CrossesCall, CrossesMaking};
 
 pub mod board;
+pub mod offers;
 pub mod old;
 pub mod plans;
+pub mod runs;
 pub mod sheets;
 pub mod version;
 pub mod views;
@@ -32,10 +31,7 @@ use rules::Answer;
 use rules::Record;
 use rules::Refusal;
 use scheduler::Making;
-use scheduler::Offering;
 use units::Bytes;
-use walk::RunResult;
-use walk::Stop;
 use words::set_word;
 
 // The four words of an answer.
@@ -126,51 +122,6 @@ fn code_of(x: Answer) -> u64
         Answer::Lag(_) => 0,
         Answer::Restarted => 0,
         Answer::Refused(x) => lines::number(x),
-    }
-}
-
-fn stop_code(why: Stop) -> u64
-    ensures { λ r. ⌜ r ≡ stopCode (whyIs why) ⌝ }
-{
-    match why {
-        Stop::End => 0,
-        Stop::Limit => 0,
-        Stop::Refused(x) => lines::number(x),
-    }
-}
-
-// The words that tell how a run went.
-fn run_words(x: RunResult) -> Four
-    ensures { λ r. ⌜ r ≡ runValues x ⌝ }
-{
-    let why = x.why;
-    match why {
-        Stop::End => Four {
-            a: x.answered,
-            b: x.written as u64,
-            c: 0,
-            d: 0,
-        },
-        Stop::Limit => Four {
-            a: x.answered,
-            b: x.written as u64,
-            c: 1,
-            d: 0,
-        },
-        Stop::Refused(f) => match lines::place_of(f) {
-            Place::At(p) => Four {
-                a: x.answered,
-                b: x.written as u64,
-                c: 3,
-                d: p as u64,
-            },
-            Place::Nowhere => Four {
-                a: x.answered,
-                b: x.written as u64,
-                c: 2,
-                d: 0,
-            },
-        },
     }
 }
 
@@ -307,63 +258,4 @@ pub extern "C" fn zf_restart(table: &mut [u8], out: &mut [u8]) -> u64
         return 255;
     }
     tell(out, scheduler::restart(table))
-}
-
-// Tells the answer to an offer.
-fn tell_offer(out: &mut [u8], x: Offering) -> u64
-    requires { ⌜ 32 ≤ length (now out) ⌝ }
-    ensures { λ r. ⌜ (r ≡ offerCode (offering x)) × Spoken (now (out .entry)) (offerValues (offering x)) (now (out .exit)) ⌝ }
-{
-    match x {
-        Offering::InForce => {
-            speak(out, 0, 0, 0, 0);
-            0
-        }
-        Offering::Waits => {
-            speak(out, 1, 0, 0, 0);
-            0
-        }
-        Offering::Old => {
-            speak(out, 0, 0, 0, 0);
-            60
-        }
-        Offering::Refused(f) => {
-            let w = refusal_words(f);
-            speak(out, w.a, w.b, w.c, w.d);
-            lines::number(f)
-        }
-    }
-}
-
-// Offers a settings page: word 0 is 0 where it is in force, 1 where it waits.
-#[no_mangle]
-pub extern "C" fn zf_offer(table: &mut [u8], page: &[u8], out: &mut [u8]) -> u64
-    ensures { λ r. ⌜ CrossesOffer (λ o. OfferStep (now (page .entry)) (now (table .entry)) o (now (table .exit))) (now (table .exit) ≡ now (table .entry)) (now (out .entry)) r (now (out .exit)) ⌝ }
-{
-    // First: a page that is in force and cannot be told so would be offered again.
-    if out.len() < 32 {
-        return 255;
-    }
-    tell_offer(out, scheduler::offer(table, page))
-}
-
-// Runs a session on the lent table, and writes its lines into the answer area.
-#[no_mangle]
-pub extern "C" fn zf_run(
-    session: &[u8],
-    limit: u64,
-    table: &mut [u8],
-    answers: &mut [u8],
-    out: &mut [u8],
-) -> u64
-    ensures { λ r. ⌜ CrossesRun (Ran (now (session .entry)) limit (now (table .entry)) (now (table .exit)) (now (answers .entry)) (now (answers .exit))) ((now (table .exit) ≡ now (table .entry)) × (now (answers .exit) ≡ now (answers .entry))) (now (out .entry)) r (now (out .exit)) ⌝ }
-{
-    if out.len() < 32 {
-        return 255;
-    }
-    let result = session::run(session, limit, table, answers);
-    let w = run_words(result);
-    speak(out, w.a, w.b, w.c, w.d);
-    let why = result.why;
-    stop_code(why)
 }

@@ -14,7 +14,7 @@ use plan_writer::Unwritten;
 use plan_writer::Written;
 
 // Tells how reading went.
-pub fn tell_got(out: &mut [u8], x: Got) -> u64
+pub(crate) fn tell_got(out: &mut [u8], x: Got) -> u64
     requires { ⌜ 32 ≤ length (now out) ⌝ }
     ensures { λ r. ⌜ (r ≡ readCode (got x)) × Spoken (now (out .entry)) (readValues (got x)) (now (out .exit)) ⌝ }
 {

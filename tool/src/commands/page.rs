@@ -7,7 +7,7 @@ use crate::files::{self, Input};
 use crate::plans;
 use crate::script;
 use crate::text::count;
-use crate::{pages, text};
+use crate::{pages, text, unfit};
 use zenfrosta::{edition, Editions, Offered, TABLE_SIZE};
 
 pub const HELP: &str = "\
@@ -73,7 +73,7 @@ fn offered(args: &Args, path: &str) -> Result<u8, Fault> {
         return Err(table.fault(format!("{bytes}, and a table has {size}")));
     }
     // 10 is the table's own fault, and everything else the page's.
-    edition(&table.bytes).map_err(|refusal| table.fault(plans::words(refusal)))?;
+    edition(&table.bytes).map_err(|refusal| unfit::fault(&table, refusal))?;
     let done =
         zenfrosta::offer(&mut table.bytes, &page.bytes).map_err(|refusal| plans::at_byte(&page, refusal))?;
     let known = edition(&table.bytes).map_err(|refusal| table.fault(plans::words(refusal)))?;

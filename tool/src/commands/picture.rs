@@ -10,8 +10,9 @@ use crate::trace::Trace;
 pub const HELP: &str = "\
 zenfrosta picture [FILE] [--width PIXELS] [--title TEXT] [-o FILE]
 
-Draws a session, as text or as bytes, as an SVG picture: for each lane what waits in it, what it sends and when, and its
-lag, all over the clock; above them what waits in all lanes. Standard input if no file is named.
+Draws a session, as text or as bytes, as an SVG picture: for each lane what waits in it, what it sends and when, in a
+shared lane with a colour for each train, and its lag, all over the clock; above them what waits in all lanes. Standard
+input if no file is named.
 
   --width PIXELS   the picture's width, 600 to 8,000 (1,200)
   --title TEXT     its title; the file's name if none is given

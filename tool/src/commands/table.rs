@@ -1,21 +1,21 @@
 //! `zenfrosta table`: a table that was kept, shown by the library's own calls that show one. The order in which records go out is that of takes on a
-//! copy. Nothing here reads the table's own layout.
+//! copy. Only where the library refuses a table is its layout read, to say why.
 
 use super::page::editions;
 use crate::args::Args;
 use crate::fault::Fault;
 use crate::files::{self, Input};
-use crate::plans;
 use crate::text::{count, signed, table, thousands};
+use crate::unfit;
 use zenfrosta::refusals::{NOTHING_HELD, NOT_GOOD, NO_LANE};
 use zenfrosta::{Editions, LaneSetting, Record, Refusal, OLD_TABLE_SIZE, TABLE_SIZE};
 
 pub const HELP: &str = "\
 zenfrosta table [FILE] [--order] [--converted FILE] [-o FILE]
 
-Shows a table that was kept: its lanes with what waits in each, and what goes out next; or says why it is none. Standard
-input if no file is named. 'zenfrosta run --table FILE' writes one. A table from before lanes had room for 64 records,
-which is shorter, is converted first.
+Shows a table that was kept: its lanes with what waits in each, and what goes out next. Of one that the library refuses
+it says why: the first thing in it that cannot be, and at which byte. Standard input if no file is named. 'zenfrosta run
+--table FILE' writes a table. One from before lanes had room for 64 records, which is shorter, is converted first.
 
   --order            also the order in which takes would hand the records out, if nothing else is put
   --converted FILE   write the table that a shorter one was converted to
@@ -36,7 +36,7 @@ pub fn run(words: &[String]) -> Result<u8, Fault> {
             input.fault(format!(
                 "{}, as of a table of 16 places: {}",
                 count(before as u64, "byte"),
-                plans::words(refusal)
+                unfit::words(&input, refusal)
             ))
         })?;
         input.bytes = table;
@@ -55,7 +55,7 @@ pub fn run(words: &[String]) -> Result<u8, Fault> {
         );
         return Err(input.fault(says));
     }
-    let shown = Shown::of(&input.bytes).map_err(|refusal| input.fault(plans::words(refusal)))?;
+    let shown = Shown::of(&input.bytes).map_err(|refusal| unfit::fault(&input, refusal))?;
     let mut text = shown.text(args.flag("--order"));
     if old {
         text = format!(

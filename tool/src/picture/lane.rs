@@ -2,7 +2,7 @@
 
 use super::axis::Axis;
 use super::svg::{area, cross, Svg};
-use super::{lags, GREY, RIGHT, SENT};
+use super::{lags, legend, GREY, RIGHT, SENT};
 use crate::figures::LINE_RATE;
 use crate::text::{count, thousands};
 use crate::trace::{Did, Trace};
@@ -73,7 +73,8 @@ pub fn draw(svg: &mut Svg, trace: &Trace, axis: &Axis, index: usize, row: Row, t
                 total += length;
                 let of = if lane_shared { format!(" of train {train}") } else { String::new() };
                 let name = format!("lane {lane} sends record {mark}{of}");
-                record(svg, trace, axis, &name, (mark, length, from), sent_top, row.sent);
+                let colour = if lane_shared { legend::TRAINS[usize::from(train) % 8] } else { SENT };
+                record(svg, trace, axis, (&name, colour), (mark, length, from), sent_top, row.sent);
             }
             Did::PutRefused { lane, number: no } if lane == number => {
                 let words = RefusalKind::of(no).map_or("", RefusalKind::words);
@@ -102,7 +103,7 @@ fn record(
     svg: &mut Svg,
     trace: &Trace,
     axis: &Axis,
-    name: &str,
+    (name, colour): (&str, &str),
     (mark, length, from): (u32, u64, u64),
     top: f64,
     height: f64,
@@ -111,7 +112,7 @@ fn record(
     let x = axis.x(from);
     let width = (axis.x(to) - x).max(0.8);
     svg.add(format_args!(
-        "<rect x=\"{x:.1}\" y=\"{top:.1}\" width=\"{width:.1}\" height=\"{height:.1}\" fill=\"{SENT}\" stroke=\"#fff\" stroke-width=\"{}\">\
+        "<rect x=\"{x:.1}\" y=\"{top:.1}\" width=\"{width:.1}\" height=\"{height:.1}\" fill=\"{colour}\" stroke=\"#fff\" stroke-width=\"{}\">\
          <title>{name}, {length} bytes, at {} to {}</title></rect>",
         if width > 3.0 { 0.8 } else { 0.0 },
         thousands(from / LINE_RATE),

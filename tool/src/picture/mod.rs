@@ -3,6 +3,7 @@
 mod axis;
 mod lags;
 mod lane;
+mod legend;
 mod svg;
 
 use crate::figures::LINE_RATE;
@@ -10,6 +11,7 @@ use crate::text::{count, thousands};
 use crate::trace::{Did, Step, Trace};
 use axis::Axis;
 use lane::Row;
+use legend::Legend;
 use svg::{escaped, Svg};
 
 // Colours that stay apart in print and for most eyes.
@@ -29,7 +31,9 @@ const ALL: f64 = 66.0;
 pub fn svg(trace: &Trace, title: &str, width: f64) -> String {
     let row = Row::of(trace.lanes.len());
     let axis = Axis::of(trace, LEFT, width - RIGHT);
-    let top = HEAD + ALL + 40.0;
+    let legend = Legend::of(trace, width);
+    let begin = HEAD + legend.more();
+    let top = begin + ALL + 40.0;
     let bottom = top + row.height() * trace.lanes.len() as f64;
     let height = bottom + 46.0;
     let mut svg = Svg { text: String::new() };
@@ -39,25 +43,25 @@ pub fn svg(trace: &Trace, title: &str, width: f64) -> String {
     ));
     svg.add(format_args!("<title>{}</title>", escaped(title)));
     svg.add(format_args!("<rect width=\"{width}\" height=\"{height}\" fill=\"#fff\"/>"));
-    head(&mut svg, trace, title, width);
-    jumps(&mut svg, &axis, HEAD, bottom);
-    ruler(&mut svg, &axis, HEAD, bottom);
-    all_lanes(&mut svg, trace, &axis);
-    jump_labels(&mut svg, &axis, HEAD);
+    head(&mut svg, trace, title, width, &legend);
+    jumps(&mut svg, &axis, begin, bottom);
+    ruler(&mut svg, &axis, begin, bottom);
+    all_lanes(&mut svg, trace, &axis, begin);
+    jump_labels(&mut svg, &axis, begin);
     let most = trace.steps.iter().flat_map(|step| &step.held).map(|(_, bytes)| *bytes).max().unwrap_or(0);
     for index in 0..trace.lanes.len() {
         lane::draw(&mut svg, trace, &axis, index, row, top + row.height() * index as f64, most);
     }
     for step in trace.steps.iter().filter(|step| step.did == Did::Restarted) {
         let x = axis.x(step.clock);
-        svg.line(x, HEAD, x, bottom, &format!("stroke=\"{REFUSED}\" stroke-dasharray=\"5 4\""));
-        svg.words(x + 3.0, HEAD + 10.0, 10.0, &format!("fill=\"{REFUSED}\""), "restart");
+        svg.line(x, begin, x, bottom, &format!("stroke=\"{REFUSED}\" stroke-dasharray=\"5 4\""));
+        svg.words(x + 3.0, begin + 10.0, 10.0, &format!("fill=\"{REFUSED}\""), "restart");
     }
     svg.text.push_str("</svg>\n");
     svg.text
 }
 
-fn head(svg: &mut Svg, trace: &Trace, title: &str, width: f64) {
+fn head(svg: &mut Svg, trace: &Trace, title: &str, width: f64, legend: &Legend) {
     let puts = trace.steps.iter().filter(|step| matches!(step.did, Did::Put { .. })).count() as u64;
     let sent: Vec<u64> = trace.steps.iter().filter_map(sent_length).collect();
     let framing = if trace.framing == 0 {
@@ -74,36 +78,10 @@ fn head(svg: &mut Svg, trace: &Trace, title: &str, width: f64) {
         count(sent.iter().sum(), "byte"),
     );
     svg.words(20.0, 50.0, 12.0, &format!("fill=\"{GREY}\""), &says);
-    // The legend.
-    let mut x = 20.0;
-    let y = 74.0;
-    let rect = |svg: &mut Svg, x: f64, colour: &str| {
-        svg.add(format_args!(
-            "<rect x=\"{x}\" y=\"{}\" width=\"22\" height=\"10\" fill=\"{colour}\"/>",
-            y - 9.0
-        ));
-    };
-    for (what, words) in [
-        ("waiting", "bytes that wait"),
-        ("sent", "a record sent, with its mark"),
-        ("lag", "lag in slots: above the line the clock is past the lane's start"),
-        ("refused", "a put refused"),
-        ("jump", "the clock jumps"),
-    ] {
-        let next = 32.0 + 5.9 * words.len() as f64;
-        match what {
-            "waiting" => rect(svg, x, WAITING),
-            "sent" => rect(svg, x, SENT),
-            "lag" => svg.line(x, y - 4.0, x + 22.0, y - 4.0, &format!("stroke=\"{LAG}\" stroke-width=\"2\"")),
-            "refused" => svg::cross(svg, x + 11.0, y - 4.0, 4.0, ""),
-            _ => rect(svg, x, "#e4e4ea"),
-        }
-        svg.words(x + 28.0, y, 11.0, "", words);
-        x += next + 16.0;
-    }
+    legend.draw(svg, 74.0);
     svg.words(
         (LEFT + width - RIGHT) / 2.0,
-        HEAD - 24.0,
+        HEAD + legend.more() - 24.0,
         11.0,
         &format!("text-anchor=\"middle\" fill=\"{GREY}\""),
         "clock, in bytes of the line (V / 1,024)",
@@ -159,11 +137,11 @@ fn ruler(svg: &mut Svg, axis: &Axis, top: f64, bottom: f64) {
     );
 }
 
-fn all_lanes(svg: &mut Svg, trace: &Trace, axis: &Axis) {
+fn all_lanes(svg: &mut Svg, trace: &Trace, axis: &Axis, top: f64) {
     let values: Vec<(u64, u64)> =
         trace.steps.iter().map(|step| (step.clock, step.held.iter().map(|(_, bytes)| bytes).sum())).collect();
     let most = values.iter().map(|(_, bytes)| *bytes).max().unwrap_or(0);
-    let base = HEAD + ALL + 12.0;
+    let base = top + ALL + 12.0;
     svg::area(svg, axis, &values, base, ALL, most);
     svg.line(axis.left, base, axis.right, base, "stroke=\"#99a\" stroke-width=\"0.8\"");
     svg.words(20.0, base - ALL + 12.0, 12.0, "font-weight=\"bold\"", "all lanes");

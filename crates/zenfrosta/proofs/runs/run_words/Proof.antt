@@ -10,10 +10,10 @@ use Rattle.walk.specs.declared.Stop.the-variants.{Refused}
 use Rattle.walk.specs.declared.RunResult.{RunResult}
 use Rattle.zenfrosta.specs.Crossing.{four, stopKind, stopPlace, runValues}
 use borrow.Author.Needs.{needs}
-use Rattle.zenfrosta.proofs.run_words.Statement.{statement}
-use Rattle.zenfrosta.proofs.run_words.Tie as tie
-use Rattle.zenfrosta.proofs.run_words.Reads as reads
-use Rattle.zenfrosta.proofs.run_words.Lts as lts
+use Rattle.zenfrosta.proofs.runs.run_words.Statement.{statement}
+use Rattle.zenfrosta.proofs.runs.run_words.Tie as tie
+use Rattle.zenfrosta.proofs.runs.run_words.Reads as reads
+use Rattle.zenfrosta.proofs.runs.run_words.Lts as lts
 use Rattle.lines.proofs.place_of.Reads as place-of-reads
 
 -- a run that a refusal ended, by the refusal's place

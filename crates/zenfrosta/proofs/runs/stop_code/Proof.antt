@@ -4,8 +4,8 @@ use borrow.Author.Needs.{needs}
 use Rattle.walk.specs.Follows.{whyIs}
 use Rattle.walk.specs.declared.Stop.{Stop}
 use Rattle.zenfrosta.specs.Crossing.{stopCode}
-use Rattle.zenfrosta.proofs.stop_code.Statement.{statement}
-use Rattle.zenfrosta.proofs.stop_code.Tie as tie
+use Rattle.zenfrosta.proofs.runs.stop_code.Statement.{statement}
+use Rattle.zenfrosta.proofs.runs.stop_code.Tie as tie
 
 enum-told : tie.Need-enum-told
 enum-told c = search needs

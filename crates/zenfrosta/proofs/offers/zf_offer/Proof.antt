@@ -2,12 +2,12 @@
 use mathlib.Core.Path.{refl}
 use native.Mathlib.Omega.{arith}
 use borrow.Author.Needs.{needs}
-use Rattle.zenfrosta.proofs.zf_offer.Statement.{statement}
-use Rattle.zenfrosta.proofs.zf_offer.Tie as tie
-use Rattle.zenfrosta.proofs.zf_offer.Reads as reads
-use Rattle.zenfrosta.proofs.zf_offer.Lts as lts
+use Rattle.zenfrosta.proofs.offers.zf_offer.Statement.{statement}
+use Rattle.zenfrosta.proofs.offers.zf_offer.Tie as tie
+use Rattle.zenfrosta.proofs.offers.zf_offer.Reads as reads
+use Rattle.zenfrosta.proofs.offers.zf_offer.Lts as lts
 use Rattle.scheduler.proofs.offer.Reads as offer-reads
-use Rattle.zenfrosta.proofs.tell_offer.Reads as tell-offer-reads
+use Rattle.zenfrosta.proofs.offers.tell_offer.Reads as tell-offer-reads
 
 returns : tie.Need-returns
 returns c = record { short = λ _. (refl, refl, refl); told = λ h. absurd (omega (arith, c .if1 .taken)) }

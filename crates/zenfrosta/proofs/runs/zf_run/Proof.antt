@@ -3,14 +3,14 @@ use mathlib.Core.Path.{refl}
 use native.Mathlib.Omega.{arith}
 use Rattle.zenfrosta.proofs.Spoken.{told-as}
 use borrow.Author.Needs.{needs}
-use Rattle.zenfrosta.proofs.zf_run.Statement.{statement}
-use Rattle.zenfrosta.proofs.zf_run.Tie as tie
-use Rattle.zenfrosta.proofs.zf_run.Reads as reads
-use Rattle.zenfrosta.proofs.zf_run.Lts as lts
+use Rattle.zenfrosta.proofs.runs.zf_run.Statement.{statement}
+use Rattle.zenfrosta.proofs.runs.zf_run.Tie as tie
+use Rattle.zenfrosta.proofs.runs.zf_run.Reads as reads
+use Rattle.zenfrosta.proofs.runs.zf_run.Lts as lts
 use Rattle.session.proofs.run.Reads as run-reads
-use Rattle.zenfrosta.proofs.run_words.Reads as run-words-reads
+use Rattle.zenfrosta.proofs.runs.run_words.Reads as run-words-reads
 use Rattle.zenfrosta.proofs.speak.Reads as speak-reads
-use Rattle.zenfrosta.proofs.stop_code.Reads as stop-code-reads
+use Rattle.zenfrosta.proofs.runs.stop_code.Reads as stop-code-reads
 
 returns : tie.Need-returns
 returns c = record { short = λ _. (refl, (refl, refl), refl); told = λ h. absurd (omega (arith, c .if1 .taken)) }
