@@ -12,8 +12,16 @@ ghost use Rattle.table.specs.Means.{meant};
 ghost use Rattle.choice.specs.Known.{Known};
 ghost use Rattle.engine.specs.Does.{Does};
 ghost use Rattle.requests.specs.Request.{callIs};
-ghost use Rattle.answers.specs.Lines.{inShared};
+ghost use Rattle.lines.specs.Line.{Words32, Line};
+ghost use Rattle.answers.specs.Lines.{lineBy};
 ghost use Rattle.answers.specs.Answers.{Made, Answers};
+use lines::put_accepted;
+use lines::put_lag;
+use lines::put_no;
+use lines::put_record;
+use lines::put_restarted;
+use lines::put_sets;
+use lines::put_verb;
 use requests::Request;
 use rules::Answer;
 use table::present;
@@ -61,15 +69,25 @@ fn shared_lane(t: &[u8], lane: u8) -> bool
     l.shared
 }
 
-// Whether an answer names a record of a shared lane: its line ends with the train then.
-fn in_shared(t: &[u8], x: Answer) -> bool
-    requires { ⌜ Room (now t) ⌝ }
-    ensures { λ r. ⌜ r ≡ inShared (setupOf (meant (now (t .entry)))) (reads x) ⌝ }
+// Writes the line of an answer: that of a record of a shared lane ends with the train.
+fn tell(t: &[u8], a: &mut [u8], at: usize, x: Answer) -> usize
+    requires { ⌜ Room (now t) × Words32 (reads x) × (at + 64 ≤ length (now a)) ⌝ }
+    ensures { λ r. ⌜ Line (now (a .entry)) (now (a .exit)) at (lineBy (setupOf (meant (now (t .entry)))) (reads x)) r ⌝ }
 {
     match x {
-        Answer::Taken(r) => shared_lane(t, r.lane),
-        Answer::Seen(r) => shared_lane(t, r.lane),
-        _ => false,
+        Answer::Accepted(n) => put_accepted(a, at, n),
+        Answer::Taken(r) => {
+            let p = put_verb(a, at, false);
+            put_record(a, p, r, shared_lane(t, r.lane))
+        }
+        Answer::Seen(r) => {
+            let p = put_verb(a, at, true);
+            put_record(a, p, r, shared_lane(t, r.lane))
+        }
+        Answer::Sets(w) => put_sets(a, at, w),
+        Answer::Lag(z) => put_lag(a, at, z),
+        Answer::Restarted => put_restarted(a, at),
+        Answer::Refused(r) => put_no(a, at, r),
     }
 }
 
@@ -79,8 +97,7 @@ pub fn answer(t: &mut [u8], a: &mut [u8], done: Tally, q: Request) -> Tally
     ensures { λ r. ⌜ Answers (callIs q) (now (t .entry)) (now (t .exit)) (now (a .entry)) (now (a .exit)) done r ⌝ }
 {
     let x = call(t, q);
-    let shared = in_shared(t, x);
-    let next = lines::put_answer(a, done.next, x, shared);
+    let next = tell(t, a, done.next, x);
     let answered = done.answered + 1;
     Tally { answered, next }
 }

@@ -1,17 +1,23 @@
--- No answer line is longer than 64 bytes. Assumes nothing.
+-- No answer line is longer than 64 bytes.
+--
+--   record-most, one-most, no-most, line-most   each kind of line
+--   record-fits, record-line                    a record's line that is written in two parts: the second has room, and both are the line
+--
+-- Assumes nothing.
 use Prim.Native.Nat.{ℕ, _+_, _^_, _≤_, _<_}
 use native.Mathlib.Omega.{arith}
-use mathlib.Core.Path.{_≡_}
+use mathlib.Core.Path.{_≡_, refl, ap, _∙_}
 use mathlib.Core.Bool.{Bool, true, false}
-use mathlib.Core.List.{List, [], _∷_}
+use mathlib.Core.List.{List, [], _∷_, _++_}
 use mathlib.Core.Option.{Option, none, some}
 use lib.ListN.{length, length-append}
+use lib.Seq.{length-sets}
 use Rattle.text.specs.Decimal.{decimal, signed}
 use Rattle.text.proofs.Widths.{length-decimal, width-le}
 use Rattle.text.proofs.Signed.{signed-most}
 use Rattle.rules.specs.Calls.{Reply, accepted, taken, seen, words, lagged, restarted, refused}
-use Rattle.lines.proofs.Writing.{line-long}
-use Rattle.lines.specs.Line.{spaced, line, putOk, takeWord, lookWord, setsWord, noWord, recordLine, noLine, lineOf, Short}
+use Rattle.lines.proofs.Writing.{line-long, wrote-both}
+use Rattle.lines.specs.Line.{spaced, line, putOk, takeWord, lookWord, verb, setsWord, noWord, recordLine, noLine, lineOf, Short, Wrote, Line}
 
 -- a number below 10 ^ k has at most k digits
 written : (n k : ℕ) → 0 < k → n < 10 ^ k → length (decimal n) ≤ k
@@ -76,3 +82,25 @@ line-most shared (words er ir eb ib) h =
 line-most shared (lagged z) h = omega (arith, length-append (signed z) (10 ∷ []), signed-most z h)
 line-most shared restarted h = omega arith
 line-most shared (refused n p) h = no-most n p h
+
+-- ---- a record's line in two parts
+
+record-split : (word : List ℕ) (shared : Bool) (l t m n : ℕ) → recordLine word shared l t m n ≡ word ++ recordLine [] shared l t m n
+record-split word true l t m n = refl
+record-split word false l t m n = refl
+
+verb-short : (look : Bool) → length (verb look) ≤ 10
+verb-short true = omega arith
+verb-short false = omega arith
+
+module _ (look shared : Bool) (l t m n : ℕ) (h : Short (taken l t m n)) {a b : List ℕ} {at p : ℕ} (u : Wrote a b at (verb look) p) where
+  pub record-fits : at + 64 ≤ length a → p + length (recordLine [] shared l t m n) ≤ length b
+  record-fits r =
+      let e : length b ≡ length a = ap length (u .is) ∙ length-sets a at (verb look) in
+      omega (arith, u .past, record-most (verb look) shared l t m n (verb-short look) h, ap length (record-split (verb look) shared l t m n), length-append (verb look) (recordLine [] shared l t m n))
+
+  pub record-line : {d : List ℕ} {q : ℕ} → Wrote b d p (recordLine [] shared l t m n) q → Line a d at (recordLine (verb look) shared l t m n) q
+  record-line v = record {
+    wrote = rw (record-split (verb look) shared l t m n) (wrote-both (verb look) (recordLine [] shared l t m n) u v);
+    most = record-most (verb look) shared l t m n (verb-short look) h;
+  }

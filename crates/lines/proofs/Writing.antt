@@ -7,6 +7,8 @@
 --   wrote-both   two parts are one
 --   wrote-byte   a byte
 --   line-long    a line is its word and the rest
+--   left-word    what is left of a line behind its word
+--   left-number  a number less, and left-feed the line feed at last
 --   tail-end     what is left behind the last number
 --   tail-more    what is left of a line's numbers, taken apart
 --
@@ -15,7 +17,7 @@ use Prim.Native.Nat.{ℕ, suc, _+_, _≤_, _<_}
 use native.Mathlib.Nat.{add-zero}
 use native.Mathlib.Numerals.{add-one}
 use native.Mathlib.Omega.{arith}
-use mathlib.Core.Path.{_≡_, refl, sym, ap, _∙_}
+use mathlib.Core.Path.{_≡_, refl, sym, ap, subst, _∙_}
 use mathlib.Core.List.{List, [], _∷_, _++_, append-assoc}
 use lib.ListN.{length, set, drop, getD, length-append}
 use lib.Seq.{sets, length-sets, drop-cons, drop-length}
@@ -59,6 +61,37 @@ wrote-both {a} {at = at} xs ys u v = record {
 -- a byte
 pub wrote-byte : (a : List ℕ) (p x : ℕ) → Wrote a (set a p x) p (x ∷ []) (p + 1)
 wrote-byte a p x = record { is = refl; past = refl }
+
+-- a line's first number and the rest
+line-more : (n : ℕ) (ns : List ℕ) → line [] (n ∷ ns) ≡ (32 ∷ decimal n) ++ line [] ns
+unfolding spaced
+line-more n ns = append-assoc (32 ∷ decimal n) (spaced ns) (10 ∷ [])
+
+line-end : line [] [] ≡ 10 ∷ []
+unfolding spaced
+line-end = refl
+
+pub left-word : {a b : List ℕ} {at p : ℕ} (word ns : List ℕ) → Wrote a b at word p → Left a b at (line word ns) p (line [] ns)
+left-word word ns w = left-part word (line [] ns) (left-whole _ _ _) w
+
+module _ {before now : List ℕ} {at : ℕ} {text : List ℕ} {p : ℕ} where
+  number-next : (n : ℕ) (ns : List ℕ) → Left before now at text p (line [] (n ∷ ns)) → Left before now at text p ((32 ∷ decimal n) ++ line [] ns)
+  number-next n ns l = subst (λ (r : List ℕ). Left before now at text p r) (line-more n ns) l
+
+  pub left-number : (n : ℕ) (ns : List ℕ) {next : List ℕ} {q : ℕ} → Left before now at text p (line [] (n ∷ ns)) → Wrote now next p (32 ∷ decimal n) q → Left before next at text q (line [] ns)
+  left-number n ns l w = left-part (32 ∷ decimal n) (line [] ns) (number-next n ns l) w
+
+  pub number-fits : (n : ℕ) (ns : List ℕ) → Left before now at text p (line [] (n ∷ ns)) → at + length text ≤ length before → p + length (32 ∷ decimal n) ≤ length now
+  number-fits n ns l h = left-fits (32 ∷ decimal n) (line [] ns) (number-next n ns l) h
+
+  feed-next : Left before now at text p (line [] []) → Left before now at text p ((10 ∷ []) ++ [])
+  feed-next l = subst (λ (r : List ℕ). Left before now at text p r) line-end l
+
+  pub left-feed : Left before now at text p (line [] []) → Wrote before (set now p 10) at text (p + 1)
+  left-feed l = left-none (left-part (10 ∷ []) [] (feed-next l) (wrote-byte _ _ _))
+
+  pub feed-fits : Left before now at text p (line [] []) → at + length text ≤ length before → p < length now
+  feed-fits l h = omega (arith, left-fits (10 ∷ []) [] (feed-next l) h)
 
 -- what is left of a line from its i-th number on
 abbrev pub tail : List ℕ → ℕ → List ℕ

@@ -50,6 +50,11 @@ takeWord = 116 ∷ 97 ∷ 107 ∷ 101 ∷ []
 abbrev pub lookWord : List ℕ
 lookWord = 108 ∷ 111 ∷ 111 ∷ 107 ∷ []
 
+-- the word of a record's line
+abbrev pub verb : Bool → List ℕ
+verb true = lookWord
+verb false = takeWord
+
 -- "sets"
 abbrev pub setsWord : List ℕ
 setsWord = 115 ∷ 101 ∷ 116 ∷ 115 ∷ []

@@ -8,9 +8,8 @@ ghost use mathlib.Core.List.{[], _∷_};
 ghost use lib.ListN.{length};
 ghost use Rattle.text.specs.Decimal.{decimal};
 ghost use Rattle.rules.specs.Calls.{words};
-ghost use Rattle.rules.specs.Reads.{number, placeOf, reads};
-ghost use Rattle.lines.specs.Line.{placeIs, line, recordLine, setsWord, lagLine, noLine, lineOf, lanesLine, endLine, Words32, Wrote, Line};
-use rules::Answer;
+ghost use Rattle.rules.specs.Reads.{number, placeOf};
+ghost use Rattle.lines.specs.Line.{placeIs, line, putOk, restartOk, verb, recordLine, setsWord, lagLine, noLine, lanesLine, endLine, Words32, Wrote, Line};
 use rules::Record;
 use rules::Refusal;
 use rules::SetWords;
@@ -55,22 +54,73 @@ fn put_one(a: &mut [u8], at: usize, word: &[u8], n: u64) -> usize
     put_line(a, at, word, &ns)
 }
 
-// `take L M N` and `look L M N`, of a shared lane with the train behind.
-fn put_record(a: &mut [u8], at: usize, word: &[u8], x: Record, shared: bool) -> usize
-    requires { ⌜ (length (now word) ≤ 10) × (at + 64 ≤ length (now a)) ⌝ }
-    ensures { λ r. ⌜ Line (now (a .entry)) (now (a .exit)) at (recordLine (now (word .entry)) shared (x .lane) (x .train) (x .mark) (x .length .0)) r ⌝ }
+// `put ok N`.
+pub fn put_accepted(a: &mut [u8], at: usize, n: u64) -> usize
+    requires { ⌜ at + 64 ≤ length (now a) ⌝ }
+    ensures { λ r. ⌜ Line (now (a .entry)) (now (a .exit)) at (line putOk (n ∷ [])) r ⌝ }
+{
+    let p = put_word(a, at, b"put ok");
+    let q = put_spaced(a, p, n);
+    a[q] = LINE_FEED;
+    q + 1
+}
+
+// Three numbers, each after a space, and the line feed.
+fn put_three(a: &mut [u8], at: usize, l: u64, m: u64, n: u64) -> usize
+    requires { ⌜ at + length (line [] (l ∷ m ∷ n ∷ [])) ≤ length (now a) ⌝ }
+    ensures { λ r. ⌜ Wrote (now (a .entry)) (now (a .exit)) at (line [] (l ∷ m ∷ n ∷ [])) r ⌝ }
+{
+    let p = put_spaced(a, at, l);
+    let q = put_spaced(a, p, m);
+    let r = put_spaced(a, q, n);
+    a[r] = LINE_FEED;
+    r + 1
+}
+
+// A record's numbers and the line feed, whatever the numbers are.
+fn put_any(a: &mut [u8], at: usize, x: Record, shared: bool) -> usize
+    requires { ⌜ at + length (recordLine [] shared (x .lane) (x .train) (x .mark) (x .length .0)) ≤ length (now a) ⌝ }
+    ensures { λ r. ⌜ Wrote (now (a .entry)) (now (a .exit)) at (recordLine [] shared (x .lane) (x .train) (x .mark) (x .length .0)) r ⌝ }
 {
     let n = x.length;
     if shared {
         let ns = [x.lane as u64, x.mark as u64, n.0, x.train as u64];
-        return put_line(a, at, word, &ns);
+        return put_line(a, at, &[], &ns);
     }
     let ns = [x.lane as u64, x.mark as u64, n.0];
-    put_line(a, at, word, &ns)
+    put_line(a, at, &[], &ns)
+}
+
+// `look` or `take`: the word of a record's line.
+pub fn put_verb(a: &mut [u8], at: usize, look: bool) -> usize
+    requires { ⌜ at + 4 ≤ length (now a) ⌝ }
+    ensures { λ r. ⌜ Wrote (now (a .entry)) (now (a .exit)) at (verb look) r ⌝ }
+{
+    if look {
+        put_word(a, at, b"look")
+    } else {
+        put_word(a, at, b"take")
+    }
+}
+
+// `L M N` behind `take` or `look`, of a shared lane with the train behind. Mark and length of up to four digits, as most are, are written without a loop.
+pub fn put_record(a: &mut [u8], at: usize, x: Record, shared: bool) -> usize
+    requires { ⌜ at + length (recordLine [] shared (x .lane) (x .train) (x .mark) (x .length .0)) ≤ length (now a) ⌝ }
+    ensures { λ r. ⌜ Wrote (now (a .entry)) (now (a .exit)) at (recordLine [] shared (x .lane) (x .train) (x .mark) (x .length .0)) r ⌝ }
+{
+    let n = x.length;
+    if !shared {
+        if x.mark < 10000 {
+            if n.0 < 10000 {
+                return put_three(a, at, x.lane as u64, x.mark as u64, n.0);
+            }
+        }
+    }
+    put_any(a, at, x, shared)
 }
 
 // `sets A B C D`.
-fn put_sets(a: &mut [u8], at: usize, w: SetWords) -> usize
+pub fn put_sets(a: &mut [u8], at: usize, w: SetWords) -> usize
     requires { ⌜ Words32 (words (w .er) (w .ir) (w .eb) (w .ib)) × (at + 64 ≤ length (now a)) ⌝ }
     ensures { λ r. ⌜ Line (now (a .entry)) (now (a .exit)) at (line setsWord (w .er ∷ w .ir ∷ w .eb ∷ w .ib ∷ [])) r ⌝ }
 {
@@ -79,7 +129,7 @@ fn put_sets(a: &mut [u8], at: usize, w: SetWords) -> usize
 }
 
 // `lag N`, with a minus sign below zero.
-fn put_lag(a: &mut [u8], at: usize, z: i64) -> usize
+pub fn put_lag(a: &mut [u8], at: usize, z: i64) -> usize
     requires { ⌜ at + 64 ≤ length (now a) ⌝ }
     ensures { λ r. ⌜ Line (now (a .entry)) (now (a .exit)) at (lagLine z) r ⌝ }
 {
@@ -189,18 +239,10 @@ pub fn put_end(a: &mut [u8], at: usize, n: u64) -> usize
     put_one(a, at, b"end", n)
 }
 
-// The line of an answer; `shared` says whether the lane of a record that was taken or looked at is.
-pub fn put_answer(a: &mut [u8], at: usize, x: Answer, shared: bool) -> usize
-    requires { ⌜ Words32 (reads x) × (at + 64 ≤ length (now a)) ⌝ }
-    ensures { λ r. ⌜ Line (now (a .entry)) (now (a .exit)) at (lineOf shared (reads x)) r ⌝ }
+// `restart ok`.
+pub fn put_restarted(a: &mut [u8], at: usize) -> usize
+    requires { ⌜ at + 64 ≤ length (now a) ⌝ }
+    ensures { λ r. ⌜ Line (now (a .entry)) (now (a .exit)) at (line restartOk []) r ⌝ }
 {
-    match x {
-        Answer::Accepted(n) => put_one(a, at, b"put ok", n),
-        Answer::Taken(r) => put_record(a, at, b"take", r, shared),
-        Answer::Seen(r) => put_record(a, at, b"look", r, shared),
-        Answer::Sets(w) => put_sets(a, at, w),
-        Answer::Lag(z) => put_lag(a, at, z),
-        Answer::Restarted => put_line(a, at, b"restart ok", &[]),
-        Answer::Refused(r) => put_no(a, at, r),
-    }
+    put_line(a, at, b"restart ok", &[])
 }

@@ -3,6 +3,7 @@
 --   head-none .. head-right             a header, judged
 --   head-whole, head-size, head-short   what a header that is right is
 --   item-wrong .. item-request          a field
+--   item-quick                          a request, by the bytes of its header
 --
 -- Assumes nothing.
 use Prim.Native.Nat.{ℕ, _+_, _≤_, _<_}
@@ -115,3 +116,8 @@ module _ (s : List ℕ) (at tag n : ℕ) (h : headAt s at ≡ right tag n) where
   pub item-request : at + 3 + n ≤ length s → (tag ≡ 127 → ⊥) → itemAt s at ≡ request (callOf s tag (at + 3)) (at + 3 + n)
   unfolding itemAt
   item-request l f = ap (valued s at) h ∙ rw (le-leb (at + 3 + n) (length s) l, ne-eqb tag 127 f)
+
+-- a request whose header is read by its bytes
+pub item-quick : (s : List ℕ) (at tag n : ℕ) → byteAt s at ≡ tag → big s (at + 1) 2 ≡ n → sizeOf tag ≡ some n → (tag ≡ 127 → ⊥) → at + 3 + n ≤ length s → itemAt s at ≡ request (callOf s tag (at + 3)) (at + 3 + n)
+item-quick s at tag n e f k d h =
+    item-request s at tag n (head-right s at tag (at + 3) n (header-whole s at (omega arith) ∙ rw (e, f)) n k refl) h d

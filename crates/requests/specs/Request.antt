@@ -8,6 +8,7 @@
 --
 -- Assumes nothing.
 use Prim.Native.Nat.{ℕ, _+_, _/_, _%_, _^_}
+use mathlib.Core.Path.{_≡_}
 use mathlib.Core.Bool.{_||_}
 use mathlib.Core.List.{List}
 use mathlib.Core.Option.{Option, none, some}
@@ -23,6 +24,7 @@ use Rattle.rules.specs.Reads.{number, placeOf}
 use Rattle.requests.specs.declared.Size as Size
 use Rattle.requests.specs.declared.Head as Head
 use Rattle.requests.specs.declared.Request as Request
+use Rattle.requests.specs.declared.Quick as Quick
 
 -- R10.1: the tags that this part knows, each with the one length that is right for it; 0x26 is a put with a train.
 abbrev pub sizeOf : ℕ → Option ℕ
@@ -95,6 +97,11 @@ callIs Request.the-variants.Look = look
 callIs Request.the-variants.Sets = sets
 callIs (Request.the-variants.Lag j) = lag j
 callIs Request.the-variants.Restart = restart
+
+-- a request that was read at once is the one that stands at the place
+abbrev pub Quickly : List ℕ → ℕ → Quick.Quick → Type 0
+Quickly s at (Quick.the-variants.Whole q next) = itemAt s at ≡ request (callIs q) next
+Quickly s at Quick.the-variants.Other = Unit
 
 -- the value as one number, high byte first: proofs/Values.antt shows that this is `callOf`
 unfoldable pub numbered : ℕ → ℕ → Call

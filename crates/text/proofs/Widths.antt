@@ -1,10 +1,11 @@
 -- Laws of decimal numbers: the definition of a width by search is the least; a number below 10 ^ 20 has at most 20 digits. Assumes nothing.
-use Prim.Native.Nat.{ℕ, zero, suc, _+_, _-_, _/_, _^_, _≤_, _<_}
+use Prim.Native.Nat.{ℕ, zero, suc, _+_, _-_, _/_, _%_, _^_, _≤_, _<_}
 use native.Mathlib.Nat.{le-trans, le-refl, add-zero, le-antisymm, not-le-of-lt, pow-le-pow-right, pow-suc, div-div-eq-div-mul, le-div-iff-mul-le, div-lt-iff-lt-mul, lt-of-not-le}
 use native.Mathlib.Omega.{arith}
 use native.Mathlib.Decide.{decLe}
 use mathlib.Core.Path.{_≡_, refl, sym, ap, subst, _∙_}
 use mathlib.Core.Bool.{Bool, true, false}
+use mathlib.Core.List.{[], _∷_}
 use lib.Dec.{ltb}
 use lib.ListN.{length}
 use borrow.Author.Tests.{ltb-true, ltb-false}
@@ -93,3 +94,41 @@ written-width n {k} h w = length-decimal n ∙ sym (width-unique n k (omega arit
 pub written-digits : (n : ℕ) {k : ℕ} → n < 2 ^ 64 → Width n k → digits k n ≡ decimal n
 unfolding decimal
 written-digits n {k} h w = ap (λ (j : ℕ). digits j n) (width-unique n k (omega arith) w)
+
+-- ---- the digits of a short number
+
+-- a number with k digits behind its first
+width-by : (n k : ℕ) → 10 ^ k ≤ n → n < 10 ^ suc k → Width n (suc k)
+width-by n k l h = record { some = omega arith; enough = h; none-below = λ j p q. ten-mono n k j l q }
+
+module _ (n : ℕ) where
+  pub decimal-one : n < 10 → decimal n ≡ (48 + n) ∷ []
+  unfolding digits
+  decimal-one h =
+      let w : Width n 1 = record { some = omega arith; enough = h; none-below = λ j p q. p } in
+      let e : n / 10 ^ 0 % 10 ≡ n = omega arith in
+      sym (written-digits n (omega arith) w) ∙ rw e
+
+  pub decimal-two : 10 ≤ n → n < 100 → decimal n ≡ (48 + n / 10) ∷ (48 + n % 10) ∷ []
+  unfolding digits
+  decimal-two l h =
+      let e : n / 10 ^ 1 % 10 ≡ n / 10 = omega arith in
+      let f : n / 10 ^ 0 % 10 ≡ n % 10 = omega arith in
+      sym (written-digits n (omega arith) (width-by n 1 l h)) ∙ rw (e, f)
+
+  pub decimal-three : 100 ≤ n → n < 1000 → decimal n ≡ (48 + n / 100) ∷ (48 + n % 100 / 10) ∷ (48 + n % 100 % 10) ∷ []
+  unfolding digits
+  decimal-three l h =
+      let e : n / 10 ^ 2 % 10 ≡ n / 100 = omega arith in
+      let f : n / 10 ^ 1 % 10 ≡ n % 100 / 10 = omega arith in
+      let g : n / 10 ^ 0 % 10 ≡ n % 100 % 10 = omega arith in
+      sym (written-digits n (omega arith) (width-by n 2 l h)) ∙ rw (e, f, g)
+
+  pub decimal-four : 1000 ≤ n → n < 10000 → decimal n ≡ (48 + n / 100 / 10) ∷ (48 + n / 100 % 10) ∷ (48 + n % 100 / 10) ∷ (48 + n % 100 % 10) ∷ []
+  unfolding digits
+  decimal-four l h =
+      let d : n / 10 ^ 3 % 10 ≡ n / 100 / 10 = omega arith in
+      let e : n / 10 ^ 2 % 10 ≡ n / 100 % 10 = omega arith in
+      let f : n / 10 ^ 1 % 10 ≡ n % 100 / 10 = omega arith in
+      let g : n / 10 ^ 0 % 10 ≡ n % 100 % 10 = omega arith in
+      sym (written-digits n (omega arith) (width-by n 3 l h)) ∙ rw (d, e, f, g)

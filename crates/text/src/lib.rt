@@ -2,7 +2,8 @@
 //
 // Characters are ASCII bytes. These are inner functions: each requires that what it writes fits; specs/Decimal.antt says what that is.
 ghost use mathlib.Core.Path.{_≡_};
-ghost use Prim.Native.Nat.{_+_, _≤_};
+ghost use mathlib.Core.List.{[], _∷_};
+ghost use Prim.Native.Nat.{_+_, _/_, _%_, _<_, _≤_};
 ghost use lib.IntN.{natAbs};
 ghost use lib.ListN.{length};
 ghost use lib.Seq.{sets};
@@ -48,11 +49,46 @@ fn put_digits(a: &mut [u8], at: usize, k: usize, n: u64)
     }
 }
 
-// Writes a number in decimal.
+// The byte of a digit.
+fn digit(d: u64) -> u8
+    requires { ⌜ d < 10 ⌝ }
+    ensures { λ r. ⌜ r ≡ 48 + d ⌝ }
+{
+    (48 + d) as u8
+}
+
+// Writes a number below 100 as two digits.
+fn put_two(a: &mut [u8], at: usize, n: u64)
+    requires { ⌜ (at + 2 ≤ length (now a)) × (n < 100) ⌝ }
+    ensures { λ _. ⌜ now (a .exit) ≡ sets (now (a .entry)) at ((48 + n / 10) ∷ (48 + n % 10) ∷ []) ⌝ }
+{
+    a[at] = digit(n / 10);
+    a[at + 1] = digit(n % 10);
+}
+
+// Writes a number in decimal. One of up to four digits, as most are, takes no loop.
 pub fn put_number(a: &mut [u8], at: usize, n: u64) -> usize
     requires { ⌜ at + length (decimal n) ≤ length (now a) ⌝ }
     ensures { λ r. ⌜ (now (a .exit) ≡ sets (now (a .entry)) at (decimal n)) × (r ≡ at + length (decimal n)) ⌝ }
 {
+    if n < 10 {
+        a[at] = digit(n);
+        return at + 1;
+    }
+    if n < 100 {
+        put_two(a, at, n);
+        return at + 2;
+    }
+    if n < 1000 {
+        a[at] = digit(n / 100);
+        put_two(a, at + 1, n % 100);
+        return at + 3;
+    }
+    if n < 10000 {
+        put_two(a, at, n / 100);
+        put_two(a, at + 2, n % 100);
+        return at + 4;
+    }
     let k = width(n);
     put_digits(a, at, k, n);
     at + k

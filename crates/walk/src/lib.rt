@@ -20,6 +20,8 @@ use editions::set_taken;
 use plan::Outcome;
 use requests::END;
 use requests::Head;
+use requests::Quick;
+use requests::Request;
 use rules::Refusal;
 use table::SIZE;
 
@@ -61,7 +63,8 @@ fn closed(s: &[u8], at: usize) -> Stop
     Stop::End
 }
 
-// Walks the requests from a place on, for each its call and its line, up to the end field, a refused field or the limit (R10.7 to R10.9).
+// Walks the requests from a place on, for each its call and its line, up to the end field, a refused field or the limit (R10.7 to R10.9). Most requests are
+// read at once; any other field is judged and then decoded byte by byte, and where it is refused the walk is left from there.
 fn walk(s: &[u8], from: usize, limit: u64, t: &mut [u8], a: &mut [u8], start: usize) -> Walked
     requires { ⌜ Made (now t) × (limit ≤ 1000) × (start ≤ 64) × (64 * (limit + 2) ≤ length (now a)) ⌝ }
     ensures { λ r. ⌜ Walks limit (now (t .entry)) (now (t .exit)) (now (a .entry)) (now (a .exit)) start r (walk limit (now (s .entry)) from 0 [] (meant (now (t .entry)))) ⌝ }
@@ -73,31 +76,41 @@ fn walk(s: &[u8], from: usize, limit: u64, t: &mut [u8], a: &mut [u8], start: us
     };
     let mut why = Stop::Limit;
     'fields: while done.answered < limit {
-        match requests::head_at(s, at) {
-            Head::Refused(x) => {
-                why = Stop::Refused(x);
-                break 'fields;
+        let mut q = Request::Take;
+        let mut next = at;
+        match requests::quick_at(s, at) {
+            Quick::Whole(whole, behind) => {
+                q = whole;
+                next = behind;
             }
-            Head::Right(tag, size) => {
-                let mut value = 0;
-                let mut i = 0;
-                while i < size {
-                    let p = at + 3 + i;
-                    if p >= s.len() {
-                        why = Stop::Refused(Refusal::Cut(at));
-                        break 'fields;
-                    }
-                    value = value * 256 + wide(s[p]);
-                    i += 1;
-                }
-                at = at + 3 + size;
-                if tag == END {
-                    why = closed(s, at);
+            Quick::Other => match requests::head_at(s, at) {
+                Head::Refused(x) => {
+                    why = Stop::Refused(x);
                     break 'fields;
                 }
-                done = answers::answer(t, a, done, requests::request_of(tag, value));
-            }
+                Head::Right(tag, size) => {
+                    let mut value = 0;
+                    let mut i = 0;
+                    while i < size {
+                        let p = at + 3 + i;
+                        if p >= s.len() {
+                            why = Stop::Refused(Refusal::Cut(at));
+                            break 'fields;
+                        }
+                        value = value * 256 + wide(s[p]);
+                        i += 1;
+                    }
+                    next = at + 3 + size;
+                    if tag == END {
+                        why = closed(s, next);
+                        break 'fields;
+                    }
+                    q = requests::request_of(tag, value);
+                }
+            },
         }
+        at = next;
+        done = answers::answer(t, a, done, q);
     }
     Walked {
         answered: done.answered,

@@ -1,6 +1,5 @@
 -- `answer` meets its contract: the call, its line, and the table as `Made` as before. Assumes nothing.
 use mathlib.Core.Path.{refl, sym, subst}
-use native.Mathlib.Omega.{arith}
 use Rattle.table.specs.Means.{meant}
 use Rattle.lines.specs.Line.{Words32}
 use Rattle.requests.specs.Request.{callIs}
@@ -14,14 +13,11 @@ use Rattle.answers.proofs.answer.Tie as tie
 call-requires : tie.Need-call-requires
 call-requires c κs = reached-known _ (c .before .before .before .pre .0)
 
-in-shared-requires : tie.Need-in-shared-requires
-in-shared-requires c κs = c .before .before .before .call .ensures .encodes .room
-
-put-answer-requires : tie.Need-put-answer-requires
-put-answer-requires c κs =
-    let s = c .before .before .before .before .before .before .before .before .before in
-    let k = c .before .before .before .before .before .call in
-    (subst Words32 (sym (k .ensures .says)) (words32 (meant (s .args .t .now)) (callIs (s .args .q))), s .pre .1)
+tell-requires : tie.Need-tell-requires
+tell-requires c κs =
+    let s = c .before .before .before .before .before .before .before .before in
+    let k = c .before .before .before .before .call in
+    (k .ensures .encodes .room, subst Words32 (sym (k .ensures .says)) (words32 (meant (s .args .t .now)) (callIs (s .args .q))), s .pre .1)
 
 add-answered : tie.Need-add-answered
 add-answered c = search needs
@@ -34,17 +30,17 @@ same-length-2 c = search needs
 
 returns : tie.Need-returns
 returns c =
-    let s = c .before .before .before .before .before .before .before .before .before .before .before .before .before in
-    let k = c .before .before .before .before .before .before .before .before .before .call in
+    let s = c .before .before .before .before .before .before .before .before .before .before .before .before in
+    let k = c .before .before .before .before .before .before .before .before .call in
     let m = made-step (s .args .t .now) (k .last .0) (callIs (s .args .q)) (s .pre .0) (k .ensures .encodes) in
     record {
       made = m;
       state = k .ensures .encodes;
       rest = k .ensures .rest;
-      line = line-told (s .args .t .now) (k .last .0) (callIs (s .args .q)) (k .result) (c .before .before .before .before .before .in-shared .result) (k .ensures .encodes) (k .ensures .says) (c .before .before .before .before .before .in-shared .ensures) (c .before .before .before .put-answer .ensures);
+      line = line-told (s .args .t .now) (k .last .0) (callIs (s .args .q)) (k .result) (k .ensures .encodes) (k .ensures .says) (c .before .before .before .tell .ensures);
       count = refl;
     }
 
 pub answer-spec : {M : Type 1} → statement M
 answer-spec =
-    tie.close (tie.spec call-requires in-shared-requires put-answer-requires add-answered same-length same-length-2 returns)
+    tie.close (tie.spec call-requires tell-requires add-answered same-length same-length-2 returns)

@@ -2,24 +2,24 @@
 use Prim.Native.Nat.{ℕ, _+_, _-_, _≤_, _<_}
 use native.Mathlib.Omega.{arith}
 use mathlib.Core.Path.{_≡_, refl, sym, ap, _∙_}
+use mathlib.Core.Logic.{⊎-elim}
 use lib.ListN.{length}
 use borrow.Author.Needs.{needs}
-use Rattle.fields.specs.Bytes.{byteAt, big}
+use Rattle.fields.specs.Bytes.{byteAt}
 use Rattle.rules.specs.declared.Refusal.the-variants.{Cut}
-use Rattle.requests.specs.Request.{headIs, headAt, right, callOf, callIs, numbered, request}
-use Rattle.requests.proofs.Heads.{head-whole, head-size, head-short, item-wrong, item-cut, item-last, item-request}
-use Rattle.requests.proofs.Values.{value-is}
-use Rattle.walk.proofs.Reading.{Reading, read-none, read-more, read-fits}
+use Rattle.requests.specs.Request.{headIs, headAt, right, callIs, itemAt, request}
+use Rattle.requests.proofs.Heads.{head-whole, head-short, item-wrong, item-cut, item-last}
+use Rattle.walk.proofs.Reading.{Reading, read-none, read-more, read-fits, read-request}
 use Rattle.walk.proofs.Walking.{Stands, stands-first, stands-room, stands-next, same-area, text-most, two-lines, stops, walk-limit, walk-bad, walk-last}
 use Rattle.walk.specs.declared.Stop.the-variants.{Limit, Refused}
 use Rattle.walk.proofs.walk.Statement.{statement}
 use Rattle.walk.proofs.walk.Tie as tie
 
 abbrev Inv-loop : tie.InvT-loop
-Inv-loop s from limit t a start at done why₀ tag size value₀ i₀ why value i = Reading s at size i value × (why ≡ why₀)
+Inv-loop s from limit t a start at done why₀ next tag size value₀ i₀ why value i = Reading s at size i value × (why ≡ why₀)
 
 abbrev μ-loop : tie.MeasureT-loop
-μ-loop s from limit t a start at done why₀ tag size value₀ i₀ why value i = size - i
+μ-loop s from limit t a start at done why₀ next tag size value₀ i₀ why value i = size - i
 
 abbrev Inv-fields : tie.InvT-fields
 Inv-fields s from limit t₀ a₀ start at₀ done₀ why₀ t a at done why = Stands s from limit t₀ a₀ start t a at (done .next) (done .answered) × (why ≡ Limit) × (length t ≡ length t₀)
@@ -34,27 +34,38 @@ small : (c : tie.At-fields Inv-loop μ-loop Inv-fields μ-fields) (k : ℕ) → 
 small c k = omega (arith, c .before .before .before .shared-slice-known .given k)
 
 -- the header, taken apart
-head-is : (c : tie.After-known-told2 Inv-loop μ-loop Inv-fields μ-fields) → headAt (c .before .before .before .before .before .before .before .before .before .before .args .s .now) (c .before .before .before .before .before .before .fields .at) ≡ right (c .before .tag .given .0 .0) (c .before .tag .given .0 .1 .0)
+head-is : (c : tie.After-known-told3 Inv-loop μ-loop Inv-fields μ-fields) → headAt (c .before .before .before .before .before .before .before .before .before .before .before .before .before .args .s .now) (c .before .before .before .before .before .before .before .before .before .fields .at) ≡ right (c .before .tag .given .0 .0) (c .before .tag .given .0 .1 .0)
 head-is c = sym (c .before .before .before .head-at .ensures) ∙ ap headIs (c .before .tag .given .1)
 
 -- behind the inner loop all bytes of the value are read
-all-read : (c : tie.After-loop Inv-loop μ-loop Inv-fields μ-fields) → c .before .loop .i ≡ c .before .before .before .tag .given .0 .1 .0
-all-read c = omega (arith, c .loop-test .left, c .before .loop .inv .0 .few)
+whole : (c : tie.After-loop Inv-loop μ-loop Inv-fields μ-fields) → c .before .before .before .before .before .before .before .before .before .before .before .fields .at + 3 + c .before .before .before .tag .given .0 .1 .0 ≤ length (c .before .before .before .before .before .before .before .before .before .before .before .before .before .before .before .args .s .now)
+whole c = omega (arith, c .loop-test .left, c .before .loop .inv .0 .few, c .before .loop .inv .0 .within)
 
-whole : (c : tie.After-loop Inv-loop μ-loop Inv-fields μ-fields) → c .before .before .before .before .before .before .before .before .fields .at + 3 + c .before .before .before .tag .given .0 .1 .0 ≤ length (c .before .before .before .before .before .before .before .before .before .before .before .before .args .s .now)
-whole c = omega (arith, all-read c, c .before .loop .inv .0 .within)
+-- the request that is answered stands at the place, read at once or byte by byte
+found : (c : tie.At-match-came Inv-loop μ-loop Inv-fields μ-fields) → itemAt (c .before .before .before .before .before .before .before .before .args .s .now) (c .before .before .before .before .fields .at) ≡ request (callIs (c .match .q)) (c .match .next)
+found c =
+    ⊎-elim
+    (λ w. rw (w .4, w .5) (rw (w .1 .given .1) at (c .before .quick-at .ensures)))
+    (λ w. rw (w .11, w .12) (read-request (w .6 .inv .0) (small (c .before .before .before .before)) (w .4 .given .0 .0) (sym (w .2 .ensures) ∙ ap headIs (w .4 .given .1)) (w .7 .left) (w .8 .left) _ (w .9 .ensures)))
+    (c .match .came)
 
--- the request by the number is the request by the bytes
-call-is : (c : tie.After-request-of Inv-loop μ-loop Inv-fields μ-fields) → callOf (c .before .before .before .before .before .before .before .before .before .before .before .before .before .before .before .before .args .s .now) (c .before .before .before .before .before .before .before .tag .given .0 .0) (c .before .before .before .before .before .before .before .before .before .before .before .before .fields .at + 3) ≡ callIs (c .request-of .result)
-call-is c =
-    let l = c .before .before .before .before in
-    sym (c .request-of .ensures ∙ ap (numbered (c .before .before .before .before .before .before .before .tag .given .0 .0)) (c .before .before .before .before .before .loop .inv .0 .is ∙ ap (big (c .before .before .before .before .before .before .before .before .before .before .before .before .before .before .before .before .args .s .now) (c .before .before .before .before .before .before .before .before .before .before .before .before .fields .at + 3)) (all-read l))
-    ∙ value-is (c .before .before .before .before .before .before .before .before .before .before .before .before .before .before .before .before .args .s .now) (small (c .before .before .before .before .before .before .before .before .before .before .before .before)) (c .before .before .before .before .before .before .before .tag .given .0 .0) (c .before .before .before .before .before .before .before .before .before .before .before .before .fields .at + 3) (c .before .before .before .before .before .before .before .tag .given .0 .1 .0) (head-size _ _ _ _ (head-is (c .before .before .before .before .before .before))))
+-- nothing has stopped the walk
+goes-on : (c : tie.At-match-came Inv-loop μ-loop Inv-fields μ-fields) → c .match .why ≡ Limit
+goes-on c = ⊎-elim (λ w. w .3 ∙ c .before .before .before .before .fields .inv .1) (λ w. w .10 ∙ w .6 .inv .1 ∙ c .before .before .before .before .fields .inv .1) (c .match .came)
 
 -- ---- the needs
 
 fields-holds : tie.Need-fields-holds Inv-loop μ-loop Inv-fields μ-fields
 fields-holds c = (stands-first _ _ _ _ _ _ (c .before .before .before .pre .0), refl, refl)
+
+quick-at-requires : tie.Need-quick-at-requires Inv-loop μ-loop Inv-fields μ-fields
+quick-at-requires c κs = search needs
+
+enum-known-whole : tie.Need-enum-known-whole Inv-loop μ-loop Inv-fields μ-fields
+enum-known-whole c = search needs
+
+enum-told : tie.Need-enum-told Inv-loop μ-loop Inv-fields μ-fields
+enum-told c = search needs
 
 head-at-requires : tie.Need-head-at-requires Inv-loop μ-loop Inv-fields μ-fields
 head-at-requires c κs = search needs
@@ -75,7 +86,7 @@ add-p-2 : tie.Need-add-p-2 Inv-loop μ-loop Inv-fields μ-fields
 add-p-2 c = omega (arith, c .before .loop .inv .0 .within)
 
 mul-value : tie.Need-mul-value Inv-loop μ-loop Inv-fields μ-fields
-mul-value c = omega (arith, read-fits (c .before .before .loop .inv .0) (small (c .before .before .before .before .before .before .before .before .before)) (c .before .loop-test .taken))
+mul-value c = omega (arith, read-fits (c .before .before .loop .inv .0) (small (c .before .before .before .before .before .before .before .before .before .before .before .before)) (c .before .loop-test .taken))
 
 shared-slice-read-wide : tie.Need-shared-slice-read-wide Inv-loop μ-loop Inv-fields μ-fields
 shared-slice-read-wide c = omega (arith, c .before .if2 .left)
@@ -84,7 +95,7 @@ wide-requires : tie.Need-wide-requires Inv-loop μ-loop Inv-fields μ-fields
 wide-requires c κs = search needs
 
 add-value : tie.Need-add-value Inv-loop μ-loop Inv-fields μ-fields
-add-value c = omega (arith, read-fits (c .before .before .before .before .loop .inv .0) (small (c .before .before .before .before .before .before .before .before .before .before .before)) (c .before .before .before .loop-test .taken), c .wide .ensures .1)
+add-value c = omega (arith, read-fits (c .before .before .before .before .loop .inv .0) (small (c .before .before .before .before .before .before .before .before .before .before .before .before .before .before)) (c .before .before .before .loop-test .taken), c .wide .ensures .1)
 
 add-i : tie.Need-add-i Inv-loop μ-loop Inv-fields μ-fields
 add-i c = omega (arith, c .before .before .before .before .loop .inv .0 .within)
@@ -95,11 +106,11 @@ loop-less c = omega (arith, c .before .before .before .loop-test .taken)
 loop-again : tie.Need-loop-again Inv-loop μ-loop Inv-fields μ-fields
 loop-again c = (read-more (c .before .before .before .before .loop .inv .0) (c .before .before .before .loop-test .taken) (c .before .before .if2 .left) (c .wide .result) (c .wide .ensures .0), c .before .before .before .before .loop .inv .1)
 
-add-at : tie.Need-add-at Inv-loop μ-loop Inv-fields μ-fields
-add-at c = omega (arith, whole c)
+add-next : tie.Need-add-next Inv-loop μ-loop Inv-fields μ-fields
+add-next c = omega (arith, whole c)
 
-add-at-2 : tie.Need-add-at-2 Inv-loop μ-loop Inv-fields μ-fields
-add-at-2 c = omega (arith, whole c)
+add-next-2 : tie.Need-add-next-2 Inv-loop μ-loop Inv-fields μ-fields
+add-next-2 c = omega (arith, whole c)
 
 closed-requires : tie.Need-closed-requires Inv-loop μ-loop Inv-fields μ-fields
 closed-requires c κs = search needs
@@ -109,20 +120,18 @@ request-of-requires c κs = search needs
 
 answer-requires : tie.Need-answer-requires Inv-loop μ-loop Inv-fields μ-fields
 answer-requires c κs =
-    let f = c .before .before .before .before .before .before .before .before .before .before .before .before .fields in
-    let s = c .before .before .before .before .before .before .before .before .before .before .before .before .before .before .before .before in
-    let e = c .before .before .before .before .before .before .before .before .before .before .if1 .taken in
+    let f = c .before .before .before .before .before .before .fields in
+    let s = c .before .before .before .before .before .before .before .before .before .before in
+    let e = c .before .before .before .before .if1 .taken in
     (f .inv .0 .made, stands-room (f .inv .0) (s .pre .2) e (s .pre .3), omega (arith, e, s .pre .1))
 
 fields-less : tie.Need-fields-less Inv-loop μ-loop Inv-fields μ-fields
-fields-less c = omega (arith, c .before .before .before .before .before .before .before .before .before .before .before .before .before .before .before .if1 .taken)
+fields-less c = omega (arith, c .before .before .before .before .before .before .before .before .before .if1 .taken)
 
 fields-again : tie.Need-fields-again Inv-loop μ-loop Inv-fields μ-fields
 fields-again c =
-    let f = c .before .before .before .before .before .before .before .before .before .before .before .before .before .before .before .before .before .fields in
-    let e = c .before .before .before .before .before .before .before .before .before .before .before .before .before .before .before .if1 .taken in
-    let r = item-request _ _ _ _ (head-is (c .before .before .before .before .before .before .before .before .before .before .before)) (whole (c .before .before .before .before .before .before .before .before .before)) (c .before .before .before .before .before .before .before .before .if3 .left) ∙ ap (λ x. request x (f .at + 3 + c .before .before .before .before .before .before .before .before .before .before .before .before .tag .given .0 .1 .0)) (call-is (c .before .before .before .before .before)) in
-    (stands-next (f .inv .0) e _ _ r (c .before .before .before .before .answer .ensures), c .before .before .before .before .before .before .before .before .before .before .loop .inv .1 ∙ f .inv .1, c .before .before .before .before .answer .kept .0 ∙ f .inv .2)
+    let f = c .before .before .before .before .before .before .before .before .before .before .before .fields in
+    (stands-next (f .inv .0) (c .before .before .before .before .before .before .before .before .before .if1 .taken) _ _ (found (c .before .before .before .before .before .before .before)) (c .before .before .before .before .answer .ensures), goes-on (c .before .before .before .before .before .before .before), c .before .before .before .before .answer .kept .0 ∙ f .inv .2)
 
 same-length : tie.Need-same-length Inv-loop μ-loop Inv-fields μ-fields
 same-length c = c .before .before .fields .inv .2
@@ -137,46 +146,46 @@ returns c =
     rw (f .inv .1) (stops (f .inv .0) Limit (walk-limit _ _ _ _ _ _ (c .if1 .left)) (omega (arith, text-most (f .inv .0) (s .pre .2), f .inv .0 .few)))
 
 same-length-3 : tie.Need-same-length-3 Inv-loop μ-loop Inv-fields μ-fields
-same-length-3 c = c .before .before .before .before .before .before .fields .inv .2
+same-length-3 c = c .before .before .before .before .before .before .before .before .before .fields .inv .2
 
 same-length-4 : tie.Need-same-length-4 Inv-loop μ-loop Inv-fields μ-fields
-same-length-4 c = same-area (c .before .before .before .before .before .before .fields .inv .0)
+same-length-4 c = same-area (c .before .before .before .before .before .before .before .before .before .fields .inv .0)
 
 returns-2 : tie.Need-returns-2 Inv-loop μ-loop Inv-fields μ-fields
 returns-2 c =
-    let f = c .before .before .before .before .before .before .fields in
-    let s = c .before .before .before .before .before .before .before .before .before .before in
-    let e = c .before .before .before .before .if1 .taken in
+    let f = c .before .before .before .before .before .before .before .before .before .fields in
+    let s = c .before .before .before .before .before .before .before .before .before .before .before .before .before in
+    let e = c .before .before .before .before .before .before .before .if1 .taken in
     stops (f .inv .0) (Refused (c .before .x .given .0 .0))
     (walk-bad _ _ _ _ _ _ e _ _ (item-wrong _ _ _ _ (sym (c .before .before .before .head-at .ensures) ∙ ap headIs (c .before .x .given .1))))
     (omega (arith, text-most (f .inv .0) (s .pre .2), e))
 
 same-length-5 : tie.Need-same-length-5 Inv-loop μ-loop Inv-fields μ-fields
-same-length-5 c = c .before .before .before .before .before .before .before .before .before .fields .inv .2
+same-length-5 c = c .before .before .before .before .before .before .before .before .before .before .before .before .fields .inv .2
 
 same-length-6 : tie.Need-same-length-6 Inv-loop μ-loop Inv-fields μ-fields
-same-length-6 c = same-area (c .before .before .before .before .before .before .before .before .before .fields .inv .0)
+same-length-6 c = same-area (c .before .before .before .before .before .before .before .before .before .before .before .before .fields .inv .0)
 
 returns-3 : tie.Need-returns-3 Inv-loop μ-loop Inv-fields μ-fields
 returns-3 c =
-    let f = c .before .before .before .before .before .before .before .before .before .fields in
-    let s = c .before .before .before .before .before .before .before .before .before .before .before .before .before in
-    let e = c .before .before .before .before .before .before .before .if1 .taken in
+    let f = c .before .before .before .before .before .before .before .before .before .before .before .before .fields in
+    let s = c .before .before .before .before .before .before .before .before .before .before .before .before .before .before .before .before in
+    let e = c .before .before .before .before .before .before .before .before .before .before .if1 .taken in
     stops (f .inv .0) (Refused (Cut (f .at)))
     (walk-bad _ _ _ _ _ _ e _ _ (item-cut _ _ _ _ (head-is (c .before .before .before)) (omega (arith, c .if2 .taken, c .before .loop-test .taken))))
     (omega (arith, text-most (f .inv .0) (s .pre .2), e))
 
 same-length-7 : tie.Need-same-length-7 Inv-loop μ-loop Inv-fields μ-fields
-same-length-7 c = c .before .before .before .before .before .before .before .before .before .before .fields .inv .2
+same-length-7 c = c .before .before .before .before .before .before .before .before .before .before .before .before .before .fields .inv .2
 
 same-length-8 : tie.Need-same-length-8 Inv-loop μ-loop Inv-fields μ-fields
-same-length-8 c = same-area (c .before .before .before .before .before .before .before .before .before .before .fields .inv .0)
+same-length-8 c = same-area (c .before .before .before .before .before .before .before .before .before .before .before .before .before .fields .inv .0)
 
 returns-4 : tie.Need-returns-4 Inv-loop μ-loop Inv-fields μ-fields
 returns-4 c =
-    let f = c .before .before .before .before .before .before .before .before .before .before .fields in
-    let s = c .before .before .before .before .before .before .before .before .before .before .before .before .before .before in
-    let e = c .before .before .before .before .before .before .before .before .if1 .taken in
+    let f = c .before .before .before .before .before .before .before .before .before .before .before .before .before .fields in
+    let s = c .before .before .before .before .before .before .before .before .before .before .before .before .before .before .before .before .before in
+    let e = c .before .before .before .before .before .before .before .before .before .before .before .if1 .taken in
     stops (f .inv .0) (c .closed .result)
     (rw (c .closed .ensures) (walk-last _ _ _ _ _ _ e _ (item-last _ _ _ _ (head-is (c .before .before .before .before)) (whole (c .before .before)) (c .before .if3 .taken))))
     (omega (arith, text-most (f .inv .0) (s .pre .2), e, two-lines (c .closed .result)))
@@ -190,6 +199,9 @@ walk-spec =
     Inv-fields
     μ-fields
     fields-holds
+    quick-at-requires
+    enum-known-whole
+    enum-told
     head-at-requires
     enum-known-x
     enum-known-tag
@@ -203,8 +215,8 @@ walk-spec =
     add-i
     loop-less
     loop-again
-    add-at
-    add-at-2
+    add-next
+    add-next-2
     closed-requires
     request-of-requires
     answer-requires
