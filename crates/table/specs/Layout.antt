@@ -13,6 +13,7 @@
 --   depthWord        the word of a lane's room, which tells this layout from those before it
 --   framingWord      the word of h, the line's framing bytes
 --   rowOf, rowAt     a lane's first three words, taken apart, with the line's framing bytes
+--   pacedWord        a setting word with another c and group; putPace: the cells with lane k's setting word so
 --   roundAt          a shared lane's fourth word: the round's number (crate turns)
 --   placeCount       the places of all lanes; halfCount: with the trains' numbers, which lie behind their marks as marks would
 --   placeOf          the number of lane k's place i among all places, i counted on past the ring's end
@@ -135,6 +136,13 @@ rowAt w k = rowOf (getD w framingWord 0) (getD w (laneWord k) 0) (getD w (laneWo
 -- the words with lane k's clock and ring changed; the setting stays
 unfoldable pub putRow : List ℕ → ℕ → LaneRow → List ℕ
 putRow w k l = set (set w (laneWord k + 1) (l .time .0)) (laneWord k + 2) (l .head + laneDepth * l .count)
+
+-- the rest of the word stays
+abbrev pub pacedWord : ℕ → ℕ → ℕ → ℕ
+pacedWord setting c i = setting % 2 ^ 32 + 2 ^ 32 * i + 2 ^ 40 * c + 2 ^ 63 * (setting / 2 ^ 63)
+
+abbrev pub putPace : List ℕ → ℕ → ℕ → ℕ → List ℕ
+putPace w k c i = set w (laneWord k) (pacedWord (getD w (laneWord k) 0) c i)
 
 abbrev pub roundWord : ℕ → ℕ
 roundWord k = laneWord k + 3
