@@ -12,13 +12,11 @@ use lib.ListN.{length, getD}
 use Rattle.words.specs.Words.{wordAt}
 use Rattle.words.specs.Runs.{tab, tabFrom}
 use Rattle.words.proofs.Runs.{getD-tab}
-use Rattle.units.specs.Numbers.{roundDown}
 use Rattle.rounds.specs.Round as round
 use Rattle.waiting.specs.Waiting.{Waiting, first, held, Lengths, GoodWaiting}
 use Rattle.waiting.proofs.Laws.{held-hand, held-none, held-most, good-nothing}
 use Rattle.rules.specs.State.{Rec, Setting, Lane, firstOf, slot, group, laneDepth}
 use Rattle.rules.specs.Calls as rules
-use Rattle.rules.specs.Setup.{margin}
 use Rattle.rules.specs.Good.{Times}
 use Rattle.digits.specs.Digits.{digit}
 use Rattle.digits.specs.Under.{AllUnder, Clear, Gathered}

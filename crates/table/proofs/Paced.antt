@@ -1,18 +1,18 @@
 -- A store of c and group: the rest of the row stays, and while the lane is idle the state and what is stored beside it. Assumes nothing.
-use mathlib.Core.Path.{_≡_, refl, sym, ap, subst, _∙_}
+use mathlib.Core.Path.{_≡_, sym, ap, subst, _∙_}
 use mathlib.Core.Logic.{⊎-elim}
 use mathlib.Core.Bool.{true}
-use Prim.Native.Nat.{ℕ, _+_, _*_, _/_, _%_, _^_, _≤_, _<_}
+use Prim.Native.Nat.{ℕ, _+_, _*_, _/_, _%_, _^_, _<_}
 use mathlib.Core.List.{List}
 use native.Mathlib.Omega.{arith}
-use lib.ListN.{length, getD, set}
+use lib.ListN.{length, getD}
 use lib.Seq.{getD-set-same, getD-set-other}
 use Rattle.words.specs.Runs.{tab}
 use Rattle.words.proofs.Runs.{eq-or-ne, tab-ext}
 use Rattle.slot_lists.specs.Lists.{listAt}
 use Rattle.filing.specs.Filing.{inARow}
 use Rattle.table.specs.Layout.{CELLS, Now, cells, presentWord, depthWord, framingWord, laneWord, roundWord, pacedWord, putPace, rowAt}
-use Rattle.table.specs.Means.{presentAt, waitingOf, rowLane, laneOf, stateOf, meant, RowAgrees, Housed, Beside, Leaves}
+use Rattle.table.specs.Means.{presentAt, waitingOf, rowLane, laneOf, stateOf, meant, RowAgrees, Beside, Leaves}
 use Rattle.table.specs.declared.LaneRow.{LaneRow}
 use Rattle.table.proofs.Stores.{length-cells}
 use Rattle.table.proofs.Footprint.{SameLane, present-kept, waiting-kept, lane-kept, agrees-kept, lane-housed}

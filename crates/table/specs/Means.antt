@@ -11,7 +11,7 @@
 --   RowPaced    c and the group that stand in a lane's row are those of its setting; Paces: so are these two numbers
 --   PlacesFit   every place of a lane holds a length within the lane's numbers
 --   TrainsFit   the row of a shared lane counts the records of all trains, and its round's number has no bit that means nothing
---   Housed      all three, of a lane that holds records: while it is idle these words mean nothing
+--   Housed      c and group, places and trains of a lane that holds records: while it is idle these words mean nothing
 --   Beside      R6.10: what is stored beside the state: the depth; each present lane's setting and h within the numbers; how holding lanes are housed
 --   Listed      the slot lists and the groups' starts are those of the lanes
 --   Sound       what the inner functions rest on, in the middle of a call too

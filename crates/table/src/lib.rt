@@ -171,7 +171,11 @@ pub fn set_pace(t: &mut [u8], k: usize, p: Pace)
     let setting = cell(t, base);
     let kept = setting % GROUP_UNIT;
     let top = SHARED_UNIT * (setting / SHARED_UNIT);
-    set_cell(t, base, kept + GROUP_UNIT * (p.group as u64) + RATE_UNIT * p.rate.0 + top);
+    set_cell(
+        t,
+        base,
+        kept + GROUP_UNIT * (p.group as u64) + RATE_UNIT * p.rate.0 + top,
+    );
 }
 
 // Stores lane `k`'s ring alone.

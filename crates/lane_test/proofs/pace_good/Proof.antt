@@ -1,5 +1,4 @@
 use Rattle.lane_test.proofs.Setting.{says-yes, says-no}
-use borrow.Author.Needs.{needs}
 use Rattle.lane_test.proofs.pace_good.Statement.{statement}
 use Rattle.lane_test.proofs.pace_good.Tie as tie
 

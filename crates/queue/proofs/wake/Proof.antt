@@ -1,5 +1,3 @@
-use native.Mathlib.Omega.{arith}
-use Rattle.rules.specs.State.{Rec}
 use Rattle.table.specs.Means.{meant}
 use Rattle.queue.specs.Queue.{waiting}
 use Rattle.queue.proofs.Pacing.{Wakes, row-numbers, paced-here, sound-here, wakes-here, wake-whole, wake-group}
@@ -31,10 +29,16 @@ begin-requires c κs =
     let set = c .before .before .before .set-pace in
     let p = c .before .before .before .before .before .pace-of in
     let r = c .before .before .before .before .before .before .row in
-    let after = wakes-here t k x e (q .0) (q .1) wakes (set .last .0) (r .result) (r .ensures .0) (p .result) (p .ensures .0) (p .ensures .1) (p .ensures .3) (set .kept .0) (set .ensures) in
-    (sound-here t k x e (q .0) (q .1) wakes (set .last .0) (r .result) (r .ensures .0) (p .result) (p .ensures .0) (p .ensures .1) (p .ensures .3) (set .kept .0) (set .ensures),
-     q .1, after .good, after .enters, after .weight, after .idle, after .start,
-     paced-here t k x e (q .0) (q .1) wakes (set .last .0) (r .result) (r .ensures .0) (p .result) (p .ensures .0) (p .ensures .1) (p .ensures .3) (set .kept .0) (set .ensures))
+    let after = wakes-here t k x e (q .0) (q .1) wakes (set .last .0) (r .result) (r .ensures .0) (p .result) (p .ensures .0) (p .ensures .1) (p .ensures .3) (set .kept .0) (set .ensures) in (
+      sound-here t k x e (q .0) (q .1) wakes (set .last .0) (r .result) (r .ensures .0) (p .result) (p .ensures .0) (p .ensures .1) (p .ensures .3) (set .kept .0) (set .ensures),
+      q .1,
+      after .good,
+      after .enters,
+      after .weight,
+      after .idle,
+      after .start,
+      paced-here t k x e (q .0) (q .1) wakes (set .last .0) (r .result) (r .ensures .0) (p .result) (p .ensures .0) (p .ensures .1) (p .ensures .3) (set .kept .0) (set .ensures),
+    )
 
 same-length : tie.Need-same-length
 same-length c = search needs
@@ -51,10 +55,12 @@ returns c =
     let wakes : Wakes (meant t) k x e = record { good = q .2; enters = q .3; weight = q .4; idle = q .5; start = q .6 } in
     let set = nine .before .before .before .set-pace in
     let p = nine .before .before .before .before .before .pace-of in
-    let r = nine .before .before .before .before .before .before .row in
-    (wake-whole t k x e (q .0) (q .1) wakes (set .last .0) (r .result) (r .ensures .0) (p .result) (p .ensures .0) (p .ensures .1) (p .ensures .3) (set .kept .0) (set .ensures) _ (c .before .before .begin .ensures),
-     wake-group t k x e (q .0) (q .1) wakes (set .last .0) (r .result) (r .ensures .0) (p .result) (p .ensures .0) (p .ensures .1) (p .ensures .3) (set .kept .0) (set .ensures),
-     p .ensures .2, p .ensures .3)
+    let r = nine .before .before .before .before .before .before .row in (
+      wake-whole t k x e (q .0) (q .1) wakes (set .last .0) (r .result) (r .ensures .0) (p .result) (p .ensures .0) (p .ensures .1) (p .ensures .3) (set .kept .0) (set .ensures) _ (c .before .before .begin .ensures),
+      wake-group t k x e (q .0) (q .1) wakes (set .last .0) (r .result) (r .ensures .0) (p .result) (p .ensures .0) (p .ensures .1) (p .ensures .3) (set .kept .0) (set .ensures),
+      p .ensures .2,
+      p .ensures .3,
+    )
 
 pub wake-spec : {M : Type 1} → statement M
 wake-spec =

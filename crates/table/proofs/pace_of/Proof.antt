@@ -1,8 +1,7 @@
-use mathlib.Core.Path.{_≡_, ap, _∙_}
-use Prim.Native.Nat.{ℕ, _*_, _≤_}
+use mathlib.Core.Path.{ap, _∙_}
+use Prim.Native.Nat.{ℕ, _*_}
 use native.Mathlib.Nat.{mul-le-mul}
 use native.Mathlib.Omega.{arith}
-use Rattle.rules.specs.State.{group}
 use Rattle.table.specs.Means.{givenOf}
 use Rattle.table.proofs.Agrees.{setting-group, group-worked}
 use borrow.Author.Needs.{needs}

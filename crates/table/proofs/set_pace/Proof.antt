@@ -1,5 +1,5 @@
-use mathlib.Core.Path.{_≡_, ap, subst}
-use Prim.Native.Nat.{ℕ, _+_, _*_, _^_}
+use mathlib.Core.Path.{subst}
+use Prim.Native.Nat.{ℕ}
 use lib.ListN.{set}
 use Rattle.table.specs.Layout.{Now, cells, laneWord, pacedWord}
 use borrow.Author.Needs.{needs}
