@@ -165,7 +165,15 @@ fn the_table_s_word() {
     };
     // 64 + h to 128 bytes of longest 64: the same group.
     assert_eq!((broken(1), broken(64)), (vec![], vec![]));
-    assert_eq!(broken(0), [Clause::Group]);
+    // 64 alone: another, of which an idle lane's word says nothing.
+    assert_eq!(broken(0), []);
+    let mut held = state.clone();
+    held.put(9, 1, 64).expect("a record");
+    let mut filled = bytes.clone();
+    layout::write(&held, &mut filled);
+    assert_eq!(layout::read(&filled).broken, []);
+    layout::set_word(&mut filled, 4, 0);
+    assert!(layout::read(&filled).broken.contains(&Clause::Group));
     assert_eq!(broken(65), [Clause::Framing]);
     for bit in 7..64 {
         assert_eq!(broken(38 | 1 << bit), [Clause::Framing], "bit {bit}");

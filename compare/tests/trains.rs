@@ -322,8 +322,11 @@ fn each_condition_on_both_sides() {
 
 #[test]
 fn a_setting_has_twenty_three_bits_of_c() {
-    let lanes = fresh_shared(&[(0, 1, 1_500)]);
+    let mut lanes = fresh_shared(&[(0, 1, 1_500)]);
     let mut bytes = vec![0; layout::TABLE_SIZE];
+    layout::write(&lanes, &mut bytes);
+    assert_eq!(layout::word(&bytes, 80) >> 40, 1 << 23, "none while the lane is idle");
+    lanes.put(0, 1, 64).expect("a record");
     layout::write(&lanes, &mut bytes);
     assert_eq!(layout::word(&bytes, 80) >> 40, 1 << 23 | 1 << 20);
     assert_eq!(layout::read(&bytes).good().unwrap(), lanes);

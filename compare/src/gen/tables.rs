@@ -371,9 +371,17 @@ fn framing_of(bytes: &[u8]) -> u8 {
     word(bytes, FRAMING_WORD).min(u64::from(*FRAMING.end())) as u8
 }
 
+/// A lane's group by its setting: what stands in an idle lane's word means nothing.
+fn group_of(bytes: &[u8], lane: u8) -> u64 {
+    let numbers = word(bytes, setting(lane));
+    let weight = ((numbers >> 16) as u16).max(1);
+    let plan = LanePlan { number: lane, weight, longest: numbers as u16, shared: false };
+    u64::from(Lane::idle(plan, framing_of(bytes), 0).group) & 31
+}
+
 /// A lane's S or F at an edge: V + 2s, the least R, V, or a slot further or back.
 fn clock_word_near(rng: &mut Rng, bytes: &[u8], lane: u8) -> u64 {
-    let slot = 1_u64 << (word(bytes, setting(lane)) >> 32 & 31);
+    let slot = 1_u64 << group_of(bytes, lane);
     let (clock, value) = (word(bytes, CLOCK), word(bytes, clock_word(lane)));
     let ahead = clock.wrapping_add(2 * slot);
     let behind = clock.wrapping_sub(2 * slot).wrapping_sub(margin(framing_of(bytes)) as u64);

@@ -16,6 +16,8 @@ pub struct Form {
     pub depth_word: Option<usize>,
     /// Whether a setting's top bit says that trains share the lane; else it is c's.
     pub trains: bool,
+    /// Whether c and the group of an idle lane are those of its setting too; else they mean nothing in its word.
+    pub idle_paced: bool,
     /// Whether there is a page's part.
     pub pages: bool,
     /// V of a good table is below this.
@@ -132,9 +134,11 @@ impl Form {
         let turn = order.iter().position(|lane| *lane == number);
         let (time, since) = (i128::from(word(bytes, clock_word(number))), turn.map_or(0, |at| at as u64));
         let lane = Lane::of(plan, framing, waiting, time, since);
-        let units_per_byte = if self.trains { (setting & !SHARED_BIT) >> 40 } else { setting >> 40 };
-        reading.breaks(Clause::UnitsPerByte, i128::from(units_per_byte) != lane.units_per_byte);
-        reading.breaks(Clause::Group, setting >> 32 & 0xFF != u64::from(lane.group));
+        if self.idle_paced || count > 0 {
+            let (group, units_per_byte) = self.pace(setting);
+            reading.breaks(Clause::UnitsPerByte, i128::from(units_per_byte) != lane.units_per_byte);
+            reading.breaks(Clause::Group, group != u64::from(lane.group));
+        }
         Some(lane)
     }
 
@@ -154,15 +158,22 @@ impl Form {
         }
         for lane in &state.lanes {
             let (at, plan) = (lane.plan.number, lane.plan);
-            let units = number(lane.units_per_byte);
-            set_word(
-                bytes,
-                setting(at),
-                setting_of(plan.longest.into(), plan.weight.into(), lane.group.into(), units, plan.shared),
-            );
+            let (group, units) = if self.idle_paced || lane.holds() {
+                (lane.group.into(), number(lane.units_per_byte))
+            } else {
+                self.pace(word(bytes, setting(at)))
+            };
+            let numbers = setting_of(plan.longest.into(), plan.weight.into(), group, units, plan.shared);
+            set_word(bytes, setting(at), numbers);
             set_word(bytes, clock_word(at), number(if lane.holds() { lane.start } else { lane.finish }));
             self.write_queue(lane, bytes);
         }
+    }
+
+    /// The group and c that stand in a setting word.
+    fn pace(&self, setting: u64) -> (u64, u64) {
+        let units_per_byte = if self.trains { (setting & !SHARED_BIT) >> 40 } else { setting >> 40 };
+        (setting >> 32 & 0xFF, units_per_byte)
     }
 
     fn write_queue(&self, lane: &Lane, bytes: &mut [u8]) {

@@ -51,6 +51,7 @@ pub const NOW: Form = Form {
     depth: DEPTH as u64,
     depth_word: Some(DEPTH_WORD),
     trains: true,
+    idle_paced: false,
     pages: true,
     clock_end: CLOCK_END,
     record: |bytes, lane, place| {

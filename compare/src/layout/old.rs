@@ -12,6 +12,7 @@ pub const THEN: Form = Form {
     depth: OLD_DEPTH as u64,
     depth_word: None,
     trains: false,
+    idle_paced: true,
     pages: false,
     clock_end: OLD_CLOCK_END,
     record: |bytes, lane, place| {

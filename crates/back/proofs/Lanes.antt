@@ -20,6 +20,7 @@ use Rattle.table.specs.declared.LaneRow.{LaneRow}
 use Rattle.table.proofs.Stores.{length-cells, behind-refl}
 use Rattle.table.proofs.Footprint.{Outside, lane-is, present-kept, waiting-kept, housed-kept}
 use Rattle.table.proofs.Leave.{leave-lane, leaves-then}
+use Rattle.table.proofs.Agrees.{paced-retimed}
 use Rattle.table.proofs.Rows.{retimed, lane-present, weight-present}
 use Rattle.table.proofs.Timed.{timed-waiting, timed-start}
 use Rattle.fresh.proofs.Leaves.{lanes-size, named-weight, unnamed-lane}
@@ -76,7 +77,7 @@ module _ (w : List ℕ) (k x : ℕ) (len : length w ≡ CELLS) (hk : k < 64) whe
       let held : 0 < rowAt w k .count = omega (arith, n, ap (λ (l : LaneRow). l .count) row-clock) in
       let before = b .housed k hk (sym (present-kept w u k (other presentWord (omega arith))) ∙ p) held in
       let h = housed-kept w u k (λ j a b. other j (omega arith)) (λ j a b. other j (omega arith)) (λ j a b. other j (omega arith)) (other (roundWord k) (omega arith)) (rowAt w k) before in
-      rw row-clock (record { places = h .places; trains = λ e. record { counted = h .trains e .counted; ordered = h .trains e .ordered } })
+      rw row-clock (record { paced = paced-retimed (rowAt w k) x (rowAt w k .head) (rowAt w k .count) (h .paced); places = h .places; trains = λ e. record { counted = h .trains e .counted; ordered = h .trains e .ordered } })
 
 pub lower-leaves : (t t′ : List ℕ) (k d y x : ℕ) → k < 64 → 0 < laneAt (meant t) k .given .weight → NotBelow d (laneAt (meant t) k) → y ≡ getD (cells t) (laneWord k + 1) 0 → x ≡ y - d
     → Now t t′ (set (cells t) (laneWord k + 1) x) → Leaves t t′ (withLane (meant t) k (lowered d (laneAt (meant t) k)))

@@ -33,6 +33,41 @@ pub fn idles() {
     base::rest(b"idle F at V + 2s", base::LANE_0 + base::TIME, 8388608);
 }
 
+// Lane 0 is idle with this setting and F: the group that stands in its word means nothing, and the slot is that of its own.
+fn idle_with(name: &[u8], setting: u64, f: u64) {
+    base::rest_two(name, base::LANE_0, setting, base::LANE_0 + base::TIME, f);
+}
+
+pub fn idle_slots() {
+    let bare = base::setting(512, 1500, 0, 0);
+    idle_with(
+        b"no c and no group, idle F just below V + 2s",
+        bare,
+        8388607,
+    );
+    idle_with(b"no c and no group, idle F at V + 2s", bare, 8388608);
+    idle_with(
+        b"group one more, idle F at V + 2s",
+        base::setting(512, 1500, 23, 2048),
+        8388608,
+    );
+    let least = base::setting(512, 64, 0, 0);
+    idle_with(b"longest 64, idle F just below V + 2s", least, 262143);
+    idle_with(b"longest 64, idle F at V + 2s", least, 262144);
+}
+
+// Lane 0 alone, with the whole weight and the lowest group: its two slots are the fewest of all.
+pub fn lowest_slots() {
+    let mut t = [0u8; base::SIZE];
+    base::idle(&mut t);
+    base::put(&mut t, base::PRESENT, 1);
+    base::put(&mut t, base::LANE_0, base::setting(1024, 64, 0, 0));
+    base::put(&mut t, base::LANE_0 + base::TIME, 131071);
+    base::say(b"group 16, idle F just below V + 2s", &t);
+    base::put(&mut t, base::LANE_0 + base::TIME, 131072);
+    base::say(b"group 16, idle F at V + 2s", &t);
+}
+
 // Lane 0 has its S a slot behind V; lane 1 too, or not.
 pub fn eligible() {
     let mut t = [0u8; base::SIZE];
@@ -53,28 +88,23 @@ pub fn framings() {
     base::one(b"framing's highest bit", base::FRAMING, 9223372036854775808);
 }
 
+// Lane 1 holds a record of 64 bytes, its longest, with group `g` and its list there; `groups` is the word of the groups that have lanes.
+fn short(name: &[u8], g: usize, groups: u64, framing: u64) {
+    let mut t = [0u8; base::SIZE];
+    base::base(&mut t);
+    base::put(&mut t, base::LANE_1, base::setting(256, 64, g as u64, 4096));
+    base::length(&mut t, 1, 0, 64);
+    base::put(&mut t, base::FRAMING, framing);
+    base::put(&mut t, base::GROUPS, groups);
+    base::group(&mut t, g, 0, 1);
+    base::alone(&mut t, g, 0, 1);
+    base::say(name, &t);
+}
+
 pub fn framed() {
-    base::rest_two(
-        b"group of the longest, framing 0",
-        base::LANE_1,
-        base::setting(256, 64, 18, 4096),
-        base::FRAMING,
-        0,
-    );
-    base::rest_two(
-        b"group of the longest, framing 1",
-        base::LANE_1,
-        base::setting(256, 64, 18, 4096),
-        base::FRAMING,
-        1,
-    );
-    base::rest_two(
-        b"group of the longest and framing 1",
-        base::LANE_1,
-        base::setting(256, 64, 19, 4096),
-        base::FRAMING,
-        1,
-    );
+    short(b"group of the longest, framing 0", 18, 4456448, 0);
+    short(b"group of the longest, framing 1", 18, 4456448, 1);
+    short(b"group of the longest and framing 1", 19, 4718592, 1);
     base::two(
         b"V at R's edge, framing 64",
         base::CLOCK,

@@ -77,6 +77,30 @@ pub fn rates() {
     together(b"group one less", base::setting(256, 1500, 22, 4096));
 }
 
+// While a lane is idle, c and group mean nothing.
+pub fn rates_unread() {
+    base::rest(
+        b"an idle lane's c one more",
+        base::LANE_1,
+        base::setting(256, 1500, 23, 4097),
+    );
+    base::rest(
+        b"an idle lane's group one more",
+        base::LANE_1,
+        base::setting(256, 1500, 24, 4096),
+    );
+    base::rest(
+        b"an idle lane with no c and no group",
+        base::LANE_1,
+        base::setting(256, 1500, 0, 0),
+    );
+    base::rest(
+        b"an idle lane of weight 1025, no c and no group",
+        base::LANE_1,
+        base::setting(1025, 1500, 0, 0),
+    );
+}
+
 pub fn present() {
     base::one(b"lane present, words 0", base::PRESENT, 7);
     base::rest(b"no lane", base::PRESENT, 0);

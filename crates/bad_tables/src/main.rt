@@ -13,6 +13,7 @@ fn main() {
     lanes::settings();
     lanes::sums();
     lanes::rates();
+    lanes::rates_unread();
     lanes::present();
     lanes::depths();
     lanes::lengths();
@@ -23,6 +24,8 @@ fn main() {
     clock::edges();
     clock::starts();
     clock::idles();
+    clock::idle_slots();
+    clock::lowest_slots();
     clock::eligible();
     clock::framings();
     clock::framed();

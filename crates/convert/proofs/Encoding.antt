@@ -36,8 +36,9 @@ module _ (old t : List ℕ) (g : OldTable old) (room : Room t) (o : Over old t 6
           depth = o .carried .depth;
           housed = λ k h p some. o .lanes k h .housed p some;
           rows = λ k h p.
+              let here = sym (present-kept (cells old) (cells t) k (o .carried .single presentWord (omega arith) (omega arith))) ∙ p in
               agrees-over (cells old) (cells t) k (o .carried .single framingWord (omega arith) (omega arith)) (o .carried .settings k h)
-              (g .agrees .rows k h (sym (present-kept (cells old) (cells t) k (o .carried .single presentWord (omega arith) (omega arith))) ∙ p));
+              (g .agrees .rows k h here) (g .agrees .paced k h here);
         };
         listed = record {
           solid = solid-same old t (o .carried .lists) (g .agrees .solid);

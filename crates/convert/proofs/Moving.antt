@@ -15,10 +15,11 @@ use Rattle.rules.specs.State.{Setting, laneDepth}
 use Rattle.rules.specs.Older.{oldDepth}
 use Rattle.parts.specs.Parts.{rowsFrom}
 use Rattle.table.specs.Layout.{Behind, Now, cells, presentWord, framingWord, laneWord, rowAt, putRow}
-use Rattle.table.specs.Means.{presentAt, ringOf, givenOf, waitingOf, timed, laneOf, RowAgrees, PlacesFit}
+use Rattle.table.specs.Means.{presentAt, ringOf, givenOf, waitingOf, timed, laneOf, RowAgrees, RowPaced, PlacesFit}
 use Rattle.table.specs.declared.LaneRow.{LaneRow}
 use Rattle.table.proofs.Stores.{length-cells, behind-then}
 use Rattle.table.proofs.Footprint.{present-kept}
+use Rattle.table.proofs.Agrees.{paced-retimed}
 use Rattle.table.proofs.Rows.{retimed, row-put, lane-put, entry-put, waiting-plain}
 use Rattle.old_table.specs.Old.{oldRowAt, oldRing, oldQueue, oldLane, OldTable}
 use Rattle.old_table.proofs.Reading.{old-present}
@@ -46,13 +47,13 @@ row-sized old k l e g hk p =
     })
 
 -- Settings that agree, by the two words that they are read from: c is far below 2^23, so the word's top bit, which says today that trains share the lane, is 0.
-module _ (w u : List ℕ) (k : ℕ) (framing : getD u framingWord 0 ≡ getD w framingWord 0) (setting : getD u (laneWord k) 0 ≡ getD w (laneWord k) 0) (a : RowAgrees (oldRowAt w k)) where
+module _ (w u : List ℕ) (k : ℕ) (framing : getD u framingWord 0 ≡ getD w framingWord 0) (setting : getD u (laneWord k) 0 ≡ getD w (laneWord k) 0) (a : RowAgrees (oldRowAt w k)) (c : RowPaced (oldRowAt w k)) where
   abbrev word : ℕ
   word = getD w (laneWord k) 0
 
   rate-small : word / 2 ^ 40 ≤ 2 ^ 20
   unfolding oldRowAt
-  rate-small = omega (arith, a .rated, rate-le (oldRowAt w k .weight))
+  rate-small = omega (arith, c .rated, rate-le (oldRowAt w k .weight))
 
   rate-is : word / 2 ^ 40 % 2 ^ 23 ≡ word / 2 ^ 40
   rate-is = omega (arith, rate-small)
@@ -66,7 +67,11 @@ module _ (w u : List ℕ) (k : ℕ) (framing : getD u framingWord 0 ≡ getD w f
 
   pub agrees-over : RowAgrees (rowAt u k)
   unfolding rowAt oldRowAt
-  agrees-over = rw (framing, setting, rate-is, top-is) (record { numbers = a .numbers; framing = a .framing; rated = a .rated; grouped = a .grouped })
+  agrees-over = rw (framing, setting, top-is) (record { numbers = a .numbers; framing = a .framing })
+
+  pub paced-over : RowPaced (rowAt u k)
+  unfolding rowAt oldRowAt
+  paced-over = rw (framing, setting, rate-is, top-is) (record { rated = c .rated; grouped = c .grouped })
 
 -- an idle lane has no record in either ring
 pub none-over : (w u : List ℕ) (k h n : ℕ) → n ≡ 0 → ringOf u k 0 n ≡ oldRing w k h n
@@ -75,7 +80,7 @@ none-over w u k h n e = subst (λ (n : ℕ). ringOf u k 0 n ≡ oldRing w k h n)
 
 -- ---- the row is stored, its records being in place
 
-module _ (old : List ℕ) (k : ℕ) (hk : k < 64) (p : presentAt (cells old) k ≡ true) (a : RowAgrees (oldRowAt (cells old) k)) (t u v : List ℕ) (c : Carried old t)
+module _ (old : List ℕ) (k : ℕ) (hk : k < 64) (p : presentAt (cells old) k ≡ true) (a : RowAgrees (oldRowAt (cells old) k)) (paced : RowPaced (oldRowAt (cells old) k)) (t u v : List ℕ) (c : Carried old t)
     (kept : (i : ℕ) → NoPlace k i → getD (cells u) i 0 ≡ getD (cells t) i 0) (rest : Behind t u) where
   abbrev r : LaneRow
   r = oldRowAt (cells old) k
@@ -93,7 +98,7 @@ module _ (old : List ℕ) (k : ℕ) (hk : k < 64) (p : presentAt (cells old) k �
   setting = kept (laneWord k) (λ a b. omega arith, λ a b. omega arith) ∙ c .settings k hk
 
   given : givenOf (rowAt w k) ≡ givenOf r
-  given = given-over (cells old) w k (single framingWord (omega arith) (omega arith)) setting a
+  given = given-over (cells old) w k (single framingWord (omega arith) (omega arith)) setting a paced
 
   here : presentAt w k ≡ true
   here = present-kept (cells old) w k (single presentWord (omega arith) (omega arith)) ∙ p
@@ -130,6 +135,7 @@ module _ (old : List ℕ) (k : ℕ) (hk : k < 64) (p : presentAt (cells old) k �
               (rw stored
               (λ q some.
               record {
+                paced = paced-retimed (rowAt w k) x 0 (r .count) (paced-over (cells old) w k (single framingWord (omega arith) (omega arith)) setting a paced);
                 places = λ i hi. rw (entry-put w k i row hk) (omega (arith, fit some i hi, ap (λ (g : Setting). g .longest) given));
                 trains = λ e. absurd (false≢true (sym plain-row ∙ e));
               }));

@@ -101,17 +101,19 @@ module _ (t : List ℕ) (s : State) (h : Holds t s) (good : Good s) (k : ℕ) (e
     pub room-after : (g b : ℕ) → 16 ≤ g → g ≤ 31 → b < 32 → length (listAt t₁ g b) < 64
     room-after g b lo hi hb = omega (arith, ap length (agrees₁ .filed g b lo hi hb), length-sift (λ j. inList (backAt t₁) g b (laneAt s j)) (s .order), room-idle s good k small idle)
 
-    module _ (t₂ : List ℕ) (len₂ : length t₂ ≡ length t₁) (l : LaneRow) (el : l ≡ rowAt (cells t) k) (y : ℕ) (ey : y ≡ max (laneAt (meant t) k .finish) (meant t .clock)) (added : Added t₁ t₂ (l .group) y k) where
+    module _ (t₂ : List ℕ) (len₂ : length t₂ ≡ length t₁) (l : LaneRow) (el : l ≡ rowAt (cells t) k) (y : ℕ) (ey : y ≡ max (laneAt (meant t) k .finish) (meant t .clock)) (i : ℕ) (woke-group : (i ≡ group (laneAt (meant t) k .given)) × (16 ≤ i) × (i ≤ 31)) (added : Added t₁ t₂ i y k) where
+      grouped : i ≡ group (laneAt s k .given)
+      grouped = woke-group .0 ∙ ap (λ (m : Lane). group (m .given)) same-lane
+
       cs : cells t₂ ≡ cells t₁
       cs = cells-apart t₁ t₂ (added .apart)
 
       agrees₂ : Agrees (backAt t₂) (listAt t₂) (startAt t₂) (accept s k x)
       agrees₂ =
-          let ro = row l el in
-          let g : l .group ≡ group (laneAt s k .given) = ro .grouped in
-          let added′ : Added t₁ t₂ (group (laneAt s k .given)) (woken (s .clock) (laneAt s k) x .start) k = subst (λ (z : ℕ). Added t₁ t₂ z (woken (s .clock) (laneAt s k) x .start) k) g (subst (λ (z : ℕ). Added t₁ t₂ (l .group) z k) (woken-is y ey) added) in
+          let g : i ≡ group (laneAt s k .given) = grouped in
+          let added′ : Added t₁ t₂ (group (laneAt s k .given)) (woken (s .clock) (laneAt s k) x .start) k = subst (λ (z : ℕ). Added t₁ t₂ z (woken (s .clock) (laneAt s k) x .start) k) g (subst (λ (z : ℕ). Added t₁ t₂ i z k) (woken-is y ey) added) in
           subst (λ (b : ℕ). Agrees b (listAt t₂) (startAt t₂) (accept s k x)) (sym (added .apart .back))
-          (add-agrees s t₁ t₂ k x agrees₁ (good .order) inside idle (good .waiting k) (allowed-enters s k x a) (omega (arith, g, ro .low)) (omega (arith, g, ro .high)) added′)
+          (add-agrees s t₁ t₂ k x agrees₁ (good .order) inside idle (good .waiting k) (allowed-enters s k x a) (omega (arith, g, woke-group .1)) (omega (arith, g, woke-group .2)) added′)
 
       pub sound₂ : Sound t₂
       sound₂ = record { room = omega (arith, sound-after .room, len₂); beside = rw cs (sound-after .beside) }
@@ -141,10 +143,10 @@ module _ (t : List ℕ) (s : State) (h : Holds t s) (good : Good s) (k : ℕ) (e
           }
 
       -- none does
-      pub put-alone : (t₃ : List ℕ) (v z : ℕ) → length t₃ ≡ length t₂ → groupsAt t ≡ 0 → z ≡ max v (roundDown (2 ^ (l .group)) y) → v ≡ meant t .clock → Leaves t₂ t₃ (withClock (meant t₂) z) → Turns t t₃ (accept s k x)
+      pub put-alone : (t₃ : List ℕ) (v z : ℕ) → length t₃ ≡ length t₂ → groupsAt t ≡ 0 → z ≡ max v (roundDown (2 ^ i) y) → v ≡ meant t .clock → Leaves t₂ t₃ (withClock (meant t₂) z) → Turns t t₃ (accept s k x)
       put-alone t₃ v z len₃ zero-word ez ev lv =
           let ro = row l el in
-          let top : z ≡ max (s .clock) (startR new) = ez ∙ ap (λ (w : ℕ). max w (roundDown (2 ^ (l .group)) y)) (ev ∙ h .clock) ∙ ap (λ (w : ℕ). max (s .clock) w) (ap (roundDown (2 ^ (l .group))) (start-row ro) ∙ sym (woken-start (s .clock) (laneAt s k) l x ro idle)) in
+          let top : z ≡ max (s .clock) (startR new) = ez ∙ ap (λ (w : ℕ). max w (roundDown (2 ^ i) y)) (ev ∙ h .clock) ∙ ap (λ (w : ℕ). max (s .clock) w) (ap (roundDown (2 ^ i)) (start-row ro) ∙ sym (woken-start (s .clock) (laneAt s k) l x i ro grouped idle)) in
           let j = accept-alone s k x idle z (nobody t s h good zero-word) top in
           record {
             holds = record {

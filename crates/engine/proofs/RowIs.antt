@@ -1,5 +1,5 @@
 -- What a lane's row says of the lane that the table means. Assumes nothing.
-use Prim.Native.Nat.{ℕ, _^_, _≤_, _<_}
+use Prim.Native.Nat.{ℕ, zero, suc, _^_, _≤_, _<_}
 use native.Mathlib.Omega.{arith}
 use borrow.Author.Tests.{not-false}
 use mathlib.Core.Path.{_≡_, refl, sym, ap, subst, _∙_}
@@ -10,15 +10,14 @@ use lib.ListN.{length, List·getD-eq-default}
 use mathlib.Core.Option.{Option, none, some}
 use Rattle.units.proofs.PerByte.{rate-le}
 use Rattle.waiting.specs.Waiting.{Waiting, first, held, queueOf, full, known, isShared, GoodWaiting}
-use Rattle.waiting.proofs.Laws.{held-none, held-hand}
-use Rattle.rules.specs.State.{Rec, Setting, Lane, noLane, group, rate, some?, firstOf, holds, laneAt}
+use Rattle.waiting.proofs.Laws.{first-nothing, held-none, held-hand}
+use Rattle.rules.specs.State.{Rec, Setting, Lane, noLane, rate, some?, firstOf, holds, laneAt}
 use Rattle.rules.specs.Calls as rules
 use Rattle.table.specs.Layout.{cells, rowAt}
 use Rattle.table.specs.Means.{presentAt, waitingOf, givenOf, timed, meant, RowAgrees, Sound}
 use Rattle.table.specs.declared.LaneRow.{LaneRow}
-use Rattle.table.proofs.Agrees.{agrees-group}
 use Rattle.table.proofs.Footprint.{lane-is}
-use Rattle.table.proofs.Rows.{lane-present, lane-absent, waiting-kind, waiting-held}
+use Rattle.table.proofs.Rows.{lane-present, lane-absent, waiting-kind, waiting-none, waiting-held}
 use Rattle.table.proofs.Timed.{timed-given, timed-waiting, timed-start}
 use Rattle.choice.proofs.Held.{lanes-many}
 use Rattle.engine.specs.Does.{laneTrains, queueDepth, heldBy}
@@ -35,10 +34,7 @@ pub record RowIs (l : Lane) (r : LaneRow) : Type 0 where
   pub given : l .given ≡ givenOf r
   pub weight : 0 < r .weight
   pub framing : r .framing .0 ≤ 64
-  pub rated : r .rate .0 ≡ rate (l .given)
-  pub grouped : r .group ≡ group (l .given)
-  pub low : 16 ≤ r .group
-  pub high : r .group ≤ 31
+  pub rated : holds l ≡ true → r .rate .0 ≡ rate (l .given)
   pub kind : isShared (l .waiting) ≡ r .shared
   pub held : held (l .waiting) ≡ r .count
   pub busy : holds l ≡ true → l .start ≡ r .time .0
@@ -86,16 +82,21 @@ module _ (t : List ℕ) (sound : Sound t) (k : ℕ) (small : k < 64) (here : pre
   same-waiting : l .waiting ≡ q
   same-waiting = ap (λ (x : Lane). x .waiting) is-timed ∙ timed-waiting (givenOf r) (r .time .0) q
 
+  -- a lane without a record has none in its row
+  some-held : holds l ≡ true → 0 < r .count
+  some-held e = go (r .count) refl
+    where
+      go : (n : ℕ) → r .count ≡ n → 0 < r .count
+      go zero z = absurd (false≢true (sym (ap (λ (x : Waiting). some? (first x)) (same-waiting ∙ waiting-none (cells t) k r z) ∙ ap some? (first-nothing (r .shared))) ∙ e))
+      go (suc n) z = omega arith
+
   pub row-is : RowIs l r
   unfolding timed
   row-is = record {
     given = same-given;
     weight = agrees .numbers .weight-low;
     framing = agrees .framing;
-    rated = agrees .rated ∙ ap rate (sym same-given);
-    grouped = agrees .grouped ∙ ap group (sym same-given);
-    low = agrees-group r agrees .0;
-    high = agrees-group r agrees .1;
+    rated = λ e. sound .beside .housed k small here (some-held e) .paced .rated ∙ ap rate (sym same-given);
     kind = ap isShared same-waiting ∙ waiting-kind (cells t) k r;
     held = ap held same-waiting ∙ waiting-held (cells t) k r (sound .beside .housed k small here);
     busy = λ e. ap (λ (x : Lane). x .start) is-timed ∙ timed-start (givenOf r) (r .time .0) q (sym (ap (λ (x : Waiting). some? (first x)) same-waiting) ∙ e);
@@ -110,9 +111,9 @@ module _ (t : List ℕ) (sound : Sound t) (k : ℕ) (small : k < 64) (here : pre
 pub row-weighs : (l : Lane) (r : LaneRow) → RowIs l r → 0 < l .given .weight
 row-weighs l r is = rw (is .given) (is .weight)
 
--- and its c is in its numbers
-pub row-rate : (l : Lane) (r : LaneRow) → RowIs l r → r .rate .0 ≤ 2 ^ 20
-row-rate l r is = omega (arith, is .rated, rate-le (l .given .weight))
+-- and while it holds records, its c is in its numbers
+pub row-rate : (l : Lane) (r : LaneRow) → RowIs l r → holds l ≡ true → r .rate .0 ≤ 2 ^ 20
+row-rate l r is busy = omega (arith, is .rated busy, rate-le (l .given .weight))
 
 -- which trains it knows, and when one of these is full
 pub row-knows : (l : Lane) (r : LaneRow) → RowIs l r → (j : ℕ) → known (l .waiting) j ≡ ltb j (laneTrains (r .shared))

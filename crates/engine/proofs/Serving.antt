@@ -159,7 +159,7 @@ module _ (t : List ℕ) (s : State) (g r k : ℕ) (a : At t s g r k) where
     finish-is l el c z ec ez =
         let row = lane-row l el in
         let time : l .time .0 ≡ laneAt s k .start = sym (row .busy lane-holds) ∙ ap (λ (y : Lane). y .start) same-lane in
-        let rated : l .rate .0 ≡ rate (laneAt s k .given) = row .rated ∙ ap (λ (y : Lane). rate (y .given)) same-lane in
+        let rated : l .rate .0 ≡ rate (laneAt s k .given) = row .rated lane-holds ∙ ap (λ (y : Lane). rate (y .given)) same-lane in
         ez ∙ ap (λ (y : ℕ). y + c * l .rate .0) time ∙ ap (λ (y : ℕ). laneAt s k .start + c * y) rated ∙ ap (λ (y : ℕ). laneAt s k .start + y * rate (laneAt s k .given)) (paid l el c ec) ∙ sym (times-is .0)
 
     -- whether it holds more, by its row

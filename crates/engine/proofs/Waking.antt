@@ -55,6 +55,6 @@ module _ (s : State) (k : ℕ) (r : Rec) (e : holds (laneAt s k) ≡ false) wher
       jump v u = if-ind (λ (x : ℕ). x ≡ max v u) (ltb v u) u v (λ t. let lt = ltb-true v u t in omega arith) (λ t. let le = ltb-false v u t in omega arith)
 
 -- R of a lane that wakes, by its row
-pub woken-start : (v : ℕ) (l : Lane) (r : LaneRow) (e : Rec) → RowIs l r → holds l ≡ false → startR (woken v l e) ≡ roundDown (2 ^ r .group) (max (r .time .0) v)
+pub woken-start : (v : ℕ) (l : Lane) (r : LaneRow) (e : Rec) (i : ℕ) → RowIs l r → i ≡ group (l .given) → holds l ≡ false → startR (woken v l e) ≡ roundDown (2 ^ i) (max (r .time .0) v)
 unfolding woken slot
-woken-start v l r e is idle = rw (is .grouped, is .idle idle)
+woken-start v l r e i is grouped idle = rw (grouped, is .idle idle)

@@ -139,8 +139,7 @@ fn put_first(t: &mut [u8], k: usize, e: Item)
     let v = clock(t);
     let groups = word(t, GROUPS);
     let start = later(l.time, v);
-    let group = l.group;
-    wake(t, k, start, e);
+    let group = wake(t, k, start, e);
     add(t, groups, group, start.0, k);
     if groups == 0 {
         set_clock(t, later(v, rounded_start(start, group)));

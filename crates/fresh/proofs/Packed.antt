@@ -1,15 +1,12 @@
--- A setting in one word: longest + 2^16 weight + 2^32 group + 2^40 c, and 2^63 of a shared lane. Assumes nothing.
-use mathlib.Core.Path.{_≡_, refl, ap, subst, _∙_}
+-- A setting in one word: longest + 2^16 weight, and 2^63 of a shared lane. Assumes nothing.
+use mathlib.Core.Path.{_≡_, refl, ap, subst}
 use mathlib.Core.Bool.{Bool, true, false}
 use lib.Dec.{eqb}
 use Rattle.units.specs.Plain.{if_then_else_}
 use Prim.Native.Nat.{ℕ, _+_, _*_, _/_, _%_, _^_, _≤_}
 use native.Mathlib.Omega.{arith}
-use Rattle.units.specs.Numbers.{perByte, leastPower, Least}
-use Rattle.units.proofs.Group.{least-unique}
-use Rattle.rules.specs.State.{Setting, charge, group}
+use Rattle.rules.specs.State.{Setting}
 use Rattle.rules.specs.Setup.{InNumbers}
-use Rattle.rules.proofs.Lane.{group-most}
 use Rattle.fresh.specs.Makes.{SettingWord}
 
 -- the top bit
@@ -24,19 +21,12 @@ top-says : (s : Bool) → eqb (top s) 1 ≡ s
 top-says true = refl
 top-says false = refl
 
-module _ (w l h i c : ℕ) (s : Bool) (n : InNumbers (record { weight = w; longest = l; framing = h; shared = s })) (framed : h ≤ 64) (rated : c ≡ perByte w) (most : c ≤ 2 ^ 20) (least : Least (charge (record { weight = w; longest = l; framing = h; shared = s }) l * c) i) where
+module _ (w l h : ℕ) (s : Bool) (n : InNumbers (record { weight = w; longest = l; framing = h; shared = s })) (framed : h ≤ 64) where
   abbrev g : Setting
   g = record { weight = w; longest = l; framing = h; shared = s }
 
-  pub group-is : i ≡ group g
-  unfolding group
-  group-is = least-unique (charge g l * c) i least ∙ ap (λ (x : ℕ). leastPower (charge g l * x)) rated
-
-  pub group-small : i ≤ 31
-  group-small = rw group-is (group-most g (n .longest-high) framed)
-
   abbrev word : ℕ
-  word = l + 65536 * w + 4294967296 * i + 1099511627776 * c + 2 ^ 63 * top s
+  word = l + 65536 * w + 2 ^ 63 * top s
 
   longest-part : word % 2 ^ 16 ≡ l
   longest-part = omega (arith, n .longest-high, top-most s)
@@ -44,30 +34,19 @@ module _ (w l h i c : ℕ) (s : Bool) (n : InNumbers (record { weight = w; longe
   weight-part : word / 2 ^ 16 % 2 ^ 16 ≡ w
   weight-part = omega (arith, n .longest-high, n .weight-high, top-most s)
 
-  group-part : word / 2 ^ 32 % 2 ^ 8 ≡ i
-  group-part = omega (arith, n .longest-high, n .weight-high, group-small, top-most s, most)
-
-  rate-part : word / 2 ^ 40 % 2 ^ 23 ≡ c
-  rate-part = omega (arith, n .longest-high, n .weight-high, group-small, top-most s, most)
-
   top-part : word / 2 ^ 63 ≡ top s
-  top-part = omega (arith, n .longest-high, n .weight-high, group-small, top-most s, most)
+  top-part = omega (arith, n .longest-high, n .weight-high, top-most s)
 
   pub packed : SettingWord g word
   packed =
       record {
         given = λ time ring. rw (longest-part, weight-part, top-part, top-says s);
-        agrees = λ time ring. record {
-          numbers = rw (longest-part, weight-part, top-part, top-says s) n;
-          framing = framed;
-          rated = rw (rate-part, weight-part) rated;
-          grouped = rw (group-part, longest-part, weight-part, top-part, top-says s) group-is;
-        };
+        agrees = λ time ring. record { numbers = rw (longest-part, weight-part, top-part, top-says s) n; framing = framed };
       }
 
   -- as the code adds it up
   abbrev low : ℕ
-  low = l + 65536 * w + 4294967296 * i + 1099511627776 * c
+  low = l + 65536 * w
 
   pub packed-shared : s ≡ true → SettingWord g (low + 2 ^ 63)
   packed-shared e = let same : word ≡ low + 2 ^ 63 = omega (arith, ap top e) in subst (SettingWord g) same packed

@@ -1,11 +1,11 @@
 // Fresh tables (R2.4), of a new setup or of the one that a table has (R3.19).
 //
 // A fresh table is begun with no lane in it and empty slot lists; then each lane of the setup is added. Words of lanes that are not in the setup, places
-// of a ring that hold no record, and the words and rings of a group that has no lanes are left as they stand: they mean nothing. The one division, for c,
-// is made here.
+// of a ring that hold no record, and the words and rings of a group that has no lanes are left as they stand: they mean nothing. So do c and group of an idle
+// lane: 0 stands there.
 ghost use mathlib.Core.Path.{_≡_};
 ghost use mathlib.Core.List.{[]};
-ghost use Prim.Native.Nat.{_+_, _*_, _<_, _≤_};
+ghost use Prim.Native.Nat.{ℕ, _+_, _*_, _<_, _≤_};
 ghost use lib.ListN.{getD};
 ghost use Rattle.rules.specs.State.{laneAt, setupOf};
 ghost use Rattle.rules.specs.Setup.{InNumbers, Setup};
@@ -19,17 +19,13 @@ use table::CLOCK;
 use table::DEPTH;
 use table::DEPTH_NUMBER;
 use table::FRAMING;
-use table::GROUP_UNIT;
 use table::LANES;
-use table::LaneRow;
 use table::PRESENT;
-use table::RATE_UNIT;
 use table::ROW_WORDS;
 use table::ROWS;
 use table::SHARED_UNIT;
 use table::WEIGHT_UNIT;
 use table::cell;
-use table::charged;
 use table::next_present;
 use table::row;
 use table::set_cell;
@@ -37,29 +33,13 @@ use table::set_clock;
 use table::set_row;
 use units::Bytes;
 use units::Clock;
-use units::group_index;
-use units::lane_charge;
-use units::lane_rate;
 
-// The setting word of a lane: the group is that of the longest record with the line's framing bytes `h`.
-fn setting_word(h: Bytes, weight: u64, longest: Bytes, shared: bool) -> u64
-    requires { ⌜ InNumbers (record { weight = weight; longest = longest .0; framing = h .0; shared = shared }) × (h .0 ≤ 64) ⌝ }
-    ensures { λ r. ⌜ SettingWord (record { weight = weight; longest = longest .0; framing = h .0; shared = shared }) r ⌝ }
+// The setting word of a lane, whatever framing bytes the line has.
+fn setting_word(weight: u64, longest: Bytes, shared: bool) -> u64
+    requires { ⌜ (weight ≤ 1024) × (longest .0 ≤ 1500) ⌝ }
+    ensures { λ r. ⌜ ((h : ℕ) → InNumbers (record { weight = weight; longest = longest .0; framing = h; shared = shared }) → h ≤ 64 → SettingWord (record { weight = weight; longest = longest .0; framing = h; shared = shared }) r) ⌝ }
 {
-    let c = lane_rate(weight);
-    let lane = LaneRow {
-        longest: longest,
-        framing: h,
-        weight: weight,
-        group: 0,
-        rate: c,
-        shared: shared,
-        time: Clock(0),
-        head: 0,
-        count: 0,
-    };
-    let group = group_index(lane_charge(charged(lane, longest), c));
-    let word = longest.0 + WEIGHT_UNIT * weight + GROUP_UNIT * (group as u64) + RATE_UNIT * c.0;
+    let word = longest.0 + WEIGHT_UNIT * weight;
     if shared {
         return word + SHARED_UNIT;
     }
@@ -84,7 +64,7 @@ pub fn add_lane(t: &mut [u8], k: usize, h: Bytes, weight: u64, longest: Bytes, s
     ensures { λ _. ⌜ Leaves (now (t .entry)) (now (t .exit)) (withLane (meant (now (t .entry))) k (idle (record { weight = weight; longest = longest .0; framing = h .0; shared = shared }))) × (getD (cells (now (t .exit))) framingWord 0 ≡ getD (cells (now (t .entry))) framingWord 0) ⌝ }
 {
     let base = ROWS + ROW_WORDS * k;
-    set_cell(t, base, setting_word(h, weight, longest, shared));
+    set_cell(t, base, setting_word(weight, longest, shared));
     set_cell(t, base + 1, 0);
     set_cell(t, base + 2, 0);
     let lanes = cell(t, PRESENT);

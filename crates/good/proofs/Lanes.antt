@@ -23,7 +23,7 @@ use Rattle.table.specs.Means.{presentAt, Next, givenOf, timed}
 use Rattle.table.specs.declared.LaneRow.{LaneRow}
 use Rattle.table.proofs.Next.{bit-absent}
 use Rattle.lane_test.specs.Says.{LaneFine}
-use Rattle.lane_test.proofs.Setting.{group-at-most}
+use Rattle.table.proofs.Agrees.{paced-group}
 use Rattle.good.specs.Pass.{Noted, FoundSays, sumTo, holdsAt, eligibleAt}
 use Rattle.good.specs.declared.Found.{Found}
 use Rattle.good.proofs.Kept.{Kept, given-kept, waiting-kept}
@@ -89,14 +89,14 @@ module _ (v : ℕ) (w : List ℕ) (x : Kept w) (P : ℕ → Type 0) where
     holds-is : holdsAt (x .lane) k ≡ ltb 0 (row .count)
     holds-is = ap (λ (l : Waiting). some? (first l)) (waiting-kept w x k p) ∙ sym (some-count (first waits) refl)
 
-    slot-is : slot (givenOf row) ≡ 2 ^ (row .group)
+    slot-is : 0 < row .count → slot (givenOf row) ≡ 2 ^ (row .group)
     unfolding slot
-    slot-is = ap (λ (i : ℕ). 2 ^ i) (sym (fine k g .agrees .grouped))
+    slot-is h = ap (λ (i : ℕ). 2 ^ i) (sym (fine k g .paced h .grouped))
 
     eligible-of : (o : Option Rec) → first waits ≡ o → eligible v (rules.timed (givenOf row) (row .time .0) waits o) ≡ (ltb 0 (row .count) && leb (roundDown (2 ^ (row .group)) (row .time .0)) v)
     unfolding eligible rules.timed
     eligible-of none e = rw (some-count none e, e)
-    eligible-of (some r) e = rw (some-count (some r) e, e, slot-is)
+    eligible-of (some r) e = rw (some-count (some r) e, e, slot-is (omega (arith, held-hand longest waits r good-waits e, size)))
 
     eligible-is : eligibleAt v (x .lane) k ≡ (ltb 0 (row .count) && leb (roundDown (2 ^ (row .group)) (row .time .0)) v)
     unfolding timed
@@ -123,6 +123,5 @@ module _ (v : ℕ) (w : List ℕ) (x : Kept w) (P : ℕ → Type 0) where
       pub note-weight : l .weight ≤ 1024
       note-weight = subst (λ (l : LaneRow). l .weight ≤ 1024) (sym e) (fine k g .agrees .numbers .weight-high)
 
-      pub note-group : l .group ≤ 31
-      note-group =
-          subst (λ (l : LaneRow). l .group ≤ 31) (sym e) (group-at-most (x .row k) (fine k g .agrees .rated) (fine k g .agrees .numbers .longest-high) (fine k g .agrees .framing) (fine k g .agrees .grouped))
+      pub note-group : 0 < l .count → l .group ≤ 31
+      note-group = subst (λ (l : LaneRow). 0 < l .count → l .group ≤ 31) (sym e) (λ h. paced-group (x .row k) (fine k g .agrees) (fine k g .paced h) .1)

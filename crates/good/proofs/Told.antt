@@ -4,6 +4,7 @@ use mathlib.Core.Logic.{_⊎_, inl, inr}
 use mathlib.Core.Bool.{Bool, true, false, false≢true}
 use Prim.Native.Nat.{ℕ, zero, suc, _+_, _^_, _≤_, _<_}
 use mathlib.Core.List.{List}
+use mathlib.Core.Option.{Option, none, some}
 use native.Mathlib.Omega.{arith}
 use native.Mathlib.Decide.{decLt, decLe}
 use lib.Pow.{pow-pos, pow-mono}
@@ -14,8 +15,8 @@ use Rattle.words.proofs.Bits.{bit-above}
 use Rattle.words.proofs.Runs.{length-tab, getD-tab}
 use Rattle.units.specs.Plain.{if_then_else_, anyBelow, wordOf, count}
 use Rattle.waiting.specs.Waiting.{GoodWaiting, first, held, isShared}
-use Rattle.waiting.proofs.Laws.{good-nothing, shared-nothing}
-use Rattle.rules.specs.State.{Setting, settingAt, clockEdge, Lane, State, group, laneAt, some?, firstOf, holds, eligible, noLane, noSetting, setupOf}
+use Rattle.waiting.proofs.Laws.{good-nothing, shared-nothing, held-hand}
+use Rattle.rules.specs.State.{Rec, Setting, settingAt, clockEdge, Lane, State, group, laneAt, some?, firstOf, holds, eligible, noLane, noSetting, setupOf}
 use Rattle.rules.specs.Setup.{InNumbers, Setup, weights}
 use Rattle.rules.specs.Good.{Good, Times}
 use Rattle.rules.proofs.Lane.{slot-pos}
@@ -23,7 +24,7 @@ use Rattle.rules.proofs.Word.{word-lt, word-bit}
 use Rattle.rules.proofs.Figures.{framing-bound, framed-by}
 use Rattle.rules.proofs.SameSetup.{setting-lane}
 use Rattle.table.specs.Layout.{cells, framingWord}
-use Rattle.table.specs.Means.{presentAt, RowAgrees}
+use Rattle.table.specs.Means.{presentAt, RowAgrees, RowPaced}
 use Rattle.table.specs.declared.LaneRow.{LaneRow}
 use Rattle.table.proofs.Timed.{timed-start}
 use Rattle.slot_lists.specs.Lists.{backAt, listAt, startAt, Solid}
@@ -42,6 +43,7 @@ use Rattle.good.proofs.Sums.{sum-map, sum-tab, any-some, any-at, word-s
 pub record Told (t : List ℕ) (row : ℕ → LaneRow) (s : State) : Type 0 where
   pub good : Good s
   pub rows : (k : ℕ) → k < 64 → presentAt (cells t) k ≡ true → RowAgrees (row k)
+  pub paced : (k : ℕ) → k < 64 → presentAt (cells t) k ≡ true → 0 < row k .count → RowPaced (row k)
   pub counted : (k : ℕ) → k < 64 → presentAt (cells t) k ≡ true → held (laneAt s k .waiting) ≡ row k .count
   pub solid : Solid t
   pub agrees : Agrees (backAt t) (listAt t) (startAt t) s
@@ -114,6 +116,13 @@ module _ (t : List ℕ) (x : Kept (cells t)) (s : State) (m : Means t (x .lane) 
     weight-sum : weights (setupOf s) ≡ f .weights
     weight-sum = weights-are ∙ sym (found .weights)
 
+    some-held : (k : ℕ) (b : k < 64) (p : presentAt (cells t) k ≡ true) → holds (laneAt s k) ≡ true → 0 < x .row k .count
+    some-held k b p h = go (firstOf (laneAt s k)) refl
+      where
+        go : (o : Option Rec) → firstOf (laneAt s k) ≡ o → 0 < x .row k .count
+        go none e = absurd (false≢true (sym (ap some? e) ∙ h))
+        go (some r) e = let f = lane-fine k b p in omega (arith, held-hand _ _ r (f .waiting) (ap firstOf (sym (lane-of k b)) ∙ e), f .counted)
+
     -- what a holding lane's own words say, as the test of the lists reads them
     row-says : (k : ℕ) → holds (laneAt s k) ≡ true → RowSays t s k
     row-says k h =
@@ -123,7 +132,7 @@ module _ (t : List ℕ) (x : Kept (cells t)) (s : State) (m : Means t (x .lane) 
               let p = by-holds k (presentAt (cells t) k) refl (sym (ap holds e) ∙ h) in
               record {
                 small = b;
-                group = sym (x .group k) ∙ lane-fine k b p .agrees .grouped ∙ ap group (sym (ap (λ (l : Lane). l .given) e ∙ given-kept (cells t) x k p));
+                group = sym (x .group k) ∙ lane-fine k b p .paced (some-held k b p h) .grouped ∙ ap group (sym (ap (λ (l : Lane). l .given) e ∙ given-kept (cells t) x k p));
                 time = sym (ap (λ (l : Lane). l .start) (e ∙ x .present k p) ∙ timed-start _ _ _ (sym (ap some? (ap first (ap (λ (l : Lane). l .waiting) e ∙ waiting-kept (cells t) x k p))) ∙ h) ∙ x .time k);
               }
           | no b ↦ absurd (false≢true (sym (ap holds (far-lane k (omega arith))) ∙ h))
@@ -171,6 +180,7 @@ module _ (t : List ℕ) (x : Kept (cells t)) (s : State) (m : Means t (x .lane) 
       found-told =
           record {
             rows = λ k h p. lane-fine k h p .agrees;
+            paced = λ k h p. lane-fine k h p .paced;
             counted = λ k h p. ap (λ (l : Lane). held (l .waiting)) (lane-of k h) ∙ lane-fine k h p .counted;
             solid = stored-solid t s (f .held) row-says bit-held (m .order) stored;
             agrees = stored-agrees t s (f .held) row-says bit-held (m .order) stored;
@@ -216,6 +226,7 @@ module _ (t : List ℕ) (x : Kept (cells t)) (s : State) (m : Means t (x .lane) 
     told-fine k h p =
         record {
           agrees = g .rows k h p;
+          paced = g .paced k h p;
           waiting = subst (λ (l : Lane). GoodWaiting (l .given .longest) (l .waiting)) (lane-of k h) (g .good .waiting k);
           counted = ap (λ (l : Lane). held (l .waiting)) (sym (lane-of k h)) ∙ g .counted k h p;
           numbers = subst (λ (l : Lane). Times (s .clock) l (firstOf l)) (lane-of k h) (g .good .numbers k);

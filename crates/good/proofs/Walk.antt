@@ -64,7 +64,7 @@ module _ (v : ℕ) (w : List ℕ) (x : Kept w) (P : ℕ → Type 0) (fine : (k :
       weight : l .weight ≤ 1024
       weight = note-weight v w x P fine k lane-here good l e
 
-      pub note-takes : (k < 64) × (f .weights + l .weight < 2 ^ 64) × (f .held < 2 ^ k) × (l .group ≤ 31)
+      pub note-takes : (k < 64) × (f .weights + l .weight < 2 ^ 64) × (f .held < 2 ^ k) × (0 < l .count → l .group ≤ 31)
       note-takes = (lane-small, omega (arith, weight, walked .weights, walked .left .ends), rw (found .held) (word-lt _ k), note-group v w x P fine k lane-here good l e)
 
       pub walked-on : (r : Found) → Noted f k l v r → Walked v w (x .lane) P (bitAnd rest (rest - 1)) r

@@ -24,7 +24,7 @@ module _ (t : List ℕ) where
   means = record { lanes = refl; order = refl }
 
   told : GoodTable t → Told t (rowAt (cells t)) (meant t)
-  told g = record { good = g .good; rows = g .beside .rows; counted = λ k h p. ap (λ (l : Lane). held (l .waiting)) (lane-is (cells t) _ k h) ∙ count-row (cells t) k p (g .beside .housed k h p); solid = g .listed .solid; agrees = g .listed .agrees }
+  told g = record { good = g .good; rows = g .beside .rows; paced = λ k h p n. g .beside .housed k h p n .paced; counted = λ k h p. ap (λ (l : Lane). held (l .waiting)) (lane-is (cells t) _ k h) ∙ count-row (cells t) k p (g .beside .housed k h p); solid = g .listed .solid; agrees = g .listed .agrees }
 
   module _ (v : ℕ) (f : Found) (clock : v ≡ meant t .clock) (s : FoundSays v (cells t) (laneOf (cells t)) (LaneGood v (cells t)) 64 f) where
     pub whole-good : Room t → v < clockEdge → getD (cells t) depthWord 0 ≡ laneDepth → getD (cells t) framingWord 0 ≤ 64

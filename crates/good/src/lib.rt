@@ -51,7 +51,7 @@ pub enum Pass {
 
 // What is found, once lane `k` with the row `l` is seen too.
 pub fn note(f: Found, k: usize, l: LaneRow, v: Clock) -> Found
-    requires { ⌜ (k < 64) × (f .weights + l .weight < 2 ^ 64) × (f .held < 2 ^ k) × (l .group ≤ 31) ⌝ }
+    requires { ⌜ (k < 64) × (f .weights + l .weight < 2 ^ 64) × (f .held < 2 ^ k) × (0 < l .count → l .group ≤ 31) ⌝ }
     ensures { λ r. ⌜ Noted f k l (v .0) r ⌝ }
 {
     let weights = f.weights + l.weight;

@@ -13,7 +13,7 @@ use Rattle.words.specs.Bits.{bit}
 use Rattle.words.specs.Words.{wordAt}
 use Rattle.words.proofs.Runs.{eq-or-ne}
 use Rattle.rings.specs.Rings.{ringAt}
-use Rattle.slot_lists.specs.Lists.{groupsWord, backWord, startWord, mapWord, ringNumber, groupsAt, backAt, mapOf, listIn, listAt, startAt, Fills, Solid}
+use Rattle.slot_lists.specs.Lists.{groupsEnd, groupsWord, backWord, startWord, mapWord, ringNumber, groupsAt, backAt, mapOf, listIn, listAt, startAt, Fills, Solid}
 use Rattle.slot_lists.specs.Changes.{Moved, Apart, Stored}
 use Rattle.slot_lists.proofs.Laws.{words-below, map-same, start-same, list-same}
 use Rattle.filing.specs.Filing.{Lists}
@@ -63,7 +63,7 @@ solid-nearly t g lo hi s =
 -- ---- a list was changed
 
 module _ (t u l : List ℕ) (g m m′ b : ℕ) (v : Moved t u g m m′ b l) where
-  pub same-word : (j : ℕ) → j < 1408 → wordAt u j ≡ wordAt t j
+  pub same-word : (j : ℕ) → j < groupsEnd → wordAt u j ≡ wordAt t j
   same-word = words-below t u (v .below)
 
   same-bit : (i : ℕ) → bit i (groupsAt u) ≡ bit i (groupsAt t)

@@ -12,19 +12,17 @@ use lib.ListN.{length, getD}
 use Rattle.words.specs.Words.{wordAt}
 use Rattle.words.specs.Runs.{tab, tabFrom}
 use Rattle.words.proofs.Runs.{getD-tab}
-use Rattle.units.specs.Numbers.{roundDown}
 use Rattle.rounds.specs.Round as round
 use Rattle.waiting.specs.Waiting.{Waiting, first, held, Lengths, GoodWaiting}
 use Rattle.waiting.proofs.Laws.{held-hand, held-none, held-most, good-nothing}
 use Rattle.rules.specs.State.{Rec, Setting, Lane, firstOf, slot, group, laneDepth}
 use Rattle.rules.specs.Calls as rules
-use Rattle.rules.specs.Setup.{margin}
 use Rattle.rules.specs.Good.{Times}
 use Rattle.digits.specs.Digits.{digit}
 use Rattle.digits.specs.Under.{AllUnder, Clear, Gathered}
 use Rattle.digits.proofs.Under.{tops-clear, clear-tops}
 use Rattle.table.specs.Layout.{cells, lengthsCell, lengthWords, lengthCell, placeOf, rowAt, entryAt}
-use Rattle.table.specs.Means.{presentAt, recOf, ringOf, givenOf, waitingOf, timed, RowAgrees, PlacesFit, Housed, laneOf}
+use Rattle.table.specs.Means.{presentAt, recOf, ringOf, givenOf, waitingOf, timed, RowAgrees, RowPaced, PlacesFit, Housed, laneOf}
 use Rattle.table.specs.declared.LaneRow.{LaneRow}
 use Rattle.table.proofs.Stores.{cell-is, word-before}
 use Rattle.table.proofs.Rows.{lane-present, length-ring, waiting-plain, waiting-none, waiting-shared, waiting-held}
@@ -76,26 +74,17 @@ ring-lengths w k h n l f =
 
 -- ---- times
 
-slot-is : (l : LaneRow) → RowAgrees l → 2 ^ (l .group) ≡ slot (givenOf l)
-unfolding slot
-slot-is l a = ap (λ (i : ℕ). 2 ^ i) (a .grouped)
-
 -- the row's clock word is that of the lane, whether it holds records or not
-module _ (v : ℕ) (l : LaneRow) (w : Waiting) (a : RowAgrees l) where
-  times-of : (o : Option Rec) → ((r : Rec) → o ≡ some r → 0 < l .count) → TimeGood v l → Times v (rules.timed (givenOf l) (l .time .0) w o) o
-  unfolding rules.timed
-  times-of none holds t = omega (arith, t .below, slot-is l a)
-  times-of (some r) holds t =
-      (refl, omega (arith, t .below, slot-is l a), subst (λ (s : ℕ). v < roundDown s (l .time .0) + 2 * s + margin (givenOf l .framing)) (slot-is l a) (t .above (holds r refl)))
+module _ (v : ℕ) (l : LaneRow) (w : Waiting) where
+  times-of : (o : Option Rec) → ((r : Rec) → o ≡ some r → 0 < l .count) → TimeGood v l (group (givenOf l)) → Times v (rules.timed (givenOf l) (l .time .0) w o) o
+  unfolding rules.timed slot
+  times-of none holds t = t .below
+  times-of (some r) holds t = (refl, t .below, t .above (holds r refl))
 
-  time-of : (o : Option Rec) → (o ≡ none → l .count ≡ 0) → Times v (rules.timed (givenOf l) (l .time .0) w o) o → TimeGood v l
-  unfolding rules.timed
-  time-of none idle t = record { below = omega (arith, t, slot-is l a); above = λ h. absurd (omega (arith, idle refl)) }
-  time-of (some r) idle t =
-      record {
-        below = omega (arith, t .1, slot-is l a);
-        above = λ h. subst (λ (s : ℕ). v < roundDown s (l .time .0) + 2 * s + margin (givenOf l .framing)) (sym (slot-is l a)) (t .2);
-      }
+  time-of : (o : Option Rec) → (o ≡ none → l .count ≡ 0) → Times v (rules.timed (givenOf l) (l .time .0) w o) o → TimeGood v l (group (givenOf l))
+  unfolding rules.timed slot
+  time-of none idle t = record { below = t; above = λ h. absurd (omega (arith, idle refl)) }
+  time-of (some r) idle t = record { below = t .1; above = λ h. t .2 }
 
 -- ---- a lane in the setup, by its row and what waits in it, however a table keeps them
 
@@ -106,15 +95,16 @@ module _ (v : ℕ) (row : LaneRow) (w : Waiting) (l : Lane) (is : l ≡ timed (g
   waiting-is : l .waiting ≡ w
   waiting-is = ap (λ (l : Lane). l .waiting) is ∙ timed-waiting _ _ _
 
-  pub fine-made : RowAgrees row → GoodWaiting (row .longest .0) w → TimeGood v row → LaneFine v row l
+  pub fine-made : RowAgrees row → (0 < row .count → RowPaced row) → GoodWaiting (row .longest .0) w → TimeGood v row (group (givenOf row)) → LaneFine v row l
   unfolding timed
-  fine-made a g t =
+  fine-made a c g t =
       record {
         agrees = a;
+        paced = c;
         waiting = rw (given-is, waiting-is) g;
         counted = ap held waiting-is ∙ size;
         numbers = subst (λ (l : Lane). Times v l (firstOf l)) (sym is)
-            (subst (Times v (timed (givenOf row) (row .time .0) w)) (sym (ap first (timed-waiting _ _ _))) (times-of v row w a (first w) (λ r e. omega (arith, held-hand (row .longest .0) w r g e, size)) t));
+            (subst (Times v (timed (givenOf row) (row .time .0) w)) (sym (ap first (timed-waiting _ _ _))) (times-of v row w (first w) (λ r e. omega (arith, held-hand (row .longest .0) w r g e, size)) t));
       }
 
   module _ (g : LaneFine v row l) where
@@ -124,10 +114,10 @@ module _ (v : ℕ) (row : LaneRow) (w : Waiting) (l : Lane) (is : l ≡ timed (g
     pub fine-room : row .count ≤ laneDepth
     fine-room = omega (arith, held-most (row .longest .0) w fine-waiting, size)
 
-    pub fine-time : TimeGood v row
+    pub fine-time : TimeGood v row (group (givenOf row))
     unfolding timed
     fine-time =
-        time-of v row w (g .agrees) (first w) (λ e. sym size ∙ held-none (row .longest .0) w fine-waiting e)
+        time-of v row w (first w) (λ e. sym size ∙ held-none (row .longest .0) w fine-waiting e)
         (subst (Times v (timed (givenOf row) (row .time .0) w)) (ap first (timed-waiting _ _ _)) (subst (λ (l : Lane). Times v l (firstOf l)) is (g .numbers)))
 
 -- ---- in this layout
@@ -138,8 +128,8 @@ module _ (w : List ℕ) (k : ℕ) (l : LaneRow) where
   within zero f = tt
   within (suc n) f = ring-lengths w k (l .head) (suc n) l (f (omega arith))
 
-  housed-made : PlacesFit w k l → (l .shared ≡ true → TrainsGood w k l) → Housed w k l
-  housed-made f s = record { places = f; trains = λ e. s e .fit }
+  housed-made : RowPaced l → PlacesFit w k l → (l .shared ≡ true → TrainsGood w k l) → Housed w k l
+  housed-made c f s = record { paced = c; places = f; trains = λ e. s e .fit }
 
   waiting-good : l .count ≤ laneDepth → (0 < l .count → PlacesFit w k l) → (0 < l .count → l .shared ≡ true → TrainsGood w k l) → GoodWaiting (l .longest .0) (waitingOf w k l)
   unfolding GoodWaiting
@@ -154,16 +144,16 @@ module _ (v : ℕ) (w : List ℕ) (k : ℕ) (p : presentAt w k ≡ true) where
   abbrev row : LaneRow
   row = rowAt w k
 
-  pub lane-made : RowAgrees row → row .count ≤ laneDepth → TimeGood v row → (0 < row .count → PlacesFit w k row) → (0 < row .count → row .shared ≡ true → TrainsGood w k row) → LaneGood v w k
-  lane-made a r t f s =
-      let housed : 0 < row .count → Housed w k row = λ h. housed-made w k row (f h) (s h) in
-      record { fine = fine-made v row (waitingOf w k row) _ (lane-present w k p) (waiting-held w k row housed) a (waiting-good w k row r f s) t; housed = housed }
+  pub lane-made : RowAgrees row → (0 < row .count → RowPaced row) → row .count ≤ laneDepth → TimeGood v row (group (givenOf row)) → (0 < row .count → PlacesFit w k row) → (0 < row .count → row .shared ≡ true → TrainsGood w k row) → LaneGood v w k
+  lane-made a c r t f s =
+      let housed : 0 < row .count → Housed w k row = λ h. housed-made w k row (c h) (f h) (s h) in
+      record { fine = fine-made v row (waitingOf w k row) _ (lane-present w k p) (waiting-held w k row housed) a c (waiting-good w k row r f s) t; housed = housed }
 
   module _ (g : LaneGood v w k) where
     pub lane-room : row .count ≤ laneDepth
     lane-room = fine-room v row (waitingOf w k row) _ (lane-present w k p) (waiting-held w k row (g .housed)) (g .fine)
 
-    pub lane-time : TimeGood v row
+    pub lane-time : TimeGood v row (group (givenOf row))
     lane-time = fine-time v row (waitingOf w k row) _ (lane-present w k p) (waiting-held w k row (g .housed)) (g .fine)
 
     pub lane-trains : 0 < row .count → row .shared ≡ true → TrainsGood w k row
@@ -176,7 +166,7 @@ module _ (v : ℕ) (w : List ℕ) (k : ℕ) (p : presentAt w k ≡ true) where
 
 -- ---- the test's own answers
 
-says-same : (b : Bool) (P Q : Type 0) → (P → Q) → (Q → P) → Says b P → Says b Q
+pub says-same : (b : Bool) (P Q : Type 0) → (P → Q) → (Q → P) → Says b P → Says b Q
 says-same true P Q to from s = to s
 says-same false P Q to from s = λ q. s (from q)
 
@@ -189,3 +179,9 @@ tops-say x = clear-says x _ refl
 
 pub places-say : (t : List ℕ) (k r : ℕ) (l : LaneRow) (b : Bool) → k < 64 → Gathered t (lengthsCell + lengthWords * k) lengthWords (l .longest .0) r → Says b (Clear 4 r) → Says b (PlacesFit (cells t) k l)
 places-say t k r l b hk g s = says-same b _ _ (λ c. under-places t k l hk (g .shows c)) (λ f. g .clear (places-under t k l hk f)) s
+
+-- an idle lane: its numbers, and then its clock word tells
+pub lane-idle : (v : ℕ) (w : List ℕ) (k : ℕ) (p : presentAt w k ≡ true) (l : LaneRow) (b : Bool) → l ≡ rowAt w k → RowAgrees l → l .count ≡ 0 → Says b (TimeGood v l (group (givenOf l))) → Says b (LaneGood v w k)
+lane-idle v w k p l b e =
+    subst (λ (l : LaneRow). RowAgrees l → l .count ≡ 0 → Says b (TimeGood v l (group (givenOf l))) → Says b (LaneGood v w k)) (sym e)
+    (λ a none s. says-same b _ _ (λ t. lane-made v w k p a (λ h. absurd (omega (arith, none))) (omega (arith, none)) t (λ h. absurd (omega (arith, none))) (λ h. absurd (omega (arith, none)))) (lane-time v w k p) s)

@@ -13,10 +13,10 @@ use Rattle.turns.proofs.Train.{shared-same}
 use Rattle.round_test.specs.Shared as trains
 use Rattle.round_test.specs.Shared.{numbersAt, lengthsAt, SharedGood}
 use Rattle.round_test.proofs.Made.{shared-made}
-use Rattle.rules.specs.State.{laneDepth}
+use Rattle.rules.specs.State.{group, laneDepth}
 use Rattle.parts.specs.Parts.{marksEnd}
 use Rattle.table.specs.Layout.{cells, lengthsCell, lengthWords, entryAt, placeOf, rowAt, roundAt, trainNumber}
-use Rattle.table.specs.Means.{presentAt, recAt, sharedAt, RowAgrees, PlacesFit}
+use Rattle.table.specs.Means.{presentAt, recAt, sharedAt, givenOf, RowAgrees, RowPaced, PlacesFit}
 use Rattle.table.specs.declared.LaneRow.{LaneRow}
 use Rattle.table.proofs.Places.{train-read}
 use Rattle.lane_test.specs.Says.{Says, TimeGood, TrainsGood, LaneGood}
@@ -76,12 +76,16 @@ module _ (v : ℕ) (w : List ℕ) (k : ℕ) (p : presentAt w k ≡ true) where
   abbrev row : LaneRow
   row = rowAt w k
 
-  pub lane-plain : RowAgrees row → row .count ≤ laneDepth → TimeGood v row → PlacesFit w k row → not (row .shared) ≡ true → LaneGood v w k
-  lane-plain a r t f u = lane-made v w k p a r t (λ h. f) (λ h e. absurd (false≢true (ap not (sym e) ∙ u)))
+  -- a lane that holds records is tested by the group that stands in its row
+  time-paced : RowPaced row → TimeGood v row (row .group) → TimeGood v row (group (givenOf row))
+  time-paced c t = subst (TimeGood v row) (c .grouped) t
 
-  pub lane-shared : RowAgrees row → row .count ≤ laneDepth → TimeGood v row → PlacesFit w k row → 0 < row .count → not (row .shared) ≡ false → (b : Bool) → Says b (TrainsGood w k row) → Says b (LaneGood v w k)
-  lane-shared a r t f h u true s = lane-made v w k p a r t (λ h. f) (λ h e. s)
-  lane-shared a r t f h u false s = λ g. s (lane-trains v w k p g h (is-true (row .shared) u))
+  pub lane-plain : RowAgrees row → RowPaced row → row .count ≤ laneDepth → TimeGood v row (row .group) → PlacesFit w k row → not (row .shared) ≡ true → LaneGood v w k
+  lane-plain a c r t f u = lane-made v w k p a (λ h. c) r (time-paced c t) (λ h. f) (λ h e. absurd (false≢true (ap not (sym e) ∙ u)))
+
+  pub lane-shared : RowAgrees row → RowPaced row → row .count ≤ laneDepth → TimeGood v row (row .group) → PlacesFit w k row → 0 < row .count → not (row .shared) ≡ false → (b : Bool) → Says b (TrainsGood w k row) → Says b (LaneGood v w k)
+  lane-shared a c r t f h u true s = lane-made v w k p a (λ h. c) r (time-paced c t) (λ h. f) (λ h e. s)
+  lane-shared a c r t f h u false s = λ g. s (lane-trains v w k p g h (is-true (row .shared) u))
     where
       is-true : (b : Bool) → not b ≡ false → b ≡ true
       is-true true e = refl

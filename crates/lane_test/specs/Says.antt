@@ -1,7 +1,7 @@
 -- What a test of one lane says.
 --
 --   Says         a Bool that is true exactly if a statement holds
---   TimeGood     the conditions on S, F and R, over a lane's row
+--   TimeGood     the conditions on S, F and R, over a lane's row, i being its group
 --   TrainsGood   a shared lane's trains and round are good, and the layout's own of them agrees
 --   LaneFine     what the good-table rule asks of a lane that is in the setup, r being its row
 --   LaneGood     the same of a lane of these words, and how the layout houses its records
@@ -18,7 +18,7 @@ use Rattle.rules.specs.State.{Lane, firstOf}
 use Rattle.rules.specs.Setup.{margin}
 use Rattle.rules.specs.Good.{Times}
 use Rattle.table.specs.Layout.{rowAt}
-use Rattle.table.specs.Means.{givenOf, RowAgrees, TrainsFit, Housed, sharedAt, laneOf}
+use Rattle.table.specs.Means.{givenOf, RowAgrees, RowPaced, TrainsFit, Housed, sharedAt, laneOf}
 use Rattle.table.specs.declared.LaneRow.{LaneRow}
 
 abbrev pub Says : Bool → Type 0 → Type 0
@@ -26,9 +26,9 @@ Says true P = P
 Says false P = P → ⊥
 
 -- R6.6 of S and R, R6.7 of F: the one clock word of a lane is S or F, and its upper edge is the same
-pub record TimeGood (v : ℕ) (l : LaneRow) : Type 0 where
-  pub below : l .time .0 < v + 2 * 2 ^ (l .group)
-  pub above : 0 < l .count → v < roundDown (2 ^ (l .group)) (l .time .0) + 2 * 2 ^ (l .group) + margin (givenOf l .framing)
+pub record TimeGood (v : ℕ) (l : LaneRow) (i : ℕ) : Type 0 where
+  pub below : l .time .0 < v + 2 * 2 ^ i
+  pub above : 0 < l .count → v < roundDown (2 ^ i) (l .time .0) + 2 * 2 ^ i + margin (givenOf l .framing)
 
 pub record TrainsGood (w : List ℕ) (k : ℕ) (l : LaneRow) : Type 0 where
   pub lane : Good (l .longest .0) (sharedAt w k)
@@ -36,6 +36,7 @@ pub record TrainsGood (w : List ℕ) (k : ℕ) (l : LaneRow) : Type 0 where
 
 pub record LaneFine (v : ℕ) (r : LaneRow) (l : Lane) : Type 0 where
   pub agrees : RowAgrees r
+  pub paced : 0 < r .count → RowPaced r
   pub waiting : GoodWaiting (l .given .longest) (l .waiting)
   pub counted : held (l .waiting) ≡ r .count
   pub numbers : Times v l (firstOf l)

@@ -1,7 +1,8 @@
 // The good-table test of one lane (R6.4, R6.6, R6.7, R6.10).
 //
-// Each function answers true exactly if the statement in its contract holds (`Says`). No call divides: c is tested by the two bounds that only it
-// meets, the group by equality with the least power, and R is found by shifting. An idle lane has no record to look at.
+// Each function answers true exactly if the statement in its contract holds (`Says`). c is tested by the two bounds that only it meets, the group by equality
+// with the least power, and R is found by shifting. An idle lane has no record to look at, and its c and group mean nothing: only where its F is further from V
+// than two slots of the lowest group, its own group is worked out, which divides.
 ghost use mathlib.Core.Path.{_≡_};
 ghost use mathlib.Core.Bool.{true};
 ghost use Prim.Native.Nat.{_+_, _*_, _^_, _<_, _≤_};
@@ -10,7 +11,7 @@ ghost use Rattle.rules.specs.State.{group, laneDepth};
 ghost use lib.ListN.{length};
 ghost use Rattle.table.specs.Layout.{Room, lengthWords, cells, rowAt};
 ghost use Rattle.digits.specs.Under.{Clear, Gathered};
-ghost use Rattle.table.specs.Means.{RowAgrees, PlacesFit, givenOf, presentAt};
+ghost use Rattle.table.specs.Means.{RowAgrees, RowPaced, PlacesFit, givenOf, presentAt};
 ghost use Rattle.lane_test.specs.Says.{Says, TimeGood, TrainsGood, LaneGood};
 use round_test::shared_good;
 use std::num::wrapping_add_u64;
@@ -21,6 +22,7 @@ use table::LaneRow;
 use table::TRAIN_NUMBERS;
 use table::TRAIN_WORDS;
 use table::charged;
+use table::pace_of;
 use table::round;
 use units::Bytes;
 use units::Clock;
@@ -82,9 +84,9 @@ fn group_good(l: LaneRow) -> bool
     true
 }
 
-// Whether a lane's setting is within the numbers, and its c and group are those of its setting.
-pub fn setting_good(l: LaneRow) -> bool
-    requires { ⌜ (l .rate .0 < 2 ^ 24) × (l .framing .0 ≤ 64) ⌝ }
+// Whether a lane's setting is within the numbers.
+pub fn numbers_good(l: LaneRow) -> bool
+    requires { ⌜ l .framing .0 ≤ 64 ⌝ }
     ensures { λ r. ⌜ Says r (RowAgrees l) ⌝ }
 {
     if l.weight < LEAST_WEIGHT {
@@ -99,6 +101,14 @@ pub fn setting_good(l: LaneRow) -> bool
     if l.longest.0 > MOST_LONGEST {
         return false;
     }
+    true
+}
+
+// Whether a lane's c and group are those of its setting.
+pub fn pace_good(l: LaneRow) -> bool
+    requires { ⌜ RowAgrees l × (l .rate .0 < 2 ^ 24) ⌝ }
+    ensures { λ r. ⌜ Says r (RowPaced l) ⌝ }
+{
     let rated = rate_good(l);
     if !rated {
         return false;
@@ -113,7 +123,7 @@ pub fn setting_good(l: LaneRow) -> bool
 // Whether a lane's clock word is near enough to V.
 pub fn time_good(l: LaneRow, v: Clock) -> bool
     requires { ⌜ (l .group ≤ 31) × (v .0 < 2 ^ 63) × (l .framing .0 ≤ 64) ⌝ }
-    ensures { λ r. ⌜ Says r (TimeGood (v .0) l) ⌝ }
+    ensures { λ r. ⌜ Says r (TimeGood (v .0) l (l .group)) ⌝ }
 {
     let window = two_slots(l.group);
     if not_after(plus(v, window), l.time) {
@@ -129,6 +139,24 @@ pub fn time_good(l: LaneRow, v: Clock) -> bool
         return false;
     }
     true
+}
+
+// Two slots of group 16, the lowest.
+const NEAR: u64 = 131072;
+
+// Whether the clock word of an idle lane is near enough to V. No lane's group is below 16, so most need no group for it.
+fn rest_good(l: LaneRow, v: Clock) -> bool
+    requires { ⌜ RowAgrees l × (l .count ≡ 0) × (v .0 < 2 ^ 63) ⌝ }
+    ensures { λ r. ⌜ Says r (TimeGood (v .0) l (group (givenOf l))) ⌝ }
+{
+    if before(l.time, plus(v, Clock(NEAR))) {
+        return true;
+    }
+    let p = pace_of(l);
+    if before(l.time, plus(v, two_slots(p.group))) {
+        return true;
+    }
+    false
 }
 
 // The top bit of each quarter of a word.
@@ -190,19 +218,23 @@ pub fn lane_good(t: &[u8], k: usize, l: LaneRow, v: Clock) -> bool
     requires { ⌜ Room (now t) × (k < 64) × (presentAt (cells (now t)) k ≡ true) × (l ≡ rowAt (cells (now t)) k) × (l .head < laneDepth) × (l .rate .0 < 2 ^ 24) × (v .0 < 2 ^ 63) × (l .framing .0 ≤ 64) ⌝ }
     ensures { λ r. ⌜ Says r (LaneGood (v .0) (cells (now (t .entry))) k) ⌝ }
 {
-    let agrees = setting_good(l);
+    let agrees = numbers_good(l);
     if !agrees {
         return false;
     }
+    if l.count == 0 {
+        return rest_good(l, v);
+    }
     if l.count > DEPTH {
+        return false;
+    }
+    let paced = pace_good(l);
+    if !paced {
         return false;
     }
     let timed = time_good(l, v);
     if !timed {
         return false;
-    }
-    if l.count == 0 {
-        return true;
     }
     let places = places_good(t, k, l);
     if !places {

@@ -9,7 +9,7 @@ use Rattle.waiting.specs.Waiting.{Waiting, plain, Lengths, GoodWaiting, held}
 use Rattle.rules.specs.State.{Lane, noLane}
 use Rattle.rules.specs.Older.{oldDepth, oldEdge}
 use Rattle.table.specs.Layout.{cells, clockWord, framingWord}
-use Rattle.table.specs.Means.{presentAt, RowAgrees}
+use Rattle.table.specs.Means.{presentAt, RowAgrees, RowPaced}
 use Rattle.lists_test.specs.Stored.{Stored}
 use Rattle.lane_test.specs.Says.{TimeGood, LaneFine}
 use Rattle.lane_test.proofs.Lane.{fine-made, fine-waiting, fine-time}
@@ -35,15 +35,15 @@ module _ (v : ℕ) (w : List ℕ) (k : ℕ) (p : presentAt w k ≡ true) where
   unfolding GoodWaiting
   queue-good r f = (omega (arith, length-queue w k (oldRowAt w k .head) (oldRowAt w k .count)), f)
 
-  pub lane-made : RowAgrees (oldRowAt w k) → oldRowAt w k .count ≤ oldDepth → TimeGood v (oldRowAt w k) → Lengths (oldRowAt w k .longest .0) (oldQueue w k) → OldLaneGood v w k
-  lane-made a r t f = record { fine = fine-made v _ queue _ (old w .present k p) size a (queue-good r f) t; room = r }
+  pub lane-made : RowAgrees (oldRowAt w k) → RowPaced (oldRowAt w k) → oldRowAt w k .count ≤ oldDepth → TimeGood v (oldRowAt w k) (oldRowAt w k .group) → Lengths (oldRowAt w k .longest .0) (oldQueue w k) → OldLaneGood v w k
+  lane-made a c r t f = record { fine = fine-made v _ queue _ (old w .present k p) size a (λ h. c) (queue-good r f) (subst (TimeGood v (oldRowAt w k)) (c .grouped) t); paced = c; room = r }
 
   pub lane-lengths : OldLaneGood v w k → Lengths (oldRowAt w k .longest .0) (oldQueue w k)
   unfolding GoodWaiting
   lane-lengths g = fine-waiting v _ queue _ (old w .present k p) size (g .fine) .1
 
-  pub lane-time : OldLaneGood v w k → TimeGood v (oldRowAt w k)
-  lane-time g = fine-time v _ queue _ (old w .present k p) size (g .fine)
+  pub lane-time : OldLaneGood v w k → TimeGood v (oldRowAt w k) (oldRowAt w k .group)
+  lane-time g = subst (TimeGood v (oldRowAt w k)) (sym (g .paced .grouped)) (fine-time v _ queue _ (old w .present k p) size (g .fine))
 
 -- ---- the table
 
@@ -61,7 +61,7 @@ held-none = omega arith
 
 module _ (t : List ℕ) where
   told : OldTable t → Told t (oldRowAt (cells t)) (oldMeant t)
-  told g = record { good = g .good .good; rows = g .agrees .rows; counted = λ k h p. ap (λ (l : Lane). held (l .waiting)) (lane-of t (old (cells t)) (oldMeant t) (old-means t) k h) ∙ held-is (cells t) k p; solid = g .agrees .solid; agrees = g .agrees .lists }
+  told g = record { good = g .good .good; rows = g .agrees .rows; paced = λ k h p n. g .agrees .paced k h p; counted = λ k h p. ap (λ (l : Lane). held (l .waiting)) (lane-of t (old (cells t)) (oldMeant t) (old-means t) k h) ∙ held-is (cells t) k p; solid = g .agrees .solid; agrees = g .agrees .lists }
 
   module _ (v : ℕ) (f : Found) (clock : v ≡ getD (cells t) clockWord 0) (s : FoundSays v (cells t) (oldLane (cells t)) (OldLaneGood v (cells t)) 64 f) where
     pub whole-old : oldSize ≤ length t → v < oldEdge → getD (cells t) framingWord 0 ≤ 64
@@ -75,7 +75,7 @@ module _ (t : List ℕ) where
             room = each-lane t (old (cells t)) (oldMeant t) (old-means t) (λ (l : Lane). held (l .waiting) ≤ oldDepth) held-none (λ k h p. omega (arith, held-is (cells t) k p, s .lanes k h p .room));
             clock = omega (arith, clock, clock-is t);
           };
-          agrees = record { rows = x .rows; solid = x .solid; lists = x .agrees };
+          agrees = record { rows = x .rows; paced = λ k h p. s .lanes k h p .paced; solid = x .solid; lists = x .agrees };
         }
 
     pub old-found : OldTable t → (0 < f .weights) × (f .weights ≤ 1024) × (0 < f .held → f .eligible ≡ true) × Stored t (f .held)
@@ -85,6 +85,7 @@ module _ (t : List ℕ) where
   old-lanes v clock g k h p =
       record {
         fine = subst (λ (v : ℕ). LaneFine v (oldRowAt (cells t) k) (oldLane (cells t) k)) (sym (clock ∙ clock-is t)) (told-fine t (old (cells t)) (oldMeant t) (old-means t) (told g) k h p);
+        paced = g .agrees .paced k h p;
         room = omega (arith, held-is (cells t) k p, g .good .room k, ap (λ (l : Lane). held (l .waiting)) (lane-of t (old (cells t)) (oldMeant t) (old-means t) k h));
       }
 

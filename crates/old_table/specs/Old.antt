@@ -27,7 +27,7 @@ use Rattle.parts.specs.Parts.{lengthsFrom, ringsEnd}
 use Rattle.slot_lists.specs.Lists.{backAt, listAt, startAt, Solid}
 use Rattle.filing.specs.Filing.{inARow, Agrees}
 use Rattle.table.specs.Layout.{cells, clockWord, laneWord, rowAt}
-use Rattle.table.specs.Means.{presentAt, recOf, givenOf, timed, RowAgrees}
+use Rattle.table.specs.Means.{presentAt, recOf, givenOf, timed, RowAgrees, RowPaced}
 use Rattle.table.specs.declared.LaneRow.{LaneRow}
 use Rattle.table.specs.declared.Entry.{Entry}
 
@@ -76,6 +76,8 @@ oldMeant t = record { clock = getD (cells t) clockWord 0; lanes = tab 64 (oldLan
 -- R7.3
 pub record OldAgrees (t : List ℕ) : Type 0 where
   pub rows : (k : ℕ) → k < 64 → presentAt (cells t) k ≡ true → RowAgrees (oldRowAt (cells t) k)
+  -- c and the group of each lane, one that was idle too
+  pub paced : (k : ℕ) → k < 64 → presentAt (cells t) k ≡ true → RowPaced (oldRowAt (cells t) k)
   pub solid : Solid t
   pub lists : Agrees (backAt t) (listAt t) (startAt t) (oldMeant t)
 

@@ -20,7 +20,8 @@ use good::Found;
 use good::Pass;
 use good::found_good;
 use good::note;
-use lane_test::setting_good;
+use lane_test::numbers_good;
+use lane_test::pace_good;
 use lane_test::time_good;
 use rings::END;
 use table::CLOCK;
@@ -114,8 +115,13 @@ fn lane_good(t: &[u8], k: usize, l: LaneRow, v: Clock) -> bool
     requires { ⌜ Front (now t) × (k < 64) × (presentAt (cells (now t)) k ≡ true) × (l ≡ oldRowAt (cells (now t)) k) × (l .head < oldDepth) × (l .rate .0 < 2 ^ 24) × (v .0 < 2 ^ 63) × (l .framing .0 ≤ 64) ⌝ }
     ensures { λ r. ⌜ Says r (OldLaneGood (v .0) (cells (now (t .entry))) k) ⌝ }
 {
-    let agrees = setting_good(l);
+    let agrees = numbers_good(l);
     if !agrees {
+        return false;
+    }
+    // c and the group were asked of idle lanes too
+    let paced = pace_good(l);
+    if !paced {
         return false;
     }
     if l.count > DEPTH {

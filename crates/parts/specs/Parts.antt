@@ -3,6 +3,7 @@
 --   rowsFrom      the first word of the lanes' rows, behind the single words: four words for a lane
 --   lengthsFrom   the first word of the records' lengths: a quarter of a word for a place
 --   listsFrom     the first word of the slot lists: the groups' words
+--   groupsEnd     the first word past those
 --   ringsFrom     the first byte of the slot lists' rings
 --   ringsEnd      the first byte past them: two bytes for each of 512 rings, and 64 places
 --   marksEnd      the first byte past the records' marks, which lie behind the rings: four bytes for a place
@@ -23,9 +24,13 @@ lengthsFrom = rowsFrom + 4 * 64
 abbrev pub listsFrom : ℕ
 listsFrom = lengthsFrom + 64 * (laneDepth / 4)
 
+-- 1,408: 16 words for all groups, and two for each of groups 16 to 31
+abbrev pub groupsEnd : ℕ
+groupsEnd = listsFrom + 48
+
 -- 11,264
 abbrev pub ringsFrom : ℕ
-ringsFrom = 8 * (listsFrom + 48)
+ringsFrom = 8 * groupsEnd
 
 -- 45,056
 abbrev pub ringsEnd : ℕ

@@ -82,5 +82,5 @@ module _ (t t₁ t′ : List ℕ) (k : ℕ) (e : Item) (s : Sound t) (hk : k < 6
       ∙ ap (λ (x : Lane). appended x (waiting e)) (sym (lane-row w o k hk present)) in
       subst (λ (x : Lane). Leaves t t′ (withLane (meant t) k x)) same
       (rewritten t t₁ t′ k (r .time .0) (r .head) (r .count + 1) hk top present (en .moved)
-      (λ beside n. entered-housed t t₁ k r e en is counted (r .time .0) (λ q. append-ready q .train) (housed .places))
+      (λ beside n. entered-housed t t₁ k r e en is counted (r .time .0) (housed .paced) (λ q. append-ready q .train) (housed .places))
       (ring-now t t₁ t′ k (r .head) (r .count + 1) hk (en .moved) b))

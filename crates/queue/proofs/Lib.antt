@@ -4,4 +4,5 @@ pub mod Moves
 pub mod Lane
 pub mod Appending
 pub mod Waking
+pub mod Pacing
 pub mod Taking

@@ -19,12 +19,13 @@ use Rattle.turns.proofs.Good.{good-known, good-light, turn-known, turn-count, t
 use Rattle.waiting.specs.Waiting.{Waiting, plain, shared, enter, handOut, tail}
 use Rattle.rules.specs.State.{laneDepth}
 use Rattle.table.specs.Layout.{CELLS, Now, cells, lengthsCell, lengthWords, trainsCell, lengthCell, placeOf, roundWord, roundAt, entryAt, putEntry, clearCells, trainNumber, putTrain}
-use Rattle.table.specs.Means.{recAt, ringOf, sharedAt, waitingOf, PlacesFit, Housed}
+use Rattle.table.specs.Means.{recAt, ringOf, sharedAt, waitingOf, RowPaced, PlacesFit, Housed}
 use Rattle.table.specs.declared.Entry.{Entry}
 use Rattle.table.specs.declared.LaneRow.{LaneRow}
 use Rattle.table.proofs.Stores.{length-cells, behind-refl, behind-then}
 use Rattle.table.proofs.Entries.{Fits, entry-same, entry-other, clear-same, digit-none}
 use Rattle.table.proofs.Footprint.{Outside}
+use Rattle.table.proofs.Agrees.{paced-retimed}
 use Rattle.table.proofs.Rows.{retimed, SameRows, outside-trans, outside-place, outside-cleared, outside-trains, outside-round, outside-train, rows-place, rows-cleared, rows-round, rows-train, waiting-plain, waiting-shared, waiting-none}
 use Rattle.queue.specs.Queue.{waiting, bare, Ready, Joins, Moved, Entered, Cleared, Chosen, Turned}
 use Rattle.queue.specs.declared.Item.{Item}
@@ -89,10 +90,11 @@ module _ (t t₁ : List ℕ) (k : ℕ) (l : LaneRow) (e : Item) (en : Entered t 
       (λ q. shared-is (cells t₁) k x (l .head) (l .count + 1) l q (omega arith) ∙ ap shared (en .shared q) ∙ ap (λ (y : Waiting). enter (l .longest .0) y (waiting e)) (sym (is q)))
       (λ q. plain-is (cells t₁) k x (l .head) (l .count + 1) l q ∙ ap plain (en .plain q) ∙ ap (λ (y : Waiting). enter (l .longest .0) y (waiting e)) (sym (waiting-plain (cells t) k l q)))
 
-  pub entered-housed : (x : ℕ) → (l .shared ≡ true → e .train < 8) → PlacesFit (cells t) k l → Housed (cells t₁) k (retimed l x (l .head) (l .count + 1))
+  pub entered-housed : (x : ℕ) → RowPaced l → (l .shared ≡ true → e .train < 8) → PlacesFit (cells t) k l → Housed (cells t₁) k (retimed l x (l .head) (l .count + 1))
   unfolding sharedAt sharedOf
-  entered-housed x small f =
+  entered-housed x paced small f =
       record {
+        paced = paced-retimed l x (l .head) (l .count + 1) paced;
         places = en .fits f;
         trains = λ q. record {
           counted = ap round.held (en .shared q) ∙ put-held (l .longest .0) (sharedAt (cells t) k) (e .train) (bare e) (omega (arith, small q, length-trains (trainNumber (cells t) k) (recAt (cells t) k))) ∙ omega (arith, counted q);
@@ -117,8 +119,8 @@ module _ (t t₁ : List ℕ) (k h : ℕ) (l : LaneRow) (some : 0 < l .count)
       (λ q. shared-left q x (l .count - 1) refl ∙ ap shared (shared-hand q) ∙ ap (handOut (l .longest .0)) (sym (waiting-shared (cells t) k l q some)))
       (λ q. plain-is (cells t₁) k x h (l .count - 1) l q ∙ ap plain (plain-ring q) ∙ ap (handOut (l .longest .0)) (sym (waiting-plain (cells t) k l q)))
 
-  pub left-housed : (x : ℕ) → PlacesFit (cells t₁) k l → (l .shared ≡ true → Ordered (roundAt (cells t₁) k)) → Housed (cells t₁) k (retimed l x h (l .count - 1))
-  left-housed x f o = record { places = f; trains = λ q. record { counted = counted q; ordered = o q } }
+  pub left-housed : (x : ℕ) → RowPaced l → PlacesFit (cells t₁) k l → (l .shared ≡ true → Ordered (roundAt (cells t₁) k)) → Housed (cells t₁) k (retimed l x h (l .count - 1))
+  left-housed x paced f o = record { paced = paced-retimed l x h (l .count - 1) paced; places = f; trains = λ q. record { counted = counted q; ordered = o q } }
 
 -- ---- the stores of `enter` and `clear`
 

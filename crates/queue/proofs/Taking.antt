@@ -65,7 +65,7 @@ module _ (t : List ℕ) (k : ℕ) (s : Sound t) (hk : k < 64) (g : GoodWaiting (
   take-places = housed .places
 
   pub take-rate : r .rate .0 ≤ 2 ^ 20
-  take-rate = omega (arith, s .beside .rows k hk present .rated, rate-le (r .weight))
+  take-rate = omega (arith, housed .paced .rated, rate-le (r .weight))
 
   pub take-framing : r .framing .0 ≤ 64
   take-framing = s .beside .rows k hk present .framing
@@ -83,7 +83,7 @@ module _ (t : List ℕ) (k : ℕ) (s : Sound t) (hk : k < 64) (g : GoodWaiting (
     -- what the code computes is F
     pub finish-is : r .time .0 + charge (givenOf r) (e .length .0) * r .rate .0 ≡ laneAt (meant t) k .finish
     finish-is =
-        ap (λ (y : ℕ). r .time .0 + charge (givenOf r) (e .length .0) * y) (s .beside .rows k hk present .rated)
+        ap (λ (y : ℕ). r .time .0 + charge (givenOf r) (e .length .0) * y) (housed .paced .rated)
         ∙ sym (ap (λ (y : Lane). y .finish) (lane-row w o k hk present ∙ timed-some (givenOf r) (r .time .0) (waitingOf w k r) (waiting e) (first-back (waiting e) is)))
 
     pub take-leaves : (t₁ t′ : List ℕ) (h : ℕ) → h < laneDepth → Moved t t₁ k → PlacesFit (cells t₁) k r
@@ -98,13 +98,13 @@ module _ (t : List ℕ) (k : ℕ) (s : Sound t) (hk : k < 64) (g : GoodWaiting (
         = λ q. omega (arith, ap round.held (sh q), hand-held (r .longest .0) (sharedAt w k) (moved (waiting e)) (good-shared w k r q busy-row good) (item-some (round.first (sharedAt w k)) (waiting e) (sym (ap first (waiting-shared w k r q busy-row)) ∙ chosen)), housed .trains q .counted) in
         let same : timed (givenOf r) f₀ (waitingOf (cells t₁) k (retimed r f₀ h (r .count - 1))) ≡ served (laneAt (meant t) k)
         = ap (timed (givenOf r) f₀) (left-waits t t₁ k h r busy-row pl sh good-left counted f₀)
-        ∙ ap (λ (y : ℕ). timed (givenOf r) y (handOut (r .longest .0) (waitingOf w k r))) (sym finish-is ∙ ap (λ (y : ℕ). r .time .0 + charge (givenOf r) (e .length .0) * y) (s .beside .rows k hk present .rated))
+        ∙ ap (λ (y : ℕ). timed (givenOf r) y (handOut (r .longest .0) (waitingOf w k r))) (sym finish-is ∙ ap (λ (y : ℕ). r .time .0 + charge (givenOf r) (e .length .0) * y) (housed .paced .rated))
         ∙ sym (timed-served (givenOf r) (r .time .0) (waitingOf w k r) (waiting e) chosen)
         ∙ ap served (sym (lane-row w o k hk present)) in
         record {
           first = is;
           leaves = subst (λ (y : Lane). Leaves t t′ (withLane (meant t) k y)) same
-              (rewritten t t₁ t′ k f₀ h (r .count - 1) hk top present m (λ beside n. left-housed t t₁ k h r busy-row pl sh good-left counted f₀ f or) b);
+              (rewritten t t₁ t′ k f₀ h (r .count - 1) hk top present m (λ beside n. left-housed t t₁ k h r busy-row pl sh good-left counted f₀ (housed .paced) f or) b);
         }
 
   pub first-item : (l : LaneRow) (f : FirstPlace) (x : Entry) → l ≡ r → Fronts w k l f → x ≡ entryAt w (placeOf k (f .place)) → First (laneAt (meant t) k) (record { train = f .train; mark = x .mark; length = x .length })

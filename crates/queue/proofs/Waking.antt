@@ -1,4 +1,4 @@
--- From the stores of `wake` to the lane that it leaves. Assumes nothing.
+-- From the stores of `wake` and `begin` to the lane that they leave. Assumes nothing.
 use mathlib.Core.Path.{_≡_, sym, ap, subst, _∙_}
 use mathlib.Core.Bool.{true, false}
 use Prim.Native.Nat.{ℕ, _+_, _≤_, _<_, max}
@@ -16,7 +16,7 @@ use Rattle.rules.specs.Calls.{woken}
 use Rattle.slot_lists.specs.Lists.{listAt}
 use Rattle.filing.specs.Filing.{inARow}
 use Rattle.table.specs.Layout.{Now, cells, rowAt, putRow}
-use Rattle.table.specs.Means.{presentAt, sharedAt, waitingOf, givenOf, timed, meant, Housed, Sound, Leaves, withLane}
+use Rattle.table.specs.Means.{presentAt, sharedAt, waitingOf, givenOf, timed, meant, RowPaced, Housed, Sound, Leaves, withLane}
 use Rattle.table.specs.declared.LaneRow.{LaneRow}
 use Rattle.table.proofs.Rows.{retimed, weight-present, waiting-none}
 use Rattle.table.proofs.Timed.{timed-none, timed-woken}
@@ -27,7 +27,7 @@ use Rattle.queue.proofs.Lane.{rewritten, lane-row, good-row, enters-row
 
 module _ (t t₀ t₁ t′ : List ℕ) (k x : ℕ) (e : Item) (s : Sound t) (hk : k < 64) (g : GoodWaiting (laneAt (meant t) k .given .longest) (laneAt (meant t) k .waiting))
     (a : Enters (laneAt (meant t) k .given .longest) (laneAt (meant t) k .waiting) (waiting e)) (weight : 0 < laneAt (meant t) k .given .weight)
-    (idle : holds (laneAt (meant t) k) ≡ false) (start : x ≡ max (laneAt (meant t) k .finish) (meant t .clock)) where
+    (idle : holds (laneAt (meant t) k) ≡ false) (start : x ≡ max (laneAt (meant t) k .finish) (meant t .clock)) (paced : RowPaced (rowAt (cells t) k)) where
   abbrev w : List ℕ
   w = cells t
 
@@ -81,5 +81,5 @@ module _ (t t₀ t₁ t′ : List ℕ) (k x : ℕ) (e : Item) (s : Sound t) (hk 
       ∙ ap (λ (y : Lane). woken (meant t .clock) y (waiting e)) (sym lane) in
       subst (λ (y : Lane). Leaves t t′ (withLane (meant t) k y)) same
       (rewritten t t₁ t′ k x (r .head) 1 hk top present (moved-then (c .moved) (en .moved))
-      (λ beside n. subst (λ (m : ℕ). Housed (cells t₁) k (retimed r x (r .head) m)) one (entered-housed t₀ t₁ k r e en is counted x wake-train (c .fits)))
+      (λ beside n. subst (λ (m : ℕ). Housed (cells t₁) k (retimed r x (r .head) m)) one (entered-housed t₀ t₁ k r e en is counted x paced wake-train (c .fits)))
       b)

@@ -10,10 +10,10 @@ ghost use Rattle.rounds.specs.Good.{Good};
 ghost use Rattle.turns.specs.Turns.{namedOf, Ordered};
 ghost use Rattle.waiting.specs.Waiting.{GoodWaiting};
 ghost use Rattle.waiting.proofs.Laws.{Enters};
-ghost use Rattle.rules.specs.State.{laneAt, holds, laneDepth};
+ghost use Rattle.rules.specs.State.{laneAt, holds, group, laneDepth};
 ghost use Rattle.rules.specs.Calls.{appended, woken};
 ghost use Rattle.table.specs.Layout.{Room, cells, rowAt, roundAt};
-ghost use Rattle.table.specs.Means.{meant, sharedAt, Sound, Leaves, withLane};
+ghost use Rattle.table.specs.Means.{meant, sharedAt, RowPaced, Sound, Leaves, withLane};
 ghost use Rattle.queue.specs.Queue.{waiting, First, Takes, Ready, Joins, Entered, Cleared, Fronts, Chosen, Turned};
 use table::DEPTH;
 use table::Entry;
@@ -21,9 +21,11 @@ use table::LaneRow;
 use table::charged;
 use table::clear_lengths;
 use table::clear_trains;
+use table::pace_of;
 use table::record_at;
 use table::round;
 use table::row;
+use table::set_pace;
 use table::set_record;
 use table::set_ring;
 use table::set_round;
@@ -109,9 +111,9 @@ fn clear(t: &mut [u8], k: usize, l: LaneRow)
     }
 }
 
-// Puts the first record into lane `k`, which is in the setup and idle. `start` is its S (R3.7).
-pub fn wake(t: &mut [u8], k: usize, start: Clock, e: Item)
-    requires { ⌜ Sound (now t) × (k < 64) × GoodWaiting (laneAt (meant (now t)) k .given .longest) (laneAt (meant (now t)) k .waiting) × Enters (laneAt (meant (now t)) k .given .longest) (laneAt (meant (now t)) k .waiting) (waiting e) × (0 < laneAt (meant (now t)) k .given .weight) × (holds (laneAt (meant (now t)) k) ≡ false) × (start .0 ≡ max (laneAt (meant (now t)) k .finish) (meant (now t) .clock)) ⌝ }
+// Puts the first record into lane `k`, which is in the setup and idle, and has its c and group. `start` is its S.
+fn begin(t: &mut [u8], k: usize, start: Clock, e: Item)
+    requires { ⌜ Sound (now t) × (k < 64) × GoodWaiting (laneAt (meant (now t)) k .given .longest) (laneAt (meant (now t)) k .waiting) × Enters (laneAt (meant (now t)) k .given .longest) (laneAt (meant (now t)) k .waiting) (waiting e) × (0 < laneAt (meant (now t)) k .given .weight) × (holds (laneAt (meant (now t)) k) ≡ false) × (start .0 ≡ max (laneAt (meant (now t)) k .finish) (meant (now t) .clock)) × RowPaced (rowAt (cells (now t)) k) ⌝ }
     ensures { λ _. ⌜ Leaves (now (t .entry)) (now (t .exit)) (withLane (meant (now (t .entry))) k (woken (meant (now (t .entry)) .clock) (laneAt (meant (now (t .entry))) k) (waiting e))) ⌝ }
 {
     let l = row(t, k);
@@ -121,6 +123,18 @@ pub fn wake(t: &mut [u8], k: usize, start: Clock, e: Item)
     next.time = start;
     next.count = 1;
     set_row(t, k, next);
+}
+
+// Puts the first record into lane `k`, which is in the setup and idle. `start` is its S (R3.7). While a lane is idle, c and group mean nothing in its words: they
+// are worked out and stored here. The answer is the group.
+pub fn wake(t: &mut [u8], k: usize, start: Clock, e: Item) -> u32
+    requires { ⌜ Sound (now t) × (k < 64) × GoodWaiting (laneAt (meant (now t)) k .given .longest) (laneAt (meant (now t)) k .waiting) × Enters (laneAt (meant (now t)) k .given .longest) (laneAt (meant (now t)) k .waiting) (waiting e) × (0 < laneAt (meant (now t)) k .given .weight) × (holds (laneAt (meant (now t)) k) ≡ false) × (start .0 ≡ max (laneAt (meant (now t)) k .finish) (meant (now t) .clock)) ⌝ }
+    ensures { λ r. ⌜ Leaves (now (t .entry)) (now (t .exit)) (withLane (meant (now (t .entry))) k (woken (meant (now (t .entry)) .clock) (laneAt (meant (now (t .entry))) k) (waiting e))) × (r ≡ group (laneAt (meant (now (t .entry))) k .given)) × (16 ≤ r) × (r ≤ 31) ⌝ }
+{
+    let p = pace_of(row(t, k));
+    set_pace(t, k, p);
+    begin(t, k, start, e);
+    p.group
 }
 
 // ---- the first record

@@ -14,7 +14,7 @@ use Rattle.waiting.specs.Waiting.{Waiting, plain, held, queueOf, GoodWaiting}
 use Rattle.words.proofs.Runs.{getD-tab}
 use Rattle.rules.specs.State.{Lane, group, holds, laneAt, laneDepth, noLane}
 use Rattle.table.specs.Layout.{cells, rowAt, placeOf, entryAt}
-use Rattle.table.specs.Means.{presentAt, givenOf, meant}
+use Rattle.table.specs.Means.{presentAt, givenOf, meant, RowAgrees}
 use Rattle.table.specs.declared.LaneRow.{LaneRow}
 use Rattle.table.specs.declared.Entry.{Entry}
 use Rattle.table.proofs.Footprint.{lane-is}
@@ -93,9 +93,12 @@ module _ (t : List ℕ) (k : ℕ) (l : LaneRow) (f : FindIs t k (Row l)) where
   pub weighs : ltb (lane-k .given .weight) 1 ≡ false
   weighs = le-ltb (lane-k .given .weight) 1 (row-weighs lane-k l found)
 
-  pub shows-setting : settingIs (givenOf l) (l .group) ≡ view (deviceOf t) (lane k)
+  pub row-numbers : RowAgrees l
+  row-numbers = rw (f .3) (good-sound t (f .0 .core) .beside .rows k (f .1) (f .2))
+
+  pub shows-setting : (i : ℕ) → i ≡ group (givenOf l) → settingIs (givenOf l) i ≡ view (deviceOf t) (lane k)
   unfolding view deviceOf
-  shows-setting = rw (weighs, found .grouped, found .given)
+  shows-setting i e = rw (weighs, e, found .given)
 
   time-is : (b : Bool) → holds lane-k ≡ b → l .time .0 ≡ (if b then lane-k .start else lane-k .finish)
   time-is true e = sym (found .busy e)

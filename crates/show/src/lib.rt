@@ -14,6 +14,7 @@ use paged::good_unit;
 use rules::Record;
 use rules::Refusal;
 use table::LaneRow;
+use table::pace_of;
 use table::present;
 use table::record_at;
 use table::row;
@@ -93,13 +94,15 @@ pub fn lane(t: &[u8], lane: u8) -> Shown
         Found::NotGood => Shown::Refused(Refusal::NotGood),
         Found::NoLane => Shown::Refused(Refusal::NoLane),
         Found::Row(l) => {
+            // while the lane is idle, the group that stands in its row means nothing
+            let p = pace_of(l);
             let longest = l.longest;
             let framing = l.framing;
             Shown::Setting(Setting {
                 weight: l.weight,
                 longest,
                 framing,
-                group: l.group,
+                group: p.group,
                 shared: l.shared,
             })
         }

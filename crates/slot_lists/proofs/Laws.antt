@@ -17,7 +17,7 @@ use Rattle.words.proofs.Bits.{bit-above}
 use Rattle.words.proofs.Runs.{eq-or-ne, reads-ext, tab-ext, getD-sets-above}
 use Rattle.words.proofs.Laws.{drop-putWord}
 use Rattle.rings.specs.Rings.{ringsFrom, ringsEnd, headByte, countByte, placeByte, ringOf, ringAt, Rung}
-use Rattle.slot_lists.specs.Lists.{groupsWord, startWord, mapWord, ringNumber, groupsAt, mapOf, listIn, startAt, Fills}
+use Rattle.slot_lists.specs.Lists.{groupsEnd, groupsWord, startWord, mapWord, ringNumber, groupsAt, mapOf, listIn, startAt, Fills}
 use Rattle.slot_lists.specs.Changes.{Moved, WithBit}
 use Rattle.slot_lists.proofs.Bits.{bit-two, bit-stays}
 
@@ -27,27 +27,23 @@ length-zero (x ∷ xs) h = absurd (omega arith)
 
 -- ---- words and rings lie apart
 
--- the words of this part and those below it: 1,408 in all
-abbrev pub wordsEnd : ℕ
-wordsEnd = 1408
-
 -- bytes that agree below the rings have the same words there
-pub words-below : (t u : List ℕ) → ((a : ℕ) → a < ringsFrom → getD u a 0 ≡ getD t a 0) → (j : ℕ) → j < wordsEnd → wordAt u j ≡ wordAt t j
+pub words-below : (t u : List ℕ) → ((a : ℕ) → a < ringsFrom → getD u a 0 ≡ getD t a 0) → (j : ℕ) → j < groupsEnd → wordAt u j ≡ wordAt t j
 unfolding wordAt
 words-below t u h j hj = ap leVal (reads-ext t u (j * 8) 8 (λ i p q. h i (omega arith)))
 
-above : (t : List ℕ) (j v a : ℕ) → j < wordsEnd → ringsFrom ≤ a → getD (putWord t j v) a 0 ≡ getD t a 0
+above : (t : List ℕ) (j v a : ℕ) → j < groupsEnd → ringsFrom ≤ a → getD (putWord t j v) a 0 ≡ getD t a 0
 unfolding putWord leBytes
 above t j v a hj h = getD-sets-above (leBytes 8 v) t (j * 8) a 0 (omega arith)
 
 -- a store of a word leaves the rings
-pub ring-word : (t : List ℕ) (j v i : ℕ) → j < wordsEnd → ringAt (putWord t j v) i ≡ ringAt t i
+pub ring-word : (t : List ℕ) (j v i : ℕ) → j < groupsEnd → ringAt (putWord t j v) i ≡ ringAt t i
 unfolding ringAt ringOf
 ring-word t j v i hj =
     rw (above t j v (headByte i) hj (omega arith), above t j v (countByte i) hj (omega arith))
     (tab-ext _ _ _ (λ x p. above t j v (placeByte i (getD t (headByte i) 0 + x)) hj (omega arith)))
 
-pub rest-word : (t : List ℕ) (j v : ℕ) → j < wordsEnd → drop ringsEnd (putWord t j v) ≡ drop ringsEnd t
+pub rest-word : (t : List ℕ) (j v : ℕ) → j < groupsEnd → drop ringsEnd (putWord t j v) ≡ drop ringsEnd t
 rest-word t j v hj = drop-putWord (ringsEnd / 8) t j v (omega arith)
 
 -- ---- a group's words

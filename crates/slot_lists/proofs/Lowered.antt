@@ -16,7 +16,7 @@ use Rattle.words.proofs.Runs.{eq-or-ne}
 use Rattle.rings.specs.Rings.{Long, ringsEnd, ringAt}
 use Rattle.slot_lists.specs.Lists.{groupsWord, backWord, startWord, mapWord, ringNumber, groupsAt, backAt, mapOf, listIn, listAt, startAt, Fills, Solid}
 use Rattle.slot_lists.specs.Changes.{earlierBy, Lowered}
-use Rattle.slot_lists.proofs.Laws.{wordsEnd, ring-word, rest-word, map-same, list-same}
+use Rattle.slot_lists.proofs.Laws.{ring-word, rest-word, map-same, list-same}
 
 -- the starts of the groups below k were made earlier
 pub record SoFar (before after : List ℕ) (d k : ℕ) : Type 0 where

@@ -13,7 +13,7 @@ use Rattle.words.specs.Bits.{bit}
 use Rattle.words.specs.Words.{wordAt, putWord}
 use Rattle.words.proofs.Laws.{length-putWord, wordAt-putWord-same, wordAt-putWord-other}
 use Rattle.rings.specs.Rings.{Long}
-use Rattle.slot_lists.specs.Lists.{groupsWord, startWord, mapWord, groupsAt, mapOf}
+use Rattle.slot_lists.specs.Lists.{groupsEnd, groupsWord, backWord, startWord, mapWord, groupsAt, mapOf}
 use Rattle.slot_lists.specs.Changes.{WithBit, Stored}
 use Rattle.slot_lists.proofs.Laws.{ring-word, rest-word, map-on, map-off, map-same, start-on, start-off, start-same}
 
@@ -45,7 +45,7 @@ module _ (t : List ℕ) (g m r : ℕ) (long : Long t) (lo : 16 ≤ g) (hi : g �
       record {
         apart = record {
           below = λ j h. last j (omega arith) ∙ other j (omega arith) (omega arith);
-          back = last 1361 (omega arith) ∙ other 1361 (omega arith) (omega arith);
+          back = last backWord (omega arith) ∙ other backWord (omega arith) (omega arith);
           rest = rest-word two groupsWord x (omega arith) ∙ rest-word (putWord t (mapWord g) m) (startWord g) r (omega arith) ∙ rest-word t (mapWord g) m (omega arith);
         };
         map = map-on u g here ∙ last (mapWord g) (omega arith) ∙ map-is;
@@ -64,7 +64,7 @@ module _ (t : List ℕ) (g : ℕ) (long : Long t) (lo : 16 ≤ g) (hi : g ≤ 31
   stored-one j v m r which pos map-is start-is =
       let u = putWord t j v in
       let near : (j ≡ mapWord g → ⊥) → j ≡ startWord g = λ ne. ⊎-elim (λ (e : j ≡ mapWord g). absurd (ne e)) (λ (e : j ≡ startWord g). e) which in
-      let bounds : (1376 ≤ j) × (j < 1408) = ⊎-elim (λ (e : j ≡ mapWord g). (omega (arith, e), omega (arith, e))) (λ (e : j ≡ startWord g). (omega (arith, e), omega (arith, e))) which in
+      let bounds : (startWord 16 ≤ j) × (j < groupsEnd) = ⊎-elim (λ (e : j ≡ mapWord g). (omega (arith, e), omega (arith, e))) (λ (e : j ≡ startWord g). (omega (arith, e), omega (arith, e))) which in
       let other : (i : ℕ) → (i ≡ j → ⊥) → wordAt u i ≡ wordAt t i = λ i ne. wordAt-putWord-other t j i v ne in
       let groups : groupsAt u ≡ groupsAt t = other groupsWord (λ e. omega (arith, e, bounds)) in
       let here : bit g (groupsAt u) ≡ 1 = ap (bit g) groups ∙ on in
@@ -72,7 +72,7 @@ module _ (t : List ℕ) (g : ℕ) (long : Long t) (lo : 16 ≤ g) (hi : g ≤ 31
       record {
         apart = record {
           below = λ i h. other i (λ e. omega (arith, e, bounds));
-          back = other 1361 (λ e. omega (arith, e, bounds));
+          back = other backWord (λ e. omega (arith, e, bounds));
           rest = rest-word t j v (bounds .1);
         };
         map = map-on u g here ∙ map-is;
@@ -101,7 +101,7 @@ stored-none t g x long lo hi hx w =
     let bits : (i : ℕ) → (i ≡ g → ⊥) → bit i (groupsAt u) ≡ bit i (groupsAt t) = λ i ne. ap (bit i) groups ∙ w .others i (λ q. ne (sym q)) in
     let other : (j : ℕ) → (j ≡ groupsWord → ⊥) → wordAt u j ≡ wordAt t j = λ j ne. wordAt-putWord-other t groupsWord j x ne in
     record {
-      apart = record { below = λ j h. other j (omega arith); back = other 1361 (omega arith); rest = rest-word t groupsWord x (omega arith) };
+      apart = record { below = λ j h. other j (omega arith); back = other backWord (omega arith); rest = rest-word t groupsWord x (omega arith) };
       map = map-off u g (λ e. omega (arith, e, here));
       maps = λ i p q ne. map-same t u i (bits i ne) (other (mapWord i) (omega arith));
       start = start-off u g (λ e. omega (arith, e, here));

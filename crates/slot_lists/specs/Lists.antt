@@ -23,7 +23,7 @@ use Rattle.units.specs.Plain.{if_then_else_}
 use Rattle.words.specs.Bits.{bit}
 use Rattle.words.specs.Words.{wordAt}
 use Rattle.rings.specs.Rings.{ringAt}
-pub use Rattle.parts.specs.Parts.{listsFrom}
+pub use Rattle.parts.specs.Parts.{listsFrom, groupsEnd}
 
 abbrev pub groupsWord : ℕ
 groupsWord = listsFrom

@@ -10,7 +10,7 @@ use lib.Seq.{getD-set-same, getD-set-other}
 use Rattle.words.proofs.Runs.{eq-or-ne}
 use Rattle.digits.specs.Digits.{digit, putDigit}
 use Rattle.digits.proofs.Laws.{digit-put-same, digit-put-other}
-use Rattle.table.specs.Layout.{CELLS, lengthsCell, marksCell, trainsCell, lengthCell, markCell, entryAt, putLength, putMark, putEntry, clearCells, trainPlace, trainNumber, putTrain}
+use Rattle.table.specs.Layout.{CELLS, placeCount, halfCount, lengthsCell, marksCell, trainsCell, lengthCell, markCell, entryAt, putLength, putMark, putEntry, clearCells, trainPlace, trainNumber, putTrain}
 use Rattle.table.specs.declared.Entry.{Entry}
 
 -- a record by what its two cells hold
@@ -25,7 +25,7 @@ entry-kept w u p a b = rw (a, b)
 
 -- ---- one digit of one cell
 
-module _ (w : List ℕ) (p : ℕ) (hp : p < 4096) (size : length w ≡ CELLS) where
+module _ (w : List ℕ) (p : ℕ) (hp : p < placeCount) (size : length w ≡ CELLS) where
   length-same : (n : ℕ) → n - 1 < 2 ^ 16 → digit 16 (p % 4) (getD (putLength w p n) (lengthCell p) 0) ≡ n - 1
   unfolding putLength
   length-same n h = rw (getD-set-same w (lengthCell p) (putDigit 16 (p % 4) (n - 1) (getD w (lengthCell p) 0)) 0 (omega arith)) (digit-put-same 16 (p % 4) (n - 1) (getD w (lengthCell p) 0) h)
@@ -42,7 +42,7 @@ module _ (w : List ℕ) (p : ℕ) (hp : p < 4096) (size : length w ≡ CELLS) wh
       (eq-or-ne (q / 4) (p / 4))
 
 -- the trains' numbers lie behind the marks as marks would
-module _ (w : List ℕ) (p : ℕ) (hp : p < 4608) (size : length w ≡ CELLS) where
+module _ (w : List ℕ) (p : ℕ) (hp : p < halfCount) (size : length w ≡ CELLS) where
   mark-same : (m : ℕ) → m < 2 ^ 32 → digit 32 (p % 2) (getD (putMark w p m) (markCell p) 0) ≡ m
   unfolding putMark
   mark-same m h = rw (getD-set-same w (markCell p) (putDigit 32 (p % 2) m (getD w (markCell p) 0)) 0 (omega arith)) (digit-put-same 32 (p % 2) m (getD w (markCell p) 0) h)
@@ -75,7 +75,7 @@ pub length-put : (w : List ℕ) (p : ℕ) (e : Entry) → length (putEntry w p e
 unfolding putLength putMark
 length-put w p e = simp length-set
 
-module _ (w : List ℕ) (p : ℕ) (hp : p < 4096) (size : length w ≡ CELLS) (e : Entry) (fits : Fits e) where
+module _ (w : List ℕ) (p : ℕ) (hp : p < placeCount) (size : length w ≡ CELLS) (e : Entry) (fits : Fits e) where
   abbrev u : List ℕ
   u = putLength w p (e .length .0)
 
@@ -84,7 +84,7 @@ module _ (w : List ℕ) (p : ℕ) (hp : p < 4096) (size : length w ≡ CELLS) (e
   size-u = simp length-set size
 
   -- the mark's cell is no length's, and the other way
-  mark-apart : (q : ℕ) → q < 4096 → getD (putMark u p (e .mark)) (lengthCell q) 0 ≡ getD u (lengthCell q) 0
+  mark-apart : (q : ℕ) → q < placeCount → getD (putMark u p (e .mark)) (lengthCell q) 0 ≡ getD u (lengthCell q) 0
   unfolding putMark
   mark-apart q hq = getD-set-other u (markCell p) (lengthCell q) _ 0 (λ x. omega arith)
 
@@ -104,7 +104,7 @@ module _ (w : List ℕ) (p : ℕ) (hp : p < 4096) (size : length w ≡ CELLS) (e
       whole : record { mark = e .mark; length = record { 0 = e .length .0 - 1 + 1 } } ≡ e
       whole = rw back
 
-  pub entry-other : (q : ℕ) → q < 4096 → (q ≡ p → ⊥) → entryAt (putEntry w p e) q ≡ entryAt w q
+  pub entry-other : (q : ℕ) → q < placeCount → (q ≡ p → ⊥) → entryAt (putEntry w p e) q ≡ entryAt w q
   unfolding entryAt
   entry-other q hq ne =
       rw (mark-other u p (omega arith) size-u (e .mark) q (fits .mark) ne, length-apart q, mark-apart q hq, length-other w p hp size (e .length .0) q (omega (arith, fits .length)) ne)

@@ -67,6 +67,7 @@ module _ (w u : List ℕ) (k : ℕ) (lengths : (i : ℕ) → lengthsCell + lengt
     pub housed-kept : (l : LaneRow) → Housed w k l → Housed u k l
     housed-kept l h =
         record {
+          paced = h .paced;
           places = fit-kept l (h .places);
           trains = λ e. record { counted = ap held shared-kept ∙ h .trains e .counted; ordered = subst Ordered (sym round) (h .trains e .ordered) };
         }
@@ -119,7 +120,7 @@ module _ (w u : List ℕ) (k : ℕ) (hk : k < 64) (o : Outside w u k) where
 -- ---- what is stored beside the state
 
 pub row-agrees : (h s x y x′ y′ : ℕ) → RowAgrees (rowOf h s x y) → RowAgrees (rowOf h s x′ y′)
-row-agrees h s x y x′ y′ a = record { numbers = a .numbers; framing = a .framing; rated = a .rated; grouped = a .grouped }
+row-agrees h s x y x′ y′ a = record { numbers = a .numbers; framing = a .framing }
 
 -- a lane that is as it was
 module _ (w u : List ℕ) (k : ℕ) (s : SameLane w u k) (b : Beside w) (hk : k < 64) (p : presentAt u k ≡ true) where

@@ -9,3 +9,4 @@ pub mod Timed
 pub mod Few
 pub mod Next
 pub mod Agrees
+pub mod Paced

@@ -9,7 +9,7 @@ use Rattle.words.specs.Words.{wordAt, putWord}
 use Rattle.rings.specs.Rings.{ringsEnd}
 use Rattle.digits.specs.Digits.{digit, putDigit, Stored}
 use Rattle.digits.proofs.Bytes.{word-stored}
-use Rattle.table.specs.Layout.{CELLS, lengthsCell, marksCell, lengthCell, markCell, wordOf, Now, cells, entryAt, putLength, putMark, clearCells, trainPlace, trainNumber, putTrain}
+use Rattle.table.specs.Layout.{CELLS, placeCount, halfCount, lengthsCell, marksCell, lengthCell, markCell, wordOf, Now, cells, entryAt, putLength, putMark, clearCells, trainPlace, trainNumber, putTrain}
 use Rattle.table.specs.declared.Entry.{Entry}
 use Rattle.table.proofs.Stores.{cell-is, word-before, word-behind, now-stored, now-then, behind-refl, behind-then}
 
@@ -20,7 +20,7 @@ quarterOf p = 4 * lengthsCell + p
 abbrev halfOf : ℕ → ℕ
 halfOf p = 2 * (ringsEnd / 8) + p
 
-module _ (p : ℕ) (hp : p < 4608) where
+module _ (p : ℕ) (hp : p < halfCount) where
   mark-word : halfOf p / 2 ≡ wordOf (markCell p)
   mark-word = let at : halfOf p / 2 ≡ markCell p - marksCell + ringsEnd / 8 = omega arith in at ∙ sym (word-behind (markCell p) (omega arith))
 
@@ -31,7 +31,7 @@ module _ (p : ℕ) (hp : p < 4608) where
   unfolding putMark
   mark-stored t u m s = rw (cell-is t (markCell p) (omega arith)) (now-stored t u (markCell p) _ (omega arith) (rw (mark-word, mark-digit) at s))
 
-module _ (p : ℕ) (hp : p < 4096) where
+module _ (p : ℕ) (hp : p < placeCount) where
   length-word : quarterOf p / 4 ≡ wordOf (lengthCell p)
   length-word = let at : quarterOf p / 4 ≡ lengthCell p = omega arith in at ∙ sym (word-before (lengthCell p) (omega arith))
 

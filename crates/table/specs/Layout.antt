@@ -13,7 +13,9 @@
 --   depthWord        the word of a lane's room, which tells this layout from those before it
 --   framingWord      the word of h, the line's framing bytes
 --   rowOf, rowAt     a lane's first three words, taken apart, with the line's framing bytes
+--   pacedWord        a setting word with another c and group; putPace: the cells with lane k's setting word so
 --   roundAt          a shared lane's fourth word: the round's number (crate turns)
+--   placeCount       the places of all lanes; halfCount: with the trains' numbers, which lie behind their marks as marks would
 --   placeOf          the number of lane k's place i among all places, i counted on past the ring's end
 --   lengthWords      the words of the lengths of a lane's places; markWords: of their marks
 --   lengthCell       the cell of a place's length less one, four in a cell; markCell: of its mark, two in a cell
@@ -37,6 +39,14 @@ use Rattle.rules.specs.State.{laneDepth}
 use Rattle.table.specs.declared.LaneRow.{LaneRow}
 use Rattle.table.specs.declared.Entry.{Entry}
 
+-- 4,096
+abbrev pub placeCount : ℕ
+placeCount = 64 * laneDepth
+
+-- 4,608
+abbrev pub halfCount : ℕ
+halfCount = placeCount + 64 * trainCount
+
 -- the first cell of the lengths, behind the 64 rows
 abbrev pub lengthsCell : ℕ
 lengthsCell = lengthsFrom
@@ -47,7 +57,7 @@ marksCell = listsFrom
 
 -- 3,408: the first cell of the trains' numbers, two in a cell as the marks are
 abbrev pub trainsCell : ℕ
-trainsCell = marksCell + 64 * laneDepth / 2
+trainsCell = marksCell + placeCount / 2
 
 -- 3,664
 abbrev pub CELLS : ℕ
@@ -127,6 +137,13 @@ rowAt w k = rowOf (getD w framingWord 0) (getD w (laneWord k) 0) (getD w (laneWo
 unfoldable pub putRow : List ℕ → ℕ → LaneRow → List ℕ
 putRow w k l = set (set w (laneWord k + 1) (l .time .0)) (laneWord k + 2) (l .head + laneDepth * l .count)
 
+-- the rest of the word stays
+abbrev pub pacedWord : ℕ → ℕ → ℕ → ℕ
+pacedWord setting c i = setting % 2 ^ 32 + 2 ^ 32 * i + 2 ^ 40 * c + 2 ^ 63 * (setting / 2 ^ 63)
+
+abbrev pub putPace : List ℕ → ℕ → ℕ → ℕ → List ℕ
+putPace w k c i = set w (laneWord k) (pacedWord (getD w (laneWord k) 0) c i)
+
 abbrev pub roundWord : ℕ → ℕ
 roundWord k = laneWord k + 3
 
@@ -177,7 +194,7 @@ clearCells w from (suc n) = set (clearCells w from n) (from + n) 0
 -- ---- a train of a shared lane
 
 abbrev pub trainPlace : ℕ → ℕ → ℕ
-trainPlace k j = 64 * laneDepth + (trainCount * k + j)
+trainPlace k j = placeCount + (trainCount * k + j)
 
 unfoldable pub trainNumber : List ℕ → ℕ → ℕ → ℕ
 trainNumber w k j = digit 32 (trainPlace k j % 2) (getD w (markCell (trainPlace k j)) 0)

@@ -7,10 +7,12 @@
 --   laneOf      lane k; one that is not in the setup means nothing, whatever its words hold
 --   stateOf     the state of the first part's words, with a tie order
 --   meant       the state of a table's bytes: the tie order is the slot lists, one behind the other
+--   RowAgrees   the setting of a lane is within the numbers
+--   RowPaced    c and the group that stand in a lane's row are those of its setting; Paces: so are these two numbers
 --   PlacesFit   every place of a lane holds a length within the lane's numbers
 --   TrainsFit   the row of a shared lane counts the records of all trains, and its round's number has no bit that means nothing
---   Housed      both, of a lane that holds records
---   Beside      R6.10: what is stored beside the state: the depth; c and the group of each present lane; h within its numbers; how holding lanes are housed
+--   Housed      c and group, places and trains of a lane that holds records: while it is idle these words mean nothing
+--   Beside      R6.10: what is stored beside the state: the depth; each present lane's setting and h within the numbers; how holding lanes are housed
 --   Listed      the slot lists and the groups' starts are those of the lanes
 --   Sound       what the inner functions rest on, in the middle of a call too
 --   Leaves      what a function that stores in the first part leaves: a state, what is stored beside it, and every byte behind that part
@@ -36,6 +38,7 @@ use Rattle.filing.specs.Filing.{inARow, Agrees}
 use Rattle.table.specs.Layout.{Room, Behind, cells, clockWord, presentWord, depthWord, placeOf, entryAt, rowAt, roundAt, trainNumber}
 use Rattle.table.specs.declared.LaneRow.{LaneRow}
 use Rattle.table.specs.declared.Entry.{Entry}
+use Rattle.table.specs.declared.Pace.{Pace}
 
 unfoldable pub presentAt : List ℕ → ℕ → Bool
 presentAt w k = eqb (bit k (getD w presentWord 0)) 1
@@ -93,12 +96,20 @@ meant t = stateOf (cells t) (inARow (listAt t))
 
 -- ---- what is stored beside the state
 
--- R6.10: a lane is present exactly if it is in the setup, and its c and group are those of its setting
+-- R6.10: a lane is present exactly if it is in the setup
 pub record RowAgrees (l : LaneRow) : Type 0 where
   pub numbers : InNumbers (givenOf l)
   pub framing : l .framing .0 ≤ 64
+
+-- R6.10: asked while the lane holds records
+pub record RowPaced (l : LaneRow) : Type 0 where
   pub rated : l .rate .0 ≡ rate (givenOf l)
   pub grouped : l .group ≡ group (givenOf l)
+
+-- R1.8, R1.10
+pub record Paces (g : Setting) (p : Pace) : Type 0 where
+  pub rated : p .rate .0 ≡ rate g
+  pub grouped : p .group ≡ group g
 
 -- R6.10: every place of a lane holds a length of 1 to the lane's longest, whether a record is there or not: so the test reads all places at once
 abbrev pub PlacesFit : List ℕ → ℕ → LaneRow → Type 0
@@ -110,6 +121,7 @@ pub record TrainsFit (w : List ℕ) (k : ℕ) (l : LaneRow) : Type 0 where
   pub ordered : Ordered (roundAt w k)
 
 pub record Housed (w : List ℕ) (k : ℕ) (l : LaneRow) : Type 0 where
+  pub paced : RowPaced l
   pub places : PlacesFit w k l
   pub trains : l .shared ≡ true → TrainsFit w k l
 

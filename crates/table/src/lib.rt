@@ -10,9 +10,9 @@
 ghost use mathlib.Core.Path.{_≡_};
 ghost use Prim.Native.Nat.{_+_, _*_, _^_, _<_, _≤_};
 ghost use lib.ListN.{getD, set};
-ghost use Rattle.table.specs.Layout.{Room, Front, marksCell, lengthsCell, lengthWords, trainsCell, Now, cells, rowAt, putRow, putRing, entryAt, putEntry, placeOf, clearCells, roundWord, roundAt, trainNumber, putTrain};
+ghost use Rattle.table.specs.Layout.{Room, Front, marksCell, lengthsCell, lengthWords, trainsCell, Now, cells, rowAt, putRow, putPace, putRing, entryAt, putEntry, placeOf, clearCells, roundWord, roundAt, trainNumber, putTrain};
 ghost use Rattle.rules.specs.State.{charge, laneDepth};
-ghost use Rattle.table.specs.Means.{presentAt, Next, givenOf, meant, Sound, Leaves, withClock};
+ghost use Rattle.table.specs.Means.{presentAt, Next, givenOf, meant, RowAgrees, Paces, Sound, Leaves, withClock};
 use digits::half;
 use digits::quarter;
 use digits::set_half;
@@ -23,6 +23,9 @@ use rings::END;
 use units::Bytes;
 use units::Clock;
 use units::Rate;
+use units::group_index;
+use units::lane_charge;
+use units::lane_rate;
 use words::set_word;
 use words::word;
 
@@ -84,7 +87,8 @@ const GROUPS: u64 = 256;
 const RATES: u64 = 8388608;
 
 // A lane as the table keeps it: its setting, the line's framing bytes, its one clock word (S while it holds records, F while it is idle), and its ring. A
-// shared lane has a ring for each train instead: its count is that of all its records, and its head means nothing.
+// shared lane has a ring for each train instead: its count is that of all its records, and its head means nothing. While the lane is idle, c and the group
+// mean nothing.
 pub struct LaneRow {
     pub longest: Bytes,
     pub framing: Bytes,
@@ -95,6 +99,12 @@ pub struct LaneRow {
     pub time: Clock,
     pub head: u64,
     pub count: u64,
+}
+
+// c and the group of a lane.
+pub struct Pace {
+    pub rate: Rate,
+    pub group: u32,
 }
 
 // A record in a lane's ring.
@@ -150,6 +160,22 @@ pub fn set_row(t: &mut [u8], k: usize, l: LaneRow)
     let base = ROWS + ROW_WORDS * k;
     set_cell(t, base + 1, l.time.0);
     set_cell(t, base + 2, l.head + DEPTH * l.count);
+}
+
+// Stores lane `k`'s c and group. The rest of its setting word stays.
+pub fn set_pace(t: &mut [u8], k: usize, p: Pace)
+    requires { ⌜ Room (now t) × (k < 64) × (p .rate .0 < 2 ^ 23) × (p .group < 2 ^ 8) ⌝ }
+    ensures { λ _. ⌜ Now (now (t .entry)) (now (t .exit)) (putPace (cells (now (t .entry))) k (p .rate .0) (p .group)) ⌝ }
+{
+    let base = ROWS + ROW_WORDS * k;
+    let setting = cell(t, base);
+    let kept = setting % GROUP_UNIT;
+    let top = SHARED_UNIT * (setting / SHARED_UNIT);
+    set_cell(
+        t,
+        base,
+        kept + GROUP_UNIT * (p.group as u64) + RATE_UNIT * p.rate.0 + top,
+    );
 }
 
 // Stores lane `k`'s ring alone.
@@ -288,4 +314,14 @@ pub fn charged(l: LaneRow, length: Bytes) -> Bytes
     ensures { λ r. ⌜ (r .0 ≡ charge (givenOf l) (length .0)) × (r .0 ≤ length .0 + 64) ⌝ }
 {
     Bytes(length.0 + l.framing.0)
+}
+
+// c and the group of a lane, worked out from its setting. The one division is made here.
+pub fn pace_of(l: LaneRow) -> Pace
+    requires { ⌜ RowAgrees l ⌝ }
+    ensures { λ r. ⌜ Paces (givenOf l) r × (r .rate .0 ≤ 2 ^ 20) × (16 ≤ r .group) × (r .group ≤ 31) ⌝ }
+{
+    let rate = lane_rate(l.weight);
+    let group = group_index(lane_charge(charged(l, l.longest), rate));
+    Pace { rate, group }
 }

@@ -21,7 +21,7 @@ returns c =
     let s = c .before .before .before .before .before .before .before .before .before .before in
     let r = c .before .before .before .before .before .before .before .row in
     let idle = c .before .before .before .before .before .if1 .taken in
-    moved (s .args .old .now) (s .args .k) (s .pre .2) (s .pre .3) (s .pre .0 .agrees .rows (s .args .k) (s .pre .2) (s .pre .3)) (s .args .new .now) (s .args .new .now) _ (s .pre .4) (λ i q. refl) behind-refl (r .result) (r .ensures .0)
+    moved (s .args .old .now) (s .args .k) (s .pre .2) (s .pre .3) (s .pre .0 .agrees .rows (s .args .k) (s .pre .2) (s .pre .3)) (s .pre .0 .agrees .paced (s .args .k) (s .pre .2) (s .pre .3)) (s .args .new .now) (s .args .new .now) _ (s .pre .4) (λ i q. refl) behind-refl (r .result) (r .ensures .0)
     (none-over _ _ (s .args .k) _ _ idle) (λ some. absurd (omega (arith, idle))) (c .before .before .row-over .ensures)
 
 records-over-requires : tie.Need-records-over-requires
@@ -46,7 +46,7 @@ returns-2 c =
     let s = c .before .before .before .before .before .before .before .before .before .before .before .before .before .before in
     let r = c .before .before .before .before .before .before .before .before .before .before .before .row in
     let f = c .before .before .before .before .before .before .records-over .ensures in
-    moved (s .args .old .now) (s .args .k) (s .pre .2) (s .pre .3) (s .pre .0 .agrees .rows (s .args .k) (s .pre .2) (s .pre .3)) (s .args .new .now) _ _ (s .pre .4) (f .kept) (f .rest) (r .result) (r .ensures .0)
+    moved (s .args .old .now) (s .args .k) (s .pre .2) (s .pre .3) (s .pre .0 .agrees .rows (s .args .k) (s .pre .2) (s .pre .3)) (s .pre .0 .agrees .paced (s .args .k) (s .pre .2) (s .pre .3)) (s .args .new .now) _ _ (s .pre .4) (f .kept) (f .rest) (r .result) (r .ensures .0)
     (f .ring) (λ some. f .places) (c .before .before .row-over2 .ensures)
 
 pub lane-over-spec : {M : Type 1} → statement M

@@ -43,22 +43,20 @@ add-requires : tie.Need-add-requires
 add-requires c κs =
     let p = c .before .before .before .before .before .before .before .before .before .before .before .before .before .pre in
     let e = c .before .before .before .before .before .before .before .before .before .before .before .before .before .args .e in
-    let r = row _ (meant _) (known-holds _ (p .0)) (p .0 .good) _ e (p .1) (p .2) _ (c .before .before .before .before .before .before .before .before .before .before .row .ensures .0) in
+    let w = c .before .before .before .wake .ensures in
     let ey = start-is _ (meant _) (known-holds _ (p .0)) (p .0 .good) _ e (p .1) (p .2) _ (c .before .before .before .before .before .before .before .before .before .before .row .ensures .0) _ _ (c .before .before .before .before .before .before .before .before .clock .ensures) (c .before .before .before .before .before .later .ensures) in (
       omega (arith, c .before .before .before .wake .kept .0, p .0 .sound .room),
-      solid-after _ (meant _) (known-holds _ (p .0)) (p .0 .good) _ e (p .1) (p .2) _ (c .before .before .before .wake .kept .0) (c .before .before .before .wake .ensures),
-      c .before .before .before .before .before .before .word .ensures ∙ sym (groups-stay _ _ (c .before .before .before .wake .ensures .rest)),
-      r .low,
-      r .high,
+      solid-after _ (meant _) (known-holds _ (p .0)) (p .0 .good) _ e (p .1) (p .2) _ (c .before .before .before .wake .kept .0) (c .before .before .before .wake .ensures .0),
+      c .before .before .before .before .before .before .word .ensures ∙ sym (groups-stay _ _ (c .before .before .before .wake .ensures .0 .rest)),
+      w .2,
+      w .3,
       start-small _ (meant _) (known-holds _ (p .0)) (p .0 .good) _ e (p .1) (p .2) _ ey,
       omega (arith, small _ (meant _) (known-holds _ (p .0)) (p .0 .good) _ e (p .1) (p .2)),
-      room-after _ (meant _) (known-holds _ (p .0)) (p .0 .good) _ e (p .1) (p .2) _ (c .before .before .before .wake .kept .0) (c .before .before .before .wake .ensures) _ _ (r .low) (r .high) (omega arith),
+      room-after _ (meant _) (known-holds _ (p .0)) (p .0 .good) _ e (p .1) (p .2) _ (c .before .before .before .wake .kept .0) (c .before .before .before .wake .ensures .0) _ _ (w .2) (w .3) (omega arith),
     )
 
 rounded-start-requires : tie.Need-rounded-start-requires
-rounded-start-requires c κs =
-    let p = c .before .before .before .before .before .before .before .before .before .before .before .before .before .before .before .before .before .before .pre in
-    row _ (meant _) (known-holds _ (p .0)) (p .0 .good) _ (c .before .before .before .before .before .before .before .before .before .before .before .before .before .before .before .before .before .before .args .e) (p .1) (p .2) _ (c .before .before .before .before .before .before .before .before .before .before .before .before .before .before .before .row .ensures .0) .high
+rounded-start-requires c κs = c .before .before .before .before .before .before .before .before .wake .ensures .3
 
 later-requires-2 : tie.Need-later-requires-2
 later-requires-2 c κs = search needs
@@ -67,7 +65,7 @@ set-clock-requires : tie.Need-set-clock-requires
 set-clock-requires c κs =
     let p = c .before .before .before .before .before .before .before .before .before .before .before .before .before .before .before .before .before .before .before .before .pre in
     let e = c .before .before .before .before .before .before .before .before .before .before .before .before .before .before .before .before .before .before .before .before .args .e in
-    sound₂ _ (meant _) (known-holds _ (p .0)) (p .0 .good) _ e (p .1) (p .2) _ (c .before .before .before .before .before .before .before .before .before .before .wake .kept .0) (c .before .before .before .before .before .before .before .before .before .before .wake .ensures) _ (c .before .before .before .before .before .before .add .kept .0) _ (c .before .before .before .before .before .before .before .before .before .before .before .before .before .before .before .before .before .row .ensures .0) _ (start-is _ (meant _) (known-holds _ (p .0)) (p .0 .good) _ e (p .1) (p .2) _ (c .before .before .before .before .before .before .before .before .before .before .before .before .before .before .before .before .before .row .ensures .0) _ _ (c .before .before .before .before .before .before .before .before .before .before .before .before .before .before .before .clock .ensures) (c .before .before .before .before .before .before .before .before .before .before .before .before .later .ensures)) (c .before .before .before .before .before .before .add .ensures)
+    sound₂ _ (meant _) (known-holds _ (p .0)) (p .0 .good) _ e (p .1) (p .2) _ (c .before .before .before .before .before .before .before .before .before .before .wake .kept .0) (c .before .before .before .before .before .before .before .before .before .before .wake .ensures .0) _ (c .before .before .before .before .before .before .add .kept .0) _ (c .before .before .before .before .before .before .before .before .before .before .before .before .before .before .before .before .before .row .ensures .0) _ (start-is _ (meant _) (known-holds _ (p .0)) (p .0 .good) _ e (p .1) (p .2) _ (c .before .before .before .before .before .before .before .before .before .before .before .before .before .before .before .before .before .row .ensures .0) _ _ (c .before .before .before .before .before .before .before .before .before .before .before .before .before .before .before .clock .ensures) (c .before .before .before .before .before .before .before .before .before .before .before .before .later .ensures)) _ (c .before .before .before .before .before .before .before .before .before .before .wake .ensures .1, c .before .before .before .before .before .before .before .before .before .before .wake .ensures .2, c .before .before .before .before .before .before .before .before .before .before .wake .ensures .3) (c .before .before .before .before .before .before .add .ensures)
 
 same-length : tie.Need-same-length
 same-length c = search needs
@@ -76,7 +74,7 @@ returns : tie.Need-returns
 returns c =
     let e = c .before .before .before .before .before .before .before .before .before .before .before .before .before .before .before .before .before .before .before .before .before .before .before .args .e in
     let p = c .before .before .before .before .before .before .before .before .before .before .before .before .before .before .before .before .before .before .before .before .before .before .before .pre in
-    put-alone _ (meant _) (known-holds _ (p .0)) (p .0 .good) _ e (p .1) (p .2) _ (c .before .before .before .before .before .before .before .before .before .before .before .before .before .wake .kept .0) (c .before .before .before .before .before .before .before .before .before .before .before .before .before .wake .ensures) _ (c .before .before .before .before .before .before .before .before .before .add .kept .0) _ (c .before .before .before .before .before .before .before .before .before .before .before .before .before .before .before .before .before .before .before .before .row .ensures .0) _ (start-is _ (meant _) (known-holds _ (p .0)) (p .0 .good) _ e (p .1) (p .2) _ (c .before .before .before .before .before .before .before .before .before .before .before .before .before .before .before .before .before .before .before .before .row .ensures .0) _ _ (c .before .before .before .before .before .before .before .before .before .before .before .before .before .before .before .before .before .before .clock .ensures) (c .before .before .before .before .before .before .before .before .before .before .before .before .before .before .before .later .ensures)) (c .before .before .before .before .before .before .before .before .before .add .ensures) _ _ _ (c .before .before .set-clock .kept .0) (sym (c .before .before .before .before .before .before .before .before .before .before .before .before .before .before .before .before .word .ensures) ∙ c .before .before .before .before .before .before .if1 .taken) (c .before .before .before .later2 .ensures ∙ rw (c .before .before .before .before .rounded-start .ensures .0)) (c .before .before .before .before .before .before .before .before .before .before .before .before .before .before .before .before .before .before .clock .ensures) (c .before .before .set-clock .ensures)
+    put-alone _ (meant _) (known-holds _ (p .0)) (p .0 .good) _ e (p .1) (p .2) _ (c .before .before .before .before .before .before .before .before .before .before .before .before .before .wake .kept .0) (c .before .before .before .before .before .before .before .before .before .before .before .before .before .wake .ensures .0) _ (c .before .before .before .before .before .before .before .before .before .add .kept .0) _ (c .before .before .before .before .before .before .before .before .before .before .before .before .before .before .before .before .before .before .before .before .row .ensures .0) _ (start-is _ (meant _) (known-holds _ (p .0)) (p .0 .good) _ e (p .1) (p .2) _ (c .before .before .before .before .before .before .before .before .before .before .before .before .before .before .before .before .before .before .before .before .row .ensures .0) _ _ (c .before .before .before .before .before .before .before .before .before .before .before .before .before .before .before .before .before .before .clock .ensures) (c .before .before .before .before .before .before .before .before .before .before .before .before .before .before .before .later .ensures)) _ (c .before .before .before .before .before .before .before .before .before .before .before .before .before .wake .ensures .1, c .before .before .before .before .before .before .before .before .before .before .before .before .before .wake .ensures .2, c .before .before .before .before .before .before .before .before .before .before .before .before .before .wake .ensures .3) (c .before .before .before .before .before .before .before .before .before .add .ensures) _ _ _ (c .before .before .set-clock .kept .0) (sym (c .before .before .before .before .before .before .before .before .before .before .before .before .before .before .before .before .word .ensures) ∙ c .before .before .before .before .before .before .if1 .taken) (c .before .before .before .later2 .ensures ∙ rw (c .before .before .before .before .rounded-start .ensures .0)) (c .before .before .before .before .before .before .before .before .before .before .before .before .before .before .before .before .before .before .clock .ensures) (c .before .before .set-clock .ensures)
 
 same-length-2 : tie.Need-same-length-2
 same-length-2 c = search needs
@@ -85,7 +83,7 @@ returns-2 : tie.Need-returns-2
 returns-2 c =
     let e = c .before .before .before .before .before .before .before .before .before .before .before .before .before .before .before .before .before .args .e in
     let p = c .before .before .before .before .before .before .before .before .before .before .before .before .before .before .before .before .before .pre in
-    put-beside _ (meant _) (known-holds _ (p .0)) (p .0 .good) _ e (p .1) (p .2) _ (c .before .before .before .before .before .before .before .wake .kept .0) (c .before .before .before .before .before .before .before .wake .ensures) _ (c .before .before .before .add .kept .0) _ (c .before .before .before .before .before .before .before .before .before .before .before .before .before .before .row .ensures .0) _ (start-is _ (meant _) (known-holds _ (p .0)) (p .0 .good) _ e (p .1) (p .2) _ (c .before .before .before .before .before .before .before .before .before .before .before .before .before .before .row .ensures .0) _ _ (c .before .before .before .before .before .before .before .before .before .before .before .before .clock .ensures) (c .before .before .before .before .before .before .before .before .before .later .ensures)) (c .before .before .before .add .ensures) (λ z. c .if1 .left (c .before .before .before .before .before .before .before .before .before .before .word .ensures ∙ z))
+    put-beside _ (meant _) (known-holds _ (p .0)) (p .0 .good) _ e (p .1) (p .2) _ (c .before .before .before .before .before .before .before .wake .kept .0) (c .before .before .before .before .before .before .before .wake .ensures .0) _ (c .before .before .before .add .kept .0) _ (c .before .before .before .before .before .before .before .before .before .before .before .before .before .before .row .ensures .0) _ (start-is _ (meant _) (known-holds _ (p .0)) (p .0 .good) _ e (p .1) (p .2) _ (c .before .before .before .before .before .before .before .before .before .before .before .before .before .before .row .ensures .0) _ _ (c .before .before .before .before .before .before .before .before .before .before .before .before .clock .ensures) (c .before .before .before .before .before .before .before .before .before .later .ensures)) _ (c .before .before .before .before .before .before .before .wake .ensures .1, c .before .before .before .before .before .before .before .wake .ensures .2, c .before .before .before .before .before .before .before .wake .ensures .3) (c .before .before .before .add .ensures) (λ z. c .if1 .left (c .before .before .before .before .before .before .before .before .before .before .word .ensures ∙ z))
 
 pub put-first-spec : {M : Type 1} → statement M
 put-first-spec =

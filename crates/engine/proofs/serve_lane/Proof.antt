@@ -47,7 +47,7 @@ lane-charge-requires c κs =
     let ch = c .before .before .before .before .before .before .before .before .before .before .before .pre in
     let a = at-chosen _ (ch .0) _ (ch .1) in
     let tk = c .before .before .before .before .take-first in
-    (omega (arith, c .charged .ensures .1, short _ (meant _) _ _ _ a _ _ (tk .ensures) (tk .kept .0)), row-rate _ _ (lane-row _ (meant _) _ _ _ a _ (c .before .before .before .before .before .before .before .before .row .ensures .0)))
+    (omega (arith, c .charged .ensures .1, short _ (meant _) _ _ _ a _ _ (tk .ensures) (tk .kept .0)), row-rate _ _ (lane-row _ (meant _) _ _ _ a _ (c .before .before .before .before .before .before .before .before .row .ensures .0)) (lane-holds _ (meant _) _ _ _ a))
 
 plus-requires : tie.Need-plus-requires
 plus-requires c κs =

@@ -49,8 +49,8 @@ add-set-cell-3 c =
     let s = c .before .before .before .before .before .before .before .before .before .before .before .before .before .before .before .before .before in
     let word = c .before .before .before .before .before .before .before .before .before .before .before .before .before .before .setting-word in
     let lanes = c .before .cell .result in
-    let e = c .before .cell .ensures ∙ lanes-kept (s .args .t .now) _ _ _ (s .args .k) (word .result) _ (s .pre .0) (s .pre .1) (s .pre .3) (word .ensures) (s .pre .5) (c .before .before .before .before .before .before .before .before .before .before .before .before .before .set-cell .ensures) (c .before .before .before .before .before .before .before .before .before .set-cell2 .ensures) (c .before .before .before .before .before .set-cell3 .ensures) in
-    let free : bit (s .args .k) lanes ≡ 0 = rw e (off (s .args .t .now) _ _ _ (s .args .k) (word .result) _ (s .pre .0) (s .pre .1) (s .pre .3) (word .ensures) (s .pre .5) (c .before .before .before .before .before .before .before .before .before .before .before .before .before .set-cell .ensures) (c .before .before .before .before .before .before .before .before .before .set-cell2 .ensures) (c .before .before .before .before .before .set-cell3 .ensures)) in
+    let e = c .before .cell .ensures ∙ lanes-kept (s .args .t .now) _ _ _ (s .args .k) (word .result) _ (s .pre .0) (s .pre .1) (s .pre .3) (word .ensures (s .args .h .0) (s .pre .2) (s .pre .4)) (s .pre .5) (c .before .before .before .before .before .before .before .before .before .before .before .before .before .set-cell .ensures) (c .before .before .before .before .before .before .before .before .before .set-cell2 .ensures) (c .before .before .before .before .before .set-cell3 .ensures) in
+    let free : bit (s .args .k) lanes ≡ 0 = rw e (off (s .args .t .now) _ _ _ (s .args .k) (word .result) _ (s .pre .0) (s .pre .1) (s .pre .3) (word .ensures (s .args .h .0) (s .pre .2) (s .pre .4)) (s .pre .5) (c .before .before .before .before .before .before .before .before .before .before .before .before .before .set-cell .ensures) (c .before .before .before .before .before .before .before .before .before .set-cell2 .ensures) (c .before .before .before .before .before .set-cell3 .ensures)) in
     omega (arith, add-below 64 (s .args .k) lanes (s .pre .1) (omega (arith, c .before .cell)) free, shift-one (s .args .k) (s .pre .1))
 
 set-cell-requires-4 : tie.Need-set-cell-requires-4
@@ -63,7 +63,7 @@ returns : tie.Need-returns
 returns c =
     let s = c .before .before .before .before .before .before .before .before .before .before .before .before .before .before .before .before .before .before .before .before in
     let word = c .before .before .before .before .before .before .before .before .before .before .before .before .before .before .before .before .before .setting-word in
-    (add-leaves (s .args .t .now) _ _ _ (s .args .k) (word .result) _ (s .pre .0) (s .pre .1) (s .pre .3) (word .ensures) (s .pre .5) (c .before .before .before .before .before .before .before .before .before .before .before .before .before .before .before .before .set-cell .ensures) (c .before .before .before .before .before .before .before .before .before .before .before .before .set-cell2 .ensures) (c .before .before .before .before .before .before .before .before .set-cell3 .ensures) _ (c .before .before .before .before .cell .result) (c .before .before .before .before .cell .ensures) (c .before .before .set-cell4 .ensures), add-framing (s .args .t .now) _ _ _ (s .args .k) (word .result) _ (s .pre .0) (s .pre .1) (s .pre .3) (word .ensures) (s .pre .5) (c .before .before .before .before .before .before .before .before .before .before .before .before .before .before .before .before .set-cell .ensures) (c .before .before .before .before .before .before .before .before .before .before .before .before .set-cell2 .ensures) (c .before .before .before .before .before .before .before .before .set-cell3 .ensures) _ _ (c .before .before .set-cell4 .ensures))
+    (add-leaves (s .args .t .now) _ _ _ (s .args .k) (word .result) _ (s .pre .0) (s .pre .1) (s .pre .3) (word .ensures (s .args .h .0) (s .pre .2) (s .pre .4)) (s .pre .5) (c .before .before .before .before .before .before .before .before .before .before .before .before .before .before .before .before .set-cell .ensures) (c .before .before .before .before .before .before .before .before .before .before .before .before .set-cell2 .ensures) (c .before .before .before .before .before .before .before .before .set-cell3 .ensures) _ (c .before .before .before .before .cell .result) (c .before .before .before .before .cell .ensures) (c .before .before .set-cell4 .ensures), add-framing (s .args .t .now) _ _ _ (s .args .k) (word .result) _ (s .pre .0) (s .pre .1) (s .pre .3) (word .ensures (s .args .h .0) (s .pre .2) (s .pre .4)) (s .pre .5) (c .before .before .before .before .before .before .before .before .before .before .before .before .before .before .before .before .set-cell .ensures) (c .before .before .before .before .before .before .before .before .before .before .before .before .set-cell2 .ensures) (c .before .before .before .before .before .before .before .before .set-cell3 .ensures) _ _ (c .before .before .set-cell4 .ensures))
 
 pub add-lane-spec : {M : Type 1} → statement M
 add-lane-spec =

@@ -33,7 +33,7 @@ add-held c =
     omega (arith, shift-one (s .args .k) (s .pre .0), s .pre .2, two-pow-succ (s .args .k), pow-mono {i = s .args .k} {j = 63} (omega arith))
 
 rounded-start-requires : tie.Need-rounded-start-requires
-rounded-start-requires c κs = search needs
+rounded-start-requires c κs = c .before .before .before .before .before .pre .3 (omega (arith, c .before .if1 .left))
 
 not-after-requires : tie.Need-not-after-requires
 not-after-requires c κs = search needs
