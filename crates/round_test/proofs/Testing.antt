@@ -15,8 +15,8 @@ use Rattle.words.specs.Words.{wordAt}
 use Rattle.digits.specs.Digits.{digit}
 use Rattle.turns.specs.Turns.{headOf, countOf, placeOf, fours, namedOf, orderOf, turnOf, Ordered}
 use Rattle.turns.proofs.Round.{four-bits}
-use Rattle.round_test.specs.Shared.{Says, numbersAt, lengthsAt, PlacesFit, Once, Names, TrainFine, SharedGood}
-use Rattle.round_test.proofs.Lane.{heldBelow, all-good, good-all, good-held, good-names}
+use Rattle.round_test.specs.Shared.{Says, numbersAt, lengthsAt, PlacesFit, Once, Names, TrainFine, heldBelow, SharedGood}
+use Rattle.round_test.proofs.Lane.{all-good, good-all, good-held, good-names}
 
 -- ---- the round's number
 
