@@ -29,6 +29,10 @@ wait-says t lengths k turn train q ne reads =
     let is = length-read t lengths k train q reads in
     says-leb ((k ≡ turn → ⊥) → deficitOf train < lengthsAt t lengths (placeOf k (headOf train))) (train / 128) q (λ h n. omega (arith, h, is)) (λ f. omega (arith, f ne, is))
 
+-- the first number, as it is read
+pub first-read : (t : List ℕ) (trains train : ℕ) → train ≡ digit 32 (trains % 2) (wordAt t (trains / 2)) → train ≡ numbersAt t trains 0
+first-read t trains train reads = let first : trains ≡ trains + 0 = omega arith in reads ∙ ap (λ (i : ℕ). digit 32 (i % 2) (wordAt t (i / 2))) first
+
 pub turn-small : (k turn i : ℕ) → (k < 8 → i ≡ k) → (8 ≤ k → i ≡ turn) → turn < 8 → i < 8
 turn-small k turn i a b h = elim (decLt k 8) [ yes p ↦ omega (arith, a p) | no p ↦ omega (arith, b (omega arith)) ]
 
@@ -53,9 +57,7 @@ module _ (t : List ℕ) (trains lengths turn L : ℕ) where
     pub last : 8 ≤ k → train ≡ ts turn
 
   pub waited-none : (train : ℕ) → train ≡ digit 32 (trains % 2) (wordAt t (trains / 2)) → Waited train 0
-  waited-none train e =
-      let first : trains ≡ trains + 0 = omega arith in
-      record { within = omega arith; each = λ i h. absurd (omega arith); number = λ h. e ∙ ap (λ (i : ℕ). digit 32 (i % 2) (wordAt t (i / 2))) first; last = λ h. absurd (omega arith) }
+  waited-none train e = record { within = omega arith; each = λ i h. absurd (omega arith); number = λ h. first-read t trains train e; last = λ h. absurd (omega arith) }
 
   module _ (train k : ℕ) (w : Waited train k) where
     module _ (lt : k < 8) where

@@ -4,7 +4,9 @@
 // place of the lane holds a length within the numbers: that is tested before, for all 64 at once.
 //
 // A round of all 8 trains is tested apart, and takes less that way: what is asked of the trains' numbers is then the same of each, so their counts are
-// tested two at a time, and then no train's number has to be held to the word.
+// tested two at a time, and no number has to be held to the word.
+//
+// In the loops over the trains each number is read a step ahead. It then compiles to one load, though its low byte is used alone too.
 ghost use mathlib.Core.Path.{_≡_};
 ghost use Prim.Native.Nat.{_+_, _*_, _/_, _^_, _<_, _≤_};
 ghost use lib.ListN.{length};
@@ -138,18 +140,17 @@ fn waits(t: &[u8], lengths: usize, k: usize, turn: usize, train: u64) -> bool
     train / DEFICIT_UNIT <= quarter(t, lengths + 8 * k + (train % TRAIN_DEPTH) as usize)
 }
 
-// The train behind the last one is the one in turn.
-fn or_turn(k: usize, turn: usize) -> usize
-    ensures { λ r. ⌜ (k < 8 → r ≡ k) × (8 ≤ k → r ≡ turn) ⌝ }
+// Train `k`, and behind the last train another one.
+fn next(k: usize, other: usize) -> usize
+    ensures { λ r. ⌜ (k < 8 → r ≡ k) × (8 ≤ k → r ≡ other) ⌝ }
 {
     if k < TRAINS {
         return k;
     }
-    turn
+    other
 }
 
-// Whether the deficit of each train is right for the length of its first record, train `turn` being the one in turn. A number is read a step ahead, and
-// that of the train in turn last: it then compiles to one load, though its low byte is used alone too.
+// Whether the deficit of each train is right for the length of its first record, train `turn` being the one in turn. That one's number is read last.
 fn all_covered(t: &[u8], trains: usize, lengths: usize, turn: usize, longest: u64) -> bool
     requires { ⌜ ((trains + 7) / 2 * 8 + 8 ≤ length (now t)) × ((lengths + 63) / 4 * 8 + 8 ≤ length (now t)) × (turn < 8) × (longest ≤ 2 ^ 15) ⌝ }
     ensures { λ r. ⌜ Says r (AllCovered longest turn (numbersAt (now (t .entry)) trains) (lengthsAt (now (t .entry)) lengths)) ⌝ }
@@ -162,7 +163,7 @@ fn all_covered(t: &[u8], trains: usize, lengths: usize, turn: usize, longest: u6
             return false;
         }
         k += 1;
-        train = half(t, trains + or_turn(k, turn));
+        train = half(t, trains + next(k, turn));
     }
     let deficit = train / DEFICIT_UNIT;
     if deficit <= quarter(t, lengths + 8 * turn + (train % TRAIN_DEPTH) as usize) {
@@ -218,9 +219,9 @@ pub fn shared_good(
     }
     let turn = (order % ORDER_UNIT) as usize;
     let mut held: u64 = 0;
+    let mut train = half(t, trains);
     let mut k = 0;
     while k < TRAINS {
-        let train = half(t, trains + k);
         let length = quarter(t, lengths + 8 * k + (train % TRAIN_DEPTH) as usize) + 1;
         let fine = train_good(train, length, (names >> (k as u32)) % 2, turn == k, longest);
         if !fine {
@@ -228,6 +229,7 @@ pub fn shared_good(
         }
         held += train / COUNT_UNIT % 16;
         k += 1;
+        train = half(t, trains + next(k, 0));
     }
     held == count
 }

@@ -9,7 +9,7 @@ use Rattle.round_test.proofs.all_covered.Reads as reads
 use Rattle.round_test.proofs.all_covered.Lts as lts
 use Rattle.digits.proofs.half.Reads as half-reads
 use Rattle.digits.proofs.quarter.Reads as quarter-reads
-use Rattle.round_test.proofs.or_turn.Reads as or-turn-reads
+use Rattle.round_test.proofs.next.Reads as next-reads
 use Rattle.round_test.proofs.waits.Reads as waits-reads
 
 abbrev Inv-loop : tie.InvT-loop
@@ -39,19 +39,19 @@ add-k : tie.Need-add-k Inv-loop μ-loop
 add-k c = search needs
 
 -- src/lib.rt:165:34
-or-turn-requires : tie.Need-or-turn-requires Inv-loop μ-loop
-or-turn-requires c κs = tt
+next-requires : tie.Need-next-requires Inv-loop μ-loop
+next-requires c κs = tt
 
 -- src/lib.rt:165:25
 add-half : tie.Need-add-half Inv-loop μ-loop
 add-half c =
-    let small = turn-small (c .before .before .before .before .loop .k + 1) _ _ (c .or-turn .ensures .0) (c .or-turn .ensures .1) (c .before .before .before .before .before .before .before .pre .2) in
+    let small = turn-small (c .before .before .before .before .loop .k + 1) _ _ (c .next .ensures .0) (c .next .ensures .1) (c .before .before .before .before .before .before .before .pre .2) in
     record { fits = omega (arith, small, c .before .before .before .before .before .before .before .pre .0) }
 
 -- src/lib.rt:165:9
 half-requires-2 : tie.Need-half-requires-2 Inv-loop μ-loop
 half-requires-2 c κs =
-    let small = turn-small (c .before .before .before .before .loop .k + 1) _ _ (c .or-turn .ensures .0) (c .or-turn .ensures .1) (c .before .before .before .before .before .before .before .pre .2) in
+    let small = turn-small (c .before .before .before .before .loop .k + 1) _ _ (c .next .ensures .0) (c .next .ensures .1) (c .before .before .before .before .before .before .before .pre .2) in
     omega (arith, small, c .before .before .before .before .before .before .before .pre .0)
 
 -- src/lib.rt:159:5
@@ -62,7 +62,7 @@ loop-less c = search needs
 loop-again : tie.Need-loop-again Inv-loop μ-loop
 loop-again c =
     let l = c .before .before .before .before .before .loop in
-    waited-more _ _ _ _ _ _ _ (l .inv) (c .before .before .before .before .loop-test .taken) (says-yes (c .before .before .before .waits .result) (c .before .before .before .waits .ensures) (c .before .before .if1 .left)) _ _ (c .before .or-turn .ensures .0) (c .before .or-turn .ensures .1) (c .half2 .ensures .0)
+    waited-more _ _ _ _ _ _ _ (l .inv) (c .before .before .before .before .loop-test .taken) (says-yes (c .before .before .before .waits .result) (c .before .before .before .waits .ensures) (c .before .before .if1 .left)) _ _ (c .before .next .ensures .0) (c .before .next .ensures .1) (c .half2 .ensures .0)
 
 -- src/lib.rt:168:40
 mul-quarter : tie.Need-mul-quarter Inv-loop μ-loop
@@ -103,7 +103,7 @@ all-covered-spec =
     waits-requires
     returns
     add-k
-    or-turn-requires
+    next-requires
     add-half
     half-requires-2
     loop-less
