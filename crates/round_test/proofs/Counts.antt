@@ -124,9 +124,6 @@ module _ (ts : ℕ → ℕ) where
     pub not-all : (bitAnd bad 34359738376 ≡ 0 → ⊥) → AllHold ts count → ⊥
     not-all n a = let b = c .clear (λ i h. a .each i (omega arith)) in n (omega (arith, eights bad, b .0, b .1))
 
-    pub total-fits : held % 4294967296 + held / 4294967296 < 2 ^ 64
-    total-fits = omega (arith, c .is, c .small .0, c .small .1, c .within)
-
     pub all-say : bitAnd bad 34359738376 ≡ 0 → Says (eqb (held % 4294967296 + held / 4294967296) count) (AllHold ts count)
     all-say z =
         says-eqb (AllHold ts count) (held % 4294967296 + held / 4294967296) count

@@ -1,7 +1,7 @@
 use Prim.Native.Nat.{_+_, _-_}
 use native.Mathlib.Omega.{arith}
 use Rattle.round_test.specs.Shared.{numbersAt}
-use Rattle.round_test.proofs.Counts.{Counted, counted-none, counted-more, held-fits, bad-fits, not-all, total-fits, all-say}
+use Rattle.round_test.proofs.Counts.{Counted, counted-none, counted-more, held-fits, bad-fits, not-all, all-say}
 use borrow.Author.Needs.{needs}
 use Rattle.round_test.proofs.all_hold.Statement.{statement}
 use Rattle.round_test.proofs.all_hold.Tie as tie
@@ -49,7 +49,7 @@ returns c = let l = c .before .before .loop in not-all _ _ _ _ _ (l .inv) (c .be
 
 -- src/lib.rt:127:5
 add-result : tie.Need-add-result Inv-loop μ-loop
-add-result c = let l = c .before .before .loop in record { fits = total-fits _ _ _ _ 0 (l .inv) (c .before .loop-test .left) }
+add-result c = search needs
 
 -- src/lib.rt:111:1
 returns-2 : tie.Need-returns-2 Inv-loop μ-loop
