@@ -4,18 +4,36 @@ use native.Mathlib.Nat.{not-le-of-lt}
 use native.Mathlib.Omega.{arith}
 use mathlib.Core.Path.{_≡_, refl, sym}
 use mathlib.Core.Bool.{Bool, true, false, not, false≢true}
-use lib.Dec.{ltb}
-use borrow.Author.Tests.{ltb-true, ltb-false}
+use lib.Dec.{ltb, leb, eqb}
+use borrow.Author.Tests.{ltb-true, ltb-false, leb-true, leb-false, eqb-true, eqb-false}
 use Rattle.turns.specs.Turns.{countOf, deficitOf}
 use Rattle.round_test.specs.Shared.{Says, TrainFine}
 
 -- a comparison says what it tests, of any statement that comes to it
-says-ltb : (P : Type 0) (a b : ℕ) → (a < b → P) → (P → a < b) → Says (ltb a b) P
+pub says-ltb : (P : Type 0) (a b : ℕ) → (a < b → P) → (P → a < b) → Says (ltb a b) P
 says-ltb P a b f g = go (ltb a b) refl
   where
     go : (c : Bool) → ltb a b ≡ c → Says c P
     go true e = f (ltb-true a b e)
     go false e = λ p. absurd (not-le-of-lt (g p) (ltb-false a b e))
+
+pub says-leb : (P : Type 0) (a b : ℕ) → (a ≤ b → P) → (P → a ≤ b) → Says (leb a b) P
+says-leb P a b f g = go (leb a b) refl
+  where
+    go : (c : Bool) → leb a b ≡ c → Says c P
+    go true e = f (leb-true a b e)
+    go false e = λ p. absurd (not-le-of-lt (leb-false a b e) (g p))
+
+pub says-eqb : (P : Type 0) (a b : ℕ) → (a ≡ b → P) → (P → a ≡ b) → Says (eqb a b) P
+says-eqb P a b f g = go (eqb a b) refl
+  where
+    go : (c : Bool) → eqb a b ≡ c → Says c P
+    go true e = f (eqb-true a b e)
+    go false e = λ p. eqb-false a b e (g p)
+
+pub says-as : {P Q : Type 0} (b : Bool) → Says b P → (P → Q) → (Q → P) → Says b Q
+says-as true s f g = f s
+says-as false s f g = λ q. s (g q)
 
 pub says-yes : {P : Type 0} (b : Bool) → Says b P → not b ≡ false → P
 says-yes true s e = s

@@ -22,7 +22,7 @@ use Rattle.turns.specs.Turns.{headOf, countOf, deficitOf, placeOf, ringOf, trai
 use Rattle.turns.proofs.Round.{round-cons}
 use Rattle.turns.proofs.Train.{parts, length-ring, ring-none, ring-cons, train-is, length-trains}
 use Rattle.turns.proofs.Good.{good-known, good-once, good-each}
-use Rattle.round_test.specs.Shared.{PlacesFit, Once, Names, TrainFine, SharedGood}
+use Rattle.round_test.specs.Shared.{PlacesFit, Once, Names, TrainFine, heldBelow, SharedGood}
 
 -- ---- one train
 
@@ -101,11 +101,6 @@ module _ (L : ℕ) (at : ℕ → Rec) (k t : ℕ) (hk : k < 8) (fit : (p : ℕ) 
           (omega arith, omega (arith, g .room, length-ring at k (headOf t) (countOf t)), d)
 
 -- ---- how many records are held
-
--- those of the first n trains
-unfoldable pub heldBelow : (ℕ → ℕ) → ℕ → ℕ
-heldBelow ts zero = 0
-heldBelow ts (suc n) = heldBelow ts n + countOf (ts n)
 
 sum-append : (xs ys : List Train) → sum heldIn (xs ++ ys) ≡ sum heldIn xs + sum heldIn ys
 sum-append [] ys = omega arith

@@ -1,5 +1,10 @@
+pub mod Sums
 pub mod Walk
 pub mod Fine
 pub mod Lane
+pub mod Full
+pub mod Counts
+pub mod Deficits
 pub mod Testing
+pub mod Whole
 pub mod Made

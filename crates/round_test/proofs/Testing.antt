@@ -15,8 +15,9 @@ use Rattle.words.specs.Words.{wordAt}
 use Rattle.digits.specs.Digits.{digit}
 use Rattle.turns.specs.Turns.{headOf, countOf, placeOf, fours, namedOf, orderOf, turnOf, Ordered}
 use Rattle.turns.proofs.Round.{four-bits}
-use Rattle.round_test.specs.Shared.{Says, numbersAt, lengthsAt, PlacesFit, Once, Names, TrainFine, SharedGood}
-use Rattle.round_test.proofs.Lane.{heldBelow, all-good, good-all, good-held, good-names}
+use Rattle.round_test.specs.Shared.{Says, numbersAt, lengthsAt, PlacesFit, Once, Names, TrainFine, heldBelow, SharedGood}
+use Rattle.round_test.proofs.Deficits.{length-read}
+use Rattle.round_test.proofs.Lane.{all-good, good-all, good-held, good-names}
 
 -- ---- the round's number
 
@@ -68,12 +69,15 @@ module _ (t : List ℕ) (trains lengths r L count : ℕ) where
   unfolding heldBelow
   looked-none names = record { within = omega arith; fine = λ i h. absurd (omega arith); total = refl; small = omega arith }
 
+  -- and the number at hand is that of train k
+  pub record Looking (names held train k : ℕ) : Type 0 where
+    pub looked : Looked names held k
+    pub number : k < 8 → train ≡ ts k
+
   module _ (names held k : ℕ) (l : Looked names held k) (lt : k < 8) (train q : ℕ) (is : train ≡ ts k)
       (reads : q ≡ digit 16 ((lengths + 8 * k + train % 8) % 4) (wordAt t ((lengths + 8 * k + train % 8) / 4))) where
     length-is : q + 1 ≡ lens (placeOf k (headOf (ts k)))
-    length-is =
-        let place : lengths + 8 * k + train % 8 ≡ lengths + placeOf k (headOf train) = omega arith in
-        ap (λ (x : ℕ). x + 1) (reads ∙ ap (λ (p : ℕ). digit 16 (p % 4) (wordAt t (p / 4))) place) ∙ ap (λ (x : ℕ). lens (placeOf k (headOf x))) is
+    length-is = length-read t lengths k train q reads ∙ ap (λ (x : ℕ). lens (placeOf k (headOf x))) is
 
     pub looked-more : TrainFine L (bit k names) (eqb (turnOf r) k) train (q + 1) → Looked names (held + train / 8 % 16) (k + 1)
     unfolding heldBelow

@@ -6,6 +6,11 @@
 --   Once           a round names trains only, each at most once
 --   Names          the word of the trains that a round names, or 256 where it is no such round
 --   TrainFine      what a train's number must be, the train named in the round or not, in turn or not, length being that of its first record
+--   heldBelow      the records of the first n trains
+--   Holds          a train's number has 1 to 8 records
+--   AllHold        so have all, and these are so many
+--   Covered        a deficit is right for the length of a train's first record, the train in turn or not
+--   AllCovered     so are those of all trains, one of them being in turn
 --   SharedGood     the lane is good, and holds so many records
 --
 -- Assumes nothing.
@@ -13,13 +18,14 @@ use Prim.Native.Nat.{ℕ, zero, suc, _+_, _*_, _/_, _%_, _≤_, _<_}
 use mathlib.Core.Path.{_≡_}
 use mathlib.Core.Bool.{Bool, true, false}
 use mathlib.Core.List.{List}
+use lib.Dec.{eqb}
 use Rattle.units.specs.Plain.{times}
 use Rattle.words.specs.Bits.{bit}
 use Rattle.words.specs.Words.{wordAt}
 use Rattle.digits.specs.Digits.{digit}
 use Rattle.rounds.specs.Round.{Rec, trainCount, trainDepth, held}
 use Rattle.rounds.specs.Good.{Good}
-use Rattle.turns.specs.Turns.{countOf, deficitOf, sharedOf, Ordered}
+use Rattle.turns.specs.Turns.{headOf, countOf, deficitOf, placeOf, sharedOf, Ordered}
 
 abbrev pub Says : Bool → Type 0 → Type 0
 Says true P = P
@@ -46,6 +52,29 @@ unfoldable pub TrainFine : ℕ → ℕ → Bool → ℕ → ℕ → Type 0
 TrainFine L zero turn t length = t < 8
 TrainFine L (suc n) true t length = (0 < countOf t) × (countOf t ≤ trainDepth) × (length ≤ deficitOf t) × (deficitOf t < 2 * L)
 TrainFine L (suc n) false t length = (0 < countOf t) × (countOf t ≤ trainDepth) × (deficitOf t < length)
+
+-- ---- of a round that names all trains
+
+unfoldable pub heldBelow : (ℕ → ℕ) → ℕ → ℕ
+heldBelow ts zero = 0
+heldBelow ts (suc n) = heldBelow ts n + countOf (ts n)
+
+abbrev pub Holds : ℕ → Type 0
+Holds t = (0 < countOf t) × (countOf t ≤ trainDepth)
+
+pub record AllHold (ts : ℕ → ℕ) (count : ℕ) : Type 0 where
+  pub each : (k : ℕ) → k < trainCount → Holds (ts k)
+  pub all : heldBelow ts trainCount ≡ count
+
+-- R18.8
+abbrev pub Covered : ℕ → Bool → ℕ → ℕ → Type 0
+Covered L true d length = (length ≤ d) × (d < 2 * L)
+Covered L false d length = d < length
+
+abbrev pub AllCovered : ℕ → ℕ → (ℕ → ℕ) → (ℕ → ℕ) → Type 0
+AllCovered L turn ts lengths = (k : ℕ) → k < trainCount → Covered L (eqb turn k) (deficitOf (ts k)) (lengths (placeOf k (headOf (ts k))))
+
+-- ---- the lane
 
 -- ts are the trains' numbers, r is the round's; of the records only their lengths count
 pub record SharedGood (L : ℕ) (ts lengths : ℕ → ℕ) (r count : ℕ) : Type 0 where

@@ -1,0 +1,163 @@
+-- Sums over the trains, and what a round of so many names can name. Assumes nothing.
+use Prim.Native.Nat.{ℕ, zero, suc, _+_, _-_, _*_, _/_, _%_, _^_, _≤_, _<_, max}
+use native.Mathlib.Nat.{two-pow-succ}
+use native.Mathlib.Omega.{arith}
+use native.Mathlib.Decide.{decLt}
+use mathlib.Core.Path.{_≡_, refl, sym, ap, subst, _∙_}
+use mathlib.Core.Bool.{Bool, true, false}
+use mathlib.Core.List.{List, [], _∷_}
+use lib.Bits.{bitOr, or-step, or-shr}
+use lib.Dec.{eqb}
+use lib.ListN.{length}
+use lib.Pow.{pow-pos, pow-mono, mod-pow-add}
+use borrow.Author.Tests.{eq-eqb, ne-eqb}
+use Rattle.units.specs.Plain.{if_then_else_, times}
+use Rattle.words.specs.Bits.{bit}
+use Rattle.words.proofs.Bits.{bit-add-same, bit-add-other, bit-above}
+use Rattle.round_test.specs.Shared.{Once, Names}
+
+unfoldable below : (ℕ → ℕ) → ℕ → ℕ
+below f zero = 0
+below f (suc n) = below f n + f n
+
+le-below : (f g : ℕ → ℕ) (n : ℕ) → ((k : ℕ) → k < n → f k ≤ g k) → below f n ≤ below g n
+unfolding below
+le-below f g zero h = omega arith
+le-below f g (suc n) h = omega (arith, le-below f g n (λ k l. h k (omega arith)), h n (omega arith))
+
+-- of two sums that are the same, and one not over the other anywhere, all is the same
+same-below : (f g : ℕ → ℕ) (n : ℕ) → ((k : ℕ) → k < n → f k ≤ g k) → below f n ≡ below g n → (k : ℕ) → k < n → f k ≡ g k
+unfolding below
+same-below f g zero h e k l = absurd (omega arith)
+same-below f g (suc n) h e k l =
+    let less = le-below f g n (λ k l. h k (omega arith)) in
+    let last = h n (omega arith) in
+    elim (decLt k n) [
+      | yes p ↦ same-below f g n (λ k l. h k (omega arith)) (omega (arith, e, less, last)) k p
+      | no p ↦ let is : n ≡ k = omega arith in subst (λ (x : ℕ). f x ≡ g x) is (omega (arith, e, less, last))
+    ]
+
+-- ---- how often a list names a train
+
+abbrev pub one : ℕ → ℕ → ℕ
+one j k = if eqb j k then 1 else 0
+
+pub one-same : (j k : ℕ) → j ≡ k → one j k ≡ 1
+one-same j k e = ap (λ (b : Bool). if b then 1 else 0) (eq-eqb j k e)
+
+pub one-other : (j k : ℕ) → (j ≡ k → ⊥) → one j k ≡ 0
+one-other j k n = ap (λ (b : Bool). if b then 1 else 0) (ne-eqb j k n)
+
+one-most : (j k : ℕ) → one j k ≤ 1
+one-most j k = go (eqb j k)
+  where
+    go : (b : Bool) → (if b then 1 else 0) ≤ 1
+    go true = omega arith
+    go false = omega arith
+
+one-beyond : (j : ℕ) (f : ℕ → ℕ) (n : ℕ) → n ≤ j → below (λ k. one j k + f k) n ≡ below f n
+unfolding below
+one-beyond j f zero h = refl
+one-beyond j f (suc n) h = omega (arith, one-beyond j f n (omega arith), one-other j n (λ e. omega (arith, e)))
+
+one-in : (j : ℕ) (f : ℕ → ℕ) (n : ℕ) → j < n → below (λ k. one j k + f k) n ≡ suc (below f n)
+unfolding below
+one-in j f zero h = absurd (omega arith)
+one-in j f (suc n) h =
+    elim (decLt j n) [
+      | yes p ↦ omega (arith, one-in j f n p, one-other j n (λ e. omega (arith, e)))
+      | no p ↦ omega (arith, one-beyond j f n (omega arith), one-same j n (omega arith))
+    ]
+
+abbrev named : List ℕ → ℕ
+named ks = below (λ k. times k ks) 8
+
+-- a list of trains has as many names as it names trains, each counted as often as it is named
+named-all : (ks : List ℕ) → ((k : ℕ) → 0 < times k ks → k < 8) → named ks ≡ length ks
+unfolding below
+named-all [] h = refl
+named-all (j ∷ js) h =
+    one-in j (λ k. times k js) 8 (h j (omega (arith, one-same j j refl)))
+    ∙ ap suc (named-all js (λ k p. h k (omega arith)))
+
+-- any list has no more, and those that are no trains take from them
+named-most : (ks : List ℕ) (far : ℕ) → 8 ≤ far → named ks + times far ks ≤ length ks
+unfolding below
+named-most [] far h = omega arith
+named-most (j ∷ js) far h =
+    elim (decLt j 8) [
+      | yes p ↦ omega (arith, one-in j (λ k. times k js) 8 p, one-other j far (λ e. omega (arith, e)), named-most js far h)
+      | no p ↦ omega (arith, one-beyond j (λ k. times k js) 8 (omega arith), one-most j far, named-most js far h)
+    ]
+
+-- ---- a list of 8 that names all trains
+
+eight : below (λ k. 1) 8 ≡ 8
+unfolding below
+eight = refl
+
+pub low-ones : (x k : ℕ) → x % 256 ≡ 255 → k < 8 → bit k x ≡ 1
+low-ones x zero e h = omega (arith, e)
+low-ones x (suc zero) e h = omega (arith, e)
+low-ones x (suc (suc zero)) e h = omega (arith, e)
+low-ones x (suc (suc (suc zero))) e h = omega (arith, e)
+low-ones x (suc (suc (suc (suc zero)))) e h = omega (arith, e)
+low-ones x (suc (suc (suc (suc (suc zero))))) e h = omega (arith, e)
+low-ones x (suc (suc (suc (suc (suc (suc zero)))))) e h = omega (arith, e)
+low-ones x (suc (suc (suc (suc (suc (suc (suc zero))))))) e h = omega (arith, e)
+low-ones x (suc (suc (suc (suc (suc (suc (suc (suc k)))))))) e h = absurd (omega arith)
+
+pub ones-low : (x : ℕ) → ((k : ℕ) → k < 8 → bit k x ≡ 1) → x % 256 ≡ 255
+ones-low x b = go 8 (omega arith)
+  where
+    go : (n : ℕ) → n ≤ 8 → x % 2 ^ n ≡ 2 ^ n - 1
+    go zero h = omega arith
+    go (suc n) h =
+        let more : 1 + n ≡ suc n = omega arith in
+        let parts : x % 2 ^ suc n ≡ bit n x * 2 ^ n + x % 2 ^ n = ap (λ (m : ℕ). x % 2 ^ m) (sym more) ∙ mod-pow-add x 1 n in
+        let here : bit n x * 2 ^ n ≡ 2 ^ n = ap (λ (y : ℕ). y * 2 ^ n) (b n (omega arith)) ∙ omega arith in
+        omega (arith, parts, here, go n (omega arith), two-pow-succ n, pow-pos n)
+
+pub ones : (k : ℕ) → k < 8 → bit k 255 ≡ 1
+ones k h = low-ones 255 k refl h
+
+full : (ks : List ℕ) → ((k : ℕ) → k < 8 → times k ks ≡ 1) → ((k : ℕ) → 8 ≤ k → times k ks ≡ 0) → Names ks 255
+full ks near far =
+    record {
+      fine = λ h k. elim (decLt k 8) [ yes p ↦ near k p ∙ sym (ones k p) | no p ↦ far k (omega arith) ∙ sym (bit-above k 255 (omega (arith, pow-mono {i = 8} {j = k} (omega arith)))) ];
+      bad = λ h. absurd (omega arith);
+    }
+
+module _ (ks : List ℕ) (long : length ks ≡ 8) where
+  pub some-full : ((k : ℕ) → k < 8 → 1 ≤ times k ks) → Names ks 255
+  some-full some =
+      let least = le-below (λ k. 1) (λ k. times k ks) 8 some in
+      full ks
+      (λ k h. sym (same-below (λ k. 1) (λ k. times k ks) 8 some (omega (arith, eight, least, long, named-most ks 8 (omega arith))) k h))
+      (λ k h. omega (arith, eight, least, long, named-most ks k h))
+
+  pub once-full : Once ks → Names ks 255
+  once-full once =
+      full ks
+      (same-below (λ k. times k ks) (λ k. 1) 8 (λ k h. once k .0) (named-all ks (λ k. once k .1) ∙ long ∙ sym eight))
+      (λ k h. elim (decLt 0 (times k ks)) [ yes p ↦ absurd (omega (arith, once k .1 p)) | no p ↦ omega arith ])
+
+pub full-each : (ks : List ℕ) → Names ks 255 → (k : ℕ) → k < 8 → times k ks ≡ 1
+full-each ks n k h = n .fine (omega arith) k ∙ ones k h
+
+-- ---- bits
+
+pub or-bit : (k a b : ℕ) → bit k (bitOr a b) ≡ max (bit k a) (bit k b)
+or-bit k a b = ap (λ (x : ℕ). x % 2) (or-shr a b k) ∙ omega (arith, or-step (a / 2 ^ k) (b / 2 ^ k))
+
+pub bit-none : (k : ℕ) → bit k 0 ≡ 0
+bit-none k = bit-above k 0 (omega (arith, pow-pos k))
+
+whole : (k : ℕ) → 2 ^ k + 0 ≡ 2 ^ k
+whole k = omega arith
+
+pub bit-power : (k : ℕ) → bit k (2 ^ k) ≡ 1
+bit-power k = ap (bit k) (sym (whole k)) ∙ bit-add-same k 0 (bit-none k)
+
+pub bit-power-other : (k j : ℕ) → (k ≡ j → ⊥) → bit j (2 ^ k) ≡ 0
+bit-power-other k j n = ap (bit j) (sym (whole k)) ∙ bit-add-other k j 0 n (bit-none k) ∙ bit-none j
