@@ -21,6 +21,7 @@ ghost use Rattle.zenfrosta.specs.Crossing.{four, code, values, stopCode,
 ghost use Rattle.scheduler.specs.Step.{offering, OfferStep};
 
 pub mod board;
+pub mod halts;
 pub mod old;
 pub mod plans;
 pub mod sheets;

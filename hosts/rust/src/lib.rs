@@ -9,6 +9,7 @@
 mod board;
 mod boundary;
 mod pages;
+pub mod halt;
 mod plan;
 pub mod refusals;
 mod version;

@@ -1,0 +1,2 @@
+pub mod Halt
+pub mod Lists
