@@ -3,3 +3,4 @@ pub mod Tables
 pub mod Steps
 pub mod Lists
 pub mod Share
+pub mod Examples

@@ -7,7 +7,6 @@ use mathlib.Core.Logic.{_⊎_, inl, inr}
 use mathlib.Core.List.{List, [], _∷_, _++_, append-nil, append-assoc}
 use mathlib.Core.Option.{Option, none}
 use lib.ListN.{length}
-use Rattle.units.specs.Plain.{if_then_else_}
 use Rattle.words.proofs.Runs.{le-or-lt}
 use Rattle.rules.specs.State.{Setting, Lane, settingAt, rate, slot, setupOf}
 use Rattle.rules.specs.Calls.{Call, step}
@@ -118,6 +117,6 @@ pub halt-chain : (past : List DeviceEvent) {t u : List ℕ} {es : List DeviceEve
 halt-chain past {t} g halt.done = (done, subst (λ (x : List DeviceEvent). Goes x t) (sym (append-nil past)) g)
 halt-chain past {t} {u} g (halt.then {u = m} {c = c} {a = a} {es = es} st ch) =
     let p = st .same (goes-halt past t g) in
-    let one = record { call = ruled c; reply = answered (rules.reads a) } ∷ [] in
+    let one : List DeviceEvent = record { call = ruled c; reply = answered (rules.reads a) } ∷ [] in
     let r = halt-chain (past ++ one) (goes-on past c t a m g p) ch in
     (then p (r .0), subst (λ (x : List DeviceEvent). Goes x u) (append-assoc past one es) (r .1))

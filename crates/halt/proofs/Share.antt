@@ -24,7 +24,7 @@ use Rattle.halt.proofs.Lists.{begins, goes-first, goes-halt, halt-chain
 
 -- ---- with no offer in the list the setup in force is the first one
 
-unfoldable AllRuled : List DeviceEvent → Type 0
+unfoldable pub AllRuled : List DeviceEvent → Type 0
 AllRuled [] = Unit {0}
 AllRuled (e ∷ es) = ((c : Call) × (e .call ≡ ruled c)) × AllRuled es
 
@@ -93,7 +93,7 @@ module _ (es : List DeviceEvent) (ruled-all : AllRuled es) (fair : FairTight hal
   pub share : HaltShare es
   unfolding HaltShare FairTight MarginIs
   share past stretch rest e k h =
-      let same = same-force haltSetup past (front past (stretch ++ rest) (subst AllRuled e ruled-all)) in
+      let same = same-force haltSetup past (front past stretch (front (past ++ stretch) rest (subst AllRuled e ruled-all))) in
       let held : lineRate * bytesSent haltSetup (ofRules stretch) < rate (settingAt haltSetup k) * bytesSentOf haltSetup k (ofRules stretch) + 4 * slot (settingAt haltSetup k) + tightest haltSetup =
       subst
       (λ (gs : List Setting). lineRate * bytesSent gs (ofRules stretch) < rate (settingAt gs k) * bytesSentOf gs k (ofRules stretch) + 4 * slot (settingAt gs k) + tightest gs)

@@ -1,2 +1,3 @@
 pub mod Halt
 pub mod Lists
+pub mod Examples
