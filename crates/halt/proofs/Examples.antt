@@ -1,7 +1,6 @@
 -- The setups of specs/Examples.antt, computed. Assumes nothing.
-use Prim.Native.Nat.{ℕ}
 use native.Mathlib.Omega.{arith}
-use mathlib.Core.Path.{_≡_, refl, ap}
+use mathlib.Core.Path.{refl, ap}
 use mathlib.Core.List.{List}
 use Rattle.rules.specs.State.{Setting, settingAt}
 use Rattle.fields.specs.Bytes.{big}
@@ -10,7 +9,6 @@ use Rattle.plan.specs.Judge.{laneOutside, judgedAt}
 use Rattle.plan.specs.Read.{walk, readPlan, readSetup}
 use Rattle.halt.specs.Halt.{haltSetup}
 use Rattle.halt.specs.Examples.{Shown}
-
 
 pub examples : Shown
 unfolding big fieldOf itemAt laneOutside judgedAt walk readPlan readSetup haltSetup

@@ -1,20 +1,19 @@
 -- Lists of the halt's calls are lists of the scheduler's. Assumes nothing.
-use Prim.Native.Nat.{ℕ, _+_, _*_, _≤_, _<_}
+use Prim.Native.Nat.{ℕ, _≤_, _<_}
 use native.Mathlib.Omega.{arith}
 use mathlib.Core.Path.{_≡_, refl, sym, ap, subst, _∙_}
-use mathlib.Core.Bool.{Bool, true, false}
 use mathlib.Core.Logic.{_⊎_, inl, inr}
 use mathlib.Core.List.{List, [], _∷_, _++_, append-nil, append-assoc}
 use mathlib.Core.Option.{Option, none}
 use lib.ListN.{length}
 use Rattle.words.proofs.Runs.{le-or-lt}
-use Rattle.rules.specs.State.{Setting, Lane, settingAt, rate, slot, setupOf}
+use Rattle.rules.specs.State.{Setting, Lane, setupOf}
 use Rattle.rules.specs.Calls.{Call, step}
 use Rattle.rules.specs.Reads as rules
 use Rattle.rules.specs.declared.Answer.{Answer}
 use Rattle.rules.proofs.SameSetup.{same-setup, fresh-setup}
-use Rattle.pages.specs.Device.{Page, Device, DeviceCall, ruled, answered, startPage, freshDevice, inForceOf, settledDevice, deviceStep, deviceStepBy}
-use Rattle.pages.specs.Offers.{DeviceEvent, ofRules, anyHeld, acceptedPage, newest, freeFrom, pageIn, inForce}
+use Rattle.pages.specs.Device.{Page, Device, ruled, answered, freshDevice, inForceOf, settledDevice, deviceStepBy}
+use Rattle.pages.specs.Offers.{DeviceEvent}
 use Rattle.plan.specs.Read as plan
 use Rattle.plan.specs.Read.{readSetup}
 use Rattle.editions.specs.Part.{lastIn, waitingIn}
@@ -29,7 +28,7 @@ use Rattle.scheduler.specs.Chain.{Chain, done, then, Begins, Led}
 use Rattle.scheduler.specs.declared.Making as scheduler-making
 use Rattle.scheduler.proofs.Chains.{led-on, led-good}
 use Rattle.scheduler.proofs.Begins.{by-make}
-use Rattle.halt.specs.Halt.{haltSetup, HaltTable, HaltStep, OtherPlan, OwnPlan, HaltMake}
+use Rattle.halt.specs.Halt.{haltSetup, HaltTable, OwnPlan}
 use Rattle.halt.specs.Lists as halt
 use Rattle.halt.specs.Lists.{HaltChain, HaltBegins}
 

@@ -1,9 +1,10 @@
 -- When a setup is the halt's.
 --
---   lane-last, lane-not    one lane, by its numbers
---   by-four                the first four lanes tell the whole setup: their weights are all that a setup may give
---   lanes-say, lanes-no    the test of a plan
---   plan-say               the test of a setup's bytes
+--   lane-last                one lane, by its numbers
+--   by-four                  the first four lanes tell the whole setup: their weights are all that a setup may give
+--   four-say                 so the test of the fourth, behind those of the first three, is the setup's
+--   lane-says                the test of a plan's lane
+--   judged-refused, -own, -other   the test of a setup's bytes
 --
 -- Assumes nothing.
 use Prim.Native.Nat.{ℕ, zero, suc, _+_, _≤_, _<_}
@@ -13,7 +14,7 @@ use mathlib.Core.Bool.{Bool, true, false}
 use mathlib.Core.Logic.{_⊎_, inl, inr}
 use mathlib.Core.List.{List, [], _∷_, map}
 use lib.Dec.{eqb}
-use lib.ListN.{length, getD, replicate, getD-replicate, List·getD-map}
+use lib.ListN.{length, getD, getD-replicate, List·getD-map}
 use lib.Seq.{ext-getD}
 use borrow.Author.Tests.{eqb-true, eqb-false}
 use Rattle.rules.specs.State.{Setting, noSetting, settingAt}

@@ -1,7 +1,7 @@
 -- The figures of a busy lane's share in lists of the halt's calls. Assumes nothing.
 use Prim.Native.Nat.{ℕ, _+_, _*_, _<_}
 use native.Mathlib.Omega.{arith}
-use mathlib.Core.Path.{_≡_, refl, sym, ap, subst, _∙_}
+use mathlib.Core.Path.{_≡_, refl, ap, subst, _∙_}
 use mathlib.Core.Bool.{Bool, true, false}
 use mathlib.Core.List.{List, [], _∷_, _++_}
 use Rattle.units.specs.Numbers.{lineRate, perByte, leastPower, powerFrom}
@@ -12,14 +12,12 @@ use Rattle.rules.specs.Calls.{Call}
 use Rattle.rules.specs.Fair.{bytesSent, bytesSentOf}
 use Rattle.pages.specs.Device.{Page, startPage, DeviceCall, ruled, DeviceReply}
 use Rattle.pages.specs.Offers.{DeviceEvent, ofRules, anyHeld, acceptedPage, newest, freeFrom, pageIn, inForce}
-use Rattle.pages.specs.Claims.{HeldThroughout}
 use Rattle.scheduler.specs.Compared.{FairTight, tightest}
-use Rattle.scheduler.specs.Demands.{Demands}
 use Rattle.scheduler.proofs.Demands.{after-make}
 use Rattle.scheduler.specs.Demands as demands
-use Rattle.halt.specs.Halt.{haltLane, haltSetup}
+use Rattle.halt.specs.Halt.{haltSetup}
 use Rattle.halt.specs.Lists as halt
-use Rattle.halt.specs.Lists.{HaltChain, HaltBegins, haltMargin, MarginIs, HaltShare, SeesBelow, HaltDemands, HaltHolds}
+use Rattle.halt.specs.Lists.{HaltChain, haltMargin, MarginIs, HaltShare, SeesBelow, HaltHolds}
 use Rattle.halt.proofs.Lists.{begins, goes-first, goes-halt, halt-chain}
 
 -- ---- with no offer in the list the setup in force is the first one

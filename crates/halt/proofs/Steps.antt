@@ -1,10 +1,10 @@
 -- From the test of the halt and the scheduler's promise to the halt's. Assumes nothing.
 use Prim.Native.Nat.{ℕ, _≤_, _<_}
 use native.Mathlib.Omega.{arith}
-use mathlib.Core.Path.{_≡_, refl, sym, ap, subst, _∙_}
+use mathlib.Core.Path.{_≡_, refl, sym, ap, subst}
 use mathlib.Core.Bool.{Bool, true, false, not, false≢true}
 use mathlib.Core.List.{List}
-use mathlib.Core.Option.{none, some}
+use mathlib.Core.Option.{none}
 use lib.ListN.{length}
 use Rattle.rules.specs.Calls.{Call, Reply, refused}
 use Rattle.rules.specs.Reads.{reads}
@@ -21,7 +21,7 @@ use Rattle.paged.specs.Paged.{GoodUnit}
 use Rattle.paged.proofs.Tested.{found-good, found-bad}
 use Rattle.scheduler.specs.Step.{Step}
 use Rattle.scheduler.specs.Make as scheduler
-use Rattle.scheduler.specs.Make.{MakeStep, made}
+use Rattle.scheduler.specs.Make.{MakeStep}
 use Rattle.scheduler.specs.declared.Making as scheduler-making
 use Rattle.scheduler.specs.declared.Making.the-variants as its
 use Rattle.scheduler.proofs.Made as its-proofs

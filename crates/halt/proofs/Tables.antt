@@ -4,9 +4,9 @@ use native.Mathlib.Omega.{arith}
 use mathlib.Core.Path.{_≡_, refl, sym, ap, _∙_}
 use mathlib.Core.Bool.{Bool, true, false}
 use mathlib.Core.List.{List}
-use mathlib.Core.Option.{Option, none, some}
+use mathlib.Core.Option.{none, some}
 use lib.Dec.{eqb}
-use borrow.Author.Tests.{eq-eqb, eqb-true, eqb-false}
+use borrow.Author.Tests.{eq-eqb, eqb-true}
 use Rattle.units.specs.Plain.{if_then_else_}
 use Rattle.rules.specs.State.{Setting, Lane, settingAt, laneAt, setupOf}
 use Rattle.rules.proofs.SameSetup.{setting-lane}
@@ -21,7 +21,7 @@ use Rattle.lane_test.specs.Says.{Says}
 use Rattle.good.proofs.Whole.{says-iff}
 use Rattle.engine.proofs.RowIs.{absent-lane}
 use Rattle.paged.specs.Paged.{partOf, GoodUnit}
-use Rattle.halt.specs.Halt.{haltLane, haltSetup, HaltTable}
+use Rattle.halt.specs.Halt.{haltLane, HaltTable}
 use Rattle.halt.proofs.Setups.{four-say}
 
 -- ---- a lane

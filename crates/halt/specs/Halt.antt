@@ -77,6 +77,7 @@ reads (Refused x) = notMade (number x) (placeOf x)
 -- R20.2: 90 where there is room and the setup reads and is another one; else making is the scheduler's, so 7 and what is wrong with the setup come first.
 pub record HaltMake (setup before : List ℕ) (a : Making) (after : List ℕ) : Type 0 where
   pub other : tableSize ≤ length before → OtherPlan (readSetup setup) → (reads a ≡ notMade 90 none) × (after ≡ before)
-  pub same : (tableSize ≤ length before → OtherPlan (readSetup setup) → ⊥) → (m : scheduler-making.Making) × MakeStep setup before m after × (reads a ≡ scheduler.reads m)
+  pub same : (tableSize ≤ length before → OtherPlan (readSetup setup) → ⊥)
+      → (m : scheduler-making.Making) × MakeStep setup before m after × (reads a ≡ scheduler.reads m)
   -- so a table that was made is the halt's
   pub own : (n : ℕ) → reads a ≡ made n → OwnPlan (readSetup setup)

@@ -1,5 +1,5 @@
--- What holds of every list of the halt's calls from a table that its `make` left. They are calls of the scheduler's, so all that these promise holds, the tighter
--- figure of a busy lane's share among it (scheduler/specs/Demands.antt, `fair-tight`); here it is with the halt's own numbers.
+-- What holds of every list of the halt's calls from a table that its `make` left. They are calls of the scheduler's, so all that these promise holds, the
+-- tighter figure of a busy lane's share among it (scheduler/specs/Demands.antt, `fair-tight`); here it is with the halt's own numbers.
 --
 --   HaltChain    the halt's calls with their answers, from some bytes to others
 --   HaltBegins   a table that the halt's `make` left
@@ -13,7 +13,7 @@ use Prim.Native.Nat.{ℕ, _+_, _*_, _<_}
 use mathlib.Core.Path.{_≡_}
 use mathlib.Core.List.{List, [], _∷_, _++_}
 use Rattle.units.specs.Numbers.{lineRate}
-use Rattle.rules.specs.State.{Setting, settingAt, rate, slot}
+use Rattle.rules.specs.State.{settingAt, rate, slot}
 use Rattle.rules.specs.Calls.{Call}
 use Rattle.rules.specs.Reads as rules
 use Rattle.rules.specs.Fair.{bytesSent, bytesSentOf}

@@ -4,10 +4,6 @@ use Rattle.halt.proofs.Steps.{refused-step, same-step}
 use borrow.Author.Needs.{needs}
 use Rattle.halt.proofs.lag.Statement.{statement}
 use Rattle.halt.proofs.lag.Tie as tie
-use Rattle.halt.proofs.lag.Reads as reads
-use Rattle.halt.proofs.lag.Lts as lts
-use Rattle.halt.proofs.is_halt.Reads as is-halt-reads
-use Rattle.scheduler.proofs.lag.Reads as lag-reads
 
 is-halt-requires : tie.Need-is-halt-requires
 is-halt-requires c κs = search needs

@@ -3,11 +3,8 @@ use mathlib.Core.Path.{sym, ap, _∙_}
 use mathlib.Core.Bool.{false≢true}
 use Rattle.rules.specs.State.{Setting}
 use Rattle.halt.proofs.Setups.{lane-last}
-use borrow.Author.Needs.{needs}
 use Rattle.halt.proofs.lane_is.Statement.{statement}
 use Rattle.halt.proofs.lane_is.Tie as tie
-use Rattle.halt.proofs.lane_is.Reads as reads
-use Rattle.halt.proofs.lane_is.Lts as lts
 
 returns : tie.Need-returns
 returns c = λ e. false≢true (sym (ap (λ (x : Setting). x .shared) e) ∙ c .if1 .taken)

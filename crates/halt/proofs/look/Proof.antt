@@ -4,10 +4,6 @@ use Rattle.halt.proofs.Steps.{refused-step, same-step}
 use borrow.Author.Needs.{needs}
 use Rattle.halt.proofs.look.Statement.{statement}
 use Rattle.halt.proofs.look.Tie as tie
-use Rattle.halt.proofs.look.Reads as reads
-use Rattle.halt.proofs.look.Lts as lts
-use Rattle.halt.proofs.is_halt.Reads as is-halt-reads
-use Rattle.scheduler.proofs.look.Reads as look-reads
 
 is-halt-requires : tie.Need-is-halt-requires
 is-halt-requires c κs = search needs

@@ -3,10 +3,6 @@ use Rattle.halt.proofs.Steps.{make-short, make-other, make-made, make-r
 use borrow.Author.Needs.{needs}
 use Rattle.halt.proofs.make.Statement.{statement}
 use Rattle.halt.proofs.make.Tie as tie
-use Rattle.halt.proofs.make.Reads as reads
-use Rattle.halt.proofs.make.Lts as lts
-use Rattle.halt.proofs.other_plan.Reads as other-plan-reads
-use Rattle.scheduler.proofs.make.Reads as make-reads
 
 returns : tie.Need-returns
 returns c = make-short (c .before .before .before .args .setup .now) (c .before .before .before .args .t .now) (c .if1 .taken)
@@ -15,7 +11,10 @@ other-plan-requires : tie.Need-other-plan-requires
 other-plan-requires c κs = search needs
 
 returns-2 : tie.Need-returns-2
-returns-2 c = make-other (c .before .before .before .before .before .args .setup .now) (c .before .before .before .before .before .args .t .now) (c .before .other-plan .result) (c .before .other-plan .ensures) (c .before .before .if1 .left) (c .if2 .taken)
+returns-2 c =
+    let s = c .before .before .before .before .before .args in
+    let o = c .before .other-plan in
+    make-other (s .setup .now) (s .t .now) (o .result) (o .ensures) (c .before .before .if1 .left) (c .if2 .taken)
 
 make-requires : tie.Need-make-requires
 make-requires c κs = search needs
@@ -30,13 +29,21 @@ same-length : tie.Need-same-length
 same-length c = search needs
 
 returns-3 : tie.Need-returns-3
-returns-3 c = make-made (c .before .before .before .before .before .before .before .before .before .before .before .before .args .setup .now) (c .before .before .before .before .before .before .before .before .before .before .before .before .args .t .now) (c .before .before .before .before .before .before .before .before .other-plan .result) (c .before .before .before .before .before .before .before .before .other-plan .ensures) (c .before .before .before .before .before .before .before .if2 .left) (c .before .before .before .before .before .make .result) _ (c .before .before .before .before .before .make .ensures) _ (c .before .n .given .1)
+returns-3 c =
+    let s = c .before .before .before .before .before .before .before .before .before .before .before .before .args in
+    let o = c .before .before .before .before .before .before .before in
+    let m = c .before .before .before .before .before .make in
+    make-made (s .setup .now) (s .t .now) (o .before .other-plan .result) (o .before .other-plan .ensures) (o .if2 .left) (m .result) _ (m .ensures) _ (c .before .n .given .1)
 
 same-length-2 : tie.Need-same-length-2
 same-length-2 c = search needs
 
 returns-4 : tie.Need-returns-4
-returns-4 c = make-refused (c .before .before .before .before .before .before .before .before .before .before .before .before .args .setup .now) (c .before .before .before .before .before .before .before .before .before .before .before .before .args .t .now) (c .before .before .before .before .before .before .before .before .other-plan .result) (c .before .before .before .before .before .before .before .before .other-plan .ensures) (c .before .before .before .before .before .before .before .if2 .left) (c .before .before .before .before .before .make .result) _ (c .before .before .before .before .before .make .ensures) _ (c .before .x .given .1)
+returns-4 c =
+    let s = c .before .before .before .before .before .before .before .before .before .before .before .before .args in
+    let o = c .before .before .before .before .before .before .before in
+    let m = c .before .before .before .before .before .make in
+    make-refused (s .setup .now) (s .t .now) (o .before .other-plan .result) (o .before .other-plan .ensures) (o .if2 .left) (m .result) _ (m .ensures) _ (c .before .x .given .1)
 
 pub make-spec : {M : Type 1} → statement M
 make-spec =

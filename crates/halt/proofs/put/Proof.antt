@@ -4,10 +4,6 @@ use Rattle.halt.proofs.Steps.{refused-step, same-step}
 use borrow.Author.Needs.{needs}
 use Rattle.halt.proofs.put.Statement.{statement}
 use Rattle.halt.proofs.put.Tie as tie
-use Rattle.halt.proofs.put.Reads as reads
-use Rattle.halt.proofs.put.Lts as lts
-use Rattle.halt.proofs.is_halt.Reads as is-halt-reads
-use Rattle.scheduler.proofs.put.Reads as put-reads
 
 is-halt-requires : tie.Need-is-halt-requires
 is-halt-requires c κs = search needs

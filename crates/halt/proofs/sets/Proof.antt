@@ -4,10 +4,6 @@ use Rattle.halt.proofs.Steps.{refused-step, same-step}
 use borrow.Author.Needs.{needs}
 use Rattle.halt.proofs.sets.Statement.{statement}
 use Rattle.halt.proofs.sets.Tie as tie
-use Rattle.halt.proofs.sets.Reads as reads
-use Rattle.halt.proofs.sets.Lts as lts
-use Rattle.halt.proofs.is_halt.Reads as is-halt-reads
-use Rattle.scheduler.proofs.sets.Reads as sets-reads
 
 is-halt-requires : tie.Need-is-halt-requires
 is-halt-requires c κs = search needs

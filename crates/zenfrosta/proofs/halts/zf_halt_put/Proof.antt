@@ -4,10 +4,6 @@ use native.Mathlib.Omega.{arith}
 use borrow.Author.Needs.{needs}
 use Rattle.zenfrosta.proofs.halts.zf_halt_put.Statement.{statement}
 use Rattle.zenfrosta.proofs.halts.zf_halt_put.Tie as tie
-use Rattle.zenfrosta.proofs.halts.zf_halt_put.Reads as reads
-use Rattle.zenfrosta.proofs.halts.zf_halt_put.Lts as lts
-use Rattle.halt.proofs.put.Reads as put-reads
-use Rattle.zenfrosta.proofs.tell.Reads as tell-reads
 
 returns : tie.Need-returns
 returns c = record { short = λ _. (refl, refl, refl); told = λ h. absurd (omega (arith, c .if1 .taken)) }

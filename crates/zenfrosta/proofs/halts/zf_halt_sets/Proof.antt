@@ -4,10 +4,6 @@ use native.Mathlib.Omega.{arith}
 use borrow.Author.Needs.{needs}
 use Rattle.zenfrosta.proofs.halts.zf_halt_sets.Statement.{statement}
 use Rattle.zenfrosta.proofs.halts.zf_halt_sets.Tie as tie
-use Rattle.zenfrosta.proofs.halts.zf_halt_sets.Reads as reads
-use Rattle.zenfrosta.proofs.halts.zf_halt_sets.Lts as lts
-use Rattle.halt.proofs.sets.Reads as sets-reads
-use Rattle.zenfrosta.proofs.tell.Reads as tell-reads
 
 returns : tie.Need-returns
 returns c = record { short = λ _. (refl, refl, refl); told = λ h. absurd (omega (arith, c .if1 .taken)) }
