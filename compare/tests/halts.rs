@@ -1,7 +1,5 @@
 //! The small halt: which setups and tables are its own, by hand; what a waiting lane sees; and the comparison finds every slip.
 
-mod common;
-
 use compare::calls::{Answer, Call};
 use compare::halts::driver::{compare, Tally};
 use compare::halts::slips::{Slip, Slipped, ALL};
@@ -38,7 +36,10 @@ fn table(change: impl Fn(&mut State)) -> Vec<u8> {
 fn setups_that_are_the_halt_s() {
     assert_eq!(makes(&bytes(1, &[], 3), TABLE_SIZE).map(|setup| setup.lanes), Ok(LANES.to_vec()));
     assert_eq!(makes(&bytes(2, &[], 3), TABLE_SIZE).map(|setup| setup.lanes), Ok(LANES.to_vec()));
-    assert_eq!(makes(&bytes(2, &[0x11, 0, 1, 0], 3), TABLE_SIZE).map(|setup| setup.lanes), Ok(LANES.to_vec()));
+    assert_eq!(
+        makes(&bytes(2, &[0x11, 0, 1, 0], 3), TABLE_SIZE).map(|setup| setup.lanes),
+        Ok(LANES.to_vec())
+    );
 }
 
 #[test]
@@ -105,7 +106,10 @@ fn the_calls() {
 fn no_difference_where_there_is_none() {
     let mut tally = Tally::default();
     compare(&mut Slipped(Slip::None), 3, 0, |done| done < 600, &mut tally).expect("no slip");
-    assert!(tally.made > 300 && tally.ninety > 300 && tally.own > 200 && tally.tables > 2 * tally.own, "{tally}");
+    assert!(
+        tally.made > 300 && tally.ninety > 300 && tally.own > 200 && tally.tables > 2 * tally.own,
+        "{tally}"
+    );
     assert!(tally.seen.iter().all(|bytes| *bytes > 0), "{tally}");
 }
 

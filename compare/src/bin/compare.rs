@@ -197,9 +197,7 @@ fn main() -> ExitCode {
                 both(boards(&options, 0, part(budget)), || {
                     both(planned(&options, 0, part(budget)), || {
                         both(texts(&options, 0, part(budget)), || {
-                            both(converted(&options, 0, part(budget)), || {
-                                halted(&options, 0, part(budget))
-                            })
+                            both(converted(&options, 0, part(budget)), || halted(&options, 0, part(budget)))
                         })
                     })
                 })

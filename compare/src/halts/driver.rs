@@ -41,7 +41,11 @@ impl fmt::Display for Tally {
             "halts: {} cases, {} setups, {} made, refused by 90: {}; {} tables, {} of the halt's; {} calls",
             self.cases, self.setups, self.made, self.ninety, self.tables, self.own, self.calls
         )?;
-        write!(f, "\n  a waiting lane saw at most {:?} bytes, and must see fewer than {SEES_BELOW:?}", self.seen)
+        write!(
+            f,
+            "\n  a waiting lane saw at most {:?} bytes, and must see fewer than {SEES_BELOW:?}",
+            self.seen
+        )
     }
 }
 
