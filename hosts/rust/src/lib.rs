@@ -8,8 +8,8 @@
 
 mod board;
 mod boundary;
-mod pages;
 pub mod halt;
+mod pages;
 mod plan;
 pub mod refusals;
 mod version;
