@@ -71,21 +71,15 @@ pub margin-is : MarginIs
 unfolding MarginIs haltSetup longestCharge charge
 margin-is = refl
 
-slot-0 : slot (settingAt haltSetup 0) ≡ 524288
-unfolding haltSetup slot group charge perByte leastPower powerFrom
-slot-0 = refl
+record Slots : Type 0 where
+  lane-0 : slot (settingAt haltSetup 0) ≡ 524288
+  lane-1 : slot (settingAt haltSetup 1) ≡ 1048576
+  lane-2 : slot (settingAt haltSetup 2) ≡ 2097152
+  lane-3 : slot (settingAt haltSetup 3) ≡ 2097152
 
-slot-1 : slot (settingAt haltSetup 1) ≡ 1048576
+slots : Slots
 unfolding haltSetup slot group charge perByte leastPower powerFrom
-slot-1 = refl
-
-slot-2 : slot (settingAt haltSetup 2) ≡ 2097152
-unfolding haltSetup slot group charge perByte leastPower powerFrom
-slot-2 = refl
-
-slot-3 : slot (settingAt haltSetup 3) ≡ 2097152
-unfolding haltSetup slot group charge perByte leastPower powerFrom
-slot-3 = refl
+slots = record { lane-0 = refl; lane-1 = refl; lane-2 = refl; lane-3 = refl }
 
 module _ (es : List DeviceEvent) (ruled-all : AllRuled es) (fair : FairTight haltSetup es) where
   pub share : HaltShare es
@@ -106,16 +100,16 @@ module _ (es : List DeviceEvent) (ruled-all : AllRuled es) (fair : FairTight hal
       omega (arith, share past stretch rest e k h, at, sum, none-sent)
 
   pub sees-0 : SeesBelow 0 2304 es
-  sees-0 = sees 0 524288 2304 slot-0 refl
+  sees-0 = sees 0 524288 2304 (slots .lane-0) refl
 
   pub sees-1 : SeesBelow 1 4352 es
-  sees-1 = sees 1 1048576 4352 slot-1 refl
+  sees-1 = sees 1 1048576 4352 (slots .lane-1) refl
 
   pub sees-2 : SeesBelow 2 8448 es
-  sees-2 = sees 2 2097152 8448 slot-2 refl
+  sees-2 = sees 2 2097152 8448 (slots .lane-2) refl
 
   pub sees-3 : SeesBelow 3 8448 es
-  sees-3 = sees 3 2097152 8448 slot-3 refl
+  sees-3 = sees 3 2097152 8448 (slots .lane-3) refl
 
 -- ---- the claim
 
