@@ -1,20 +1,21 @@
 -- The figures of a busy lane's share in lists of the halt's calls. Assumes nothing.
 use Prim.Native.Nat.{ℕ, _+_, _*_, _<_}
 use native.Mathlib.Omega.{arith}
-use mathlib.Core.Path.{_≡_, refl, ap, subst, _∙_}
-use mathlib.Core.Bool.{Bool, true, false}
-use mathlib.Core.List.{List, [], _∷_, _++_}
+use mathlib.Core.Path.{_≡_, refl, sym, ap, subst, _∙_}
+use mathlib.Core.List.{List, [], _∷_, _++_, map, append-assoc}
 use Rattle.units.specs.Numbers.{lineRate, perByte, leastPower, powerFrom}
-use Rattle.units.specs.Plain.{if_then_else_}
 use Rattle.rules.specs.State.{Setting, settingAt, charge, rate, group, slot}
 use Rattle.rules.specs.Setup.{longestCharge}
 use Rattle.rules.specs.Calls.{Call}
 use Rattle.rules.specs.Fair.{bytesSent, bytesSentOf}
-use Rattle.pages.specs.Device.{Page, startPage, DeviceCall, ruled, DeviceReply}
-use Rattle.pages.specs.Offers.{DeviceEvent, ofRules, anyHeld, acceptedPage, newest, freeFrom, pageIn, inForce}
+use Rattle.pages.specs.Device.{Page, startPage, Device, freshDevice, DeviceCall, ruled, deviceStep}
+use Rattle.pages.specs.Offers.{DeviceEvent, deviceTraceBy, deviceTrace, ofRules, pageIn, inForce}
+use Rattle.pages.specs.Carried.{WithoutOffers}
+use Rattle.pages.proofs.Carried.{without-offers}
+use Rattle.scheduler.specs.Chain.{callsOf, Led}
 use Rattle.scheduler.specs.Compared.{FairTight, tightest}
-use Rattle.scheduler.proofs.Demands.{after-make}
 use Rattle.scheduler.specs.Demands as demands
+use Rattle.scheduler.proofs.Demands.{after-make}
 use Rattle.halt.specs.Halt.{haltSetup}
 use Rattle.halt.specs.Lists as halt
 use Rattle.halt.specs.Lists.{HaltChain, haltMargin, MarginIs, HaltShare, SeesBelow, HaltHolds}
@@ -22,48 +23,19 @@ use Rattle.halt.proofs.Lists.{begins, goes-first, goes-halt, halt-chain
 
 -- ---- with no offer in the list the setup in force is the first one
 
-unfoldable pub AllRuled : List DeviceEvent → Type 0
-AllRuled [] = Unit {0}
-AllRuled (e ∷ es) = ((c : Call) × (e .call ≡ ruled c)) × AllRuled es
+-- the front of a list of the rules' calls is one
+ruled-front : (d : Device) (cs : List Call) (past rest : List DeviceEvent) → deviceTrace d (map ruled cs) ≡ past ++ rest
+    → (front : List Call) × (deviceTrace d (map ruled front) ≡ past)
+unfolding deviceTraceBy
+ruled-front d cs [] rest e = ([], refl)
+ruled-front d [] (x ∷ past) rest e = let z : _≡_ {A = ℕ} 0 1 = cc in absurd (omega arith)
+ruled-front d (c ∷ cs) (x ∷ past) rest e =
+    let h = ruled-front ((deviceStep d (ruled c)) .device) cs past rest (cc) in
+    (c ∷ h .0, cc (h .1))
 
-both : (xs ys : List DeviceEvent) → AllRuled xs → AllRuled ys → AllRuled (xs ++ ys)
-unfolding AllRuled
-both [] ys h k = k
-both (x ∷ xs) ys h k = (h .0, both xs ys (h .1) k)
-
-front : (xs ys : List DeviceEvent) → AllRuled (xs ++ ys) → AllRuled xs
-unfolding AllRuled
-front [] ys h = tt
-front (x ∷ xs) ys h = (h .0, front xs ys (h .1))
-
-chosen : (b : Bool) (x y : List DeviceEvent) → AllRuled x → AllRuled y → AllRuled (if b then x else y)
-chosen true x y h k = h
-chosen false x y h k = k
-
-free-ruled : (best past es : List DeviceEvent) → AllRuled best → AllRuled past → AllRuled es → AllRuled (freeFrom best past es)
-unfolding freeFrom AllRuled
-free-ruled best past [] h k l = h
-free-ruled best past (e ∷ es) h k l =
-    let now = both past (e ∷ []) k (l .0, tt) in
-    free-ruled (if anyHeld (past ++ (e ∷ [])) then best else past ++ (e ∷ [])) (past ++ (e ∷ [])) es (chosen (anyHeld (past ++ (e ∷ []))) best (past ++ (e ∷ [])) h now) now (l .1)
-
-kept-page : (old : Page) (x : DeviceCall) (c : Call) (r : DeviceReply) → x ≡ ruled c → acceptedPage old x r ≡ old
-unfolding acceptedPage
-kept-page old x c r e = ap (λ (y : DeviceCall). acceptedPage old y r) e
-
-newest-ruled : (old : Page) (es : List DeviceEvent) → AllRuled es → newest old es ≡ old
-unfolding newest AllRuled
-newest-ruled old [] h = refl
-newest-ruled old (e ∷ es) h = ap (λ (p : Page). newest p es) (kept-page old (e .call) (h .0 .0) (e .reply) (h .0 .1)) ∙ newest-ruled old es (h .1)
-
-same-force : (gs : List Setting) (es : List DeviceEvent) → AllRuled es → inForce gs es ≡ gs
-unfolding pageIn AllRuled
-same-force gs es h = ap (λ (p : Page). p .settings) (newest-ruled (startPage gs) (freeFrom [] [] es) (free-ruled [] [] es tt tt h))
-
-chain-ruled : {t u : List ℕ} {es : List DeviceEvent} → HaltChain t es u → AllRuled es
-unfolding AllRuled
-chain-ruled halt.done = tt
-chain-ruled (halt.then {c = c} st ch) = ((c, refl), chain-ruled ch)
+chain-calls : {t u : List ℕ} {es : List DeviceEvent} → HaltChain t es u → (cs : List Call) × (callsOf es ≡ map ruled cs)
+chain-calls halt.done = ([], refl)
+chain-calls (halt.then {c = c} st ch) = let h = chain-calls ch in (c ∷ h .0, ap (λ (x : List DeviceCall). ruled c ∷ x) (h .1))
 
 -- ---- the figures
 
@@ -81,15 +53,21 @@ slots : Slots
 unfolding haltSetup slot group charge perByte leastPower powerFrom
 slots = record { lane-0 = refl; lane-1 = refl; lane-2 = refl; lane-3 = refl }
 
-module _ (es : List DeviceEvent) (ruled-all : AllRuled es) (fair : FairTight haltSetup es) where
+module _ (es : List DeviceEvent) (u : List ℕ) (l : Led haltSetup es u) (cs : List Call) (calls : callsOf es ≡ map ruled cs) (fair : FairTight haltSetup es) where
+  same-force : (past rest : List DeviceEvent) → es ≡ past ++ rest → inForce haltSetup past ≡ haltSetup
+  unfolding WithoutOffers
+  same-force past rest e =
+      let front = ruled-front (freshDevice haltSetup) cs past rest (ap (deviceTrace (freshDevice haltSetup)) (sym calls) ∙ l .answers ∙ e) in
+      ap (λ (p : Page). p .settings)
+      (subst (λ (x : List DeviceEvent). pageIn haltSetup x ≡ startPage haltSetup) (front .1) (without-offers haltSetup (front .0) .2))
+
   pub share : HaltShare es
   unfolding HaltShare FairTight MarginIs
   share past stretch rest e k h =
-      let same = same-force haltSetup past (front past stretch (front (past ++ stretch) rest (subst AllRuled e ruled-all))) in
       let held : lineRate * bytesSent haltSetup (ofRules stretch) < rate (settingAt haltSetup k) * bytesSentOf haltSetup k (ofRules stretch) + 4 * slot (settingAt haltSetup k) + tightest haltSetup =
       subst
       (λ (gs : List Setting). lineRate * bytesSent gs (ofRules stretch) < rate (settingAt gs k) * bytesSentOf gs k (ofRules stretch) + 4 * slot (settingAt gs k) + tightest gs)
-      same (fair past stretch rest e k h) in
+      (same-force past (stretch ++ rest) (e ∙ append-assoc past stretch rest)) (fair past stretch rest e k h) in
       omega (arith, held, margin-is)
 
   -- where the lane sends none: 1,024 T < 4 slots + 262,144
@@ -118,13 +96,14 @@ unfolding HaltHolds demands.AfterMake
 halt-holds t u es b ch =
     let go = halt-chain [] (goes-first t b) ch in
     let all = after-make haltSetup t u es (begins t b) (go .0) in
-    let ruled-all = chain-ruled ch in
+    let l = go .1 .led in
+    let c = chain-calls ch in
     record {
       demands = all;
       table = goes-halt es u (go .1);
-      share = share es ruled-all (all .fair-tight);
-      lane-0 = sees-0 es ruled-all (all .fair-tight);
-      lane-1 = sees-1 es ruled-all (all .fair-tight);
-      lane-2 = sees-2 es ruled-all (all .fair-tight);
-      lane-3 = sees-3 es ruled-all (all .fair-tight);
+      share = share es u l (c .0) (c .1) (all .fair-tight);
+      lane-0 = sees-0 es u l (c .0) (c .1) (all .fair-tight);
+      lane-1 = sees-1 es u l (c .0) (c .1) (all .fair-tight);
+      lane-2 = sees-2 es u l (c .0) (c .1) (all .fair-tight);
+      lane-3 = sees-3 es u l (c .0) (c .1) (all .fair-tight);
     }
