@@ -22,11 +22,12 @@ ROOTS = [
     ("text sheets", [("sheet/Promises", "*"), ("sheet_writer/RoundTrip", "*"), ("sheet_area/Step", "*")]),
     ("the desk's board", [("zenfrosta/Board", "*"), ("journal/Step", "*"), ("journal/Bytes", "*"), ("journal/Lists", "*"), ("desk/Claims", "*")]),
     ("tables from before an update", [("zenfrosta/Old", "*")]),
+    ("the small halt", [("halt/Halt", "*"), ("halt/Lists", "*"), ("zenfrosta/Halts", "*")]),
     ("a table shown to its host", [("zenfrosta/Views", "*")]),
 ]
 
 # The crates whose functions without a `requires` are public calls, and the modules of them that are inner ones.
-PUBLIC = "scheduler session convert show plan plan_writer plan_area page sheet sheet_writer sheet_area journal good old_table".split()
+PUBLIC = "scheduler session convert show halt plan plan_writer plan_area page sheet sheet_writer sheet_area journal good old_table".split()
 INNER = {"plan/judge.rt", "plan/parse.rt", "plan/reader.rt", "page/parse.rt", "sheet/form.rt", "sheet/judge.rt"}
 INNER_CALLS = {"plan::no_lanes", "plan_writer::line_framing", "plan_writer::shared_lanes"}
 
@@ -38,6 +39,7 @@ CONTRACTS = [
     ("journal/Step", "RecordStep"), ("journal/Step", "Step"), ("journal/Step", "BeginStep"), ("journal/Step", "LineStep"),
     ("zenfrosta/Crossing", "CrossesCall"), ("zenfrosta/Crossing", "CrossesMaking"), ("zenfrosta/Crossing", "CrossesRun"), ("zenfrosta/Crossing", "CrossesOffer"),
     ("zenfrosta/Plans", "CrossesPlan"), ("zenfrosta/Board", "CrossesBoard"), ("zenfrosta/Old", "CrossesConverting"), ("zenfrosta/Views", "CrossesView"),
+    ("halt/Halt", "HaltStep"), ("halt/Halt", "HaltMake"), ("zenfrosta/Halts", "CrossesHalt"), ("zenfrosta/Halts", "CrossesHaltMaking"),
     ("scheduler/Demands", "EveryList"),
 ]
 

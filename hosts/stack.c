@@ -48,6 +48,15 @@ static void offer(void) {
 }
 static void restart(void) { result = zf_restart(table, sizeof table, out, sizeof out); }
 static void run(void) { result = zf_run(session, session_length, 1000, table, sizeof table, answers, sizeof answers, out, sizeof out); }
+static const uint8_t halt_setup[] = {0x01, 0, 2, 0, 2, 0x10, 0, 5, 0, 2, 0, 1, 0, 0x10, 0, 5, 1, 1, 0, 1, 0,
+                                     0x10, 0, 5, 2, 0, 128, 1, 0, 0x10, 0, 5, 3, 0, 128, 1, 0, 0x7F, 0, 0};
+static void halt_make(void) { result = zf_halt_make(halt_setup, sizeof halt_setup, table, sizeof table, out, sizeof out); }
+static void halt_put(void) { result = zf_halt_put(table, sizeof table, 3, 1, 256, out, sizeof out); }
+static void halt_take(void) { result = zf_halt_take(table, sizeof table, out, sizeof out); }
+static void halt_look(void) { result = zf_halt_look(table, sizeof table, out, sizeof out); }
+static void halt_sets(void) { result = zf_halt_sets(table, sizeof table, out, sizeof out); }
+static void halt_lag(void) { result = zf_halt_lag(table, sizeof table, 3, out, sizeof out); }
+static void halt_restart(void) { result = zf_halt_restart(table, sizeof table, out, sizeof out); }
 static void begin(void) { result = zf_board_begin(board, sizeof board, out, sizeof out); }
 static void join(void) { result = zf_board_record(board, sizeof board, joined, sizeof joined, out, sizeof out); }
 static void leave(void) { result = zf_board_record(board, sizeof board, left, sizeof left, out, sizeof out); }
@@ -93,7 +102,9 @@ int main(void) {
                {"zf_edition", show_edition},    {"zf_offer", offer},             {"zf_take", take},               {"zf_take", take},
                {"zf_take", take},               {"zf_offer", offer},             {"zf_restart", restart},         {"zf_run", run},
                {"zf_board_begin", begin},       {"zf_board_record", join},       {"zf_board_record", leave},      {"zf_board_line", line},
-               {"zf_board_clear", clear},       {"zf_convert", convert}};
+               {"zf_board_clear", clear},       {"zf_halt_make", halt_make},     {"zf_halt_put", halt_put},       {"zf_halt_look", halt_look},
+               {"zf_halt_sets", halt_sets},     {"zf_halt_lag", halt_lag},       {"zf_halt_take", halt_take},     {"zf_halt_restart", halt_restart},
+               {"zf_convert", convert}};
   size_t most = 0;
   /* A table of 16 places (docs/TABLE.md): lanes 0 and 1 of weight 512 and longest 1,500, idle. */
   zf_plan_set_word(old, 1, 3);

@@ -59,6 +59,7 @@ extern "C" {
 #define ZF_OLD_EDITION 60    /* a settings page whose edition is not above the last one taken and the one that waits */
 #define ZF_NO_TRAIN 70       /* a train over 7, or over 0 in a lane that is not shared */
 #define ZF_TRAIN_FULL 71     /* the train's queue in a shared lane holds 8 records */
+#define ZF_NOT_A_HALT 90     /* zf_halt_make: a good setup that is not the small halt's */
 #define ZF_BUFFER_SHORT 255  /* the answer buffer is shorter than 32 bytes */
 
 /* Why a run stopped: word 2 of zf_run's answer. */
@@ -155,6 +156,28 @@ static inline size_t zf_page_write(uint16_t edition, const uint8_t *setup, size_
  * stopped (ZF_STOP_...), and a refusal's place. The result is 0 at the end field or the limit, else the number of the refusal. */
 uint64_t zf_run(const uint8_t *session, size_t session_length, uint64_t limit, uint8_t *table, size_t table_length, uint8_t *answers,
                 size_t answers_length, uint8_t *out, size_t out_length);
+
+/* ---- The small halt
+ *
+ * A unit with lanes 0 to 3 of weights 512, 256, 128 and 128, longest 256 each, no framing bytes and no lane that trains share: this setup, in either
+ * format, and no other. These calls are those above on a table of that setup; a table of another setup, or with a settings page that waits, gives 10. As
+ * no record is longer than 256 bytes, a lane that holds one and sends none sees fewer bytes sent: 2,304 in lane 0, 4,352 in lane 1, 8,448 in lanes 2
+ * and 3.
+ *
+ * Makes the halt's fresh table. out: the number of lanes, 4. Refusals: 7, then those of the setup, then 90, which has no place. */
+uint64_t zf_halt_make(const uint8_t *setup, size_t setup_length, uint8_t *table, size_t table_length, uint8_t *out, size_t out_length);
+
+uint64_t zf_halt_put(uint8_t *table, size_t table_length, uint8_t lane, uint32_t mark, uint64_t length, uint8_t *out, size_t out_length);
+
+uint64_t zf_halt_take(uint8_t *table, size_t table_length, uint8_t *out, size_t out_length);
+
+uint64_t zf_halt_look(const uint8_t *table, size_t table_length, uint8_t *out, size_t out_length);
+
+uint64_t zf_halt_sets(const uint8_t *table, size_t table_length, uint8_t *out, size_t out_length);
+
+uint64_t zf_halt_lag(const uint8_t *table, size_t table_length, uint8_t lane, uint8_t *out, size_t out_length);
+
+uint64_t zf_halt_restart(uint8_t *table, size_t table_length, uint8_t *out, size_t out_length);
 
 /* ---- Tables from before an update
  *
@@ -433,6 +456,7 @@ static inline const char *zf_text(uint64_t number) {
   case ZF_SHEET_BYTE: return "a byte that cannot stand there in a sheet";
   case ZF_SHEET_CUT: return "the sheet is empty, or ends in a line";
   case ZF_NO_SHEET: return "the plan has framing bytes or a shared lane, which a sheet cannot say";
+  case ZF_NOT_A_HALT: return "the setup is good, and not the small halt's";
   case ZF_BUFFER_SHORT: return "the answer buffer is too short";
   default: return "no number of the list";
   }

@@ -4,7 +4,8 @@
 //! The implementation: [`numbers`], [`calls`], [`rules`], [`fields`], [`setup`], [`session`]; [`layout`] and [`slots`] read docs/TABLE.md's tables;
 //! [`shown`] is what a table shows to a host that asks.
 //! [`journal`] is a second journal of the desk, [`plans`] a second writer of setups, [`sheets`] a second reader and writer of text
-//! sheets and [`convert`] a second converter of old tables, each with its own comparison; [`pages`] is a second reader of settings pages.
+//! sheets, [`convert`] a second converter of old tables and [`halts`] a second small halt, each with its own comparison; [`pages`] is a second reader of
+//! settings pages.
 //! [`flips`] turns single bits of tables over.
 //! The machinery: [`rng`], [`gen`], [`laws`], [`unit`], [`stand_in`], [`on_words`], [`driver`], [`pipes`]; [`loads`] and, with the feature `inner`,
 //! `inner` are the benchmark's.
@@ -20,6 +21,7 @@ pub mod driver;
 pub mod fields;
 pub mod flips;
 pub mod gen;
+pub mod halts;
 #[cfg(feature = "inner")]
 pub mod inner;
 pub mod journal;

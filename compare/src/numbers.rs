@@ -98,4 +98,6 @@ pub mod refusal {
     // Document 02, m: a sheet.
     pub const SHEET_BYTE: u8 = 80;
     pub const SHEET_CUT: u8 = 81;
+    // Document 02, n: the small halt.
+    pub const NOT_A_HALT: u8 = 90;
 }

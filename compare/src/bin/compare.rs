@@ -4,6 +4,7 @@ use compare::convert;
 use compare::driver::report::{Found, Tally};
 use compare::driver::{self, Budget, Kind};
 use compare::flips;
+use compare::halts;
 use compare::journal;
 use compare::on_words::{lapses, OnWords};
 use compare::pipes;
@@ -29,6 +30,8 @@ compare sheets --seconds N | --cases N [--seed N] [--case N]
                                                text sheets, likewise
 compare conversions --seconds N | --cases N [--seed N] [--case N]
                                                tables of 16 places taken over, likewise
+compare halts --seconds N | --cases N [--seed N] [--case N]
+                                               the small halt, likewise
 compare sessions PROGRAM... [--cases N] [--seed N] [--case N]
                                                sessions by pipe; --case N begins at that case
 compare clock --pairs N                        one lane, N pairs of put and take: the clock is taken back once in some 1,466 million
@@ -39,11 +42,12 @@ compare slips [--seed N]                       each slip and each lapse, and the
 const SEED: u64 = 1;
 /// The cases of a short run.
 const SHORT: u64 = 20_000;
-/// Its cases of the desk's board, of plans, of sheets and of conversions, and the part of a long run that each get.
+/// Its cases of the desk's board, of plans, of sheets, of conversions and of the small halt, and the part of a long run that each get.
 const SHORT_BOARDS: u64 = 20_000;
 const SHORT_PLANS: u64 = 60_000;
 const SHORT_SHEETS: u64 = 100_000;
 const SHORT_CONVERSIONS: u64 = 3_000;
+const SHORT_HALTS: u64 = 3_000;
 const PART: u64 = 8;
 /// A slip must be found within so many cases, far fewer than a short run has.
 const SLIP: u64 = 1_500;
@@ -126,6 +130,21 @@ fn converter_under_test() -> impl convert::Converter {
     convert::slips::Slipped(convert::slips::Slip::None)
 }
 
+/// The small halt under test, likewise.
+#[cfg(feature = "unit")]
+fn halt_under_test() -> impl halts::Halt {
+    if let Err(wrong) = halts::linked::boundary() {
+        println!("DIFFERENCE at the boundary: {wrong}");
+        std::process::exit(1);
+    }
+    halts::linked::Linked
+}
+
+#[cfg(not(feature = "unit"))]
+fn halt_under_test() -> impl halts::Halt {
+    halts::slips::Slipped(halts::slips::Slip::None)
+}
+
 struct Options {
     seed: u64,
     case: Option<u64>,
@@ -166,7 +185,9 @@ fn main() -> ExitCode {
             both(boards(&options, 0, Budget::Cases(SHORT_BOARDS)), || {
                 both(planned(&options, 0, Budget::Cases(SHORT_PLANS)), || {
                     both(texts(&options, 0, Budget::Cases(SHORT_SHEETS)), || {
-                        converted(&options, 0, Budget::Cases(SHORT_CONVERSIONS))
+                        both(converted(&options, 0, Budget::Cases(SHORT_CONVERSIONS)), || {
+                            halted(&options, 0, Budget::Cases(SHORT_HALTS))
+                        })
                     })
                 })
             })
@@ -177,7 +198,9 @@ fn main() -> ExitCode {
             let beside = || {
                 both(boards(&options, 0, part(budget)), || {
                     both(planned(&options, 0, part(budget)), || {
-                        both(texts(&options, 0, part(budget)), || converted(&options, 0, part(budget)))
+                        both(texts(&options, 0, part(budget)), || {
+                            both(converted(&options, 0, part(budget)), || halted(&options, 0, part(budget)))
+                        })
                     })
                 })
             };
@@ -206,6 +229,11 @@ fn main() -> ExitCode {
             (Some(case), None) => converted(&options, case, Budget::Cases(1)),
             _ => help(),
         },
+        ("halts", true) => match (options.case, budget(&options)) {
+            (case, Some(budget)) => halted(&options, case.unwrap_or(0), budget),
+            (Some(case), None) => halted(&options, case, Budget::Cases(1)),
+            _ => help(),
+        },
         ("one", true) => match options.case {
             Some(case) => calls(&options, case, Budget::Cases(1), |_| true),
             None => help(),
@@ -229,7 +257,7 @@ fn budget(options: &Options) -> Option<Budget> {
     }
 }
 
-/// The part of a long run that boards, plans, sheets and conversions each get, on top of it.
+/// The part of a long run that boards, plans, sheets, conversions and the halt each get, on top of it.
 fn part(budget: Budget) -> Budget {
     match budget {
         Budget::Cases(cases) => Budget::Cases(cases / PART),
@@ -288,6 +316,15 @@ fn converted(options: &Options, first: u64, budget: Budget) -> ExitCode {
     let result = convert::driver::compare(&mut converter_under_test(), options.seed, first, more, &mut tally);
     println!("Seed {}, {:.1} s, {tally}", options.seed, begin.elapsed().as_secs_f64());
     told("conversions", options, result)
+}
+
+fn halted(options: &Options, first: u64, budget: Budget) -> ExitCode {
+    let begin = Instant::now();
+    let mut tally = halts::driver::Tally::default();
+    let more = within(budget, begin);
+    let result = halts::driver::compare(&mut halt_under_test(), options.seed, first, more, &mut tally);
+    println!("Seed {}, {:.1} s, {tally}", options.seed, begin.elapsed().as_secs_f64());
+    told("halts", options, result)
 }
 
 fn told(mode: &str, options: &Options, result: Result<(), (u64, Found)>) -> ExitCode {
@@ -425,7 +462,14 @@ fn slips(options: &Options) -> ExitCode {
         let found = convert::driver::compare(&mut converter, options.seed, 0, |done| done < SLIP, &mut tally);
         (format!("{slip:?}"), found.err().map(|(case, _)| case))
     });
-    for (name, case) in slips.chain(lapses).chain(desks).chain(depots).chain(offices).chain(converters) {
+    let profiles = halts::slips::ALL.iter().map(|&slip| {
+        let mut halt = halts::slips::Slipped(slip);
+        let mut tally = halts::driver::Tally::default();
+        let found = halts::driver::compare(&mut halt, options.seed, 0, |done| done < SLIP, &mut tally);
+        (format!("{slip:?}"), found.err().map(|(case, _)| case))
+    });
+    let beside = desks.chain(depots).chain(offices).chain(converters).chain(profiles);
+    for (name, case) in slips.chain(lapses).chain(beside) {
         tried += 1;
         match case {
             Some(case) => println!("{name}: found in case {case}"),

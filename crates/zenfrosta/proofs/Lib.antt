@@ -4,3 +4,4 @@ pub mod Heard
 pub mod HostLists
 pub mod HostMakes
 pub mod HostConverts
+pub mod HaltCalls

@@ -6,3 +6,4 @@ pub mod Plans
 pub mod Old
 pub mod Views
 pub mod Version
+pub mod Halts

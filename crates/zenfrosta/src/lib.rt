@@ -18,6 +18,7 @@ ghost use Rattle.scheduler.specs.Make as Make;
 ghost use Rattle.zenfrosta.specs.Crossing.{four, code, values, refusalWords, Spoken, CrossesCall, CrossesMaking};
 
 pub mod board;
+pub mod halts;
 pub mod offers;
 pub mod old;
 pub mod plans;

@@ -3,6 +3,7 @@
 #![allow(unsafe_code)]
 
 pub mod board;
+pub mod halt;
 pub mod plans;
 pub mod version;
 

@@ -3,11 +3,13 @@
 //! A table is [`TABLE_SIZE`] bytes or more that [`make`] has written; it may be kept, moved or copied between calls. One that was kept over the
 //! update from lanes of 16 records is taken over by [`convert`], once. [`Board`] is the desk's board of which train is in which cell; it has
 //! nothing to do with a table. [`Plan`] is a setup or a text sheet to be edited. [`offer`] brings a unit in the field a new setup, while records wait too.
+//! [`halt`] is the small halt, whose calls take one setup and no other.
 
 #![deny(missing_docs, unsafe_code)]
 
 mod board;
 mod boundary;
+pub mod halt;
 mod pages;
 mod plan;
 pub mod refusals;

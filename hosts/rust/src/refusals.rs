@@ -112,6 +112,8 @@ refusals! {
         "add the last line feed, or send the sheet again, whole";
     NO_SHEET NoSheet 82 "the plan has framing bytes or a shared lane, which a sheet cannot say",
         "take the framing bytes out and let no lane be shared, or keep the plan as a setup";
+    NOT_A_HALT NotAHalt 90 "the setup is good, and not the small halt's",
+        "give the halt's own setup: lanes 0 to 3 of weights 512, 256, 128 and 128, longest 256, no framing bytes, none shared; or make the table by zf_make";
     BUFFER_SHORT BufferShort 255 "the answer buffer is too short",
         "lend 32 bytes";
 }

@@ -1,0 +1,31 @@
+-- `halts::zf_halt_take` meets its contract. Assumes nothing.
+use mathlib.Core.Path.{refl}
+use native.Mathlib.Omega.{arith}
+use borrow.Author.Needs.{needs}
+use Rattle.zenfrosta.proofs.halts.zf_halt_take.Statement.{statement}
+use Rattle.zenfrosta.proofs.halts.zf_halt_take.Tie as tie
+
+returns : tie.Need-returns
+returns c = record { short = λ _. (refl, refl, refl); told = λ h. absurd (omega (arith, c .if1 .taken)) }
+
+take-requires : tie.Need-take-requires
+take-requires c κs = search needs
+
+tell-requires : tie.Need-tell-requires
+tell-requires c κs = search needs
+
+same-length : tie.Need-same-length
+same-length c = search needs
+
+same-length-2 : tie.Need-same-length-2
+same-length-2 c = search needs
+
+returns-2 : tie.Need-returns-2
+returns-2 c =
+    let m = c .before .before .before .before .before .take in
+    let w = c .before .before .tell .ensures in
+    record { short = λ h. absurd (omega (arith, c .before .before .before .before .before .before .before .before .if1 .left)); told = λ _. (m .result, m .ensures, w .0, w .1) }
+
+pub zf-halt-take-spec : {M : Type 1} → statement M
+zf-halt-take-spec =
+    tie.close (tie.spec returns take-requires tell-requires same-length same-length-2 returns-2)
