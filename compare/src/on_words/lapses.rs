@@ -83,6 +83,8 @@ pub enum Lapse {
     OneTrainCounted,
     /// A train's records are shown as train 0's.
     TrainShownAsLane,
+    /// A worst wait counts the records ahead without their framing.
+    WaitByBareRecords,
     /// A put forgets the tie order: the lanes of a list stand by their number.
     OrderLost,
     /// A group's start may be off by a multiple of 32 slots, which is the same list.
@@ -169,6 +171,7 @@ pub fn lapses() -> Vec<Lapse> {
         SharedNotShown,
         OneTrainCounted,
         TrainShownAsLane,
+        WaitByBareRecords,
         OrderLost,
         StartModulo,
         ListsAdded,
