@@ -2,7 +2,8 @@
 //! comes to its bound (`laws/waits.rs`) is what such a list is for; the calls are compared as in every list.
 //!
 //! A lane runs ahead furthest where nothing else waits: V stands on R, its S at the end of the slot, and a record of the longest is handed out. Until V comes
-//! to the R that follows, the lane is not eligible; from there on lanes of smaller slots go before it, as long as each of their finishes is earlier.
+//! to the R that follows, the lane is not eligible; from there on lanes of smaller slots go before it, as long as each of their finishes is earlier. The others
+//! begin before the record that waits is put: else V would go to its R at once.
 
 use super::lent::Lent;
 use super::lists::List;
@@ -11,7 +12,7 @@ use crate::calls::{Answer, Call};
 use crate::gen::setups;
 use crate::numbers::*;
 use crate::rng::Rng;
-use crate::rules::State;
+use crate::rules::{Lane, State};
 use crate::setup::{LanePlan, Setup};
 use crate::unit::Unit;
 
@@ -68,6 +69,15 @@ fn waits<U: Unit>(list: &mut List<U>, rng: &mut Rng, tally: &mut Tally) -> Resul
     for _ in 0..rng.between(1, 3) {
         run_ahead(list, tally)?;
     }
+    // Others' records of the longest or of any length; they hold two each, so that they go on. Some lanes may be held back: one of them gets a record when
+    // lane 0 would be next, if it begins at V then.
+    let full = long(&lane.plan) || rng.below(4) > 0;
+    let (others, kept): (Vec<LanePlan>, Vec<LanePlan>) = {
+        let back = rng.pick(&[1, 2, 2, 3]);
+        list.state.lanes[1..].iter().map(|lane| lane.plan).partition(|plan| plan.number % back == 0)
+    };
+    // With records elsewhere the put that follows leaves V where it is, behind its R; else V goes there at once.
+    fill(list, &others, full, rng, tally)?;
     // The records ahead of it, of its own train, and in a shared lane those of the other trains.
     let room = if lane.plan.shared { TRAIN_DEPTH } else { DEPTH } as u64;
     let ahead = if rng.once_in(2) { 0 } else { rng.pick(&[1, 3, 3, room - 1]) };
@@ -83,16 +93,13 @@ fn waits<U: Unit>(list: &mut List<U>, rng: &mut Rng, tally: &mut Tally) -> Resul
     }
     let length = if rng.once_in(4) { 1 } else { longest };
     list.call(Call::Put { lane: 0, mark: 9, length }, tally)?;
-    // Others' records of the longest or of any length; they hold two each, so that they go on, from now or some of them later.
-    let late = !long(&lane.plan) && rng.once_in(3);
-    let full = long(&lane.plan) || rng.below(4) > 0;
     loop {
-        let others: Vec<LanePlan> = list.state.lanes[1..].iter().map(|lane| lane.plan).collect();
-        for other in others {
-            let held = list.state.lane(other.number).map_or(0, |lane| lane.waiting.len());
-            if held < 2 && !(late && rng.once_in(3)) {
-                let most = u64::from(other.longest);
-                let length = if full { most } else { rng.between(1, most) };
+        fill(list, &others, full, rng, tally)?;
+        for other in &kept {
+            let next = list.state.chosen().map(|lane| lane.plan.number);
+            let begins = |lane: &Lane| !lane.holds() && lane.finish <= list.state.clock;
+            if next == Some(0) && list.state.lane(other.number).is_some_and(begins) {
+                let length = u64::from(other.longest);
                 list.call(Call::Put { lane: other.number, mark: 1, length }, tally)?;
             }
         }
@@ -108,6 +115,25 @@ fn waits<U: Unit>(list: &mut List<U>, rng: &mut Rng, tally: &mut Tally) -> Resul
             answer => return Err(format!("a record waits, and take gave {answer}")),
         }
     }
+}
+
+/// Each of these lanes holds a record more, up to two.
+fn fill<U: Unit>(
+    list: &mut List<U>,
+    lanes: &[LanePlan],
+    full: bool,
+    rng: &mut Rng,
+    tally: &mut Tally,
+) -> Result<(), String> {
+    for lane in lanes {
+        let held = list.state.lane(lane.number).map_or(0, |lane| lane.waiting.len());
+        if held < 2 {
+            let most = u64::from(lane.longest);
+            let length = if full { most } else { rng.between(1, most) };
+            list.call(Call::Put { lane: lane.number, mark: 1, length }, tally)?;
+        }
+    }
+    Ok(())
 }
 
 /// Whether the wait is one of thousands of records.
