@@ -66,14 +66,8 @@ extern "C" {
         out: *mut u8,
         out_len: usize,
     ) -> u64;
-    fn zf_wait(
-        table: *const u8,
-        table_len: usize,
-        lane: u8,
-        ahead: u64,
-        out: *mut u8,
-        out_len: usize,
-    ) -> u64;
+    fn zf_wait(table: *const u8, table_len: usize, lane: u8, ahead: u64, out: *mut u8, out_len: usize)
+        -> u64;
     fn zf_restart(table: *mut u8, table_len: usize, out: *mut u8, out_len: usize) -> u64;
     fn zf_offer(
         table: *mut u8,

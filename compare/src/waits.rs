@@ -43,6 +43,5 @@ pub fn worst(state: &State, lane: &Lane, ahead: u64) -> Result<[u64; 2], u8> {
     if ahead >= room as u64 {
         return Err(full);
     }
-    Ok([margin(state.framing), tighter(state)]
-        .map(|margin| bytes(span(lane, state.framing, ahead, margin))))
+    Ok([margin(state.framing), tighter(state)].map(|margin| bytes(span(lane, state.framing, ahead, margin))))
 }

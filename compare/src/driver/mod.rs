@@ -90,9 +90,9 @@ pub fn compare_waits<U: Unit>(
     mut more: impl FnMut(u64) -> bool,
     tally: &mut Tally,
 ) -> Result<(), (u64, Found)> {
-    (first..)
-        .take_while(|case| more(case - first))
-        .try_for_each(|case| waits::case(unit, &mut Rng::of_case(seed, case), tally).map_err(|found| (case, found)))
+    (first..).take_while(|case| more(case - first)).try_for_each(|case| {
+        waits::case(unit, &mut Rng::of_case(seed, case), tally).map_err(|found| (case, found))
+    })
 }
 
 /// What a case is, and the numbers that it goes on with. A unit whose layout is not docs/TABLE.md's gets a list in place of tables.

@@ -174,9 +174,10 @@ impl<U: Unit> Table<'_, U> {
     fn shown(&mut self) -> Result<(), String> {
         self.lay();
         let state = self.reading.clone().good();
-        let asks = state
-            .as_ref()
-            .map_or(vec![Ask::Clock, Ask::Edition, Ask::Lane(0), Ask::TrainRecord(0, 0, 0), Ask::Wait(0, 0)], shown::all);
+        let asks = state.as_ref().map_or(
+            vec![Ask::Clock, Ask::Edition, Ask::Lane(0), Ask::TrainRecord(0, 0, 0), Ask::Wait(0, 0)],
+            shown::all,
+        );
         for ask in asks {
             let Some(answer) = self.unit.show(self.lent.bytes(), ask) else { return Ok(()) };
             let expected = state.as_ref().map_or(Err(refusal::NOT_GOOD), |state| shown::shown(state, ask));

@@ -37,7 +37,13 @@ fn setup(rng: &mut Rng) -> Setup {
     for number in 1..=count {
         let left = count - number;
         let weight = if left == 0 { rest } else { (rest / (left + 1)).max(1) };
-        let longest = if long { 1_500 } else if rng.once_in(2) { same } else { longest(rng) };
+        let longest = if long {
+            1_500
+        } else if rng.once_in(2) {
+            same
+        } else {
+            longest(rng)
+        };
         lanes.push(LanePlan { number: number as u8, weight, longest, shared: false });
         rest -= weight;
     }
@@ -51,7 +57,10 @@ pub fn case<U: Unit>(unit: &mut U, rng: &mut Rng, tally: &mut Tally) -> Result<(
     let mut table = Lent::new(rng, unit.table_size());
     let made = unit.make(&bytes, table.bytes());
     if made != Ok(setup.lanes.len() as u64) {
-        return Err(Found::new(format!("a valid setup gave {made:?}"), vec![format!("make {}", hex(&bytes))]));
+        return Err(Found::new(
+            format!("a valid setup gave {made:?}"),
+            vec![format!("make {}", hex(&bytes))],
+        ));
     }
     let mut list = List::plain(unit, table, State::fresh(&setup));
     let result = waits(&mut list, rng, tally);

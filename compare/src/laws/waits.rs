@@ -81,7 +81,8 @@ impl Waits {
     pub fn step(&mut self, call: &Call, answer: Answer, after: &State) -> Result<(), String> {
         match (call.put(), answer) {
             (Some((number, train, ..)), Answer::Put(ahead)) => {
-                let lane = after.lane(number).ok_or("a put to a lane that is not in the setup was accepted")?;
+                let lane =
+                    after.lane(number).ok_or("a put to a lane that is not in the setup was accepted")?;
                 let span = waits::span(lane, after.framing, ahead, tighter(after));
                 let lag = i128::from(after.lag(number).map_err(|number| format!("lag gave {number}"))?);
                 let near = Near {
@@ -98,7 +99,8 @@ impl Waits {
             }
             (None, Answer::Taken(taken)) => {
                 let queue = self.waiting.get_mut(&(taken.lane, taken.train));
-                let mark = queue.and_then(VecDeque::pop_front).ok_or("a record was taken that no put gave")?;
+                let mark =
+                    queue.and_then(VecDeque::pop_front).ok_or("a record was taken that no put gave")?;
                 self.waited(mark)?;
                 self.sent += charged(taken.length, after.framing);
             }

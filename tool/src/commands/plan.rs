@@ -77,7 +77,8 @@ pub fn shown(plan: &Plan, rate: Option<u64>, ahead: u64) -> String {
         let weight = u64::from(lane.weight);
         let figures = Figures::of(lane.weight, lane.longest, plan.framing);
         // None where no accepted put reports so many ahead: a train's queue has 8 records.
-        let wait = fresh.as_ref().and_then(|t| zenfrosta::wait(t, number as u8, ahead).ok()).map(|wait| wait.asked);
+        let wait =
+            fresh.as_ref().and_then(|t| zenfrosta::wait(t, number as u8, ahead).ok()).map(|wait| wait.asked);
         let mut row = vec![
             number.to_string(),
             thousands(weight),
