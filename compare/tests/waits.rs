@@ -63,8 +63,8 @@ fn a_list_that_breaks_the_law() {
 #[test]
 fn lists_that_make_a_record_wait() {
     let mut tally = Tally::default();
-    let result = driver::compare_waits(&mut StandIn::new(Slip::None), 1, 0, |done| done < 20, &mut tally);
+    let result = driver::compare_waits(&mut StandIn::new(Slip::None), 1, 0, |done| done < 40, &mut tally);
     assert!(result.is_ok(), "{result:?}");
-    assert_eq!(tally.lists, 20);
-    assert!(tally.closest_wait.part > 500, "{}", tally.closest_wait);
+    assert_eq!(tally.lists, 40);
+    assert!(tally.closest_wait.part > 600, "{}", tally.closest_wait);
 }
