@@ -14,7 +14,7 @@ from promises_reach import CRATES, ROOT, file_of, key, reach
 # What is promised to whom, and the statements that say it: crate/File, names ('*': all that the file defines).
 ROOTS = [
     ("a call on a table", [("scheduler/Step", "Step OfferStep"), ("scheduler/Make", "MakeStep")]),
-    ("and lists of calls: the three demands, the order, two lanes, two trains, the clock", [("scheduler/Demands", "EveryList AfterMake AfterRestart AsRuled")]),
+    ("and lists of calls: the three demands, the order, a record's wait, two lanes, two trains, the clock", [("scheduler/Demands", "EveryList AfterMake AfterRestart AsRuled")]),
     ("and what a host in C or Rust reads, a session's run too", [("zenfrosta/Crossing", "CrossesCall CrossesMaking CrossesRun CrossesOffer"), ("zenfrosta/Heard", "*"), ("zenfrosta/AfterRun", "*"), ("session/Ran", "Ran")]),
     ("the session program", [("console/Prints", "Prints")]),
     ("plans and setups, read and written", [("zenfrosta/Plans", "*"), ("plan_area/Step", "*"), ("plan_writer/RoundTrip", "*")]),

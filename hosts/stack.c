@@ -38,6 +38,7 @@ static void show_lane(void) { result = zf_lane(table, sizeof table, 5, out, size
 static void show_backlog(void) { result = zf_backlog(table, sizeof table, 5, out, sizeof out); }
 static void show_record(void) { result = zf_record(table, sizeof table, 5, 0, out, sizeof out); }
 static void show_train(void) { result = zf_train_record(table, sizeof table, 7, 3, 0, out, sizeof out); }
+static void show_wait(void) { result = zf_wait(table, sizeof table, 7, 3, out, sizeof out); }
 static void take(void) { result = zf_take(table, sizeof table, out, sizeof out); }
 static void show_edition(void) { result = zf_edition(table, sizeof table, out, sizeof out); }
 static void offer(void) {
@@ -99,7 +100,8 @@ int main(void) {
                {"zf_make", make},               {"zf_put", put},                 {"zf_put_train", put_train},     {"zf_put_train", put_train},
                {"zf_look", look},               {"zf_sets", sets},               {"zf_lag", lag},                 {"zf_clock", show_clock},
                {"zf_lane", show_lane},          {"zf_backlog", show_backlog},    {"zf_record", show_record},      {"zf_train_record", show_train},
-               {"zf_edition", show_edition},    {"zf_offer", offer},             {"zf_take", take},               {"zf_take", take},
+               {"zf_wait", show_wait},          {"zf_edition", show_edition},    {"zf_offer", offer},             {"zf_take", take},
+               {"zf_take", take},
                {"zf_take", take},               {"zf_offer", offer},             {"zf_restart", restart},         {"zf_run", run},
                {"zf_board_begin", begin},       {"zf_board_record", join},       {"zf_board_record", leave},      {"zf_board_line", line},
                {"zf_board_clear", clear},       {"zf_halt_make", halt_make},     {"zf_halt_put", halt_put},       {"zf_halt_look", halt_look},

@@ -95,7 +95,7 @@ uint64_t zf_sets(const uint8_t *table, size_t table_length, uint8_t *out, size_t
 /* How far the clock is ahead of a lane. out: the lag, a signed number in two's complement. */
 uint64_t zf_lag(const uint8_t *table, size_t table_length, uint8_t lane, uint8_t *out, size_t out_length);
 
-/* The six calls below show a table and change nothing. Like every call they test the whole table first: 10 if it is not good.
+/* The seven calls below show a table and change nothing. Like every call they test the whole table first: 10 if it is not good.
  *
  * The clock V. out: V. */
 uint64_t zf_clock(const uint8_t *table, size_t table_length, uint8_t *out, size_t out_length);
@@ -119,6 +119,13 @@ uint64_t zf_record(const uint8_t *table, size_t table_length, uint8_t lane, uint
  * zf_look tells which record is next. out: lane, mark, length, train. Refusals: 10, 11, 70, 16. */
 uint64_t zf_train_record(const uint8_t *table, size_t table_length, uint8_t lane, uint8_t train, uint64_t before, uint8_t *out,
                          size_t out_length);
+
+/* How long a record can wait at worst that was put to a lane and reported `ahead` records ahead: zf_put's answer, 0 to 63, in a shared lane 0 to 7. By
+ * the setup in force alone, whatever else the table holds. out: bytes of the line, framing counted: once all lanes together have sent so many since the
+ * put, the record is out, right after those ahead of it. Word 0 is the figure by 1,500 bytes, as it holds for every setup; word 1 the one by the setup's
+ * own costliest record, which is never greater. docs/FAIRNESS.md has both in words and seconds. Refusals: 10, 11, then 13, or 71 in a shared lane, for
+ * more records ahead than an accepted put can report. */
+uint64_t zf_wait(const uint8_t *table, size_t table_length, uint8_t lane, uint64_t ahead, uint8_t *out, size_t out_length);
 
 /* Gives the fresh table of the same setup, once no record is held. The edition last taken stays. */
 uint64_t zf_restart(uint8_t *table, size_t table_length, uint8_t *out, size_t out_length);
@@ -390,6 +397,10 @@ static inline uint8_t zf_out_train(const uint8_t *out) { return (uint8_t)(zf_wor
 static inline uint16_t zf_out_edition(const uint8_t *out) { return (uint16_t)(zf_word(out, 0) & 0xFFFF); }
 static inline uint16_t zf_out_waiting(const uint8_t *out) { return (uint16_t)(zf_word(out, 1) & 0xFFFF); }
 static inline int zf_out_waits(const uint8_t *out) { return zf_word(out, 0) == ZF_WAITS; }
+
+/* After zf_wait: the worst wait in bytes, and the one by the setup's own costliest record. */
+static inline uint64_t zf_out_wait(const uint8_t *out) { return zf_word(out, 0); }
+static inline uint64_t zf_out_tight_wait(const uint8_t *out) { return zf_word(out, 1); }
 
 /* After zf_clock: V. After zf_backlog: how many records wait, and S or F. */
 static inline uint64_t zf_out_clock(const uint8_t *out) { return zf_word(out, 0); }

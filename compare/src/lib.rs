@@ -2,7 +2,7 @@
 //! machinery that compares the unit with it over long random lists of calls and random inputs.
 //!
 //! The implementation: [`numbers`], [`calls`], [`rules`], [`fields`], [`setup`], [`session`]; [`layout`] and [`slots`] read docs/TABLE.md's tables;
-//! [`shown`] is what a table shows to a host that asks.
+//! [`shown`] is what a table shows to a host that asks, [`waits`] how long a record can wait at worst.
 //! [`journal`] is a second journal of the desk, [`plans`] a second writer of setups, [`sheets`] a second reader and writer of text
 //! sheets, [`convert`] a second converter of old tables and [`halts`] a second small halt, each with its own comparison; [`pages`] is a second reader of
 //! settings pages.
@@ -45,3 +45,4 @@ pub mod shown;
 pub mod slots;
 pub mod stand_in;
 pub mod unit;
+pub mod waits;

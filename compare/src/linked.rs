@@ -66,6 +66,8 @@ extern "C" {
         out: *mut u8,
         out_len: usize,
     ) -> u64;
+    fn zf_wait(table: *const u8, table_len: usize, lane: u8, ahead: u64, out: *mut u8, out_len: usize)
+        -> u64;
     fn zf_restart(table: *mut u8, table_len: usize, out: *mut u8, out_len: usize) -> u64;
     fn zf_offer(
         table: *mut u8,
@@ -225,6 +227,9 @@ impl Unit for Linked {
             Ask::TrainRecord(lane, train, before) => {
                 plain(4, |out, len| unsafe { zf_train_record(at, size, lane, train, before, out, len) })
             }
+            Ask::Wait(lane, ahead) => {
+                plain(2, |out, len| unsafe { zf_wait(at, size, lane, ahead, out, len) })
+            }
         })
     }
 
@@ -296,6 +301,7 @@ pub fn short_buffers() -> Result<(), String> {
                 zf_backlog(t, size, 0, o, length),
                 zf_record(t, size, 0, 0, o, length),
                 zf_train_record(t, size, 0, 0, 0, o, length),
+                zf_wait(t, size, 0, 0, o, length),
                 zf_restart(t, size, o, length),
                 zf_offer(t, size, page.as_ptr(), page.len(), o, length),
                 zf_edition(t, size, o, length),
@@ -313,7 +319,7 @@ pub fn short_buffers() -> Result<(), String> {
             ]
         };
         let written = out != [0x55; OUT] || table != before || answers.iter().any(|byte| *byte != 0x44);
-        if given != [OUT_SHORT; 16] || written {
+        if given != [OUT_SHORT; 17] || written {
             return Err(format!("an answer buffer of {length} bytes: {given:?}, written: {written}"));
         }
     }

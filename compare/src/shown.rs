@@ -1,8 +1,9 @@
-//! What a table shows to a host that asks: the clock, the editions, a lane's setting, its backlog, and the records that wait, by train.
+//! What a table shows to a host that asks: the clock, the editions, a lane's setting, its backlog, the records that wait, by train, and how long one can wait.
 
 use crate::numbers::{refusal, LANES, TRAINS};
 use crate::rng::Rng;
 use crate::rules::State;
+use crate::waits::worst;
 
 #[derive(Clone, Copy, Debug, PartialEq, Eq)]
 pub enum Ask {
@@ -15,9 +16,11 @@ pub enum Ask {
     Record(u8, u64),
     /// The same of a train: lane, train, how many of it are before.
     TrainRecord(u8, u8, u64),
+    /// The worst wait of a record in a lane with so many before it, in bytes: by 1,500, and by the setup's greatest longest.
+    Wait(u8, u64),
 }
 
-/// The four words of the answer, or a refusal by 11, 70 or 16.
+/// The four words of the answer, or a refusal by 11, 70, 16, 13 or 71.
 pub fn shown(state: &State, ask: Ask) -> Result<[u64; 4], u8> {
     let lane = |number: u8| state.lane(number).ok_or(refusal::NO_SUCH_LANE);
     let word = |clock: i128| u64::try_from(clock).expect("a clock word");
@@ -45,17 +48,21 @@ pub fn shown(state: &State, ask: Ask) -> Result<[u64; 4], u8> {
         }
         Ask::Record(number, before) => record(number, 0, before),
         Ask::TrainRecord(number, train, before) => record(number, train, before),
+        Ask::Wait(number, ahead) => {
+            worst(state, lane(number)?, ahead).map(|[asked, tight]| [asked, tight, 0, 0])
+        }
     }
 }
 
 /// The questions that tell of everything that a table holds, but for turns, and some that are refused.
 pub fn all(state: &State) -> Vec<Ask> {
     let mut asks = vec![Ask::Clock, Ask::Edition, Ask::Lane(64), Ask::Backlog(255)];
-    asks.extend([Ask::Record(64, 0), Ask::TrainRecord(64, 8, 0)]);
+    asks.extend([Ask::Record(64, 0), Ask::TrainRecord(64, 8, 0), Ask::Wait(64, 64)]);
     for lane in &state.lanes {
         let number = lane.plan.number;
         asks.extend([Ask::Lane(number), Ask::Backlog(number), Ask::TrainRecord(number, TRAINS, 0)]);
         asks.extend([Ask::Record(number, 0), Ask::Record(number, 64), Ask::Record(number, u64::MAX)]);
+        asks.extend([0, 1, 7, 8, 63, 64, u64::MAX].map(|ahead| Ask::Wait(number, ahead)));
         let trains = if lane.plan.shared { TRAINS } else { 2 };
         for train in 0..trains {
             let held = lane.waiting.queue(train).map_or(0, |queue| queue.len() as u64);

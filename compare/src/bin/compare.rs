@@ -32,6 +32,8 @@ compare conversions --seconds N | --cases N [--seed N] [--case N]
                                                tables of 16 places taken over, likewise
 compare halts --seconds N | --cases N [--seed N] [--case N]
                                                the small halt, likewise
+compare waits --seconds N | --cases N [--seed N] [--case N]
+                                               lists in which a lane runs ahead and the others flood, likewise
 compare sessions PROGRAM... [--cases N] [--seed N] [--case N]
                                                sessions by pipe; --case N begins at that case
 compare clock --pairs N                        one lane, N pairs of put and take: the clock is taken back once in some 1,466 million
@@ -48,6 +50,8 @@ const SHORT_PLANS: u64 = 60_000;
 const SHORT_SHEETS: u64 = 100_000;
 const SHORT_CONVERSIONS: u64 = 3_000;
 const SHORT_HALTS: u64 = 3_000;
+/// Its lists that make a record wait.
+const SHORT_WAITS: u64 = 200;
 const PART: u64 = 8;
 /// A slip must be found within so many cases, far fewer than a short run has.
 const SLIP: u64 = 1_500;
@@ -186,7 +190,9 @@ fn main() -> ExitCode {
                 both(planned(&options, 0, Budget::Cases(SHORT_PLANS)), || {
                     both(texts(&options, 0, Budget::Cases(SHORT_SHEETS)), || {
                         both(converted(&options, 0, Budget::Cases(SHORT_CONVERSIONS)), || {
-                            halted(&options, 0, Budget::Cases(SHORT_HALTS))
+                            both(halted(&options, 0, Budget::Cases(SHORT_HALTS)), || {
+                                waited(&options, 0, Budget::Cases(SHORT_WAITS))
+                            })
                         })
                     })
                 })
@@ -199,7 +205,9 @@ fn main() -> ExitCode {
                 both(boards(&options, 0, part(budget)), || {
                     both(planned(&options, 0, part(budget)), || {
                         both(texts(&options, 0, part(budget)), || {
-                            both(converted(&options, 0, part(budget)), || halted(&options, 0, part(budget)))
+                            both(converted(&options, 0, part(budget)), || {
+                                both(halted(&options, 0, part(budget)), || waited(&options, 0, part(budget)))
+                            })
                         })
                     })
                 })
@@ -234,6 +242,11 @@ fn main() -> ExitCode {
             (Some(case), None) => halted(&options, case, Budget::Cases(1)),
             _ => help(),
         },
+        ("waits", true) => match (options.case, budget(&options)) {
+            (case, Some(budget)) => waited(&options, case.unwrap_or(0), budget),
+            (Some(case), None) => waited(&options, case, Budget::Cases(1)),
+            _ => help(),
+        },
         ("one", true) => match options.case {
             Some(case) => calls(&options, case, Budget::Cases(1), |_| true),
             None => help(),
@@ -257,7 +270,7 @@ fn budget(options: &Options) -> Option<Budget> {
     }
 }
 
-/// The part of a long run that boards, plans, sheets, conversions and the halt each get, on top of it.
+/// The part of a long run that boards, plans, sheets, conversions, the halt and waits each get, on top of it.
 fn part(budget: Budget) -> Budget {
     match budget {
         Budget::Cases(cases) => Budget::Cases(cases / PART),
@@ -325,6 +338,18 @@ fn halted(options: &Options, first: u64, budget: Budget) -> ExitCode {
     let result = halts::driver::compare(&mut halt_under_test(), options.seed, first, more, &mut tally);
     println!("Seed {}, {:.1} s, {tally}", options.seed, begin.elapsed().as_secs_f64());
     told("halts", options, result)
+}
+
+fn waited(options: &Options, first: u64, budget: Budget) -> ExitCode {
+    let begin = Instant::now();
+    let mut tally = Tally::default();
+    let more = within(budget, begin);
+    let result = driver::compare_waits(&mut under_test(), options.seed, first, more, &mut tally);
+    println!("Seed {}, {:.1} s, {tally}", options.seed, begin.elapsed().as_secs_f64());
+    for near in tally.waits_by_lane.values() {
+        println!("  {near}");
+    }
+    told("waits", options, result)
 }
 
 fn told(mode: &str, options: &Options, result: Result<(), (u64, Found)>) -> ExitCode {

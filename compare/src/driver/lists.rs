@@ -32,15 +32,7 @@ pub fn case<U: Unit>(unit: &mut U, rng: &mut Rng, tally: &mut Tally) -> Result<(
     shown_by.extend(lifts.map(|lifts| lifts.to_string()));
     let mut list = List::new(unit, table, fresh.clone(), lifts);
     let result = list.run(rng, tally);
-    tally.lists += 1;
-    tally.stretch_ends += list.laws.fairness.checked;
-    tally.closest = tally.closest.max(list.laws.fairness.closest);
-    tally.pair_ends += list.laws.compared.checked;
-    tally.closest_pair = tally.closest_pair.max(list.laws.compared.closest);
-    tally.changes += list.laws.editions.changes;
-    tally.changes_by_take += list.laws.editions.by_take;
-    tally.train_ends += list.laws.trains.checked;
-    tally.closest_trains = tally.closest_trains.max(list.laws.trains.closest);
+    tally.list(&list.laws);
     let (mut calls, unit) = (list.calls, list.unit);
     result.map_err(|what| {
         let mut differs = |calls: &[Call]| replay(unit, &bytes, &fresh, lifts, calls);
@@ -104,20 +96,25 @@ impl fmt::Display for Lifts {
 }
 
 /// A list in the making.
-struct List<'a, U: Unit> {
+pub(super) struct List<'a, U: Unit> {
     unit: &'a mut U,
     table: Lent,
-    state: State,
-    laws: Laws,
+    pub(super) state: State,
+    pub(super) laws: Laws,
     lifts: Option<Lifts>,
     /// The calls so far, with the answers that the rules give.
-    calls: Vec<(Call, Answer)>,
+    pub(super) calls: Vec<(Call, Answer)>,
 }
 
 impl<U: Unit> List<'_, U> {
     fn new(unit: &mut U, table: Lent, fresh: State, lifts: Option<Lifts>) -> List<'_, U> {
         let laws = Laws::new(&fresh);
         List { unit, table, state: fresh, laws, lifts, calls: vec![] }
+    }
+
+    /// A list whose clock is not lifted.
+    pub(super) fn plain(unit: &mut U, table: Lent, fresh: State) -> List<'_, U> {
+        List::new(unit, table, fresh, None)
     }
 
     fn lift(&mut self) -> Result<(), String> {
@@ -197,7 +194,7 @@ impl<U: Unit> List<'_, U> {
     }
 
     /// One call on both sides: the answer, and what the table's bytes may do.
-    fn call(&mut self, call: Call, tally: &mut Tally) -> Result<Answer, String> {
+    pub(super) fn call(&mut self, call: Call, tally: &mut Tally) -> Result<Answer, String> {
         self.lift()?;
         let back = self.state.back;
         let expected = self.state.answer(&call);

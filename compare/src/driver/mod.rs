@@ -7,6 +7,7 @@
 //! - [`lent`] — lent bytes at any address, with guard bytes around them
 //! - [`shrink`] — a list that shows a difference made shorter
 //! - [`clock`] — one lane driven to where the clock is taken back, through the calls alone
+//! - [`waits`] — lists in which one lane runs ahead and the others flood, so that a record waits long
 //! - [`report`] — what was compared, and the reproducer of a difference
 
 pub mod clock;
@@ -16,6 +17,7 @@ pub mod lists;
 pub mod report;
 pub mod shrink;
 pub mod tables;
+pub mod waits;
 
 use crate::rng::Rng;
 use crate::unit::Unit;
@@ -78,6 +80,19 @@ pub fn compare_kinds<U: Unit>(
 /// One case.
 pub fn one<U: Unit>(unit: &mut U, seed: u64, case: u64, tally: &mut Tally) -> Result<(), Difference> {
     compare(unit, seed, case, Budget::Cases(1), tally)
+}
+
+/// Lists that make a record wait, likewise; the case that differs is told.
+pub fn compare_waits<U: Unit>(
+    unit: &mut U,
+    seed: u64,
+    first: u64,
+    mut more: impl FnMut(u64) -> bool,
+    tally: &mut Tally,
+) -> Result<(), (u64, Found)> {
+    (first..).take_while(|case| more(case - first)).try_for_each(|case| {
+        waits::case(unit, &mut Rng::of_case(seed, case), tally).map_err(|found| (case, found))
+    })
 }
 
 /// What a case is, and the numbers that it goes on with. A unit whose layout is not docs/TABLE.md's gets a list in place of tables.

@@ -1,6 +1,8 @@
 //! What was compared, and what differed.
 
 use crate::calls::Answer;
+use crate::laws::waits::{ByLane, Near};
+use crate::laws::Laws;
 use crate::layout::{Reading, CLAUSES};
 use std::fmt;
 
@@ -54,11 +56,37 @@ pub struct Tally {
     /// Two trains of a shared lane and a point at which they were compared so, and the greatest part of three times the longest less 2 that one used.
     pub train_ends: u64,
     pub closest_trains: i128,
+    /// Records of which the wait was checked, and the nearest to their bounds: of lanes that are not shared, and of shared ones.
+    pub waits: u64,
+    pub closest_wait: Near,
+    pub closest_shared_wait: Near,
+    /// The same of the lanes of docs/FAIRNESS.md's table.
+    pub waits_by_lane: ByLane,
     /// Records taken from shared lanes by trains other than 0.
     pub taken_of_trains: u64,
 }
 
 impl Tally {
+    /// One more list, by what its laws counted.
+    pub fn list(&mut self, laws: &Laws) {
+        self.lists += 1;
+        self.stretch_ends += laws.fairness.checked;
+        self.closest = self.closest.max(laws.fairness.closest);
+        self.pair_ends += laws.compared.checked;
+        self.closest_pair = self.closest_pair.max(laws.compared.closest);
+        self.changes += laws.editions.changes;
+        self.changes_by_take += laws.editions.by_take;
+        self.train_ends += laws.trains.checked;
+        self.closest_trains = self.closest_trains.max(laws.trains.closest);
+        self.waits += laws.waits.checked;
+        self.closest_wait = self.closest_wait.or(laws.waits.closest);
+        self.closest_shared_wait = self.closest_shared_wait.or(laws.waits.closest_shared);
+        for (lane, near) in &laws.waits.by_lane {
+            let best = self.waits_by_lane.entry(*lane).or_default();
+            *best = best.or(*near);
+        }
+    }
+
     /// One more call of a list.
     pub fn call(&mut self, answer: Answer) {
         self.calls += 1;
@@ -173,6 +201,11 @@ impl Tally {
             self.train_ends,
             self.closest_trains / 10,
             self.closest_trains % 10
+        )?;
+        write!(
+            f,
+            "\n  the waits of {} records; the closest used {}, in a shared lane {} of their bounds",
+            self.waits, self.closest_wait, self.closest_shared_wait
         )
     }
 

@@ -6,10 +6,10 @@
 //! it holds, at each point, against the least D since both lanes hold: one number a pair. A take moves D of those pairs alone that the served lane is in, so
 //! all stretches of a list of n calls on l lanes take n l steps.
 
-use super::fairness::tighter;
 use crate::calls::{Answer, Call};
 use crate::numbers::*;
 use crate::rules::State;
+use crate::waits::tighter;
 
 struct Watch {
     number: u8,

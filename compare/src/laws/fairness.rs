@@ -10,6 +10,7 @@
 use crate::calls::{Answer, Call};
 use crate::numbers::*;
 use crate::rules::State;
+use crate::waits::tighter;
 
 struct Watch {
     number: u8,
@@ -30,12 +31,6 @@ pub struct Fairness {
     pub closest: i128,
     /// Points and lanes at which all stretches that end there were checked.
     pub checked: u64,
-}
-
-/// 1,024 times what the greatest longest of the setup is charged.
-pub fn tighter(fresh: &State) -> i128 {
-    let longest = fresh.lanes.iter().map(|lane| lane.plan.longest).max().expect("a setup has a lane");
-    UNITS_PER_BYTE_SENT * charged(longest.into(), fresh.framing)
 }
 
 impl Fairness {

@@ -6,6 +6,7 @@
 //! - [`trains`] — two trains of a shared lane, on every stretch
 //! - [`order`] — accepted records are handed out once, in their train's order, or still held; a put tells how many are ahead of it
 //! - [`editions`] — offers of settings pages, and which setup is in force; the laws that go by a setup begin anew with it
+//! - [`waits`] — how long one record waits, by the setup and the records ahead of it
 //! - [`groups`] — the four words part the groups, name the chosen lane's group, and are in order of finish
 //! - [`good`] — the clock's range and every other clause of "A good table"
 //! - [`endless`] — every answer is that of a clock which is never taken back, and the clock is taken back in time
@@ -18,6 +19,7 @@ pub mod good;
 pub mod groups;
 pub mod order;
 pub mod trains;
+pub mod waits;
 
 use crate::calls::{Answer, Call};
 use crate::rules::State;
@@ -28,6 +30,7 @@ pub struct Laws {
     pub compared: compared::Compared,
     pub trains: trains::Even,
     pub order: order::Order,
+    pub waits: waits::Waits,
     pub editions: editions::Editions,
     pub endless: endless::Endless,
     /// The endless clock.
@@ -41,6 +44,7 @@ impl Laws {
             compared: compared::Compared::new(fresh),
             trains: trains::Even::new(fresh),
             order: order::Order::default(),
+            waits: waits::Waits::default(),
             editions: editions::Editions::default(),
             endless: endless::Endless::new(fresh),
             clock: fresh.clock + fresh.back,
@@ -54,6 +58,7 @@ impl Laws {
         self.trains.step(call, answer)?;
         // By lane number over the whole list: what was accepted before a change has all been handed out.
         self.order.step(call, answer)?;
+        self.waits.step(call, answer, after)?;
         self.endless.step(call, answer, after)?;
         let changed = self.editions.step(call, answer, after)?;
         if changed {
@@ -81,7 +86,8 @@ impl Laws {
     }
 
     /// The list's end: what was accepted and not handed out is held.
-    pub fn end(&self, after: &State) -> Result<(), String> {
+    pub fn end(&mut self, after: &State) -> Result<(), String> {
+        self.waits.end()?;
         self.order.end(after)
     }
 }

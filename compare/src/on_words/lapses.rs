@@ -89,6 +89,8 @@ pub enum Lapse {
     PlaceShownAsLast,
     /// A call that shows a table writes it.
     ShowWrites,
+    /// A worst wait counts the records ahead without their framing.
+    WaitByBareRecords,
     /// A put forgets the tie order: the lanes of a list stand by their number.
     OrderLost,
     /// A group's start may be off by a multiple of 32 slots, which is the same list.
@@ -178,6 +180,7 @@ pub fn lapses() -> Vec<Lapse> {
         BacklogUntested,
         PlaceShownAsLast,
         ShowWrites,
+        WaitByBareRecords,
         OrderLost,
         StartModulo,
         ListsAdded,

@@ -390,6 +390,12 @@ impl Unit for OnWords {
             (Lapse::TrainShownAsLane, Ask::TrainRecord(lane, _, before)) => {
                 shown(&state, Ask::Record(lane, before))
             }
+            (Lapse::WaitByBareRecords, Ask::Wait(lane, ahead)) => answer.map(|[asked, tight, ..]| {
+                let c =
+                    state.lane(lane).filter(|lane| !lane.plan.shared).map_or(0, |lane| lane.units_per_byte);
+                let bare = (i128::from(ahead) * c * i128::from(state.framing) / 1_024) as u64;
+                [asked - bare, tight - bare, 0, 0]
+            }),
             _ => answer,
         })
     }

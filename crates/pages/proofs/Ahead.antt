@@ -23,7 +23,7 @@ use Rattle.pages.proofs.Parts.{part-order}
 use Rattle.pages.proofs.Run.{Run}
 use Rattle.pages.proofs.Stretch.{stretch-of}
 
-same-reply : (a b : Reply) → answered a ≡ answered b → a ≡ b
+pub same-reply : (a b : Reply) → answered a ≡ answered b → a ≡ b
 same-reply a b e = cc
 
 pub says-ahead-pages : SaysAheadPages

@@ -50,7 +50,7 @@ compared-tight-pages = compared-pages (λ (gs : List Setting). 1024 * longestCha
 -- l): the rules' own claim for trains
 module _ (gs : List Setting) (s : Setup gs) (cs : List DeviceCall) (a : AllRead cs) (past stretch rest : List DeviceEvent)
     (e : deviceTrace (freshDevice gs) cs ≡ past ++ stretch ++ rest) (k t : ℕ) where
-  lane-held : ((p q : List DeviceEvent) → p ++ q ≡ stretch → HoldingTrain k t (ofRules (past ++ p))) → HeldThroughout k past stretch
+  pub lane-held : ((p q : List DeviceEvent) → p ++ q ≡ stretch → HoldingTrain k t (ofRules (past ++ p))) → HeldThroughout k past stretch
   lane-held h p q pq =
       let there : deviceTrace (freshDevice gs) cs ≡ (past ++ p) ++ [] ++ (q ++ rest)
       = e ∙ ap (λ (y : List DeviceEvent). past ++ y ++ rest) (sym pq) ∙ ap (λ (y : List DeviceEvent). y ++ rest) (sym (append-assoc past p q)) ∙ append-assoc (past ++ p) q rest

@@ -6,6 +6,8 @@ pub mod Stretch
 pub mod Fair
 pub mod Answers
 pub mod Ahead
+pub mod Waits
+pub mod MoreWaits
 pub mod OneCall
 pub mod Carried
 pub mod Other

@@ -19,8 +19,9 @@ use Rattle.rules.proofs.Live.{some-holds}
 use Rattle.rules.proofs.Queues.{held-inside, queueAt}
 use Rattle.rules.proofs.Order.{of-append}
 use Rattle.rules.proofs.GroupRule.{anyBelow-at, anyBelow-none}
+use Rattle.rules.proofs.Counts.{accepted-append, sent-append}
 use Rattle.pages.specs.Offers.{heldTest}
-use Rattle.pages.proofs.Parts.{Cleared, Part, accepted-append, part-count, part-order, sent-append, sound}
+use Rattle.pages.proofs.Parts.{Cleared, Part, part-count, part-order, sound}
 
 -- ---- what is held, by the count and in the state
 

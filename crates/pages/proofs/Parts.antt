@@ -10,7 +10,7 @@ use Rattle.rounds.specs.Round as round
 use Rattle.waiting.proofs.Laws.{held-none, queue-none}
 use Rattle.rules.specs.State.{Rec, Setting, State, firstOf, laneAt, setupOf, anyHolds}
 use Rattle.rules.specs.Calls.{Call, fresh, step}
-use Rattle.rules.specs.Runs.{Event, after, trace, ofLane, acceptedIn, sentIn, acceptedOf, sentOf, ofTrain, InOrder}
+use Rattle.rules.specs.Runs.{Event, after, trace, acceptedOf, sentOf, ofTrain, InOrder}
 use Rattle.rules.proofs.Moves.{idle-first}
 use Rattle.rules.proofs.Keep.{AllSound}
 use Rattle.rules.proofs.Sound.{fresh-sound, sound-run}
@@ -19,20 +19,7 @@ use Rattle.rules.proofs.Queues.{queueAt, heldAt}
 use Rattle.rules.proofs.SameSetup.{setup-kept, fresh-setup}
 use Rattle.rules.proofs.Order.{in-order, of-append, held-run, fresh-held}
 use Rattle.rules.proofs.Runs.{after-append, trace-append}
-
--- ---- the counts of a list in two parts
-
-pub accepted-append : (k : ℕ) (a b : List Event) → acceptedOf k (a ++ b) ≡ acceptedOf k a ++ acceptedOf k b
-unfolding acceptedOf
-accepted-append k [] b = refl
-accepted-append k (e ∷ a) b =
-    ap (λ (x : List Rec). ofLane k (acceptedIn e) ++ x) (accepted-append k a b) ∙ sym (append-assoc (ofLane k (acceptedIn e)) (acceptedOf k a) (acceptedOf k b))
-
-pub sent-append : (k : ℕ) (a b : List Event) → sentOf k (a ++ b) ≡ sentOf k a ++ sentOf k b
-unfolding sentOf
-sent-append k [] b = refl
-sent-append k (e ∷ a) b =
-    ap (λ (x : List Rec). ofLane k (sentIn (e .reply)) ++ x) (sent-append k a b) ∙ sym (append-assoc (ofLane k (sentIn (e .reply))) (sentOf k a) (sentOf k b))
+use Rattle.rules.proofs.Counts.{accepted-append, sent-append}
 
 -- ---- parts
 

@@ -4,4 +4,5 @@ pub mod Claims
 pub mod OneCall
 pub mod Carried
 pub mod Other
+pub mod Waits
 pub mod Examples

@@ -168,3 +168,16 @@ module _ (L : ℕ) (s : Shared) (g : Good L s) (none-held : held s ≡ 0) where
       let rounds : s .round ≡ [] = no-round (s .round) (λ k. g .each k .named-once ∙ ap (λ (t : Train). if some? (t .queue) then 1 else 0) (no-train k)) in
       let trains : s .trains ≡ replicate trainCount noTrain = all-bare trainCount (s .trains) (g .size) no-train in
       ap (λ (ts : List Train). record { trains = ts; round = s .round }) trains ∙ ap (λ (js : List ℕ). record { trains = replicate trainCount noTrain; round = js }) rounds
+
+-- the chosen record is of one of the lane's trains
+pub first-inside : (L : ℕ) (s : Shared) (x : Moving) → Good L s → first s ≡ some x → x .train < trainCount
+unfolding first firstIn firstOf
+first-inside L s x g e = go (s .trains) (s .round) g e
+  where
+    one : (k : ℕ) (q : List Rec) → k < trainCount → firstOf k q ≡ some x → x .train < trainCount
+    one k [] h e = let z : _≡_ {A = ℕ} 0 1 = cc in absurd (omega arith)
+    one k (r ∷ rs) h e = let y : record { train = k; item = r } ≡ x = cc in omega (arith, h, ap (λ (m : Moving). m .train) y)
+
+    go : (ts : List Train) (ks : List ℕ) → Good L (record { trains = ts; round = ks }) → firstIn ts ks ≡ some x → x .train < trainCount
+    go ts [] g e = let z : _≡_ {A = ℕ} 0 1 = cc in absurd (omega arith)
+    go ts (k ∷ ks) g e = one k (getD ts k noTrain .queue) (omega (arith, held-inside ts k (turn-holds L ts k ks g), g .size)) e

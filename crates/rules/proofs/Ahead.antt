@@ -30,7 +30,7 @@ put-says s j r n none a e =
 put-says s j r n (some c) a e = let z : _≡_ {A = ℕ} 0 1 = cc in absurd (omega arith)
 
 -- the list of calls goes on with that put
-begins-with : (s : State) (cs : List Call) (j t m l n : ℕ) (rest : List Event) → trace s cs ≡ record { call = put j t m l; reply = accepted n } ∷ rest → (step s (put j t m l)) .reply ≡ accepted n
+pub begins-with : (s : State) (cs : List Call) (j t m l n : ℕ) (rest : List Event) → trace s cs ≡ record { call = put j t m l; reply = accepted n } ∷ rest → (step s (put j t m l)) .reply ≡ accepted n
 unfolding trace
 begins-with s [] j t m l n rest e = let z : _≡_ {A = ℕ} 0 1 = cc in absurd (omega arith)
 begins-with s (c ∷ cs) j t m l n rest e =

@@ -72,6 +72,9 @@ module _ (M : ℕ) (gs : List Setting) (setup : Setup gs) (ok : SetupOk M gs) (k
     pub sent : (endlessAfter (fresh gs) pre) .clock + 1024 * bytesSent gs (trace (after (fresh gs) pre) mid) ≤ (endlessAfter (endlessAfter (fresh gs) pre) mid) .clock
     pub not-slow : (endlessAfter (endlessAfter (fresh gs) pre) mid) .clock
         < (endlessAfter (fresh gs) pre) .clock + rate (settingAt gs k) * bytesSentOf gs k (trace (after (fresh gs) pre) mid) + 4 * slot (settingAt gs k) + M
+    -- the same from the lane's own start
+    pub from-start : (endlessAfter (endlessAfter (fresh gs) pre) mid) .clock
+        < (laneAt (endlessAfter (fresh gs) pre) k) .start + rate (settingAt gs k) * bytesSentOf gs k (trace (after (fresh gs) pre) mid) + 2 * slot (settingAt gs k) + M
     pub not-fast : (endlessAfter (fresh gs) pre) .clock + rate (settingAt gs k) * bytesSentOf gs k (trace (after (fresh gs) pre) mid)
         < (endlessAfter (endlessAfter (fresh gs) pre) mid) .clock + 4 * slot (settingAt gs k) + M
 
@@ -106,6 +109,13 @@ module _ (M : ℕ) (gs : List Setting) (setup : Setup gs) (ok : SetupOk M gs) (k
           lower M (e .clock) (e .lanes) (kept M t mid inv) k ends,
           round-le (slot ((laneAt e k) .given)) ((laneAt e k) .start),
           ap slot given-t,
+          ap slot given-e,
+        );
+        from-start = omega (
+          arith,
+          moves .1,
+          lower M (e .clock) (e .lanes) (kept M t mid inv) k ends,
+          round-le (slot ((laneAt e k) .given)) ((laneAt e k) .start),
           ap slot given-e,
         );
         not-fast = omega (

@@ -48,3 +48,10 @@ pub mod Kept
 pub mod Carry
 pub mod Others
 pub mod EvenTrains
+pub mod Counts
+pub mod Sent
+pub mod Waits
+pub mod Lagging
+pub mod Takes
+pub mod SharedWaits
+pub mod WaitExamples

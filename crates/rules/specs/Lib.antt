@@ -19,3 +19,5 @@ pub mod TrainExamples
 pub mod BySets
 pub mod Kept
 pub mod Even
+pub mod Waits
+pub mod WaitExamples

@@ -7,6 +7,7 @@
 --   charge       what a record of a length costs: its length and h
 --   rate         c, the clock units for each byte of a lane
 --   group, slot  the group index i, and s = 2 ^ i
+--   roomOf       how many records the lane's queue has room for, or each of its trains' queues
 --   clockFar     where a put takes the clock back first, by a multiple of clockStep that leaves clockKept or more; clockEdge: where no good table's clock comes
 --   startR       R, the rounded start; finishR: R + 2s, the rounded finish
 --   holds        the lane holds a record; eligible: and its R is at most V
@@ -19,6 +20,8 @@ use mathlib.Core.Option.{Option, none, some}
 use lib.Dec.{leb}
 use lib.ListN.{getD}
 use Rattle.units.specs.Numbers.{perByte, leastPower, roundDown}
+use Rattle.units.specs.Plain.{if_then_else_}
+use Rattle.rounds.specs.Round.{trainDepth}
 pub use Rattle.waiting.specs.Waiting.{Rec, laneDepth}
 use Rattle.waiting.specs.Waiting.{Waiting, nothing, first}
 
@@ -62,6 +65,10 @@ group g = leastPower (charge g (g .longest) * rate g)
 -- R1.10
 unfoldable pub slot : Setting → ℕ
 slot g = 2 ^ group g
+
+-- R1.7
+abbrev pub roomOf : Setting → ℕ
+roomOf g = if g .shared then trainDepth else laneDepth
 
 -- R2.5
 abbrev pub startR : Lane → ℕ

@@ -29,6 +29,7 @@ use Rattle.scheduler.proofs.Begins.{by-make, by-restart}
 use Rattle.scheduler.proofs.Ahead.{ahead-told}
 use Rattle.scheduler.proofs.Compared.{compared-calls, compared-tight-calls, fair-tight-calls}
 use Rattle.scheduler.proofs.Even.{even-calls, even-tight-calls, others-tight-calls}
+use Rattle.scheduler.proofs.Waits.{waiting-calls}
 use Rattle.scheduler.proofs.Drained.{drained-table}
 use Rattle.scheduler.proofs.Endless.{endless-calls, clock-early}
 
@@ -128,6 +129,7 @@ module _ (gs : List Setting) (es : List DeviceEvent) (u : List ℕ) (l : Led gs 
     even = even-calls gs es u l;
     even-tight = even-tight-calls gs es u l;
     others-tight = others-tight-calls gs es u l;
+    waiting = waiting-calls gs es u l;
     same-setup = same-setup;
     endless = endless-calls gs es u l;
     clock-early = clock-early gs es u l;

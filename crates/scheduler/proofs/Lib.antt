@@ -7,6 +7,7 @@ pub mod Begins
 pub mod Ahead
 pub mod Compared
 pub mod Even
+pub mod Waits
 pub mod Endless
 pub mod Drained
 pub mod Demands

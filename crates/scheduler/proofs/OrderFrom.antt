@@ -29,7 +29,7 @@ use Rattle.pages.specs.Claims.{GoodPage}
 use Rattle.pages.specs.OneCall.{KeepsPage}
 use Rattle.pages.proofs.Run.{fresh-none}
 use Rattle.pages.proofs.OneCall.{keeps-page}
-use Rattle.pages.proofs.Parts.{accepted-append, sent-append}
+use Rattle.rules.proofs.Counts.{accepted-append, sent-append}
 use Rattle.editions.specs.Part.{lastIn, waitingIn, GoodWait, GoodPart}
 use Rattle.table.specs.Layout.{tableSize}
 use Rattle.table.specs.Means.{meant}

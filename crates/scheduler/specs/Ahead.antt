@@ -8,9 +8,7 @@ use Prim.Native.Nat.{ℕ, _+_, _<_}
 use mathlib.Core.Path.{_≡_}
 use mathlib.Core.List.{List, _∷_, _++_}
 use lib.ListN.{length}
-use Rattle.units.specs.Plain.{if_then_else_}
-use Rattle.rounds.specs.Round.{trainDepth}
-use Rattle.rules.specs.State.{Setting, settingAt, laneAt, laneDepth}
+use Rattle.rules.specs.State.{Setting, settingAt, laneAt, roomOf}
 use Rattle.rules.specs.Calls.{put, accepted, ahead}
 use Rattle.rules.specs.Reads.{reads}
 use Rattle.rules.specs.Runs.{acceptedOf, sentOf, ofTrain}
@@ -20,10 +18,6 @@ use Rattle.pages.specs.Device.{ruled, answered}
 use Rattle.pages.specs.Offers.{DeviceEvent, ofRules, inForce}
 use Rattle.paged.specs.Paged.{GoodUnit}
 use Rattle.scheduler.specs.Step.{Step}
-
--- how many records the queue of a lane of this setting has room for, or each of its trains' queues
-abbrev pub roomOf : Setting → ℕ
-roomOf g = if g .shared then trainDepth else laneDepth
 
 -- of the records of the put's train that the lane accepted before, those not yet handed out
 unfoldable pub AheadTold : List Setting → List DeviceEvent → Type 0

@@ -46,6 +46,7 @@ use Rattle.scheduler.specs.Chain.{Chain, Begins, Led}
 use Rattle.scheduler.specs.Ahead.{AheadTold}
 use Rattle.scheduler.specs.Compared.{ComparedCalls, ComparedTight, FairTight}
 use Rattle.scheduler.specs.Even.{EvenCalls, EvenTightCalls, OthersTightCalls}
+use Rattle.scheduler.specs.Waits.{Waiting}
 use Rattle.scheduler.specs.Drained.{Drained}
 use Rattle.scheduler.specs.Endless.{EndlessCalls, ClockEarly}
 pub use Rattle.scheduler.specs.Chain.{callsOf}
@@ -118,6 +119,8 @@ pub record Demands (gs : List Setting) (es : List DeviceEvent) (u : List ℕ) : 
   pub even : EvenCalls gs es
   pub even-tight : EvenTightCalls gs es
   pub others-tight : OthersTightCalls gs es
+  -- how long one record waits
+  pub waiting : Waiting gs es
   pub same-setup : SameSetup gs es
   pub endless : EndlessCalls gs es u
   pub clock-early : ClockEarly u

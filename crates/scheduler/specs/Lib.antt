@@ -4,6 +4,7 @@ pub mod Chain
 pub mod Ahead
 pub mod Compared
 pub mod Even
+pub mod Waits
 pub mod Endless
 pub mod Drained
 pub mod Demands

@@ -1,2 +1,3 @@
 pub mod Shows
 pub mod Spots
+mod WorstWaits

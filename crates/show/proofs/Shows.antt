@@ -27,7 +27,7 @@ use Rattle.paged.specs.Paged.{partOf, deviceOf, GoodUnit}
 use Rattle.scheduler.proofs.Steps.{encoded-alike}
 use Rattle.engine.proofs.RowIs.{RowIs, row-is, row-weighs, count-holds, count-idle}
 use Rattle.rules.specs.declared.Refusal.the-variants as why
-use Rattle.show.specs.Views.{Ask, View, clock, lane, backlog, waits, edition, clockIs, refused, backlogIs, settingIs, recordIs, editionIs, noRec, timeOf, waitingEdition, view}
+use Rattle.show.specs.Views.{Ask, View, clock, lane, backlog, waits, edition, wait, clockIs, refused, backlogIs, settingIs, recordIs, editionIs, noRec, timeOf, waitingEdition, view}
 use Rattle.show.specs.Shows.{reads, Shows, FindIs}
 use Rattle.show.specs.declared.Shown.{Shown}
 use Rattle.show.specs.declared.Shown.the-variants.{Refused}
@@ -42,6 +42,7 @@ view-alike (lane k) d e a = rw (a .state .lanes)
 view-alike (backlog k) d e a = rw (a .state .lanes)
 view-alike (waits k t i) d e a = rw (a .state .lanes)
 view-alike edition d e a = rw (a .edition, a .waiting)
+view-alike (wait k n) d e a = rw (a .state .lanes)
 
 pub bad-shows : (a : Ask) (t : List ℕ) → (GoodUnit t → ⊥) → Shows a t (Refused why.NotGood)
 bad-shows a t b = record { not-good = λ _. refl; shown = λ g. absurd (b g) }
@@ -80,6 +81,10 @@ module _ (d : Device) (k : ℕ) (e : laneAt (d .state) k ≡ noLane) where
   none-waits : (j i : ℕ) → refused 11 none ≡ view d (waits k j i)
   unfolding view deviceOf
   none-waits j i = rw e
+
+  none-wait : (n : ℕ) → refused 11 none ≡ view d (wait k n)
+  unfolding view deviceOf
+  none-wait n = rw e
 
 -- ---- a lane by its row
 
@@ -135,3 +140,6 @@ module _ (t : List ℕ) (k : ℕ) (r : Found) (e : r ≡ NoLane) (f : FindIs t k
 
   pub find-no-waits : (j i : ℕ) → Shows (waits k j i) t (Refused why.NoLane)
   find-no-waits j i = good-shows (waits k j i) t (Refused why.NoLane) (absent .0) (none-waits (deviceOf t) k (held-as (absent .1)) j i)
+
+  pub find-no-wait : (n : ℕ) → Shows (wait k n) t (Refused why.NoLane)
+  find-no-wait n = good-shows (wait k n) t (Refused why.NoLane) (absent .0) (none-wait (deviceOf t) k (held-as (absent .1)) n)

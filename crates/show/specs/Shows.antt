@@ -20,9 +20,9 @@ use Rattle.table.specs.Means.{presentAt, recOf, meant}
 use Rattle.table.specs.declared.LaneRow.{LaneRow}
 use Rattle.pages.specs.Device.{Device}
 use Rattle.paged.specs.Paged.{EncodesDevice, GoodUnit}
-use Rattle.show.specs.Views.{Ask, View, clockIs, settingIs, backlogIs, recordIs, editionIs, refused, noRec, view}
+use Rattle.show.specs.Views.{Ask, View, clockIs, settingIs, backlogIs, recordIs, editionIs, waitIs, refused, noRec, view}
 use Rattle.show.specs.declared.Shown.{Shown}
-use Rattle.show.specs.declared.Shown.the-variants.{Clock, Setting, Backlog, Record, Edition, Refused}
+use Rattle.show.specs.declared.Shown.the-variants.{Clock, Setting, Backlog, Record, Edition, Wait, Refused}
 use Rattle.show.specs.declared.Found.{Found}
 use Rattle.show.specs.declared.Found.the-variants.{NotGood, NoLane, Row}
 use Rattle.show.specs.declared.Spot.{Spot}
@@ -34,6 +34,7 @@ reads (Setting g) = settingIs (record { weight = g .weight; longest = g .longest
 reads (Backlog b) = backlogIs (b .count) (b .time .0)
 reads (Record r) = recordIs (r .lane) (record { train = r .train; mark = r .mark; len = r .length .0 })
 reads (Edition e) = editionIs (e .last) (e .waiting)
+reads (Wait w) = waitIs (w .asked) (w .tight)
 reads (Refused x) = refused (rules.number x) (rules.placeOf x)
 
 pub record Shows (a : Ask) (t : List ℕ) (r : Shown) : Type 0 where

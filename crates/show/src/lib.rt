@@ -1,18 +1,25 @@
-// What a lent table holds, told to its host: the clock, a lane's setting, its backlog, each record that waits, by its train, and the editions of its settings
-// pages. Nothing is taken and nothing is written.
+// What a lent table holds, told to its host: the clock, a lane's setting, its backlog, each record that waits, by its train, the editions of its settings
+// pages, and how long a record can wait at worst. Nothing is taken and nothing is written.
 //
 // Each call tests the whole table first, as every public call does, and refuses by number: 10, 11, 70 for a train that the lane does not know, and 16 for a
-// record that is not there. What each promises is `Shows` (specs/Shows.antt), whole.
+// record that is not there; 13 or 71 for more records ahead than an accepted put finds. What each promises is `Shows` (specs/Shows.antt), whole.
 //
 // The setup in force is what `lane` tells of the lanes 0 to 63.
 ghost use mathlib.Core.Path.{_≡_};
+ghost use Prim.Native.Nat.{_+_, _≤_, _<_, max};
+ghost use Rattle.rules.specs.State.{setupOf, roomOf};
+ghost use Rattle.rules.specs.Setup.{longestCharge};
+ghost use Rattle.table.specs.Means.{meant};
 ghost use Rattle.editions.specs.Part.{lastIn, newIn};
 ghost use Rattle.paged.specs.Paged.{partOf, GoodUnit};
 ghost use Rattle.show.specs.Views as Views;
+ghost use Rattle.waits.specs.Lane.{settingOf, InRange};
+ghost use Rattle.show.specs.Worst.{laneMost, numbersOf, noRoom, BothWorst};
 ghost use Rattle.show.specs.Shows.{Shows, FindIs, RowFound, SpotIs};
 use paged::good_unit;
 use rules::Record;
 use rules::Refusal;
+use table::LANES;
 use table::LaneRow;
 use table::pace_of;
 use table::present;
@@ -22,6 +29,9 @@ use turns::COUNT_UNIT;
 use turns::TRAIN_DEPTH;
 use units::Bytes;
 use units::Clock;
+use units::line_charge;
+use waits::LaneNumbers;
+use waits::worst_wait;
 
 // What the setup gives a lane, with the line's framing bytes and the group that follows; whether several trains share it.
 pub struct Setting {
@@ -44,12 +54,19 @@ pub struct Editions {
     pub waiting: u64,
 }
 
+// The most bytes that all lanes together send before a record is out: as the fair share has it for every setup, and by this setup's costliest record.
+pub struct WorstWait {
+    pub asked: u64,
+    pub tight: u64,
+}
+
 pub enum Shown {
     Clock(Clock),
     Setting(Setting),
     Backlog(LaneQueue),
     Record(Record),
     Edition(Editions),
+    Wait(WorstWait),
     Refused(Refusal),
 }
 
@@ -204,4 +221,105 @@ fn editions_of(t: &[u8]) -> Editions
     let last = editions::last(&t[table::SIZE..]);
     let waiting = editions::new(&t[table::SIZE..]);
     Editions { last, waiting }
+}
+
+// What the longest record of a lane is charged for.
+fn row_most(l: LaneRow) -> u64
+    requires { ⌜ (l .longest .0 ≤ 1500) × (l .framing .0 ≤ 64) ⌝ }
+    ensures { λ r. ⌜ r ≡ l .longest .0 + l .framing .0 ⌝ }
+{
+    l.longest.0 + l.framing.0
+}
+
+// What the longest record of lane `k` is charged for; 0 where the setup has no such lane.
+fn most_of(t: &[u8], k: usize) -> u64
+    requires { ⌜ GoodUnit (now t) × (k < 64) ⌝ }
+    ensures { λ r. ⌜ r ≡ laneMost (now (t .entry)) k ⌝ }
+{
+    if !present(t, k) {
+        return 0;
+    }
+    row_most(row(t, k))
+}
+
+fn greater(a: u64, b: u64) -> u64
+    ensures { λ r. ⌜ r ≡ max a b ⌝ }
+{
+    if a < b { b } else { a }
+}
+
+// What the costliest record of the setup is charged for.
+fn costliest(t: &[u8]) -> u64
+    requires { ⌜ GoodUnit (now t) ⌝ }
+    ensures { λ r. ⌜ (r ≡ longestCharge (setupOf (meant (now (t .entry))))) × (r ≤ 1564) ⌝ }
+{
+    let mut most = 0u64;
+    let mut k = 0usize;
+    while k < LANES {
+        let here = most_of(t, k);
+        most = greater(most, here);
+        k += 1;
+    }
+    most
+}
+
+// The numbers of a row that a wait goes by.
+fn numbers(l: LaneRow) -> LaneNumbers
+    ensures { λ r. ⌜ r ≡ numbersOf l ⌝ }
+{
+    let longest = l.longest;
+    let framing = l.framing;
+    LaneNumbers {
+        weight: l.weight,
+        longest,
+        framing,
+        shared: l.shared,
+    }
+}
+
+// Both figures, of a lane of these numbers.
+fn both(t: &[u8], l: LaneNumbers, ahead: u64) -> WorstWait
+    requires { ⌜ GoodUnit (now t) × InRange l ahead ⌝ }
+    ensures { λ r. ⌜ BothWorst (now (t .entry)) l ahead r ⌝ }
+{
+    let framing = l.framing;
+    let asked = worst_wait(l, ahead, line_charge(Bytes(1500 + framing.0)));
+    let most = costliest(t);
+    let tight = worst_wait(l, ahead, line_charge(Bytes(most)));
+    WorstWait { asked, tight }
+}
+
+// How many records may wait in a lane before one that is accepted; in a shared lane, of its own train.
+fn room(l: LaneNumbers) -> u64
+    ensures { λ r. ⌜ r ≡ roomOf (settingOf l) ⌝ }
+{
+    if l.shared { 8 } else { 64 }
+}
+
+// The refusal of a put for which there is no room.
+fn no_room(shared: bool) -> Refusal
+    ensures { λ r. ⌜ r ≡ noRoom shared ⌝ }
+{
+    if shared {
+        Refusal::TrainFull
+    } else {
+        Refusal::LaneFull
+    }
+}
+
+// How long a record can wait at worst that was put to a lane and reported `ahead`.
+pub fn wait(t: &[u8], lane: u8, ahead: u64) -> Shown
+    ensures { λ r. ⌜ Shows (Views.wait lane ahead) (now (t .entry)) r ⌝ }
+{
+    match find(t, lane) {
+        Found::NotGood => Shown::Refused(Refusal::NotGood),
+        Found::NoLane => Shown::Refused(Refusal::NoLane),
+        Found::Row(l) => {
+            let given = numbers(l);
+            if room(given) <= ahead {
+                return Shown::Refused(no_room(given.shared));
+            }
+            Shown::Wait(both(t, given, ahead))
+        }
+    }
 }

@@ -220,3 +220,14 @@ pub known-train : (w : Waiting) (t : ℕ) → isShared w ≡ false → known w t
 unfolding isShared known
 known-train (plain q) t u e = omega (arith, leb-true t 0 e)
 known-train (shared s) t u e = absurd (false≢true (sym u))
+
+-- and a shared one those of its number
+pub first-known : (L : ℕ) (w : Waiting) (x : Rec) → GoodWaiting L w → first w ≡ some x → x .train < trainCount
+unfolding GoodWaiting isShared
+first-known L (plain q) x g e = omega (arith, first-train (plain q) x refl e)
+first-known L (shared s) x g e = heldLaws.first-inside L s (moved x) g (item-some (round.first s) x e)
+
+pub known-inside : (w : Waiting) (t : ℕ) → known w t ≡ true → t < trainCount
+unfolding known
+known-inside (plain q) t e = omega (arith, leb-true t 0 e)
+known-inside (shared s) t e = ltb-true t trainCount e

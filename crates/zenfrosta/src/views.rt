@@ -1,4 +1,4 @@
-// A table shown to its host (R17.6 to R17.8): the calls of crate show, exported. Answers cross as those of lib.rt do (specs/Views.antt).
+// A table shown to its host (R17.6 to R17.10): the calls of crate show, exported. Answers cross as those of lib.rt do (specs/Views.antt).
 ghost use mathlib.Core.Path.{_≡_};
 ghost use Prim.Native.Nat.{_≤_};
 ghost use lib.ListN.{length};
@@ -50,6 +50,10 @@ fn tell_view(out: &mut [u8], x: Shown) -> u64
         }
         Shown::Edition(e) => {
             speak(out, e.last, e.waiting, 0, 0);
+            0
+        }
+        Shown::Wait(w) => {
+            speak(out, w.asked, w.tight, 0, 0);
             0
         }
         Shown::Refused(f) => {
@@ -125,4 +129,16 @@ pub extern "C" fn zf_edition(table: &[u8], out: &mut [u8]) -> u64
         return 255;
     }
     tell_view(out, show::edition(table))
+}
+
+// How long a record can wait at worst that was put to a lane and reported `ahead`.
+#[no_mangle]
+// R17.10
+pub extern "C" fn zf_wait(table: &[u8], lane: u8, ahead: u64, out: &mut [u8]) -> u64
+    ensures { λ r. ⌜ CrossesView (Views.wait lane ahead) (now (table .entry)) (now (out .entry)) r (now (out .exit)) ⌝ }
+{
+    if out.len() < 32 {
+        return 255;
+    }
+    tell_view(out, show::wait(table, lane, ahead))
 }

@@ -58,6 +58,7 @@ extern "C" {
         out: *mut u8,
         out_len: usize,
     ) -> u64;
+    fn zf_wait(t: *const u8, t_len: usize, lane: u8, ahead: u64, out: *mut u8, out_len: usize) -> u64;
     fn zf_edition(t: *const u8, t_len: usize, out: *mut u8, out_len: usize) -> u64;
     fn zf_offer(t: *mut u8, t_len: usize, p: *const u8, p_len: usize, out: *mut u8, out_len: usize) -> u64;
     fn zf_restart(t: *mut u8, t_len: usize, out: *mut u8, out_len: usize) -> u64;
@@ -145,6 +146,10 @@ pub fn record(t: &[u8], lane: u8, before: u64) -> Told {
 
 pub fn train_record(t: &[u8], lane: u8, train: u8, before: u64) -> Told {
     told(|out, n| unsafe { zf_train_record(t.as_ptr(), t.len(), lane, train, before, out, n) })
+}
+
+pub fn wait(t: &[u8], lane: u8, ahead: u64) -> Told {
+    told(|out, n| unsafe { zf_wait(t.as_ptr(), t.len(), lane, ahead, out, n) })
 }
 
 pub fn edition(t: &[u8]) -> Told {

@@ -121,6 +121,16 @@ pub struct Backlog {
     pub time: u64,
 }
 
+/// How long a record can wait at worst, in bytes of the line, framing counted: once all lanes together have sent so many since its put, it is out, right
+/// after those that were ahead of it.
+#[derive(Clone, Copy, Debug, PartialEq, Eq)]
+pub struct Wait {
+    /// By 1,500 bytes, as it holds for every setup.
+    pub asked: u64,
+    /// By the setup's own costliest record; never greater.
+    pub tight: u64,
+}
+
 /// Why a run stopped.
 #[derive(Clone, Copy, Debug, PartialEq, Eq)]
 pub enum Stop {
@@ -219,7 +229,7 @@ pub fn lag(table: &[u8], lane: u8) -> Result<i64, Refusal> {
     answer(boundary::lag(table, lane)).map(|words| words[0] as i64)
 }
 
-/// The clock V. This call, the four below and [`edition`] show a table, and change nothing.
+/// The clock V. This call, the five below and [`edition`] show a table, and change nothing.
 pub fn clock(table: &[u8]) -> Result<u64, Refusal> {
     answer(boundary::clock(table)).map(|words| words[0])
 }
@@ -249,6 +259,12 @@ pub fn waiting(table: &[u8], lane: u8, before: u64) -> Result<Record, Refusal> {
 /// The record of a train that `before` others of the train go out before; refused with 10, 11, 70, then 16 if no more than that wait there.
 pub fn waiting_of(table: &[u8], lane: u8, train: u8, before: u64) -> Result<Record, Refusal> {
     record(boundary::train_record(table, lane, train, before))
+}
+
+/// How long a record can wait at worst that was put to a lane and reported `ahead`, by the setup in force alone; refused with 10, 11, then 13, or 71 in a
+/// shared lane, for more records ahead than an accepted put can report.
+pub fn wait(table: &[u8], lane: u8, ahead: u64) -> Result<Wait, Refusal> {
+    answer(boundary::wait(table, lane, ahead)).map(|[asked, tight, ..]| Wait { asked, tight })
 }
 
 /// Gives the fresh table of the same setup, once no record is held. The edition last taken stays.

@@ -33,6 +33,7 @@ fn the_setup_in_force() {
         assert_eq!(backlog(&t, k), refused(11));
         assert_eq!(waiting(&t, k, 0), refused(11));
         assert_eq!(waiting_of(&t, k, 8, 0), refused(11), "11 before 70");
+        assert_eq!(wait(&t, k, 64), refused(11), "11 before 13");
     }
 }
 
@@ -69,5 +70,28 @@ fn a_table_that_is_not_good() {
     assert_eq!(backlog(&t, 0), refused(10));
     assert_eq!(waiting(&t, 0, 0), refused(10));
     assert_eq!(waiting_of(&t, 0, 8, 0), refused(10));
+    assert_eq!(wait(&t, 0, 0), refused(10));
     assert_eq!(clock(&t[..TABLE_SIZE - 1]), refused(10));
+}
+
+#[test]
+fn how_long_a_record_waits() {
+    let mut t = made();
+    // Lane 0: four slots of 2^22, and a record of 1,500 + 20 bytes, which is also the costliest of this setup.
+    assert_eq!(wait(&t, 0, 0), Ok(Wait { asked: 16_384 + 1_520, tight: 16_384 + 1_520 }));
+    // Lane 5 with three ahead: 3 times 4,096 (64 + 20), four slots of 2^19.
+    assert_eq!(wait(&t, 5, 3), Ok(Wait { asked: 1_008 + 2_048 + 1_520, tight: 1_008 + 2_048 + 1_520 }));
+    assert!(wait(&t, 0, 63).is_ok());
+    assert_eq!(wait(&t, 0, 64), refused(13), "no accepted put reports more than 63");
+    assert_eq!(wait(&t, 0, u64::MAX), refused(13));
+    // It goes by the setup alone.
+    let before = wait(&t, 5, 0);
+    assert_eq!(put(&mut t, 5, 1, 64), Ok(0));
+    assert_eq!(wait(&t, 5, 0), before);
+
+    // Of a setup of short records the second figure is less: 64 + 20 bytes in place of 1,520.
+    let mut t = vec![0; TABLE_SIZE];
+    let short = b"\x01\0\x02\0\x01\x11\0\x01\x14\x10\0\x05\x05\x01\0\0\x40\x7F\0\0";
+    assert_eq!(make(short, &mut t), Ok(1));
+    assert_eq!(wait(&t, 5, 0), Ok(Wait { asked: 2_048 + 1_520, tight: 2_048 + 84 }));
 }

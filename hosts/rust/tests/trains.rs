@@ -100,3 +100,13 @@ fn a_session_with_trains() {
         "lanes 2\nput ok 0\nput ok 0\nput ok 0\nno 70\nlook 0 1 100 5\ntake 0 1 100 5\ntake 0 2 60 0\ntake 1 3 100\nend 8\n"
     );
 }
+
+#[test]
+fn how_long_a_record_of_a_train_waits() {
+    let t = made();
+    // The lane sends up to (8 n + 21) 100 bytes before it, each of 2,048; four slots of 2^18; a record of 1,500 bytes, and of 100.
+    assert_eq!(wait(&t, 0, 2), Ok(Wait { asked: 7_400 + 1_024 + 1_500, tight: 7_400 + 1_024 + 100 }));
+    assert!(wait(&t, 0, 7).is_ok());
+    assert_eq!(wait(&t, 0, 8), refused(71), "no accepted put reports more than 7");
+    assert_eq!(wait(&t, 1, 64), refused(13), "lane 1 is not shared");
+}

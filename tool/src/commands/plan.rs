@@ -6,7 +6,7 @@ use crate::figures::{seconds, Figures, LINE_RATE};
 use crate::files::{self, Input};
 use crate::plans;
 use crate::text::{count, table, thousands};
-use zenfrosta::{Plan, PlanLane};
+use zenfrosta::{Plan, PlanLane, TABLE_SIZE};
 
 pub const HELP: &str = "\
 zenfrosta plan [FILE] [--rate BITS] [--ahead N] [-o FILE]
@@ -43,6 +43,13 @@ fn percent(part: u64, whole: u64) -> String {
     format!("{}.{}%", tenths / 10, tenths % 10)
 }
 
+/// The fresh table of a plan, of which the library tells the waits.
+fn made(plan: &Plan) -> Option<Vec<u8>> {
+    let mut fresh = vec![0; TABLE_SIZE];
+    zenfrosta::make(&plan.to_setup().ok()?, &mut fresh).ok()?;
+    Some(fresh)
+}
+
 pub fn shown(plan: &Plan, rate: Option<u64>, ahead: u64) -> String {
     let lanes: Vec<(usize, PlanLane)> =
         plan.lanes.iter().enumerate().filter_map(|(i, lane)| lane.map(|lane| (i, lane))).collect();
@@ -64,16 +71,14 @@ pub fn shown(plan: &Plan, rate: Option<u64>, ahead: u64) -> String {
     if let Some(rate) = rate {
         head.push(format!("at {} bit/s", thousands(rate)));
     }
+    let fresh = made(plan);
     let mut rows = vec![head];
     for (number, lane) in lanes {
         let weight = u64::from(lane.weight);
         let figures = Figures::of(lane.weight, lane.longest, plan.framing);
-        // A train's queue has 8 records, so that no more than 7 are before one.
-        let wait = match lane.shared {
-            false => Some(figures.wait(ahead)),
-            true if ahead < 8 => Some(figures.shared_wait(ahead)),
-            true => None,
-        };
+        // None where no accepted put reports so many ahead: a train's queue has 8 records.
+        let wait =
+            fresh.as_ref().and_then(|t| zenfrosta::wait(t, number as u8, ahead).ok()).map(|wait| wait.asked);
         let mut row = vec![
             number.to_string(),
             thousands(weight),

@@ -57,11 +57,17 @@ speak-requires-5 c κs = search needs
 enum-known-x-6 : tie.Need-enum-known-x-6
 enum-known-x-6 c = search needs
 
+speak-requires-6 : tie.Need-speak-requires-6
+speak-requires-6 c κs = search needs
+
+enum-known-x-7 : tie.Need-enum-known-x-7
+enum-known-x-7 c = search needs
+
 refusal-words-requires : tie.Need-refusal-words-requires
 refusal-words-requires c κs = search needs
 
-speak-requires-6 : tie.Need-speak-requires-6
-speak-requires-6 c κs = search needs
+speak-requires-7 : tie.Need-speak-requires-7
+speak-requires-7 c κs = search needs
 
 number-requires : tie.Need-number-requires
 number-requires c κs = search needs
@@ -111,8 +117,16 @@ same-length-6 c = search needs
 
 returns-6 : tie.Need-returns-6
 returns-6 c =
-    let e = c .before .before .before .before .before .before .before .x6 .given .1 in
-    (c .number .ensures .0 ∙ rw e, told-as _ _ _ _ (c .before .before .before .before .before .refusal-words .ensures ∙ rw e) (c .before .before .before .speak6 .ensures))
+    let e = c .before .before .before .before .before .x6 .given .1 in
+    (rw e, told-as _ _ _ _ (rw e) (c .before .before .speak6 .ensures))
+
+same-length-7 : tie.Need-same-length-7
+same-length-7 c = search needs
+
+returns-7 : tie.Need-returns-7
+returns-7 c =
+    let e = c .before .before .before .before .before .before .before .x7 .given .1 in
+    (c .number .ensures .0 ∙ rw e, told-as _ _ _ _ (c .before .before .before .before .before .refusal-words .ensures ∙ rw e) (c .before .before .before .speak7 .ensures))
 
 pub tell-view-spec : {M : Type 1} → statement M
 tell-view-spec =
@@ -133,8 +147,10 @@ tell-view-spec =
     enum-known-x-5
     speak-requires-5
     enum-known-x-6
-    refusal-words-requires
     speak-requires-6
+    enum-known-x-7
+    refusal-words-requires
+    speak-requires-7
     number-requires
     same-length
     returns
@@ -147,4 +163,6 @@ tell-view-spec =
     same-length-5
     returns-5
     same-length-6
-    returns-6)
+    returns-6
+    same-length-7
+    returns-7)

@@ -1,0 +1,32 @@
+-- `zf_wait` meets its contract. Assumes nothing.
+use mathlib.Core.Path.{refl}
+use native.Mathlib.Omega.{arith}
+use borrow.Author.Needs.{needs}
+use Rattle.zenfrosta.proofs.views.zf_wait.Statement.{statement}
+use Rattle.zenfrosta.proofs.views.zf_wait.Tie as tie
+use Rattle.zenfrosta.proofs.views.zf_wait.Reads as reads
+use Rattle.zenfrosta.proofs.views.zf_wait.Lts as lts
+use Rattle.show.proofs.wait.Reads as wait-reads
+use Rattle.zenfrosta.proofs.views.tell_view.Reads as tell-view-reads
+
+returns : tie.Need-returns
+returns c = record { short = λ _. (refl, refl); told = λ h. absurd (omega (arith, c .if1 .taken)) }
+
+wait-requires : tie.Need-wait-requires
+wait-requires c κs = search needs
+
+tell-view-requires : tie.Need-tell-view-requires
+tell-view-requires c κs = search needs
+
+same-length : tie.Need-same-length
+same-length c = search needs
+
+returns-2 : tie.Need-returns-2
+returns-2 c =
+    let m = c .before .before .before .wait in
+    let w = c .before .before .tell-view .ensures in
+    record { short = λ h. absurd (omega (arith, c .before .before .before .before .before .if1 .left)); told = λ _. (m .result, m .ensures, w .0, w .1) }
+
+pub zf-wait-spec : {M : Type 1} → statement M
+zf-wait-spec =
+    tie.close (tie.spec returns wait-requires tell-view-requires same-length returns-2)
