@@ -33,6 +33,10 @@ int main(void) {
   is("zf_backlog", zf_backlog(table, sizeof table, 3, out, sizeof out), ZF_DONE);
   is("zf_out_held", zf_out_held(out), 1);
   is("zf_out_time", zf_out_time(out), 2048 * 120);
+  /* Shared, none ahead: c (1 + h) 21 longest + 4 slots + 1,024 (1,500 + h), in bytes of the line; no record of the setup is costlier than 1,500 + h. */
+  is("zf_wait", zf_wait(table, sizeof table, 3, 0, out, sizeof out), ZF_DONE);
+  is("zf_out_wait", zf_out_wait(out), (2048 * 21 * 21 * 1500ull + 4 * 4194304 + 1024 * 1520) / 1024);
+  is("zf_out_tight_wait", zf_out_tight_wait(out), zf_out_wait(out));
   is("zf_lag", zf_lag(table, sizeof table, 3, out, sizeof out), ZF_DONE);
   is("zf_out_lag", (uint64_t)-zf_out_lag(out), 1024 * 120);
   is("zf_look", zf_look(table, sizeof table, out, sizeof out), ZF_DONE);

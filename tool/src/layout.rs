@@ -27,7 +27,7 @@ pub const NEW_EDITION: usize = LAST_EDITION + 8;
 pub const PAGE_PLAN: usize = LAST_EDITION + 16;
 
 /// Whether c and the group of an idle lane mean something.
-pub const IDLE_HAS_PACE: bool = true;
+pub const IDLE_HAS_PACE: bool = false;
 
 /// A lane's row: its setting, its clock word, its ring, and what the fourth word has.
 pub fn setting(lane: u8) -> usize {
