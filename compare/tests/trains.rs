@@ -329,5 +329,5 @@ fn a_setting_has_twenty_three_bits_of_c() {
     lanes.put(0, 1, 64).expect("a record");
     layout::write(&lanes, &mut bytes);
     assert_eq!(layout::word(&bytes, 80) >> 40, 1 << 23 | 1 << 20);
-    assert_eq!(layout::read(&bytes).good().unwrap(), lanes);
+    assert!(layout::read(&bytes).good().unwrap().alike(&lanes));
 }
