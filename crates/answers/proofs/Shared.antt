@@ -33,7 +33,7 @@ module _ (t : List ℕ) (k : ℕ) where
 
   pub weighed-small : 0 < settingAt (setupOf (meant t)) k .weight → k < 64
   weighed-small h = elim (decLt k 64) [
-    yes s ↦ s
+    | yes s ↦ s
     | no s ↦ absurd (omega (arith, lane-weighs h, ap (λ (l : Lane). l .given .weight) (far-lane t k (omega arith))))
   ]
 
