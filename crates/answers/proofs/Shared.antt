@@ -1,14 +1,14 @@
 -- Whether trains share a lane, by the table.
 --
---   far-shared, absent-shared   a lane that the setup does not have is not shared
---   row-shared                  a lane that it has, by its row
+--   weighed-small, row-shared   a lane of the setup has a row, which says it
 --   encodes-setup, kept-setup   the setup that a table means, by the state that it encodes; no call changes it
 --   line-told                   the line that is written after a call
 --
 -- Assumes nothing.
-use Prim.Native.Nat.{ℕ, _≤_, _<_}
+use Prim.Native.Nat.{ℕ, _<_}
+use native.Mathlib.Omega.{arith}
+use native.Mathlib.Decide.{decLt}
 use mathlib.Core.Path.{_≡_, ap, subst, _∙_}
-use mathlib.Core.Bool.{true, false}
 use mathlib.Core.List.{List}
 use Rattle.rules.specs.State.{Setting, Lane, State, settingAt, laneAt, setupOf}
 use Rattle.rules.specs.Calls.{Call, step}
@@ -16,11 +16,11 @@ use Rattle.rules.specs.Reads.{reads}
 use Rattle.rules.specs.declared.Answer.{Answer}
 use Rattle.rules.proofs.SameSetup.{setting-lane, same-setup}
 use Rattle.table.specs.Layout.{cells, rowAt}
-use Rattle.table.specs.Means.{presentAt, meant}
+use Rattle.table.specs.Means.{meant}
 use Rattle.table.specs.Encodes.{Encodes}
 use Rattle.table.proofs.Footprint.{lane-is}
-use Rattle.table.proofs.Rows.{given-row}
-use Rattle.engine.proofs.RowIs.{absent-lane, far-lane}
+use Rattle.table.proofs.Rows.{given-row, weight-present}
+use Rattle.engine.proofs.RowIs.{far-lane}
 use Rattle.lines.specs.Line.{Line}
 use Rattle.answers.specs.Lines.{lineBy}
 
@@ -28,14 +28,21 @@ module _ (t : List ℕ) (k : ℕ) where
   lane-shared : settingAt (setupOf (meant t)) k .shared ≡ laneAt (meant t) k .given .shared
   lane-shared = ap (λ (g : Setting). g .shared) (setting-lane (meant t) k)
 
-  pub far-shared : 64 ≤ k → settingAt (setupOf (meant t)) k .shared ≡ false
-  far-shared h = lane-shared ∙ ap (λ (l : Lane). l .given .shared) (far-lane t k h)
+  lane-weighs : 0 < settingAt (setupOf (meant t)) k .weight → 0 < laneAt (meant t) k .given .weight
+  lane-weighs h = subst (λ (g : Setting). 0 < g .weight) (setting-lane (meant t) k) h
 
-  pub absent-shared : k < 64 → presentAt (cells t) k ≡ false → settingAt (setupOf (meant t)) k .shared ≡ false
-  absent-shared h e = lane-shared ∙ ap (λ (l : Lane). l .given .shared) (absent-lane t k h e)
+  pub weighed-small : 0 < settingAt (setupOf (meant t)) k .weight → k < 64
+  weighed-small h = elim (decLt k 64) [
+    | yes s ↦ s
+    | no s ↦ absurd (omega (arith, lane-weighs h, ap (λ (l : Lane). l .given .weight) (far-lane t k (omega arith))))
+  ]
 
-  pub row-shared : k < 64 → presentAt (cells t) k ≡ true → settingAt (setupOf (meant t)) k .shared ≡ rowAt (cells t) k .shared
-  row-shared h e = lane-shared ∙ ap (λ (l : Lane). l .given .shared) (lane-is (cells t) _ k h) ∙ ap (λ (g : Setting). g .shared) (given-row (cells t) k e)
+  pub row-shared : 0 < settingAt (setupOf (meant t)) k .weight → settingAt (setupOf (meant t)) k .shared ≡ rowAt (cells t) k .shared
+  row-shared h =
+      let small = weighed-small h in
+      lane-shared
+      ∙ ap (λ (l : Lane). l .given .shared) (lane-is (cells t) _ k small)
+      ∙ ap (λ (g : Setting). g .shared) (given-row (cells t) k (weight-present (cells t) _ k small (lane-weighs h)))
 
 -- the setup that a table means, by a state that it encodes
 pub encodes-setup : (t : List ℕ) (s : State) → Encodes t s → setupOf (meant t) ≡ setupOf s

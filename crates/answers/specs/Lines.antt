@@ -1,15 +1,26 @@
 -- The line of a reply, by the setup in force: the rules' replies name a record's train in every lane, a line names it in a shared lane alone.
 --
+--   InSetup    a reply that hands out or shows a record names a lane of the setup
 --   inShared   the reply hands out or shows a record of a shared lane
 --   lineBy     the line of a reply
 --
 -- Assumes nothing.
-use Prim.Native.Nat.{ℕ}
+use Prim.Native.Nat.{ℕ, _<_}
 use mathlib.Core.Bool.{Bool, false}
 use mathlib.Core.List.{List}
 use Rattle.rules.specs.State.{Setting, settingAt}
 use Rattle.rules.specs.Calls.{Reply, accepted, taken, seen, words, lagged, restarted, refused}
 use Rattle.lines.specs.Line.{lineOf}
+
+-- so that what its row says of the lane means something: proofs/InSetup.antt shows it of every reply on a good table
+abbrev pub InSetup : List Setting → Reply → Type 0
+InSetup gs (accepted n) = Unit
+InSetup gs (taken j k m n) = 0 < settingAt gs j .weight
+InSetup gs (seen j k m n) = 0 < settingAt gs j .weight
+InSetup gs (words er ir eb ib) = Unit
+InSetup gs (lagged z) = Unit
+InSetup gs restarted = Unit
+InSetup gs (refused n p) = Unit
 
 -- R10.16
 abbrev pub inShared : List Setting → Reply → Bool

@@ -13,7 +13,7 @@ ghost use Rattle.choice.specs.Known.{Known};
 ghost use Rattle.engine.specs.Does.{Does};
 ghost use Rattle.requests.specs.Request.{callIs};
 ghost use Rattle.lines.specs.Line.{Words32, Line};
-ghost use Rattle.answers.specs.Lines.{lineBy};
+ghost use Rattle.answers.specs.Lines.{InSetup, lineBy};
 ghost use Rattle.answers.specs.Answers.{Made, Answers};
 use lines::put_accepted;
 use lines::put_lag;
@@ -24,7 +24,6 @@ use lines::put_sets;
 use lines::put_verb;
 use requests::Request;
 use rules::Answer;
-use table::present;
 use table::row;
 
 // How far the answers have come: the requests answered, and the place behind their lines.
@@ -53,25 +52,18 @@ fn call(t: &mut [u8], q: Request) -> Answer
     }
 }
 
-// Whether trains share a lane.
+// Whether trains share a lane of the setup.
 fn shared_lane(t: &[u8], lane: u8) -> bool
-    requires { ⌜ Room (now t) ⌝ }
+    requires { ⌜ Room (now t) × (0 < settingAt (setupOf (meant (now t))) lane .weight) ⌝ }
     ensures { λ r. ⌜ r ≡ settingAt (setupOf (meant (now (t .entry)))) lane .shared ⌝ }
 {
-    let k = lane as usize;
-    if 64 <= k {
-        return false;
-    }
-    if !present(t, k) {
-        return false;
-    }
-    let l = row(t, k);
+    let l = row(t, lane as usize);
     l.shared
 }
 
 // Writes the line of an answer: that of a record of a shared lane ends with the train.
 fn tell(t: &[u8], a: &mut [u8], at: usize, x: Answer) -> usize
-    requires { ⌜ Room (now t) × Words32 (reads x) × (at + 64 ≤ length (now a)) ⌝ }
+    requires { ⌜ Room (now t) × Words32 (reads x) × InSetup (setupOf (meant (now t))) (reads x) × (at + 64 ≤ length (now a)) ⌝ }
     ensures { λ r. ⌜ Line (now (a .entry)) (now (a .exit)) at (lineBy (setupOf (meant (now (t .entry)))) (reads x)) r ⌝ }
 {
     match x {

@@ -1,11 +1,9 @@
 -- `answer` meets its contract: the call, its line, and the table as `Made` as before. Assumes nothing.
-use mathlib.Core.Path.{refl, sym, subst}
-use Rattle.table.specs.Means.{meant}
-use Rattle.lines.specs.Line.{Words32}
+use mathlib.Core.Path.{refl}
 use Rattle.requests.specs.Request.{callIs}
 use Rattle.answers.proofs.Made.{reached-known, made-step}
 use Rattle.answers.proofs.Shared.{line-told}
-use Rattle.answers.proofs.Replies.{words32}
+use Rattle.answers.proofs.Replies.{told}
 use borrow.Author.Needs.{needs}
 use Rattle.answers.proofs.answer.Statement.{statement}
 use Rattle.answers.proofs.answer.Tie as tie
@@ -17,7 +15,8 @@ tell-requires : tie.Need-tell-requires
 tell-requires c κs =
     let s = c .before .before .before .before .before .before .before .before in
     let k = c .before .before .before .before .call in
-    (k .ensures .encodes .room, subst Words32 (sym (k .ensures .says)) (words32 (meant (s .args .t .now)) (callIs (s .args .q))), s .pre .1)
+    let fine = told (s .args .t .now) (reached-known _ (s .pre .0) .sound) (k .last .0) (callIs (s .args .q)) (k .result) (k .ensures .encodes) (k .ensures .says) in
+    (k .ensures .encodes .room, fine .0, fine .1, s .pre .1)
 
 add-answered : tie.Need-add-answered
 add-answered c = search needs

@@ -20,12 +20,12 @@ put-verb-requires : tie.Need-put-verb-requires
 put-verb-requires c κs = search needs
 
 shared-lane-requires : tie.Need-shared-lane-requires
-shared-lane-requires c κs = search needs
+shared-lane-requires c κs = (search needs, rw (c .before .before .before .before .before .before .x2 .given .1) at (c .before .before .before .before .before .before .before .before .before .before .pre .2))
 
 put-record-requires : tie.Need-put-record-requires
 put-record-requires c κs =
     let r = c .before .before .before .before .before .before .before .x2 .given .0 .0 in
-    record-fits false (c .shared-lane .result) (r .lane) (r .train) (r .mark) (r .length .0) (search needs, search needs, search needs, search needs) (c .before .before .before .before .put-verb .ensures) (c .before .before .before .before .before .before .before .before .before .before .before .pre .2)
+    record-fits false (c .shared-lane .result) (r .lane) (r .train) (r .mark) (r .length .0) (search needs, search needs, search needs, search needs) (c .before .before .before .before .put-verb .ensures) (c .before .before .before .before .before .before .before .before .before .before .before .pre .3)
 
 enum-known-x-3 : tie.Need-enum-known-x-3
 enum-known-x-3 c = search needs
@@ -34,18 +34,18 @@ put-verb-requires-2 : tie.Need-put-verb-requires-2
 put-verb-requires-2 c κs = search needs
 
 shared-lane-requires-2 : tie.Need-shared-lane-requires-2
-shared-lane-requires-2 c κs = search needs
+shared-lane-requires-2 c κs = (search needs, rw (c .before .before .before .before .before .before .x3 .given .1) at (c .before .before .before .before .before .before .before .before .before .before .pre .2))
 
 put-record-requires-2 : tie.Need-put-record-requires-2
 put-record-requires-2 c κs =
     let r = c .before .before .before .before .before .before .before .x3 .given .0 .0 in
-    record-fits true (c .shared-lane2 .result) (r .lane) (r .train) (r .mark) (r .length .0) (search needs, search needs, search needs, search needs) (c .before .before .before .before .put-verb2 .ensures) (c .before .before .before .before .before .before .before .before .before .before .before .pre .2)
+    record-fits true (c .shared-lane2 .result) (r .lane) (r .train) (r .mark) (r .length .0) (search needs, search needs, search needs, search needs) (c .before .before .before .before .put-verb2 .ensures) (c .before .before .before .before .before .before .before .before .before .before .before .pre .3)
 
 enum-known-x-4 : tie.Need-enum-known-x-4
 enum-known-x-4 c = search needs
 
 put-sets-requires : tie.Need-put-sets-requires
-put-sets-requires c κs = (rw (c .before .before .x4 .given .1) at (c .before .before .before .before .before .before .pre .1), c .before .before .before .before .before .before .pre .2)
+put-sets-requires c κs = (rw (c .before .before .x4 .given .1) at (c .before .before .before .before .before .before .pre .1), c .before .before .before .before .before .before .pre .3)
 
 enum-known-x-5 : tie.Need-enum-known-x-5
 enum-known-x-5 c = search needs
