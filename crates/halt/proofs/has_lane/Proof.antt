@@ -23,9 +23,9 @@ numbers-are-requires c κs = search needs
 
 returns-2 : tie.Need-returns-2
 returns-2 c =
-    let s = c .before .before .before .before .before .before .before in
-    let p = c .before .before .before .before in
-    let r = c .before .before .before .row in
+    let s = c .before .before .before .before .before in
+    let p = c .before .before in
+    let r = c .before .row in
     row-says (s .args .t .now) (s .args .k) (s .args .weight) (s .pre .1) (sym (p .before .present .ensures) ∙ not-false (p .before .present .result) (p .if1 .left))
     (r .result) (r .ensures .0) (c .numbers-are .result) (c .numbers-are .ensures)
 

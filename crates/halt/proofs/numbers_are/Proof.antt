@@ -17,8 +17,8 @@ returns-3 c = λ e. c .if3 .taken (ap (λ (x : Setting). x .longest) e)
 
 returns-4 : tie.Need-returns-4
 returns-4 c =
-    let a = c .before .before .before .before .before .before .args in
-    lane-last (a .weight) (a .longest) (a .framing) (a .shared) (a .wanted) (c .before .before .before .before .before .if1 .left) (c .before .before .before .if2 .left) (c .before .if3 .left)
+    let a = c .before .before .before .args in
+    lane-last (a .weight) (a .longest) (a .framing) (a .shared) (a .wanted) (c .before .before .if1 .left) (c .before .if2 .left) (c .if3 .left)
 
 pub numbers-are-spec : {M : Type 1} → statement M
 numbers-are-spec = tie.close (tie.spec returns returns-2 returns-3 returns-4)
