@@ -9,7 +9,7 @@
 
 #include "zenfrosta.h"
 
-#define MOST 24576 /* the header: less than 24 KiB */
+#define MOST 4096 /* the header: less than 4 KiB */
 #define PAINT 0xA5
 
 static uint8_t stack[262144] __attribute__((aligned(64)));

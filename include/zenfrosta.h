@@ -11,7 +11,7 @@
  * A byte area is a pointer and its length in bytes. Any bytes are allowed in it, at any address. What the host must see to: a pointer may be
  * read (and written, where it is not const) over its whole length and is not null, also where the length is 0; areas of one call do not overlap;
  * no other thread uses them during the call; a length is at most PTRDIFF_MAX. The library keeps no pointer, has no state of its own, takes no
- * memory from a heap, and calls nothing but the C library's memcpy and memset. On x86-64 a call uses less than 24 KiB of stack (hosts/stack.c measures it).
+ * memory from a heap, and calls nothing but the C library's memcpy and memset. On x86-64 a call uses less than 4 KiB of stack (hosts/stack.c measures it).
  */
 #ifndef ZENFROSTA_H
 #define ZENFROSTA_H

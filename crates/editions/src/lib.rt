@@ -13,7 +13,8 @@ ghost use Prim.Native.Nat.{_<_};
 ghost use Rattle.rules.specs.Setup.{Setup};
 ghost use Rattle.plan.specs.Judge.{knownFormat};
 ghost use Rattle.plan.specs.Read.{settings};
-ghost use Rattle.plan_writer.specs.Write.{planned};
+ghost use Rattle.plan_writer.specs.Write.{planned, Within};
+ghost use Rattle.plan_area.specs.Area.{Gives};
 ghost use Rattle.editions.specs.Part.{Room, lastIn, newIn, planOf, Fits, Stores};
 use plan::Plan;
 use plan_area::plan_in;
@@ -47,7 +48,7 @@ pub fn new(p: &[u8]) -> u64
 // The plan of the page that waits; any plan, in or out of the numbers, where none does.
 pub fn plan(p: &[u8]) -> Plan
     requires { ⌜ Room (now p) ⌝ }
-    ensures { λ r. ⌜ (planned r ≡ planOf (now (p .entry))) × (settings r ≡ planOf (now (p .entry)) .lanes) ⌝ }
+    ensures { λ r. ⌜ Gives (planOf (now (p .entry))) (planned r) × (Within (planOf (now (p .entry))) → settings r ≡ planOf (now (p .entry)) .lanes) ⌝ }
 {
     plan_in(&p[PLAN..])
 }

@@ -33,7 +33,7 @@ pub makes-sound : (t₀ t : List ℕ) (gs : List Setting) → Room t → Makes t
 makes-sound t₀ t gs room m = record { room = room; beside = m .beside }
 
 abbrev pub none : plan.Lane
-none = record { weight = 0; longest = record { 0 = 0 }; framing = record { 0 = 0 }; shared = false }
+none = record { weight = 0; longest = 0; framing = 0; shared = false }
 
 module _ (lanes : List plan.Lane) (t₀ t : List ℕ) (k : ℕ) (hk : k < 64) (m : Makes t₀ t (upTo k (settings lanes))) where
   at : settingAt (settings lanes) k ≡ settingOf (getD lanes k none)
@@ -68,7 +68,7 @@ module _ (lanes : List plan.Lane) (s : Setup (settings lanes)) where
   lane-at : (k : ℕ) → settingAt (settings lanes) k ≡ settingOf (getD lanes k none)
   lane-at k = List·getD-map settingOf lanes k none
 
-  pub found-framing : (k : ℕ) → (getD lanes k none .weight ≡ 0 → ⊥) → FramedBy (getD lanes k none .framing .0) (settings lanes)
+  pub found-framing : (k : ℕ) → (getD lanes k none .weight ≡ 0 → ⊥) → FramedBy (getD lanes k none .framing) (settings lanes)
   found-framing k ne j w =
       let here : 0 < settingAt (settings lanes) k .weight = omega (arith, ap (λ (g : Setting). g .weight) (lane-at k), pos-of-ne-zero ne) in
       s .framed j w ∙ sym (s .framed k here) ∙ ap (λ (g : Setting). g .framing) (lane-at k)
@@ -86,13 +86,13 @@ module _ (lanes : List plan.Lane) (s : Setup (settings lanes)) where
 
   module _ (h : ℕ) (f : FramedBy h (settings lanes)) (k : ℕ) (ne : getD lanes k none .weight ≡ 0 → ⊥) where
     abbrev framed : Setting
-    framed = record { weight = getD lanes k none .weight; longest = getD lanes k none .longest .0; framing = h; shared = getD lanes k none .shared }
+    framed = record { weight = getD lanes k none .weight; longest = getD lanes k none .longest; framing = h; shared = getD lanes k none .shared }
 
     weighs : 0 < settingAt (settings lanes) k .weight
     weighs = omega (arith, ap (λ (g : Setting). g .weight) (lane-at k), pos-of-ne-zero ne)
 
     same : settingOf (getD lanes k none) ≡ framed
-    same = ap (λ (x : ℕ). record { weight = getD lanes k none .weight; longest = getD lanes k none .longest .0; framing = x; shared = getD lanes k none .shared }) (sym (ap (λ (g : Setting). g .framing) (lane-at k)) ∙ f k weighs)
+    same = ap (λ (x : ℕ). record { weight = getD lanes k none .weight; longest = getD lanes k none .longest; framing = x; shared = getD lanes k none .shared }) (sym (ap (λ (g : Setting). g .framing) (lane-at k)) ∙ f k weighs)
 
     pub framed-most : h ≤ 64
     framed-most = omega (arith, framing-most (settings lanes) s k, f k weighs)

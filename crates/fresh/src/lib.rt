@@ -80,7 +80,7 @@ fn line_framing(lanes: [Lane; LANES]) -> Bytes
     while k < LANES {
         let g = lanes[k];
         if g.weight != 0 {
-            return g.framing;
+            return Bytes(g.framing as u64);
         }
         k += 1;
     }
@@ -98,7 +98,7 @@ pub fn write(t: &mut [u8], lanes: [Lane; LANES])
     while k < LANES {
         let g = lanes[k];
         if g.weight != 0 {
-            add_lane(t, k, h, g.weight, g.longest, g.shared);
+            add_lane(t, k, h, g.weight as u64, Bytes(g.longest as u64), g.shared);
         }
         k += 1;
     }

@@ -138,7 +138,7 @@ four-say gs s e f g b h = says-iff b (λ last. by-four gs s (record { lane-0 = e
 
 module _ (lanes : List Lane) where
   abbrev none : Lane
-  none = record { weight = 0; longest = record { 0 = 0 }; framing = record { 0 = 0 }; shared = false }
+  none = record { weight = 0; longest = 0; framing = 0; shared = false }
 
   pub lane-says : (k w : ℕ) (b : Bool) → Says b (settingOf (getD lanes k none) ≡ haltLane w) → Says b (settingAt (map settingOf lanes) k ≡ haltLane w)
   lane-says k w b h =

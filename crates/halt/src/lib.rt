@@ -39,20 +39,33 @@ pub enum Making {
     Refused(Refusal),
 }
 
-// Whether a lane is one of the halt's, of a weight.
+// Whether a lane's numbers are those of the halt's lane of a weight.
+fn numbers_are(weight: u64, longest: u64, framing: u64, shared: bool, wanted: u64) -> bool
+    ensures { λ r. ⌜ Says r (record { weight = weight; longest = longest; framing = framing; shared = shared } ≡ haltLane wanted) ⌝ }
+{
+    if shared {
+        return false;
+    }
+    if weight != wanted {
+        return false;
+    }
+    if longest != LONGEST {
+        return false;
+    }
+    framing == 0
+}
+
+// Whether a lane of a plan is one of the halt's, of a weight.
 fn lane_is(g: Lane, weight: u64) -> bool
     ensures { λ r. ⌜ Says r (settingOf g ≡ haltLane weight) ⌝ }
 {
-    if g.shared {
-        return false;
-    }
-    if g.weight != weight {
-        return false;
-    }
-    if g.longest.0 != LONGEST {
-        return false;
-    }
-    g.framing.0 == 0
+    numbers_are(
+        g.weight as u64,
+        g.longest as u64,
+        g.framing as u64,
+        g.shared,
+        weight,
+    )
 }
 
 // Whether the lanes of a setup are the halt's.
@@ -100,17 +113,7 @@ fn has_lane(t: &[u8], k: usize, weight: u64) -> bool
         return false;
     }
     let l = row(t, k);
-    let longest = l.longest;
-    let framing = l.framing;
-    lane_is(
-        Lane {
-            weight: l.weight,
-            longest,
-            framing,
-            shared: l.shared,
-        },
-        weight,
-    )
+    numbers_are(l.weight, l.longest.0, l.framing.0, l.shared, weight)
 }
 
 // Whether a good table is the halt's: of its setup, and with no page that waits. Of bytes that are no good table it says nothing; the scheduler's calls find

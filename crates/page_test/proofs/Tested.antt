@@ -8,6 +8,7 @@ use native.Mathlib.Omega.{arith}
 use Rattle.rules.specs.Setup.{Setup}
 use Rattle.pages.specs.Device.{Page}
 use Rattle.plan_writer.specs.Write.{Planned, Within, Tells}
+use Rattle.plan_area.specs.Area.{Gives}
 use Rattle.lane_test.specs.Says.{Says}
 use Rattle.editions.specs.Part.{lastIn, newIn, planOf, waitingIn, GoodWait, GoodPart}
 use Rattle.editions.proofs.Stored.{waits-none, waits-some}
@@ -45,6 +46,6 @@ module _ (held : Bool) (p : List ℕ) where
       unmade : GoodPart held p → Within (planOf p)
       unmade g = record { format = g .fits .format ne; setup = good-some g .1; count = refl }
 
-      pub plan-tells : (b : Bool) (q : Planned) → q ≡ planOf p → Tells b (Within q) → Says b (GoodPart held p)
-      plan-tells true q e t = made (subst Within e (t .yes refl))
-      plan-tells false q e t = λ g. t .no refl (subst Within (sym e) (unmade g))
+      pub plan-tells : (b : Bool) (q : Planned) → Gives (planOf p) q → Tells b (Within q) → Says b (GoodPart held p)
+      plan-tells true q e t = made (e .within (t .yes refl))
+      plan-tells false q e t = λ g. let w = unmade g in t .no refl (subst Within (sym (e .same w)) w)

@@ -8,6 +8,7 @@ use native.Mathlib.Omega.{arith}
 use Rattle.rules.specs.State.{Setting, State, anyHolds}
 use Rattle.rules.specs.Setup.{Setup}
 use Rattle.pages.specs.Device.{Page, Device, inForceOf, settledDevice}
+use Rattle.plan_writer.specs.Write.{Within}
 use Rattle.editions.specs.Part.{lastIn, newIn, planOf, waitingIn}
 use Rattle.editions.proofs.Stored.{waits-none, waits-some}
 use Rattle.table.specs.Means.{meant}
@@ -38,6 +39,12 @@ module _ (t : List ℕ) (r : Rests t) where
 
   pub ready-plan : (newIn (partOf t) ≡ 0 → ⊥) → Setup (planOf (partOf t) .lanes)
   ready-plan ne = subst Ready (waits-some (partOf t) ne) (r .page)
+
+  -- so it is read whole, from the part as it is lent
+  pub ready-lanes : (newIn (partOf t) ≡ 0 → ⊥) → (gs : List Setting) (p : List ℕ) → p ≡ partOf t → (Within (planOf p) → gs ≡ planOf p .lanes) → gs ≡ planOf (partOf t) .lanes
+  ready-lanes ne gs p e f =
+      let within : Within (planOf (partOf t)) = record { format = r .fits .format ne; setup = ready-plan ne; count = refl } in
+      subst (λ (q : List ℕ). Within (planOf q) → gs ≡ planOf q .lanes) e f within
 
   pub settled-held : anyHolds (meant t .lanes) ≡ true → Leads t t (settledDevice (meant t) (lastIn (partOf t)) (waitingIn (partOf t)))
   settled-held h = subst (Leads t t) (sym (waits-on (meant t) (lastIn (partOf t)) (waitingIn (partOf t)) h)) stays

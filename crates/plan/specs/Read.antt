@@ -78,7 +78,7 @@ readSetup s = closed s (readPlan s 0)
 
 -- A lane of a plan, as the rules have it.
 abbrev pub settingOf : lane.Lane → Setting
-settingOf l = record { weight = l .weight; longest = l .longest .0; framing = l .framing .0; shared = l .shared }
+settingOf l = record { weight = l .weight; longest = l .longest; framing = l .framing; shared = l .shared }
 
 -- A plan's lanes, by number.
 abbrev pub settings : Plan → List Setting

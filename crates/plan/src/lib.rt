@@ -8,7 +8,7 @@
 // The walk moves by fields, and nothing is written but the plan, which is answered by value. `read_plan` and `read_setup` take any bytes and any place.
 // What they answer is `readPlan` and `readSetup` of specs/Read.antt, and specs/Promises.antt says that exactly the setups within the numbers are read.
 //
-// Units: a place is a number of bytes from the first byte of the input, a length a number of bytes, a longest is in `Bytes`; weights are plain numbers.
+// Units: a place is a number of bytes from the first byte of the input, a length, a longest and the framing bytes are numbers of bytes; weights are plain numbers.
 ghost use mathlib.Core.Path.{_≡_};
 ghost use mathlib.Core.List.{map};
 ghost use Rattle.plan.specs.Judge.{given, Inside, Numbered};
@@ -23,16 +23,17 @@ use parse::LaneField;
 use parse::Parsed;
 use parse::SetupField;
 use rules::Refusal;
-use units::Bytes;
 
 // R1.1: how many lane numbers there are.
 pub const LANES: usize = 64;
 
 // What a setup gives a lane, the line's framing bytes among it, and whether trains share it. Weight 0: the lane is not in the setup, and has none.
+//
+// The numbers are as wide as in a setup's fields and no wider: a plan is passed by value, so its size is what a call of the library needs of the stack.
 pub struct Lane {
-    pub weight: u64,
-    pub longest: Bytes,
-    pub framing: Bytes,
+    pub weight: u16,
+    pub longest: u16,
+    pub framing: u8,
     pub shared: bool,
 }
 
@@ -61,9 +62,9 @@ fn lane_of(l: LaneField, format: u16, framing: u8) -> Lane
 {
     let longest = l.longest;
     Lane {
-        weight: l.weight as u64,
-        longest: Bytes(judge::longest_of(format, longest) as u64),
-        framing: Bytes(framing as u64),
+        weight: l.weight,
+        longest: judge::longest_of(format, longest),
+        framing,
         shared: false,
     }
 }
@@ -73,8 +74,8 @@ pub fn no_lanes() -> [Lane; LANES]
 {
     [Lane {
         weight: 0,
-        longest: Bytes(0),
-        framing: Bytes(0),
+        longest: 0,
+        framing: 0,
         shared: false,
     }; LANES]
 }

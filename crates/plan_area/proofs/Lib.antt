@@ -1,3 +1,4 @@
+pub mod Narrow
 pub mod Filled
 pub mod Stored
 pub mod Shown

@@ -23,7 +23,7 @@ use Rattle.plan_writer.specs.Write.{Planned, Writes}
 use Rattle.plan_writer.specs.declared.Written.{Written}
 use Rattle.plan_writer.specs.declared.Written.the-variants as written
 use Rattle.plan_writer.specs.declared.Unwritten.the-variants.{Outside}
-use Rattle.plan_area.specs.Area.{Room, planIn, Shows, AreaWithin}
+use Rattle.plan_area.specs.Area.{Room, planIn, Gives, Shows, AreaWithin}
 use Rattle.plan_area.specs.Step.{Follows, ReadStep, WriteStep}
 use Rattle.plan_area.specs.declared.Got.the-variants.{Lanes, Refused}
 
@@ -57,11 +57,11 @@ module _ (area before : List ℕ) where
   pub write-short : length area < 65 * 8 → WriteStep area before (written.Refused Outside) before
   write-short h = not-within (λ w. omega (arith, w .room, h))
 
-  pub write-plan : Room area → (p : Planned) → p ≡ planIn area → (a : Written) (after : List ℕ) → Writes p before a after → WriteStep area before a after
-  write-plan room p is a after h =
-      let w : Writes (planIn area) before a after = subst (λ (x : Planned). Writes x before a after) is h in
+  pub write-plan : Room area → (p : Planned) → Gives (planIn area) p → (a : Written) (after : List ℕ) → Writes p before a after → WriteStep area before a after
+  write-plan room p g a after h =
+      let own : AreaWithin area → Writes (planIn area) before a after = λ v. subst (λ (x : Planned). Writes x before a after) (g .same (v .plan)) h in
       record {
-        outside = λ o. w .outside (λ v. o (record { room = room; plan = v }));
-        short = λ v l. w .short (v .plan) l;
-        written = λ v l. w .written (v .plan) l;
+        outside = λ o. h .outside (λ v. o (record { room = room; plan = g .within v }));
+        short = λ v l. own v .short (v .plan) l;
+        written = λ v l. own v .written (v .plan) l;
       }

@@ -3,6 +3,7 @@
 --   Room        long enough
 --   formatIn, framingIn, laneIn   the numbers of an area; settingIn: those of a lane's word
 --   planIn      the plan that an area is, in or out of the numbers
+--   narrowed    what a plan of the code has of a lane; Gives: what it has of the whole plan
 --   Shows       the words of an area that shows a plan
 --   AreaWithin  an area that is a plan within the numbers
 --
@@ -11,7 +12,7 @@ use Prim.Native.Nat.{ℕ, _+_, _-_, _*_, _/_, _%_, _≤_, _<_}
 use mathlib.Core.Path.{_≡_}
 use mathlib.Core.Bool.{Bool}
 use mathlib.Core.List.{List}
-use lib.Dec.{eqb}
+use lib.Dec.{eqb, ltb}
 use lib.ListN.{length}
 use Rattle.units.specs.Plain.{if_then_else_}
 use Rattle.rules.specs.State.{Setting, settingAt}
@@ -54,6 +55,20 @@ lanesIn a = tab 64 (laneIn a)
 
 abbrev pub planIn : List ℕ → Planned
 planIn a = record { format = formatIn a; lanes = lanesIn a; count = present (lanesIn a) }
+
+-- ---- what the code's plan has of them
+
+-- It has two bytes for a longest and one for the framing bytes. A greater number counts as the greatest that fits, which is outside the numbers too.
+abbrev pub fitted : ℕ → ℕ → ℕ
+fitted most n = if ltb most n then most else n
+
+abbrev pub narrowed : Setting → Setting
+narrowed g = record { weight = g .weight; longest = fitted 65535 (g .longest); framing = fitted 255 (g .framing); shared = g .shared }
+
+-- So a plan within the numbers is had whole, and what is had of one outside them is outside them.
+pub record Gives (whole had : Planned) : Type 0 where
+  pub same : Within whole → had ≡ whole
+  pub within : Within had → Within whole
 
 -- ---- the words of a plan
 

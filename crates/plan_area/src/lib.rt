@@ -14,8 +14,8 @@ ghost use Prim.Native.Nat.{_*_, _≤_, _<_};
 ghost use lib.ListN.{length, drop};
 ghost use Rattle.rules.specs.Setup.{Setup};
 ghost use Rattle.plan.specs.Read.{settingOf, settings};
-ghost use Rattle.plan_writer.specs.Write.{planned, Either};
-ghost use Rattle.plan_area.specs.Area.{Room, formatIn, longestIn, settingIn, planIn, sharedPart, laneWord, Shows};
+ghost use Rattle.plan_writer.specs.Write.{planned};
+ghost use Rattle.plan_area.specs.Area.{Room, formatIn, longestIn, settingIn, planIn, fitted, narrowed, Gives, sharedPart, laneWord, Shows};
 ghost use Rattle.plan_area.specs.Step.{ReadStep, WriteStep};
 use plan::LANES;
 use plan::Lane;
@@ -24,7 +24,6 @@ use plan::Plan;
 use plan_writer::Unwritten;
 use plan_writer::Written;
 use rules::Refusal;
-use units::Bytes;
 use words::set_word;
 use words::word;
 
@@ -35,6 +34,11 @@ pub const SIZE: usize = 520;
 const UNIT: u64 = 65536;
 
 const SHARED_UNIT: u64 = 4294967296;
+
+// The greatest longest and the greatest framing number that a plan has room for. Both are outside the numbers.
+const MOST_LONGEST: u64 = 65535;
+
+const MOST_FRAMING: u64 = 255;
 
 // What came of reading a setup into an area.
 pub enum Got {
@@ -52,26 +56,34 @@ fn longest_in(w: u64) -> u64
     w / UNIT
 }
 
+// What a plan has of a number that may be too great for it.
+fn fitted(most: u64, n: u64) -> u64
+    ensures { λ r. ⌜ (r ≡ fitted most n) × (r ≤ most) ⌝ }
+{
+    if most < n { most } else { n }
+}
+
 // The lane of a word, on a line with `h` framing bytes.
 fn lane_in(w: u64, h: u64) -> Lane
-    ensures { λ r. ⌜ settingOf r ≡ settingIn h w ⌝ }
+    ensures { λ r. ⌜ settingOf r ≡ narrowed (settingIn h w) ⌝ }
 {
-    let weight = w % UNIT;
-    let longest = longest_in(w);
+    let weight = (w % UNIT) as u16;
+    let longest = fitted(MOST_LONGEST, longest_in(w)) as u16;
     let shared = w / SHARED_UNIT == 1;
     if weight == 0 {
         return Lane {
-            weight: weight,
-            longest: Bytes(longest),
-            framing: Bytes(0),
-            shared: shared,
+            weight,
+            longest,
+            framing: 0,
+            shared,
         };
     }
+    let framing = fitted(MOST_FRAMING, h) as u8;
     Lane {
-        weight: weight,
-        longest: Bytes(longest),
-        framing: Bytes(h),
-        shared: shared,
+        weight,
+        longest,
+        framing,
+        shared,
     }
 }
 
@@ -82,10 +94,10 @@ fn format_in(area: &[u8]) -> u16
     (word(area, 0) % UNIT) as u16
 }
 
-// The plan of an area, in or out of the numbers.
+// The plan of an area, in or out of the numbers: whole where it is within them, and outside them where it is not.
 pub fn plan_in(area: &[u8]) -> Plan
     requires { ⌜ Room (now area) ⌝ }
-    ensures { λ r. ⌜ (planned r ≡ planIn (now (area .entry))) × (length (settings r) ≡ 64) ⌝ }
+    ensures { λ r. ⌜ Gives (planIn (now (area .entry))) (planned r) × (length (settings r) ≡ 64) ⌝ }
 {
     let format = format_in(area);
     let h = word(area, 0) / UNIT;
@@ -114,10 +126,9 @@ fn shared_part(shared: bool) -> u64
 }
 
 fn lane_word(l: Lane) -> u64
-    requires { ⌜ Either (settingOf l) ⌝ }
     ensures { λ r. ⌜ r ≡ laneWord (settingOf l) ⌝ }
 {
-    l.weight + UNIT * l.longest.0 + shared_part(l.shared)
+    l.weight as u64 + UNIT * (l.longest as u64) + shared_part(l.shared)
 }
 
 // Stores a plan that was read.
@@ -127,7 +138,7 @@ pub fn store(area: &mut [u8], plan: Plan)
 {
     let format = plan.format as u64;
     let lanes = plan.lanes;
-    let h = plan_writer::line_framing(lanes);
+    let h = plan_writer::line_framing(lanes) as u64;
     set_word(area, 0, format + UNIT * h);
     let mut k = 0usize;
     while k < LANES {

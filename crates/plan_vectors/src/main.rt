@@ -163,9 +163,9 @@ fn print_refused(x: Refusal) {
 fn print_lane(k: usize, l: Lane) {
     if l.weight != 0 {
         print_number(b" ", k as u64);
-        print_number(b"/", l.weight);
-        print_number(b"/", l.longest.0);
-        print_number(b"/", l.framing.0);
+        print_number(b"/", l.weight as u64);
+        print_number(b"/", l.longest as u64);
+        print_number(b"/", l.framing as u64);
         if l.shared {
             io::write_all(STDOUT_FILENO, b"/shared");
         }

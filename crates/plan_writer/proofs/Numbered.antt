@@ -39,7 +39,7 @@ numbered-all gs e = ext-getD noSetting (numbered gs) gs (numbered-size gs ∙ sy
 
 -- an absent lane, as the code's struct has it
 abbrev pub none : plan.Lane
-none = record { weight = 0; longest = record { 0 = 0 }; framing = record { 0 = 0 }; shared = false }
+none = record { weight = 0; longest = 0; framing = 0; shared = false }
 
 module _ (lanes : List plan.Lane) (k : ℕ) (h : k < 64) where
   pub lane-at : settingAt (numbered (map settingOf lanes)) k ≡ settingOf (getD lanes k none)

@@ -23,7 +23,11 @@ ghost use Rattle.plan_writer.specs.Write.{planned, numbered, Within, Eit
 use plan::LANES;
 use plan::Lane;
 use plan::Plan;
+use plan::judge::LEAST_LONGEST;
+use plan::judge::MOST_FRAMING;
+use plan::judge::MOST_LONGEST;
 use plan::judge::MOST_TOTAL;
+use plan::judge::MOST_WEIGHT;
 use plan::judge::known_format;
 use plan::parse::END;
 use plan::parse::FORMAT;
@@ -31,17 +35,8 @@ use plan::parse::FRAMING;
 use plan::parse::LANE;
 use plan::parse::SHARED;
 
-// The reader's numbers, as wide as a plan's.
-const MOST_WEIGHT: u64 = plan::judge::MOST_WEIGHT as u64;
-
-const LEAST_LONGEST: u64 = plan::judge::LEAST_LONGEST as u64;
-
-const MOST_LONGEST: u64 = plan::judge::MOST_LONGEST as u64;
-
-const MOST_FRAMING: u64 = plan::judge::MOST_FRAMING as u64;
-
 // Of no framing bytes 0x11 is left out.
-const NO_FRAMING: u64 = 0;
+const NO_FRAMING: u8 = 0;
 
 // The bytes of 0x01 and of 0x7F together, of 0x11, of a lane's field, and of 0x12.
 const ENDS_SIZE: usize = 8;
@@ -67,14 +62,14 @@ pub enum Written {
 }
 
 // The greatest of the lanes' framing numbers. In a plan within the numbers every lane that is there has it.
-pub fn line_framing(lanes: [Lane; LANES]) -> u64
+pub fn line_framing(lanes: [Lane; LANES]) -> u8
     ensures { λ r. ⌜ r ≡ framingOf (numbered (map settingOf lanes)) ⌝ }
 {
-    let mut h = 0u64;
+    let mut h = 0u8;
     let mut k = 0usize;
     while k < LANES {
         let l = lanes[k];
-        let framing = l.framing.0;
+        let framing = l.framing;
         if h < framing {
             h = framing;
         }
@@ -100,12 +95,12 @@ pub fn shared_lanes(lanes: [Lane; LANES]) -> usize
 }
 
 // A lane that is in the numbers, on a line with `h` framing bytes, or not there.
-fn lane_within(l: Lane, h: u64) -> bool
+fn lane_within(l: Lane, h: u8) -> bool
     ensures { λ r. ⌜ Tells r (Fitting h (settingOf l)) ⌝ }
 {
     let weight = l.weight;
-    let longest = l.longest.0;
-    let framing = l.framing.0;
+    let longest = l.longest;
+    let framing = l.framing;
     if weight == 0 {
         if longest != 0 {
             return false;
@@ -148,7 +143,7 @@ pub fn within(plan: Plan) -> bool
             return false;
         }
         if l.weight != 0 {
-            total += l.weight;
+            total += l.weight as u64;
             there += 1;
         }
         k += 1;
@@ -175,18 +170,18 @@ fn put_format(a: &mut [u8], format: u16)
 }
 
 // 0x11 with the line's framing bytes.
-fn put_framing_field(a: &mut [u8], at: usize, h: u64)
+fn put_framing_field(a: &mut [u8], at: usize, h: u8)
     requires { ⌜ (at + 4 ≤ length (now a)) × (h ≤ 64) ⌝ }
     ensures { λ _. ⌜ now (a .exit) ≡ sets (now (a .entry)) at (fieldBytes (Framing h)) ⌝ }
 {
     a[at] = FRAMING;
     a[at + 1] = 0;
     a[at + 2] = 1;
-    a[at + 3] = h as u8;
+    a[at + 3] = h;
 }
 
 // Writes 0x11 where the line has framing bytes, and answers the place behind it.
-fn put_framing(a: &mut [u8], at: usize, h: u64) -> usize
+fn put_framing(a: &mut [u8], at: usize, h: u8) -> usize
     requires { ⌜ (at + framingSize h ≤ length (now a)) × (h ≤ 64) ⌝ }
     ensures { λ r. ⌜ (now (a .exit) ≡ sets (now (a .entry)) at (framingBytes h)) × (r ≡ at + framingSize h) ⌝ }
 {
@@ -198,7 +193,7 @@ fn put_framing(a: &mut [u8], at: usize, h: u64) -> usize
 }
 
 // Writes 0x10 of lane `k`, its longest written out.
-fn put_lane(a: &mut [u8], at: usize, k: usize, weight: u64, longest: u64)
+fn put_lane(a: &mut [u8], at: usize, k: usize, weight: u16, longest: u16)
     requires { ⌜ (at + 8 ≤ length (now a)) × (k < 64) × (weight ≤ 1024) × (longest ≤ 1500) ⌝ }
     ensures { λ _. ⌜ now (a .exit) ≡ sets (now (a .entry)) at (ownBytes k (record { weight = weight; longest = longest; framing = 0; shared = false })) ⌝ }
 {
@@ -225,10 +220,10 @@ fn put_shared(a: &mut [u8], at: usize, k: usize)
 
 // Writes the fields of lane `k`, and answers the place behind them.
 fn put_fields(a: &mut [u8], at: usize, k: usize, l: Lane) -> usize
-    requires { ⌜ (at + laneSize (settingOf l) ≤ length (now a)) × (k < 64) × (l .weight ≤ 1024) × (l .longest .0 ≤ 1500) ⌝ }
+    requires { ⌜ (at + laneSize (settingOf l) ≤ length (now a)) × (k < 64) × (l .weight ≤ 1024) × (l .longest ≤ 1500) ⌝ }
     ensures { λ r. ⌜ (now (a .exit) ≡ sets (now (a .entry)) at (laneBytes k (settingOf l))) × (r ≡ at + laneSize (settingOf l)) ⌝ }
 {
-    put_lane(a, at, k, l.weight, l.longest.0);
+    put_lane(a, at, k, l.weight, l.longest);
     if l.shared {
         put_shared(a, at + LANE_SIZE, k);
         return at + LANE_SIZE + SHARED_SIZE;
@@ -264,7 +259,7 @@ fn put_end(a: &mut [u8], at: usize)
 }
 
 // Writes the setup of a plan's lanes in a format, on a line with `h` framing bytes.
-fn put_setup(a: &mut [u8], format: u16, h: u64, lanes: [Lane; LANES])
+fn put_setup(a: &mut [u8], format: u16, h: u8, lanes: [Lane; LANES])
     requires { ⌜ ((k : ℕ) → Fitting h (settingAt (numbered (map settingOf lanes)) k)) × (h ≤ 64) × (8 + framingSize h + 8 * present (numbered (map settingOf lanes)) + 4 * shareds (numbered (map settingOf lanes)) ≤ length (now a)) ⌝ }
     ensures { λ _. ⌜ now (a .exit) ≡ sets (now (a .entry)) 0 (bytesOf (setupFields format (unlessZero h) (laneFields 0 (numbered (map settingOf lanes))))) ⌝ }
 {
@@ -274,7 +269,7 @@ fn put_setup(a: &mut [u8], format: u16, h: u64, lanes: [Lane; LANES])
     put_end(a, next);
 }
 
-fn framing_size(h: u64) -> usize
+fn framing_size(h: u8) -> usize
     ensures { λ r. ⌜ r ≡ framingSize h ⌝ }
 {
     if h == NO_FRAMING { 0 } else { FRAMING_SIZE }

@@ -38,6 +38,7 @@ pub record TakenRow (seen : Seen) (r : Row) : Type 0 where
   pub number : r .lane .value ≤ 63
   pub weight-low : 1 ≤ r .weight .value
   pub weight-high : r .weight .value ≤ 1024
+  pub longest-high : r .longest .value ≤ 1500
   pub inside : laneOutside (fieldOf r) ≡ NoFault
   pub rising : ltb (r .lane .value) (seen .floor) ≡ false
   pub under : over seen (Lane (fieldOf r)) ≡ NoFault
@@ -77,6 +78,7 @@ module _ (seen : Seen) (r : Row) where
         number = leb-true (r .lane .value) 63 p;
         weight-low = leb-true 1 (r .weight .value) (w .0);
         weight-high = leb-true (r .weight .value) 1024 (w .1);
+        longest-high = leb-true (r .longest .value) 1500 (and-true (leb 64 (r .longest .value)) (leb (r .longest .value) 1500) s .1);
         inside = rw (p, q, s);
         rising = t;
         under = rw u;

@@ -7,7 +7,7 @@
 // `read_sheet` takes any bytes. What it answers is `readSheet` of specs/Read.antt, and specs/Promises.antt says which sheets are read, and what 80 and 81
 // say of the sheets of the form. The plan is of format 2 and has no framing bytes and no shared lane.
 //
-// Units: a place is a number of bytes from the first byte of the sheet, a longest is in `Bytes`; weights are plain numbers.
+// Units: a place is a number of bytes from the first byte of the sheet, a longest a number of bytes; weights are plain numbers.
 ghost use mathlib.Core.Path.{_≡_};
 ghost use mathlib.Core.List.{map};
 ghost use Prim.Native.Nat.{_≤_, _<_};
@@ -33,7 +33,6 @@ use plan::Reading;
 use plan::judge::SECOND_FORMAT;
 use plan::judge::Seen;
 use rules::Refusal;
-use units::Bytes;
 
 // The format of a plan that comes from a sheet.
 const FORMAT: u16 = SECOND_FORMAT;
@@ -53,14 +52,14 @@ fn byte(s: &[u8], i: usize) -> u64
 
 // The lanes, with the one that a line describes.
 fn placed(mut lanes: [Lane; LANES], row: Row) -> [Lane; LANES]
-    requires { ⌜ row .lane .value ≤ 63 ⌝ }
+    requires { ⌜ (row .lane .value ≤ 63) × ((row .weight .value ≤ 1024) × (row .longest .value ≤ 1500)) ⌝ }
     ensures { λ r. ⌜ map settingOf r ≡ placed sheetFormat 0 (map settingOf lanes) (fields.Lane (fieldOf row)) ⌝ }
 {
     let k = row.lane.value as usize;
     lanes[k] = Lane {
-        weight: row.weight.value,
-        longest: Bytes(row.longest.value),
-        framing: Bytes(0),
+        weight: row.weight.value as u16,
+        longest: row.longest.value as u16,
+        framing: 0,
         shared: false,
     };
     lanes

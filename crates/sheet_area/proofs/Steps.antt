@@ -18,7 +18,7 @@ use Rattle.plan.specs.declared.Reading.{Reading}
 use Rattle.plan.specs.declared.Outcome.the-variants.{Read}
 use Rattle.plan.specs.declared.Outcome.the-variants as outcome
 use Rattle.plan_writer.specs.Write.{Planned}
-use Rattle.plan_area.specs.Area.{Room, planIn, Shows, AreaWithin}
+use Rattle.plan_area.specs.Area.{Room, planIn, Gives, Shows, AreaWithin}
 use Rattle.plan_area.specs.Step.{Follows}
 use Rattle.plan_area.specs.declared.Got.the-variants.{Lanes, Refused}
 use Rattle.sheet.specs.Read.{readSheet}
@@ -61,12 +61,12 @@ module _ (area before : List ℕ) where
   pub write-short : length area < 65 * 8 → WriteStep area before (written.Refused Outside) before
   write-short h = not-within (λ w. omega (arith, w .room, h))
 
-  pub write-plan : Room area → (p : Planned) → p ≡ planIn area → (a : Written) (after : List ℕ) → Writes p before a after → WriteStep area before a after
-  write-plan room p is a after h =
-      let w : Writes (planIn area) before a after = subst (λ (x : Planned). Writes x before a after) is h in
+  pub write-plan : Room area → (p : Planned) → Gives (planIn area) p → (a : Written) (after : List ℕ) → Writes p before a after → WriteStep area before a after
+  write-plan room p g a after h =
+      let own : AreaWithin area → Writes (planIn area) before a after = λ v. subst (λ (x : Planned). Writes x before a after) (g .same (v .plan)) h in
       record {
-        outside = λ o. w .outside (λ v. o (record { room = room; plan = v }));
-        no-sheet = λ v b. w .no-sheet (v .plan) b;
-        short = λ v b l. w .short (v .plan) b l;
-        written = λ v b l. w .written (v .plan) b l;
+        outside = λ o. h .outside (λ v. o (record { room = room; plan = g .within v }));
+        no-sheet = λ v b. own v .no-sheet (v .plan) b;
+        short = λ v b l. own v .short (v .plan) b l;
+        written = λ v b l. own v .written (v .plan) b l;
       }

@@ -78,12 +78,11 @@ fn put_lanes(a: &mut [u8], lanes: [Lane; LANES])
     let mut k = 0;
     while k < LANES {
         let lane = lanes[k];
-        let longest = lane.longest;
         if lane.weight == 0 {
             k += 1;
             continue;
         }
-        at = put_line(a, at, k as u64, lane.weight, longest.0);
+        at = put_line(a, at, k as u64, lane.weight as u64, lane.longest as u64);
         k += 1;
     }
 }
@@ -117,12 +116,11 @@ fn sheet_size(lanes: [Lane; LANES]) -> usize
     let mut k = 0;
     while k < LANES {
         let lane = lanes[k];
-        let longest = lane.longest;
         if lane.weight == 0 {
             k += 1;
             continue;
         }
-        n += width(k as u64) + width(lane.weight) + width(longest.0) + STOPS;
+        n += width(k as u64) + width(lane.weight as u64) + width(lane.longest as u64) + STOPS;
         k += 1;
     }
     n

@@ -1,11 +1,13 @@
 -- `plan` meets its contract. Assumes nothing.
 use borrow.Author.Needs.{needs}
-use mathlib.Core.Path.{_≡_, sym, ap, _∙_}
+use mathlib.Core.List.{List}
+use mathlib.Core.Path.{sym, ap, subst, _∙_}
+use Prim.Native.Nat.{ℕ}
 use lib.ListN.{drop}
 use Rattle.plan.specs.Read.{settings}
 use Rattle.plan_writer.specs.Write.{Planned, planned}
 use Rattle.plan_writer.proofs.Numbered.{numbered-all}
-use Rattle.plan_area.specs.Area.{planIn}
+use Rattle.plan_area.specs.Area.{planIn, Gives}
 use Rattle.editions.proofs.Lent.{tail-all}
 use Rattle.editions.proofs.plan.Statement.{statement}
 use Rattle.editions.proofs.plan.Tie as tie
@@ -27,8 +29,10 @@ plan-in-requires c κs = search needs
 
 returns : tie.Need-returns
 returns c =
-    let is : planned (c .plan-in .result) ≡ planIn (drop 16 (c .before .before .before .args .p .now)) = c .plan-in .ensures .0 ∙ ap planIn (tail-all 16 (c .before .before .before .args .p .now)) in
-    (is, sym (numbered-all (settings (c .plan-in .result)) (c .plan-in .ensures .1)) ∙ ap (λ (x : Planned). x .lanes) is)
+    let r = c .plan-in .result in
+    let p = c .before .before .before .args .p .now in
+    let g : Gives (planIn (drop 16 p)) (planned r) = subst (λ (a : List ℕ). Gives (planIn a) (planned r)) (tail-all 16 p) (c .plan-in .ensures .0) in
+    (g, λ w. sym (numbered-all (settings r) (c .plan-in .ensures .1)) ∙ ap (λ (x : Planned). x .lanes) (g .same w))
 
 pub plan-spec : {M : Type 1} → statement M
 plan-spec =

@@ -24,6 +24,9 @@ mul-g c = search needs
 array-copy-out-g : tie.Need-array-copy-out-g Inv-loop μ-loop
 array-copy-out-g c = search needs
 
+cast-t10 : tie.Need-cast-t10 Inv-loop μ-loop
+cast-t10 c = search needs
+
 returns : tie.Need-returns Inv-loop μ-loop
 returns c =
     let s = c .before .before .before .before .before .before in
@@ -56,6 +59,7 @@ line-framing-spec =
     loop-holds
     mul-g
     array-copy-out-g
+    cast-t10
     returns
     add-k
     loop-less

@@ -31,13 +31,19 @@ mul-g c = search needs
 array-copy-out-g : tie.Need-array-copy-out-g Inv-loop μ-loop
 array-copy-out-g c = search needs
 
+cast-add-lane : tie.Need-cast-add-lane Inv-loop μ-loop
+cast-add-lane c = search needs
+
+cast-t20 : tie.Need-cast-t20 Inv-loop μ-loop
+cast-t20 c = search needs
+
 add-lane-requires : tie.Need-add-lane-requires Inv-loop μ-loop
 add-lane-requires c κs =
-    let s = c .before .before .before .before .before .before .before .before .before .before .before .before in
-    let f = c .before .before .before .before .before .before .before .before .before .before .line-framing .ensures in
-    let l = c .before .before .before .before .before .loop in
-    let lt = c .before .before .before .before .loop-test .taken in
-    let some = c .before .if1 .taken in (
+    let s = c .before .before .before .before .before .before .before .before .before .before .before .before .before .before in
+    let f = c .before .before .before .before .before .before .before .before .before .before .before .before .line-framing .ensures in
+    let l = c .before .before .before .before .before .before .before .loop in
+    let lt = c .before .before .before .before .before .before .loop-test .taken in
+    let some = c .before .before .before .if1 .taken in (
       makes-sound _ _ _ (l .inv .1) (l .inv .0),
       lt,
       framed-numbers (s .args .t2) (s .pre .1) _ f (l .k) some _ _ lt (l .inv .0),
@@ -60,11 +66,11 @@ loop-again c =
     let lt = c .before .before .before .loop-test .taken in
     ⊎-elim
     (λ w. (
-      rw (w .5) (framed-more (s .args .t2) (s .pre .1) _ f (l .k) (w .0 .taken) _ _ lt (l .inv .0) _ (w .2 .ensures .0)),
-      rw (w .5) (omega (arith, w .2 .kept .0, l .inv .1)),
-      rw (w .5) (w .2 .kept .0 ∙ l .inv .2),
+      rw (w .7) (framed-more (s .args .t2) (s .pre .1) _ f (l .k) (w .0 .taken) _ _ lt (l .inv .0) _ (w .4 .ensures .0)),
+      rw (w .7) (omega (arith, w .4 .kept .0, l .inv .1)),
+      rw (w .7) (w .4 .kept .0 ∙ l .inv .2),
       omega (arith, lt),
-      rw (w .5) (w .2 .ensures .1 ∙ l .inv .4),
+      rw (w .7) (w .4 .ensures .1 ∙ l .inv .4),
     ))
     (λ w. (
       rw (w .1) (write-skip (s .args .t2) _ _ (l .k) lt (l .inv .0) (s .pre .1) (w .0 .left)),
@@ -95,6 +101,8 @@ write-spec =
     loop-holds
     mul-g
     array-copy-out-g
+    cast-add-lane
+    cast-t20
     add-lane-requires
     add-k
     loop-less

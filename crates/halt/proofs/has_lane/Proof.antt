@@ -18,17 +18,17 @@ returns c =
 row-requires : tie.Need-row-requires
 row-requires c κs = search needs
 
-lane-is-requires : tie.Need-lane-is-requires
-lane-is-requires c κs = search needs
+numbers-are-requires : tie.Need-numbers-are-requires
+numbers-are-requires c κs = search needs
 
 returns-2 : tie.Need-returns-2
 returns-2 c =
-    let s = c .before .before .before .before .before .before .before in
-    let p = c .before .before .before .before in
-    let r = c .before .before .before .row in
+    let s = c .before .before .before .before .before in
+    let p = c .before .before in
+    let r = c .before .row in
     row-says (s .args .t .now) (s .args .k) (s .args .weight) (s .pre .1) (sym (p .before .present .ensures) ∙ not-false (p .before .present .result) (p .if1 .left))
-    (r .result) (r .ensures .0) (c .lane-is .result) (c .lane-is .ensures)
+    (r .result) (r .ensures .0) (c .numbers-are .result) (c .numbers-are .ensures)
 
 pub has-lane-spec : {M : Type 1} → statement M
 has-lane-spec =
-    tie.close (tie.spec present-requires returns row-requires lane-is-requires returns-2)
+    tie.close (tie.spec present-requires returns row-requires numbers-are-requires returns-2)

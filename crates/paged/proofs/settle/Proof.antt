@@ -1,15 +1,14 @@
 -- `settle` meets its contract. Assumes nothing.
 use borrow.Author.Needs.{needs}
-use Prim.Native.Nat.{ℕ}
-use mathlib.Core.Path.{sym, ap, subst, _∙_}
-use mathlib.Core.List.{List}
+use mathlib.Core.Path.{_≡_, sym, ap, subst, _∙_}
 use native.Mathlib.Omega.{arith}
 use lib.ListN.{length-drop}
 use Rattle.rules.specs.Setup.{Setup}
-use Rattle.editions.specs.Part.{Room, newIn, planOf}
+use Rattle.editions.specs.Part.{Room, newIn}
 use Rattle.editions.proofs.Lent.{tail-all}
 use Rattle.table.specs.Layout.{SIZE}
-use Rattle.paged.proofs.Settled.{ready-plan, settled-held, settled-none, settled-comes}
+use Rattle.paged.specs.Paged.{partOf}
+use Rattle.paged.proofs.Settled.{ready-plan, ready-lanes, settled-held, settled-none, settled-comes}
 use Rattle.paged.proofs.settle.Statement.{statement}
 use Rattle.paged.proofs.settle.Tie as tie
 use Rattle.paged.proofs.settle.Reads as reads
@@ -69,10 +68,11 @@ come-in-force-requires : tie.Need-come-in-force-requires
 come-in-force-requires c κs =
     let s = c .before .before .before .before .before .before .before .before .before .before .before .before .before in
     let t = s .args .t .now in
-    let new = c .before .before .before .before .before .before .new .ensures ∙ ap newIn (tail-all SIZE t) in (
+    let new = c .before .before .before .before .before .before .new .ensures ∙ ap newIn (tail-all SIZE t) in
+    let waits : newIn (partOf t) ≡ 0 → ⊥ = λ z. c .before .before .before .before .before .if2 .left (new ∙ z) in (
       s .pre .room,
       omega (arith, new, s .pre .fits .new),
-      subst Setup (sym (c .before .before .plan .ensures .1 ∙ ap (λ (p : List ℕ). planOf p .lanes) (tail-all SIZE t))) (ready-plan t (s .pre) (λ z. c .before .before .before .before .before .if2 .left (new ∙ z))),
+      subst Setup (sym (ready-lanes t (s .pre) waits _ _ (tail-all SIZE t) (c .before .before .plan .ensures .1))) (ready-plan t (s .pre) waits),
     )
 
 same-length-3 : tie.Need-same-length-3
@@ -83,8 +83,9 @@ returns-3 c =
     let s = c .before .before .before .before .before .before .before .before .before .before .before .before .before .before .before .before in
     let t = s .args .t .now in
     let new = c .before .before .before .before .before .before .before .before .before .new .ensures ∙ ap newIn (tail-all SIZE t) in
-    let plan = c .before .before .before .before .before .plan .ensures .1 ∙ ap (λ (p : List ℕ). planOf p .lanes) (tail-all SIZE t) in
-    settled-comes t (s .pre) (sym (c .before .before .before .before .before .before .before .before .before .before .before .before .before .held .ensures) ∙ c .before .before .before .before .before .before .before .before .before .before .before .before .if1 .left) (λ z. c .before .before .before .before .before .before .before .before .if2 .left (new ∙ z)) _ _ _ new plan (c .before .before .come-in-force .ensures)
+    let waits : newIn (partOf t) ≡ 0 → ⊥ = λ z. c .before .before .before .before .before .before .before .before .if2 .left (new ∙ z) in
+    let plan = ready-lanes t (s .pre) waits _ _ (tail-all SIZE t) (c .before .before .before .before .before .plan .ensures .1) in
+    settled-comes t (s .pre) (sym (c .before .before .before .before .before .before .before .before .before .before .before .before .before .held .ensures) ∙ c .before .before .before .before .before .before .before .before .before .before .before .before .if1 .left) waits _ _ _ new plan (c .before .before .come-in-force .ensures)
 
 pub settle-spec : {M : Type 1} → statement M
 settle-spec =

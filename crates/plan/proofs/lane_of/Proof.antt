@@ -3,17 +3,11 @@ use borrow.Author.Needs.{needs}
 use Rattle.plan.proofs.lane_of.Statement.{statement}
 use Rattle.plan.proofs.lane_of.Tie as tie
 
-cast-t5 : tie.Need-cast-t5
-cast-t5 c = search needs
-
 longest-of-requires : tie.Need-longest-of-requires
 longest-of-requires c κs = search needs
-
-cast-t7 : tie.Need-cast-t7
-cast-t7 c = search needs
 
 returns : tie.Need-returns
 returns c = rw (c .longest-of .ensures)
 
 pub lane-of-spec : {M : Type 1} → statement M
-lane-of-spec = tie.close (tie.spec cast-t5 longest-of-requires cast-t7 returns)
+lane-of-spec = tie.close (tie.spec longest-of-requires returns)

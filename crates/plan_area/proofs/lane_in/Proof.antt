@@ -5,19 +5,42 @@ use Rattle.plan_area.proofs.lane_in.Statement.{statement}
 use Rattle.plan_area.proofs.lane_in.Tie as tie
 use Rattle.plan_area.proofs.lane_in.Reads as reads
 use Rattle.plan_area.proofs.lane_in.Lts as lts
+use Rattle.plan_area.proofs.fitted.Reads as fitted-reads
 use Rattle.plan_area.proofs.longest_in.Reads as longest-in-reads
 
--- src/lib.rt:60:9
+cast-weight : tie.Need-cast-weight
+cast-weight c = search needs
+
 longest-in-requires : tie.Need-longest-in-requires
 longest-in-requires c κs = search needs
 
--- src/lib.rt:63:9
-returns : tie.Need-returns
-returns c = rw (c .before .longest-in .ensures, c .if1 .taken)
+fitted-requires : tie.Need-fitted-requires
+fitted-requires c κs = search needs
 
--- src/lib.rt:56:1
+cast-longest : tie.Need-cast-longest
+cast-longest c = search needs
+
+returns : tie.Need-returns
+returns c = rw (c .before .fitted .ensures .0, c .before .before .longest-in .ensures, c .if1 .taken)
+
+fitted-requires-2 : tie.Need-fitted-requires-2
+fitted-requires-2 c κs = search needs
+
+cast-framing : tie.Need-cast-framing
+cast-framing c = search needs
+
 returns-2 : tie.Need-returns-2
-returns-2 c = rw (c .before .longest-in .ensures, ne-eqb _ 0 (c .if1 .left))
+returns-2 c = rw (c .fitted2 .ensures .0, c .before .before .fitted .ensures .0, c .before .before .before .longest-in .ensures, ne-eqb _ 0 (c .before .if1 .left))
 
 pub lane-in-spec : {M : Type 1} → statement M
-lane-in-spec = tie.close (tie.spec longest-in-requires returns returns-2)
+lane-in-spec =
+    tie.close
+    (tie.spec
+    cast-weight
+    longest-in-requires
+    fitted-requires
+    cast-longest
+    returns
+    fitted-requires-2
+    cast-framing
+    returns-2)

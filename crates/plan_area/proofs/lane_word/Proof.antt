@@ -1,36 +1,39 @@
 -- `lane_word` meets its contract. Assumes nothing.
 use native.Mathlib.Omega.{arith}
-use Rattle.plan.specs.Read.{settingOf}
-use Rattle.plan_area.proofs.Stored.{word-small, shared-most}
+use Rattle.plan_area.proofs.Stored.{shared-most}
 use borrow.Author.Needs.{needs}
 use Rattle.plan_area.proofs.lane_word.Statement.{statement}
 use Rattle.plan_area.proofs.lane_word.Tie as tie
-use Rattle.plan_area.proofs.lane_word.Reads as reads
-use Rattle.plan_area.proofs.lane_word.Lts as lts
-use Rattle.plan_area.proofs.shared_part.Reads as shared-part-reads
 
--- src/lib.rt:120:16
+cast-result : tie.Need-cast-result
+cast-result c = search needs
+
+cast-result-2 : tie.Need-cast-result-2
+cast-result-2 c = search needs
+
 mul-result : tie.Need-mul-result
-mul-result c = omega (arith, word-small (settingOf (c .before .args .l)) (c .before .pre))
+mul-result c = search needs
 
--- src/lib.rt:120:5
 add-result : tie.Need-add-result
-add-result c = omega (arith, word-small (settingOf (c .before .before .args .l)) (c .before .before .pre))
+add-result c = search needs
 
--- src/lib.rt:120:37
 shared-part-requires : tie.Need-shared-part-requires
 shared-part-requires c κs = search needs
 
--- src/lib.rt:120:5
 add-result-2 : tie.Need-add-result-2
-add-result-2 c =
-    let s = c .before .before .before in
-    omega (arith, word-small (settingOf (s .args .l)) (s .pre), c .shared-part .ensures, shared-most (s .args .l .shared))
+add-result-2 c = omega (arith, c .shared-part .ensures, shared-most (c .before .before .before .args .l .shared))
 
--- src/lib.rt:116:1
 returns : tie.Need-returns
 returns c = search needs
 
 pub lane-word-spec : {M : Type 1} → statement M
 lane-word-spec =
-    tie.close (tie.spec mul-result add-result shared-part-requires add-result-2 returns)
+    tie.close
+    (tie.spec
+    cast-result
+    cast-result-2
+    mul-result
+    add-result
+    shared-part-requires
+    add-result-2
+    returns)

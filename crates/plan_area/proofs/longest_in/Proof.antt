@@ -6,15 +6,12 @@ use Rattle.plan_area.proofs.longest_in.Tie as tie
 use Rattle.plan_area.proofs.longest_in.Reads as reads
 use Rattle.plan_area.proofs.longest_in.Lts as lts
 
--- src/lib.rt:50:16
 sub-result : tie.Need-sub-result
 sub-result c = search needs
 
--- src/lib.rt:50:9
 returns : tie.Need-returns
 returns c = rw (eq-eqb _ 1 (c .if1 .taken))
 
--- src/lib.rt:46:1
 returns-2 : tie.Need-returns-2
 returns-2 c = rw (ne-eqb _ 1 (c .if1 .left))
 

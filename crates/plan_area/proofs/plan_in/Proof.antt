@@ -2,9 +2,10 @@
 use Prim.Native.Nat.{ℕ, _/_, _-_}
 use borrow.Author.Needs.{needs}
 use mathlib.Core.Logic.{⊎-elim}
-use mathlib.Core.Path.{ap, _∙_}
+use mathlib.Core.Path.{sym, ap, subst, _∙_}
 use native.Mathlib.Omega.{arith}
-use Rattle.plan_area.specs.Area.{framingIn, settingIn}
+use Rattle.plan_area.specs.Area.{framingIn, settingIn, planIn, narrowed, Gives}
+use Rattle.plan_area.proofs.Narrow.{narrow-gives}
 use Rattle.plan_area.proofs.Filled.{Filled, fill-none, fill-more, fill-skip, fill-all}
 use Rattle.plan_area.proofs.plan_in.Statement.{statement}
 use Rattle.plan_area.proofs.plan_in.Tie as tie
@@ -57,7 +58,7 @@ loop-again c =
     let l = c .before .before .before .before .before .loop in
     let lt = c .before .before .before .before .loop-test .taken in
     let x = c .before .before .lane-in in
-    let is = x .ensures ∙ ap (λ (i : ℕ). settingIn (i / 65536) (c .before .before .before .word2 .result)) (c .before .before .before .before .before .before .before .word .ensures) ∙ ap (settingIn (framingIn (s .args .area .now))) (c .before .before .before .word2 .ensures) in
+    let is = x .ensures ∙ ap (λ (i : ℕ). narrowed (settingIn (i / 65536) (c .before .before .before .word2 .result))) (c .before .before .before .before .before .before .before .word .ensures) ∙ ap (λ (i : ℕ). narrowed (settingIn (framingIn (s .args .area .now)) i)) (c .before .before .before .word2 .ensures) in
     ⊎-elim
     (λ w. rw (w .1) (fill-more (s .args .area .now) (l .lanes) (l .count) (l .k) (l .inv) lt (x .result) is (w .0 .taken)))
     (λ w. rw (w .1) (fill-skip (s .args .area .now) (l .lanes) (l .count) (l .k) (l .inv) lt (x .result) is (w .0 .left)))
@@ -65,10 +66,10 @@ loop-again c =
 
 returns : tie.Need-returns Inv-loop μ-loop
 returns c =
-    let l = c .before .loop in (
-      fill-all (c .before .before .before .before .before .before .args .area .now) (l .lanes) (l .count) (l .k) (l .inv) (c .loop-test .left) (c .before .before .before .before .format-in .result) (c .before .before .before .before .format-in .ensures),
-      l .inv .size,
-    )
+    let a = c .before .before .before .before .before .before .args .area .now in
+    let l = c .before .loop in
+    let is = fill-all a (l .lanes) (l .count) (l .k) (l .inv) (c .loop-test .left) (c .before .before .before .before .format-in .result) (c .before .before .before .before .format-in .ensures) in
+    (subst (Gives (planIn a)) (sym is) (narrow-gives a), l .inv .size)
 
 pub plan-in-spec : {M : Type 1} → statement M
 plan-in-spec =

@@ -2,11 +2,10 @@
 use Prim.Native.Nat.{_+_, _-_}
 use borrow.Author.Needs.{needs}
 use mathlib.Core.List.{map}
-use mathlib.Core.Path.{sym, ap, subst, _∙_}
+use mathlib.Core.Path.{sym, ap, _∙_}
 use native.Mathlib.Omega.{arith}
 use Rattle.words.specs.Words.{putWord}
 use Rattle.plan.specs.Read.{settingOf}
-use Rattle.plan_writer.specs.Write.{Either}
 use Rattle.plan_area.specs.Area.{Room, laneWord}
 use Rattle.plan_area.proofs.Stored.{Stored, line-is, store-none, rest-first, lane-is, store-more, store-all}
 use Rattle.plan_area.proofs.store.Statement.{statement}
@@ -24,15 +23,14 @@ cast-format c = search needs
 line-framing-requires : tie.Need-line-framing-requires Inv-loop μ-loop
 line-framing-requires c κs = search needs
 
+cast-h : tie.Need-cast-h Inv-loop μ-loop
+cast-h c = search needs
+
 mul-set-word : tie.Need-mul-set-word Inv-loop μ-loop
-mul-set-word c =
-    let s = c .before .before .before .before .before in
-    omega (arith, line-is (s .args .plan .lanes) (s .pre .1) (c .before .line-framing .result) (c .before .line-framing .ensures), s .pre .1 .framing-high)
+mul-set-word c = search needs
 
 add-set-word : tie.Need-add-set-word Inv-loop μ-loop
-add-set-word c =
-    let s = c .before .before .before .before .before in
-    omega (arith, line-is (s .args .plan .lanes) (s .pre .1) (c .before .line-framing .result) (c .before .line-framing .ensures), s .pre .1 .framing-high, s .pre .2)
+add-set-word c = search needs
 
 set-word-requires : tie.Need-set-word-requires Inv-loop μ-loop
 set-word-requires c κs = search needs
@@ -54,9 +52,7 @@ add-set-word-2 : tie.Need-add-set-word-2 Inv-loop μ-loop
 add-set-word-2 c = search needs
 
 lane-word-requires : tie.Need-lane-word-requires Inv-loop μ-loop
-lane-word-requires c κs =
-    let s = c .before .before .before .before .before .before .before .before .before .before .before .before in
-    subst Either (lane-is (s .args .plan .lanes) (c .before .before .before .loop .k)) (s .pre .1 .each (c .before .before .before .loop .k))
+lane-word-requires c κs = search needs
 
 set-word-requires-2 : tie.Need-set-word-requires-2 Inv-loop μ-loop
 set-word-requires-2 c κs = let l = c .before .before .before .before .loop in omega (arith, l .inv .0 .size, l .inv .1, c .before .before .before .loop-test .taken)
@@ -92,6 +88,7 @@ store-spec =
     μ-loop
     cast-format
     line-framing-requires
+    cast-h
     mul-set-word
     add-set-word
     set-word-requires

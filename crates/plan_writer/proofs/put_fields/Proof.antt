@@ -16,48 +16,38 @@ use Rattle.plan_writer.proofs.put_fields.Lts as lts
 use Rattle.plan_writer.proofs.put_lane.Reads as put-lane-reads
 use Rattle.plan_writer.proofs.put_shared.Reads as put-shared-reads
 
--- src/lib.rt:231:5
 put-lane-requires : tie.Need-put-lane-requires
 put-lane-requires c κs = let s = c .before .before in (omega (arith, s .pre .0, lane-least (settingOf (s .args .l))), s .pre .1, s .pre .2, s .pre .3)
 
--- src/lib.rt:233:23
 add-put-shared : tie.Need-add-put-shared
 add-put-shared c = search needs
 
--- src/lib.rt:233:9
 put-shared-requires : tie.Need-put-shared-requires
 put-shared-requires c κs =
     let s = c .before .before .before .before .before .before .before in
     (omega (arith, s .pre .0, both-stored (s .args .a .now) (s .args .at) (s .args .k) (settingOf (s .args .l)) (c .before .if1 .taken) .1, c .before .before .before .before .put-lane .kept .0), s .pre .1)
 
--- src/lib.rt:234:16
 add-result : tie.Need-add-result
 add-result c = search needs
 
--- src/lib.rt:234:16
 add-result-2 : tie.Need-add-result-2
 add-result-2 c = search needs
 
--- src/lib.rt:234:9
 same-length : tie.Need-same-length
 same-length c = search needs
 
--- src/lib.rt:234:9
 returns : tie.Need-returns
 returns c =
     let s = c .before .before .before .before .before .before .before .before .before .before in
     let b = both-stored (s .args .a .now) (s .args .at) (s .args .k) (settingOf (s .args .l)) (c .before .before .before .before .if1 .taken) in
     (c .before .before .put-shared .ensures ∙ ap (λ (x : List ℕ). sets x (s .args .at + 8) (fieldBytes (Shared (s .args .k)))) (c .before .before .before .before .before .before .before .put-lane .ensures) ∙ b .0, omega (arith, b .1))
 
--- src/lib.rt:236:5
 add-result-3 : tie.Need-add-result-3
 add-result-3 c = search needs
 
--- src/lib.rt:227:1
 same-length-2 : tie.Need-same-length-2
 same-length-2 c = search needs
 
--- src/lib.rt:227:1
 returns-2 : tie.Need-returns-2
 returns-2 c =
     let s = c .before .before .before .before .before .before in

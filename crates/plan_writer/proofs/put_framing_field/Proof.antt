@@ -21,9 +21,6 @@ add-a-2 c = search needs
 slice-write-a-3 : tie.Need-slice-write-a-3
 slice-write-a-3 c = simp length-set (omega arith)
 
-cast-a : tie.Need-cast-a
-cast-a c = search needs
-
 add-a-3 : tie.Need-add-a-3
 add-a-3 c = search needs
 
@@ -39,4 +36,4 @@ returns c = simp towards-suc
 pub put-framing-field-spec : {M : Type 1} → statement M
 put-framing-field-spec =
     tie.close
-    (tie.spec slice-write-a add-a slice-write-a-2 add-a-2 slice-write-a-3 cast-a add-a-3 slice-write-a-4 same-length returns)
+    (tie.spec slice-write-a add-a slice-write-a-2 add-a-2 slice-write-a-3 add-a-3 slice-write-a-4 same-length returns)

@@ -15,19 +15,15 @@ Inv-loop a₀ at lanes p₀ k₀ a p k = Laying a₀ at lanes a p k
 abbrev μ-loop : tie.MeasureT-loop
 μ-loop a₀ at lanes p₀ k₀ a p k = 64 - k
 
--- src/lib.rt:246:5
 loop-holds : tie.Need-loop-holds Inv-loop μ-loop
 loop-holds c = lay-none _ _ _
 
--- src/lib.rt:247:17
 mul-l : tie.Need-mul-l Inv-loop μ-loop
 mul-l c = search needs
 
--- src/lib.rt:247:17
 array-copy-out-l : tie.Need-array-copy-out-l Inv-loop μ-loop
 array-copy-out-l c = search needs
 
--- src/lib.rt:249:13
 put-fields-requires : tie.Need-put-fields-requires Inv-loop μ-loop
 put-fields-requires c κs =
     let l = c .before .before .before .before .before .loop in
@@ -37,15 +33,12 @@ put-fields-requires c κs =
     let n = lay-numbers (s .args .a .now) (s .args .at) (s .args .t3) (l .a) (l .p) (l .k) (l .inv) lt (s .pre .0) w in
     (lay-room (s .args .a .now) (s .args .at) (s .args .t3) (l .a) (l .p) (l .k) (l .inv) lt (s .pre .0) (s .pre .1) w, lt, n .weight-high, n .longest-high)
 
--- src/lib.rt:251:9
 add-k : tie.Need-add-k Inv-loop μ-loop
 add-k c = search needs
 
--- src/lib.rt:246:5
 loop-less : tie.Need-loop-less Inv-loop μ-loop
 loop-less c = search needs
 
--- src/lib.rt:246:5
 loop-again : tie.Need-loop-again Inv-loop μ-loop
 loop-again c =
     let l = c .before .before .before .before .loop in
@@ -56,11 +49,9 @@ loop-again c =
     (λ w. rw (w .1, w .2) (lay-skip (s .args .a .now) (s .args .at) (s .args .t3) (l .a) (l .p) (l .k) (l .inv) lt (s .pre .0) (w .0 .left)))
     (c .if1 .came)
 
--- src/lib.rt:240:1
 same-length : tie.Need-same-length Inv-loop μ-loop
 same-length c = c .before .loop .inv .size
 
--- src/lib.rt:240:1
 returns : tie.Need-returns Inv-loop μ-loop
 returns c =
     let l = c .before .loop in

@@ -56,6 +56,9 @@ returns-3 c =
     let f = c .before .before .before .before .before .before .line-framing in
     tells-no (so-outside (p .lanes) (f .result) (f .ensures) (l .k) (l .total) (l .there) (l .inv) (c .before .before .before .loop-test .taken) (λ ok. c .before .lane-within .ensures .no (not-true (c .before .lane-within .result) (c .if3 .taken)) ok) (p .format) (p .count))
 
+cast-total : tie.Need-cast-total Inv-loop μ-loop
+cast-total c = search needs
+
 add-total : tie.Need-add-total Inv-loop μ-loop
 add-total c =
     let l = c .before .before .before .before .before .before .before .loop in
@@ -120,6 +123,7 @@ within-spec =
     array-copy-out-l
     lane-within-requires
     returns-3
+    cast-total
     add-total
     add-there
     add-k

@@ -12,55 +12,44 @@ use borrow.Author.Needs.{needs}
 use Rattle.plan_writer.proofs.write_setup.Statement.{statement}
 use Rattle.plan_writer.proofs.write_setup.Tie as tie
 
--- src/lib.rt:287:9
 within-requires : tie.Need-within-requires
 within-requires c κs = search needs
 
--- src/lib.rt:288:9
 returns : tie.Need-returns
 returns c =
     let out = c .before .within .ensures .no (not-true (c .before .within .result) (c .if1 .taken)) in
     record { outside = λ o. (refl, refl); short = λ w l. absurd (out w); written = λ w l. absurd (out w) }
 
--- src/lib.rt:291:9
 line-framing-requires : tie.Need-line-framing-requires
 line-framing-requires c κs = search needs
 
--- src/lib.rt:293:11
 framing-size-requires : tie.Need-framing-size-requires
 framing-size-requires c κs = search needs
 
--- src/lib.rt:292:16
 add-size : tie.Need-add-size
 add-size c = omega (arith, c .framing-size .ensures, framing-few (c .before .line-framing .result))
 
--- src/lib.rt:294:11
 mul-size : tie.Need-mul-size
 mul-size c =
     let w = c .before .before .before .before .before .within .ensures .yes (not-false (c .before .before .before .before .before .within .result) (c .before .before .before .before .if1 .left)) in
     omega (arith, size-most (planned (c .before .before .before .before .before .before .before .args .plan)) w, w .count)
 
--- src/lib.rt:292:16
 add-size-2 : tie.Need-add-size-2
 add-size-2 c =
     let w = c .before .before .before .before .before .within .ensures .yes (not-false (c .before .before .before .before .before .within .result) (c .before .before .before .before .if1 .left)) in
     omega (arith, size-most (planned (c .before .before .before .before .before .before .before .args .plan)) w, w .count, c .before .framing-size .ensures, framing-few (c .before .before .line-framing .result))
 
--- src/lib.rt:295:25
 shared-lanes-requires : tie.Need-shared-lanes-requires
 shared-lanes-requires c κs = search needs
 
--- src/lib.rt:295:11
 mul-size-2 : tie.Need-mul-size-2
 mul-size-2 c = omega (arith, c .shared-lanes .ensures .1)
 
--- src/lib.rt:292:16
 add-size-3 : tie.Need-add-size-3
 add-size-3 c =
     let w = c .before .before .before .before .before .before .within .ensures .yes (not-false (c .before .before .before .before .before .before .within .result) (c .before .before .before .before .before .if1 .left)) in
     omega (arith, size-most (planned (c .before .before .before .before .before .before .before .before .args .plan)) w, w .count, c .before .before .framing-size .ensures, framing-few (c .before .before .before .line-framing .result), c .shared-lanes .ensures .1)
 
--- src/lib.rt:297:9
 returns-2 : tie.Need-returns-2
 returns-2 c =
     let p = planned (c .before .before .before .before .before .before .before .before .before .args .plan) in
@@ -68,7 +57,6 @@ returns-2 c =
     let h-is = ap framingSize (c .before .before .before .before .line-framing .ensures) in
     record { outside = λ o. absurd (o w); short = λ _ l. (refl, refl); written = λ _ l. absurd (omega (arith, l, c .if2 .taken, w .count, c .before .before .before .framing-size .ensures, c .before .shared-lanes .ensures .0, h-is)) }
 
--- src/lib.rt:299:5
 put-setup-requires : tie.Need-put-setup-requires
 put-setup-requires c κs =
     let p = planned (c .before .before .before .before .before .before .before .before .before .before .args .plan) in
@@ -76,11 +64,9 @@ put-setup-requires c κs =
     let h-is = c .before .before .before .before .before .line-framing .ensures in
     (λ k. subst (λ x. Fitting x (settingAt (p .lanes) k)) (sym h-is) (fitting-line (p .lanes) (w .setup) k), omega (arith, h-is, w .setup .framing-high), omega (arith, c .before .if2 .left, w .count, c .before .before .before .before .framing-size .ensures, c .before .before .shared-lanes .ensures .0))
 
--- src/lib.rt:284:1
 same-length : tie.Need-same-length
 same-length c = search needs
 
--- src/lib.rt:284:1
 returns-3 : tie.Need-returns-3
 returns-3 c =
     let s = c .before .before .before .before .before .before .before .before .before .before .before .before .before in

@@ -83,7 +83,7 @@ enum-told-2 : tie.Need-enum-told-2 Inv-loop μ-loop
 enum-told-2 c = search needs
 
 placed-requires : tie.Need-placed-requires Inv-loop μ-loop
-placed-requires c κs = is-taken _ _ (sym ((c .before .before) .judged .ensures) ∙ c .enum-told2 .given .1) .number
+placed-requires c κs = let t = is-taken _ _ (sym ((c .before .before) .judged .ensures) ∙ c .enum-told2 .given .1) in (t .number, (t .weight-high, t .longest-high))
 
 after-requires : tie.Need-after-requires Inv-loop μ-loop
 after-requires c κs = let t = is-taken _ _ (sym ((c .before .before .before) .judged .ensures) ∙ (c .before) .enum-told2 .given .1) in ((c .before .before .before .before .before .before .before .before .before .before) .loop .inv .sound .total, (count-low _ _ _ _ _ ((c .before .before .before .before .before .before .before .before .before .before) .loop .inv), (t .weight-high, t .number)))

@@ -36,10 +36,24 @@ loop-less : tie.Need-loop-less Inv-loop μ-loop
 loop-less c = search needs
 
 loop-again : tie.Need-loop-again Inv-loop μ-loop
-loop-again c = skip-read _ ((c .before .before .before .before .before .before .before) .pre .0 .size) _ _ _ _ ((c .before .before .before .before .before) .loop .inv) ((c .before .before .before .before) .loop-test .taken) _ (lane-at ((c .before .before .before .before .before .before .before) .args .t2) ((c .before .before .before .before .before) .loop .k) ((c .before .before .before .before) .loop-test .taken)) (c .if1 .taken)
+loop-again c =
+    let s = c .before .before .before .before .before .before in
+    let l = c .before .before .before .before .loop in
+    let lt = c .before .before .before .loop-test .taken in
+    skip-read _ (s .pre .0 .size) _ _ _ _ (l .inv) lt _ (lane-at (s .args .t2) (l .k) lt) (c .if1 .taken)
+
+cast-put-line : tie.Need-cast-put-line Inv-loop μ-loop
+cast-put-line c = search needs
+
+cast-put-line-2 : tie.Need-cast-put-line-2 Inv-loop μ-loop
+cast-put-line-2 c = search needs
 
 put-line-requires : tie.Need-put-line-requires Inv-loop μ-loop
-put-line-requires c κs = omega (arith, fits-read _ ((c .before .before .before .before .before .before .before .before) .pre .0 .size) _ _ _ _ ((c .before .before .before .before .before .before) .loop .inv) ((c .before .before .before .before .before) .loop-test .taken) _ (lane-at ((c .before .before .before .before .before .before .before .before) .args .t2) ((c .before .before .before .before .before .before) .loop .k) ((c .before .before .before .before .before) .loop-test .taken)) ((c .before) .if1 .left), (c .before .before .before .before .before .before .before .before) .pre .1, ap length ((c .before .before .before .before .before .before) .loop .inv .stored), length-sets ((c .before .before .before .before .before .before .before .before) .args .a .now) 0 ((c .before .before .before .before .before .before) .loop .inv .front))
+put-line-requires c κs =
+    let s = c .before .before .before .before .before .before .before .before .before in
+    let l = c .before .before .before .before .before .before .before .loop in
+    let lt = c .before .before .before .before .before .before .loop-test .taken in
+    omega (arith, fits-read _ (s .pre .0 .size) _ _ _ _ (l .inv) lt _ (lane-at (s .args .t2) (l .k) lt) (c .before .before .before .if1 .left), s .pre .1, ap length (l .inv .stored), length-sets (s .args .a .now) 0 (l .inv .front))
 
 add-k-2 : tie.Need-add-k-2 Inv-loop μ-loop
 add-k-2 c = search needs
@@ -48,7 +62,12 @@ loop-less-2 : tie.Need-loop-less-2 Inv-loop μ-loop
 loop-less-2 c = search needs
 
 loop-again-2 : tie.Need-loop-again-2 Inv-loop μ-loop
-loop-again-2 c = rw ((c .before .before) .put-line .ensures .0, (c .before .before) .put-line .ensures .1) (line-read _ ((c .before .before .before .before .before .before .before .before .before .before .before) .pre .0 .size) _ _ _ _ ((c .before .before .before .before .before .before .before .before .before) .loop .inv) ((c .before .before .before .before .before .before .before .before) .loop-test .taken) _ (lane-at ((c .before .before .before .before .before .before .before .before .before .before .before) .args .t2) ((c .before .before .before .before .before .before .before .before .before) .loop .k) ((c .before .before .before .before .before .before .before .before) .loop-test .taken)) ((c .before .before .before .before) .if1 .left))
+loop-again-2 c =
+    let s = c .before .before .before .before .before .before .before .before .before .before .before .before in
+    let l = c .before .before .before .before .before .before .before .before .before .before .loop in
+    let lt = c .before .before .before .before .before .before .before .before .before .loop-test .taken in
+    let p = c .before .before .put-line in
+    rw (p .ensures .0, p .ensures .1) (line-read _ (s .pre .0 .size) _ _ _ _ (l .inv) lt _ (lane-at (s .args .t2) (l .k) lt) (c .before .before .before .before .before .before .if1 .left))
 
 same-length : tie.Need-same-length Inv-loop μ-loop
 same-length c = ap length (c .before .loop .inv .stored) ∙ length-sets (c .before .before .before .args .a .now) 0 (c .before .loop .inv .front)
@@ -68,6 +87,8 @@ put-lanes-spec =
     add-k
     loop-less
     loop-again
+    cast-put-line
+    cast-put-line-2
     put-line-requires
     add-k-2
     loop-less-2

@@ -36,28 +36,48 @@ loop-less : tie.Need-loop-less Inv-loop μ-loop
 loop-less c = search needs
 
 loop-again : tie.Need-loop-again Inv-loop μ-loop
-loop-again c = sized-skip _ ((c .before .before .before .before .before .before) .pre) _ _ ((c .before .before .before .before .before) .loop .inv) ((c .before .before .before .before) .loop-test .taken) _ (lane-at ((c .before .before .before .before .before .before) .args .t1) ((c .before .before .before .before .before) .loop .k) ((c .before .before .before .before) .loop-test .taken)) (c .if1 .taken)
+loop-again c =
+    let s = c .before .before .before .before .before in
+    let l = c .before .before .before .before .loop in
+    let lt = c .before .before .before .loop-test .taken in
+    sized-skip _ (s .pre) _ _ (l .inv) lt _ (lane-at (s .args .t1) (l .k) lt) (c .if1 .taken)
 
 width-requires : tie.Need-width-requires Inv-loop μ-loop
-width-requires c κs = omega (arith, (c .before .before .before .before) .loop-test .taken)
+width-requires c κs = omega (arith, c .before .before .before .loop-test .taken)
+
+cast-width : tie.Need-cast-width Inv-loop μ-loop
+cast-width c = search needs
 
 width-requires-2 : tie.Need-width-requires-2 Inv-loop μ-loop
-width-requires-2 c κs = omega (arith, sized-small _ ((c .before .before .before .before .before .before .before) .pre) _ _ ((c .before .before .before .before .before .before) .loop .inv) ((c .before .before .before .before .before) .loop-test .taken) _ (lane-at ((c .before .before .before .before .before .before .before) .args .t1) ((c .before .before .before .before .before .before) .loop .k) ((c .before .before .before .before .before) .loop-test .taken)) ((c .before) .if1 .left) .weight-high)
+width-requires-2 c κs =
+    let s = c .before .before .before .before .before .before .before in
+    let l = c .before .before .before .before .before .before .loop in
+    let lt = c .before .before .before .before .before .loop-test .taken in
+    omega (arith, sized-small _ (s .pre) _ _ (l .inv) lt _ (lane-at (s .args .t1) (l .k) lt) (c .before .before .if1 .left) .weight-high)
 
 add-n : tie.Need-add-n Inv-loop μ-loop
-add-n c = omega (arith, (c .before) .width .ensures .1, c .width2 .ensures .1)
+add-n c = omega (arith, c .before .before .width .ensures .1, c .width2 .ensures .1)
+
+cast-width-2 : tie.Need-cast-width-2 Inv-loop μ-loop
+cast-width-2 c = search needs
 
 width-requires-3 : tie.Need-width-requires-3 Inv-loop μ-loop
-width-requires-3 c κs = omega (arith, sized-small _ ((c .before .before .before .before .before .before .before .before) .pre) _ _ ((c .before .before .before .before .before .before .before) .loop .inv) ((c .before .before .before .before .before .before) .loop-test .taken) _ (lane-at ((c .before .before .before .before .before .before .before .before) .args .t1) ((c .before .before .before .before .before .before .before) .loop .k) ((c .before .before .before .before .before .before) .loop-test .taken)) ((c .before .before) .if1 .left) .longest-high)
+width-requires-3 c κs =
+    let s = c .before .before .before .before .before .before .before .before .before in
+    let l = c .before .before .before .before .before .before .before .before .loop in
+    let lt = c .before .before .before .before .before .before .before .loop-test .taken in
+    omega (arith, sized-small _ (s .pre) _ _ (l .inv) lt _ (lane-at (s .args .t1) (l .k) lt) (c .before .before .before .before .if1 .left) .longest-high)
 
 add-n-2 : tie.Need-add-n-2 Inv-loop μ-loop
-add-n-2 c = omega (arith, (c .before .before) .width .ensures .1, (c .before) .width2 .ensures .1, c .width3 .ensures .1)
+add-n-2 c = omega (arith, c .before .before .before .before .width .ensures .1, c .before .before .width2 .ensures .1, c .width3 .ensures .1)
 
 add-n-3 : tie.Need-add-n-3 Inv-loop μ-loop
-add-n-3 c = omega (arith, (c .before .before) .width .ensures .1, (c .before) .width2 .ensures .1, c .width3 .ensures .1)
+add-n-3 c = omega (arith, c .before .before .before .before .width .ensures .1, c .before .before .width2 .ensures .1, c .width3 .ensures .1)
 
 add-n-4 : tie.Need-add-n-4 Inv-loop μ-loop
-add-n-4 c = omega (arith, (c .before .before) .width .ensures .1, (c .before) .width2 .ensures .1, c .width3 .ensures .1, (c .before .before .before .before .before .before .before .before) .loop .inv .few, (c .before .before .before .before .before .before .before .before) .loop .inv .low)
+add-n-4 c =
+    let l = c .before .before .before .before .before .before .before .before .before .loop in
+    omega (arith, c .before .before .before .before .width .ensures .1, c .before .before .width2 .ensures .1, c .width3 .ensures .1, l .inv .few, l .inv .low)
 
 add-k-2 : tie.Need-add-k-2 Inv-loop μ-loop
 add-k-2 c = search needs
@@ -66,7 +86,14 @@ loop-less-2 : tie.Need-loop-less-2 Inv-loop μ-loop
 loop-less-2 c = search needs
 
 loop-again-2 : tie.Need-loop-again-2 Inv-loop μ-loop
-loop-again-2 c = sized-line _ ((c .before .before .before .before .before .before .before .before .before) .pre) _ _ ((c .before .before .before .before .before .before .before .before) .loop .inv) ((c .before .before .before .before .before .before .before) .loop-test .taken) _ (lane-at ((c .before .before .before .before .before .before .before .before .before) .args .t1) ((c .before .before .before .before .before .before .before .before) .loop .k) ((c .before .before .before .before .before .before .before) .loop-test .taken)) ((c .before .before .before) .if1 .left) _ _ _ ((c .before .before) .width .ensures .0) ((c .before) .width2 .ensures .0) (c .width3 .ensures .0) ((c .before .before) .width .ensures .1) ((c .before) .width2 .ensures .1) (c .width3 .ensures .1)
+loop-again-2 c =
+    let s = c .before .before .before .before .before .before .before .before .before .before in
+    let l = c .before .before .before .before .before .before .before .before .before .loop in
+    let lt = c .before .before .before .before .before .before .before .before .loop-test .taken in
+    let x = c .before .before .before .before .width .ensures in
+    let y = c .before .before .width2 .ensures in
+    let z = c .width3 .ensures in
+    sized-line _ (s .pre) _ _ (l .inv) lt _ (lane-at (s .args .t1) (l .k) lt) (c .before .before .before .before .before .if1 .left) _ _ _ (x .0) (y .0) (z .0) (x .1) (y .1) (z .1)
 
 returns : tie.Need-returns Inv-loop μ-loop
 returns c = sizing-done _ ((c .before .before) .pre) _ _ ((c .before) .loop .inv) (c .loop-test .left)
@@ -84,8 +111,10 @@ sheet-size-spec =
     loop-less
     loop-again
     width-requires
+    cast-width
     width-requires-2
     add-n
+    cast-width-2
     width-requires-3
     add-n-2
     add-n-3
