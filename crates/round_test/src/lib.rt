@@ -2,9 +2,9 @@
 //
 // The round is held to the trains by one number, a tally of three parts: a bit for each of 8 trains, how many trains these are, and again a bit for each train.
 // From the round it has the trains named, the number of names, and the train in turn; from the trains' numbers the trains that hold records, how many these
-// are, and the trains whose deficit covers their first record. A lane is good if both tallies are the same: with as many names as trains, and each of these
-// trains named, none is named twice and no other number is named. Every place of the lane holds a length within the numbers: that is tested before, for all 64
-// at once.
+// are, and the trains whose deficit covers their first record. In a good lane both tallies are the same; and where they are, with as many names as trains that
+// hold and each of these named, none is named twice and nothing else is named. Every place of the lane holds a length within the numbers: that is tested
+// before, for all 64 at once.
 //
 // The lengths are lent as a part of the bytes, from the lane's own on: the compiler then keeps their address, and a train takes two instructions less. The
 // counts are added up first, two at a time: each word is then loaded once for them and for the trains.
@@ -24,7 +24,7 @@ use turns::TRAIN_DEPTH;
 // A lane has up to 8 trains.
 const TRAINS: usize = 8;
 
-// The parts of a tally behind the trains that hold: how many these are, and the trains that are covered.
+// The parts of a tally behind the first: how many trains, and the trains in turn or covered.
 const NUMBER_UNIT: u64 = 256;
 
 const COVERED_UNIT: u64 = 4096;
