@@ -1,28 +1,23 @@
 -- A shared lane is good exactly if its round names trains once each, and each train's number is as it must be. Assumes nothing.
-use Prim.Native.Nat.{ℕ, zero, suc, _+_, _-_, _*_, _/_, _%_, _^_, _≤_, _<_}
+use Prim.Native.Nat.{ℕ, zero, suc, _+_, _-_, _*_, _%_, _≤_, _<_}
 use native.Mathlib.Numerals.{add-one}
 use native.Mathlib.Omega.{arith}
 use native.Mathlib.Decide.{decLt}
 use mathlib.Core.Path.{_≡_, refl, sym, ap, subst, _∙_}
-use mathlib.Core.Bool.{Bool, true, false, false≢true}
+use mathlib.Core.Bool.{Bool, true, false}
 use mathlib.Core.List.{List, [], _∷_, _++_}
 use lib.Dec.{eqb}
-use lib.Pow.{pow-mono}
-use lib.ListN.{length, getD}
-use borrow.Author.Tests.{eq-eqb, ne-eqb}
+use lib.ListN.{getD}
 use Rattle.units.specs.Plain.{if_then_else_, times, sum}
-use Rattle.words.specs.Bits.{bit}
-use Rattle.words.proofs.Bits.{bit-above}
 use Rattle.words.specs.Runs.{tab, tabFrom}
 use Rattle.words.proofs.Runs.{tab-snoc}
-use Rattle.rounds.specs.Round.{Rec, Train, Shared, noTrain, some?, trainAt, inTurn, heldIn, held}
+use Rattle.rounds.specs.Round.{Rec, Train, noTrain, some?, inTurn, heldIn, held}
 use Rattle.rounds.specs.Good.{Lengths, Deficit, GoodTrain, Good}
 use Rattle.rounds.proofs.Test.{beyond, not-in-turn}
 use Rattle.turns.specs.Turns.{headOf, countOf, deficitOf, placeOf, ringOf, trainOf, trainsOf, sharedOf, fours, namedOf, orderOf, roundOf, turnOf, Ordered}
-use Rattle.turns.proofs.Round.{round-cons}
 use Rattle.turns.proofs.Train.{parts, length-ring, ring-none, ring-cons, train-is, length-trains}
 use Rattle.turns.proofs.Good.{good-known, good-once, good-each}
-use Rattle.round_test.specs.Shared.{PlacesFit, Once, Names, TrainFine, heldBelow, SharedGood}
+use Rattle.round_test.specs.Shared.{PlacesFit, TrainFine, below, heldBelow, SharedGood}
 
 -- ---- one train
 
@@ -107,7 +102,7 @@ sum-append [] ys = omega arith
 sum-append (x ∷ xs) ys = omega (arith, sum-append xs ys)
 
 held-tab : (at : ℕ → Rec) (ts : ℕ → ℕ) (n : ℕ) → sum heldIn (tab n (λ k. trainOf at k (ts k))) ≡ heldBelow ts n
-unfolding heldBelow tab tabFrom trainOf
+unfolding below tab tabFrom trainOf
 held-tab at ts zero = refl
 held-tab at ts (suc n) =
     ap (λ (m : ℕ). sum heldIn (tab m (λ k. trainOf at k (ts k)))) (sym (add-one n))
@@ -125,8 +120,8 @@ module _ (L r count : ℕ) (ts lengths : ℕ → ℕ) (o : Ordered r) (some-byte
   abbrev first-length : ℕ → ℕ
   first-length k = lengths (placeOf k (headOf (ts k)))
 
-  abbrev Fine : ℕ → ℕ → Type 0
-  Fine names k = TrainFine L (bit k names) (eqb (turnOf r) k) (ts k) (first-length k)
+  abbrev Fine : ℕ → Type 0
+  Fine k = TrainFine L (times k (roundOf r)) (eqb (turnOf r) k) (ts k) (first-length k)
 
   module _ (at : ℕ → Rec) (are : (p : ℕ) → p < 64 → at p .len ≡ lengths p) where
     within : (p : ℕ) → p < 64 → (1 ≤ at p .len) × (at p .len ≤ L)
@@ -157,49 +152,46 @@ module _ (L r count : ℕ) (ts lengths : ℕ → ℕ) (o : Ordered r) (some-byte
   no-turn zero t len z a b f = f
   no-turn (suc n) t len z a b f = absurd (omega arith)
 
-  module _ (names : ℕ) (named : Names (fours (namedOf r) (orderOf r)) names) (word : names < 256) where
-    bits : (k : ℕ) → times k (roundOf r) ≡ bit k names
-    unfolding roundOf
-    bits k = named .fine word k
+  pub all-good : ((k : ℕ) → k < 8 → Fine k) → ((k : ℕ) → k < 8 → times k (roundOf r) ≤ 1) → ((k : ℕ) → 8 ≤ k → times k (roundOf r) ≡ 0) → heldBelow ts 8 ≡ count → SharedGood L ts lengths r count
+  unfolding sharedOf
+  all-good fine once known counted =
+      record {
+        ordered = o;
+        lane = λ at are. record { size = length-trains ts at; each = λ k. elim (decLt k 8) [ yes h ↦ near at are k h | no h ↦ far at k (omega arith) ] };
+        held = λ at. held-is at ts r ∙ counted;
+      }
+    where
+      near : (at : ℕ → Rec) → ((p : ℕ) → p < 64 → at p .len ≡ lengths p) → (k : ℕ) → k < 8 → GoodTrain L (inTurn k (roundOf r)) (times k (roundOf r)) (getD (trainsOf at ts) k noTrain)
+      near at are k h =
+          let f : TrainFine L (times k (roundOf r)) (eqb (turnOf r) k) (ts k) (at (placeOf k (headOf (ts k))) .len) = rw (first-is at are k h) (fine k h) in
+          let g : TrainFine L (times k (roundOf r)) (inTurn k (roundOf r)) (ts k) (at (placeOf k (headOf (ts k))) .len) =
+          turned k (λ (b : Bool). TrainFine L (times k (roundOf r)) b (ts k) (at (placeOf k (headOf (ts k))) .len)) (λ z a b. no-turn (times k (roundOf r)) (ts k) (at (placeOf k (headOf (ts k))) .len) z a b) f in
+          rw (train-is ts at k h) (fine-good L at k (ts k) h (within at are) (times k (roundOf r)) (inTurn k (roundOf r)) (once k h) g)
 
-    pub all-good : ((k : ℕ) → k < 8 → Fine names k) → heldBelow ts 8 ≡ count → SharedGood L ts lengths r count
-    unfolding sharedOf
-    all-good fine counted =
-        record {
-          ordered = o;
-          lane = λ at are. record { size = length-trains ts at; each = λ k. elim (decLt k 8) [ yes h ↦ near at are k h | no h ↦ far at k (omega arith) ] };
-          held = λ at. held-is at ts r ∙ counted;
-        }
-      where
-        near : (at : ℕ → Rec) → ((p : ℕ) → p < 64 → at p .len ≡ lengths p) → (k : ℕ) → k < 8 → GoodTrain L (inTurn k (roundOf r)) (times k (roundOf r)) (getD (trainsOf at ts) k noTrain)
-        near at are k h =
-            let f : TrainFine L (times k (roundOf r)) (eqb (turnOf r) k) (ts k) (at (placeOf k (headOf (ts k))) .len) = rw (bits k, first-is at are k h) (fine k h) in
-            let g : TrainFine L (times k (roundOf r)) (inTurn k (roundOf r)) (ts k) (at (placeOf k (headOf (ts k))) .len) =
-            turned k (λ (b : Bool). TrainFine L (times k (roundOf r)) b (ts k) (at (placeOf k (headOf (ts k))) .len)) (λ z a b. no-turn (times k (roundOf r)) (ts k) (at (placeOf k (headOf (ts k))) .len) z a b) f in
-            rw (train-is ts at k h) (fine-good L at k (ts k) h (within at are) (times k (roundOf r)) (inTurn k (roundOf r)) (omega (arith, bits k)) g)
+      far : (at : ℕ → Rec) (k : ℕ) → 8 ≤ k → GoodTrain L (inTurn k (roundOf r)) (times k (roundOf r)) (getD (trainsOf at ts) k noTrain)
+      far at k h =
+          let none = known k h in
+          rw (beyond (trainsOf at ts) k (omega (arith, length-trains ts at)), not-in-turn k (roundOf r) none, none) (record { room = omega arith; lengths = tt; deficit = refl; named-once = refl })
 
-        far : (at : ℕ → Rec) (k : ℕ) → 8 ≤ k → GoodTrain L (inTurn k (roundOf r)) (times k (roundOf r)) (getD (trainsOf at ts) k noTrain)
-        far at k h =
-            let none : times k (roundOf r) ≡ 0 = bits k ∙ bit-above k names (omega (arith, pow-mono {i = 8} {j = k} h)) in
-            rw (beyond (trainsOf at ts) k (omega (arith, length-trains ts at)), not-in-turn k (roundOf r) none, none) (record { room = omega arith; lengths = tt; deficit = refl; named-once = refl })
+  some-records : ℕ → Rec
+  some-records p = record { mark = 0; len = lengths p }
 
-    some-records : ℕ → Rec
-    some-records p = record { mark = 0; len = lengths p }
-
-    pub good-all : SharedGood L ts lengths r count → (k : ℕ) → k < 8 → Fine names k
+  module _ (g : SharedGood L ts lengths r count) where
+    some-lane : Good L (sharedOf some-records ts r)
     unfolding some-records
-    good-all g k h =
-        let lane = g .lane some-records (λ p q. refl) in
-        let f = good-fine L some-records k (ts k) h (within some-records (λ p q. refl)) (times k (roundOf r)) (inTurn k (roundOf r)) (good-each L r some-records ts lane k h) in
-        subst (λ (n : ℕ). TrainFine L n (eqb (turnOf r) k) (ts k) (first-length k)) (bits k)
-        (turned-back k (λ (b : Bool). TrainFine L (times k (roundOf r)) b (ts k) (first-length k)) (λ z a b. no-turn (times k (roundOf r)) (ts k) (first-length k) z a b) f)
+    some-lane = g .lane some-records (λ p q. refl)
 
-  pub good-held : SharedGood L ts lengths r count → heldBelow ts 8 ≡ count
-  good-held g = sym (held-is (λ (p : ℕ). record { mark = 0; len = 0 }) ts r) ∙ g .held (λ (p : ℕ). record { mark = 0; len = 0 })
+    pub good-all : (k : ℕ) → k < 8 → Fine k
+    unfolding some-records
+    good-all k h =
+        let f = good-fine L some-records k (ts k) h (within some-records (λ p q. refl)) (times k (roundOf r)) (inTurn k (roundOf r)) (good-each L r some-records ts some-lane k h) in
+        turned-back k (λ (b : Bool). TrainFine L (times k (roundOf r)) b (ts k) (first-length k)) (λ z a b. no-turn (times k (roundOf r)) (ts k) (first-length k) z a b) f
 
-pub good-names : (L r count : ℕ) (ts lengths : ℕ → ℕ) → SharedGood L ts lengths r count → Once (fours (namedOf r) (orderOf r))
-unfolding roundOf
-good-names L r count ts lengths g k =
-    let at : ℕ → Rec = λ p. record { mark = 0; len = lengths p } in
-    let lane = g .lane at (λ p q. refl) in
-    (good-once L r at ts lane k, good-known L r at ts lane k)
+    pub named-once : (k : ℕ) → times k (roundOf r) ≤ 1
+    named-once = good-once L r some-records ts some-lane
+
+    pub named-known : (k : ℕ) → 0 < times k (roundOf r) → k < 8
+    named-known = good-known L r some-records ts some-lane
+
+    pub good-held : heldBelow ts 8 ≡ count
+    good-held = sym (held-is some-records ts r) ∙ g .held some-records

@@ -2,9 +2,9 @@
 use Prim.Native.Nat.{ℕ, _≤_, _<_}
 use native.Mathlib.Omega.{arith}
 use native.Mathlib.Decide.{decLt}
-use mathlib.Core.Path.{_≡_, sym, ap, subst, _∙_}
+use mathlib.Core.Path.{_≡_, sym, subst, _∙_}
 use Rattle.units.specs.Plain.{times}
-use Rattle.rounds.specs.Round.{Rec, Train, noTrain, inTurn, held}
+use Rattle.rounds.specs.Round.{Rec, noTrain, inTurn, held}
 use Rattle.rounds.specs.Good.{GoodTrain, Good}
 use Rattle.rounds.proofs.Test.{beyond}
 use lib.ListN.{getD}

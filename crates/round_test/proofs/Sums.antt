@@ -1,6 +1,5 @@
 -- Sums over the trains, and what a round of so many names can name. Assumes nothing.
-use Prim.Native.Nat.{ℕ, zero, suc, _+_, _-_, _*_, _/_, _%_, _^_, _≤_, _<_, max}
-use native.Mathlib.Nat.{two-pow-succ}
+use Prim.Native.Nat.{ℕ, zero, suc, _+_, _-_, _/_, _%_, _^_, _≤_, _<_, max}
 use native.Mathlib.Omega.{arith}
 use native.Mathlib.Decide.{decLt}
 use mathlib.Core.Path.{_≡_, refl, sym, ap, subst, _∙_}
@@ -9,18 +8,14 @@ use mathlib.Core.List.{List, [], _∷_}
 use lib.Bits.{bitOr, or-step, or-shr}
 use lib.Dec.{eqb}
 use lib.ListN.{length}
-use lib.Pow.{pow-pos, pow-mono, mod-pow-add}
+use lib.Pow.{pow-pos, field, mod-mod-pow}
 use borrow.Author.Tests.{eq-eqb, ne-eqb}
 use Rattle.units.specs.Plain.{if_then_else_, times}
 use Rattle.words.specs.Bits.{bit}
 use Rattle.words.proofs.Bits.{bit-add-same, bit-add-other, bit-above}
-use Rattle.round_test.specs.Shared.{Once, Names}
+use Rattle.round_test.specs.Shared.{below}
 
-unfoldable below : (ℕ → ℕ) → ℕ → ℕ
-below f zero = 0
-below f (suc n) = below f n + f n
-
-le-below : (f g : ℕ → ℕ) (n : ℕ) → ((k : ℕ) → k < n → f k ≤ g k) → below f n ≤ below g n
+pub le-below : (f g : ℕ → ℕ) (n : ℕ) → ((k : ℕ) → k < n → f k ≤ g k) → below f n ≤ below g n
 unfolding below
 le-below f g zero h = omega arith
 le-below f g (suc n) h = omega (arith, le-below f g n (λ k l. h k (omega arith)), h n (omega arith))
@@ -69,11 +64,11 @@ one-in j f (suc n) h =
       | no p ↦ omega (arith, one-beyond j f n (omega arith), one-same j n (omega arith))
     ]
 
-abbrev named : List ℕ → ℕ
+abbrev pub named : List ℕ → ℕ
 named ks = below (λ k. times k ks) 8
 
 -- a list of trains has as many names as it names trains, each counted as often as it is named
-named-all : (ks : List ℕ) → ((k : ℕ) → 0 < times k ks → k < 8) → named ks ≡ length ks
+pub named-all : (ks : List ℕ) → ((k : ℕ) → 0 < times k ks → k < 8) → named ks ≡ length ks
 unfolding below
 named-all [] h = refl
 named-all (j ∷ js) h =
@@ -90,60 +85,16 @@ named-most (j ∷ js) far h =
       | no p ↦ omega (arith, one-beyond j (λ k. times k js) 8 (omega arith), one-most j far, named-most js far h)
     ]
 
--- ---- a list of 8 that names all trains
+-- a list that names each train of a set, and is as long as there are such, names each of them once, and nothing else
+module _ (ks : List ℕ) (h : ℕ → ℕ) (least : (k : ℕ) → k < 8 → h k ≤ times k ks) (as-many : below h 8 ≡ length ks) where
+  abbrev more : below h 8 ≤ named ks
+  more = le-below h (λ k. times k ks) 8 least
 
-eight : below (λ k. 1) 8 ≡ 8
-unfolding below
-eight = refl
+  pub exact : (k : ℕ) → k < 8 → h k ≡ times k ks
+  exact = same-below h (λ k. times k ks) 8 least (omega (arith, more, named-most ks 8 (omega arith), as-many))
 
-pub low-ones : (x k : ℕ) → x % 256 ≡ 255 → k < 8 → bit k x ≡ 1
-low-ones x zero e h = omega (arith, e)
-low-ones x (suc zero) e h = omega (arith, e)
-low-ones x (suc (suc zero)) e h = omega (arith, e)
-low-ones x (suc (suc (suc zero))) e h = omega (arith, e)
-low-ones x (suc (suc (suc (suc zero)))) e h = omega (arith, e)
-low-ones x (suc (suc (suc (suc (suc zero))))) e h = omega (arith, e)
-low-ones x (suc (suc (suc (suc (suc (suc zero)))))) e h = omega (arith, e)
-low-ones x (suc (suc (suc (suc (suc (suc (suc zero))))))) e h = omega (arith, e)
-low-ones x (suc (suc (suc (suc (suc (suc (suc (suc k)))))))) e h = absurd (omega arith)
-
-pub ones-low : (x : ℕ) → ((k : ℕ) → k < 8 → bit k x ≡ 1) → x % 256 ≡ 255
-ones-low x b = go 8 (omega arith)
-  where
-    go : (n : ℕ) → n ≤ 8 → x % 2 ^ n ≡ 2 ^ n - 1
-    go zero h = omega arith
-    go (suc n) h =
-        let more : 1 + n ≡ suc n = omega arith in
-        let parts : x % 2 ^ suc n ≡ bit n x * 2 ^ n + x % 2 ^ n = ap (λ (m : ℕ). x % 2 ^ m) (sym more) ∙ mod-pow-add x 1 n in
-        let here : bit n x * 2 ^ n ≡ 2 ^ n = ap (λ (y : ℕ). y * 2 ^ n) (b n (omega arith)) ∙ omega arith in
-        omega (arith, parts, here, go n (omega arith), two-pow-succ n, pow-pos n)
-
-pub ones : (k : ℕ) → k < 8 → bit k 255 ≡ 1
-ones k h = low-ones 255 k refl h
-
-full : (ks : List ℕ) → ((k : ℕ) → k < 8 → times k ks ≡ 1) → ((k : ℕ) → 8 ≤ k → times k ks ≡ 0) → Names ks 255
-full ks near far =
-    record {
-      fine = λ h k. elim (decLt k 8) [ yes p ↦ near k p ∙ sym (ones k p) | no p ↦ far k (omega arith) ∙ sym (bit-above k 255 (omega (arith, pow-mono {i = 8} {j = k} (omega arith)))) ];
-      bad = λ h. absurd (omega arith);
-    }
-
-module _ (ks : List ℕ) (long : length ks ≡ 8) where
-  pub some-full : ((k : ℕ) → k < 8 → 1 ≤ times k ks) → Names ks 255
-  some-full some =
-      let least = le-below (λ k. 1) (λ k. times k ks) 8 some in
-      full ks
-      (λ k h. sym (same-below (λ k. 1) (λ k. times k ks) 8 some (omega (arith, eight, least, long, named-most ks 8 (omega arith))) k h))
-      (λ k h. omega (arith, eight, least, long, named-most ks k h))
-
-  pub once-full : Once ks → Names ks 255
-  once-full once =
-      full ks
-      (same-below (λ k. times k ks) (λ k. 1) 8 (λ k h. once k .0) (named-all ks (λ k. once k .1) ∙ long ∙ sym eight))
-      (λ k h. elim (decLt 0 (times k ks)) [ yes p ↦ absurd (omega (arith, once k .1 p)) | no p ↦ omega arith ])
-
-pub full-each : (ks : List ℕ) → Names ks 255 → (k : ℕ) → k < 8 → times k ks ≡ 1
-full-each ks n k h = n .fine (omega arith) k ∙ ones k h
+  pub no-other : (k : ℕ) → 8 ≤ k → times k ks ≡ 0
+  no-other k far = omega (arith, more, named-most ks k far, as-many)
 
 -- ---- bits
 
@@ -161,3 +112,16 @@ bit-power k = ap (bit k) (sym (whole k)) ∙ bit-add-same k 0 (bit-none k)
 
 pub bit-power-other : (k j : ℕ) → (k ≡ j → ⊥) → bit j (2 ^ k) ≡ 0
 bit-power-other k j n = ap (bit j) (sym (whole k)) ∙ bit-add-other k j 0 n (bit-none k) ∙ bit-none j
+
+pub bit-low : (x k : ℕ) → k < 8 → bit k (x % 256) ≡ bit k x
+bit-low x k h =
+    ap (λ (y : ℕ). x % 2 ^ y / 2 ^ k % 2) whole-width
+    ∙ ap (λ (y : ℕ). y % 2) (field x (8 - k) k)
+    ∙ ap (λ (y : ℕ). x / 2 ^ k % 2 ^ y % 2) above
+    ∙ mod-mod-pow (x / 2 ^ k) (7 - k) 1
+  where
+    whole-width : 8 ≡ 8 - k + k
+    whole-width = omega arith
+
+    above : 8 - k ≡ 7 - k + 1
+    above = omega arith

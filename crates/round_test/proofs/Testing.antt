@@ -1,109 +1,153 @@
--- The test of a shared lane, step by step. Assumes nothing.
-use Prim.Native.Nat.{ℕ, zero, suc, _+_, _-_, _*_, _/_, _%_, _^_, _≤_, _<_}
-use native.Mathlib.Nat.{mod-lt}
-use native.Mathlib.Numerals.{add-one}
+-- The test of a shared lane: the lane is good exactly if its trains' numbers make the tally of its round. Assumes nothing.
+use Prim.Native.Nat.{ℕ, zero, suc, _-_, _%_, _≤_, _<_}
 use native.Mathlib.Omega.{arith}
+use native.Mathlib.Decide.{decLt}
 use mathlib.Core.Path.{_≡_, refl, sym, ap, subst, _∙_}
 use mathlib.Core.Bool.{Bool, true, false}
-use mathlib.Core.List.{List}
+use mathlib.Core.List.{[], _∷_}
 use lib.Dec.{eqb}
-use lib.Pow.{pow-pos, split, shr-lt}
-use borrow.Author.Count.{below-more}
+use lib.ListN.{length}
 use borrow.Author.Tests.{eqb-true, eqb-false}
-use Rattle.words.specs.Bits.{bit}
-use Rattle.words.specs.Words.{wordAt}
-use Rattle.digits.specs.Digits.{digit}
-use Rattle.turns.specs.Turns.{headOf, countOf, placeOf, fours, namedOf, orderOf, turnOf, Ordered}
-use Rattle.turns.proofs.Round.{four-bits}
-use Rattle.round_test.specs.Shared.{Says, numbersAt, lengthsAt, PlacesFit, Once, Names, TrainFine, heldBelow, SharedGood}
-use Rattle.round_test.proofs.Deficits.{length-read}
-use Rattle.round_test.proofs.Lane.{all-good, good-all, good-held, good-names}
+use Rattle.units.specs.Plain.{times}
+use Rattle.turns.specs.Turns.{headOf, deficitOf, placeOf, fours, namedOf, orderOf, roundOf, turnOf, Ordered}
+use Rattle.turns.proofs.Round.{length-fours, round-cons}
+use Rattle.round_test.specs.Shared.{PlacesFit, TrainFine, below, heldBelow, holding, covering, Sound, Tallied, SharedGood}
+use Rattle.round_test.proofs.Sums.{one-same, one-other, le-below, named-all, exact, no-other}
+use Rattle.round_test.proofs.Fill.{filled, filled-times, filled-turn, filled-none}
+use Rattle.round_test.proofs.Lane.{all-good, good-all, named-once, named-known, good-held}
 
--- ---- the round's number
+-- ---- one train
 
-module _ (r : ℕ) where
-  pub ordered-is : namedOf r ≤ 8 → orderOf r / 2 ^ (4 * namedOf r) ≡ 0 → Ordered r
-  ordered-is few e =
-      record {
-        few = few;
-        fits = omega (arith, four-bits (namedOf r), split (orderOf r) (4 * namedOf r), mod-lt (orderOf r) (pow-pos (4 * namedOf r)), ap (λ (x : ℕ). x * 2 ^ (4 * namedOf r)) e);
-      }
+module _ (L t length : ℕ) (some : 1 ≤ length) where
+  fine-holding : (n : ℕ) (turn : Bool) → n ≤ 1 → TrainFine L n turn t length → n ≡ holding t
+  unfolding TrainFine
+  fine-holding zero turn h f = omega (arith, f)
+  fine-holding (suc n) true h f = omega (arith, h, f .0)
+  fine-holding (suc n) false h f = omega (arith, h, f .0)
 
-  is-ordered : Ordered r → orderOf r / 2 ^ (4 * namedOf r) ≡ 0
-  is-ordered o = omega (arith, shr-lt {n = orderOf r} 0 (4 * namedOf r) (subst (λ (k : ℕ). orderOf r < 2 ^ k) (zero-more (4 * namedOf r)) (rw four-bits (o .fits))))
-    where
-      zero-more : (k : ℕ) → k ≡ 0 + k
-      zero-more k = omega arith
+  fine-sound : (n : ℕ) (turn : Bool) → TrainFine L n turn t length → Sound L t length
+  unfolding TrainFine
+  fine-sound zero turn f = (λ p. absurd (omega (arith, p, f)), λ p. absurd (omega (arith, p, f)))
+  fine-sound (suc n) true f = (λ p. (f .0, f .1), λ p. f .3)
+  fine-sound (suc n) false f = (λ p. (f .0, f .1), λ p. absurd (omega (arith, p, f .2)))
 
-module _ (t : List ℕ) (trains lengths r L count : ℕ) where
-  abbrev ts : ℕ → ℕ
-  ts = numbersAt t trains
+  fine-covers : (n : ℕ) → 0 < n → TrainFine L n true t length → covering t length ≡ 1
+  unfolding TrainFine
+  fine-covers zero h f = absurd (omega arith)
+  fine-covers (suc n) h f = omega (arith, f .2)
 
-  abbrev lens : ℕ → ℕ
-  lens = lengthsAt t lengths
+  fine-waits : (n : ℕ) → TrainFine L n false t length → covering t length ≡ 0
+  unfolding TrainFine
+  fine-waits zero f = omega (arith, f)
+  fine-waits (suc n) f = omega (arith, f .2)
 
-  abbrev Good : Type 0
-  Good = SharedGood L ts lens r count
+  -- and back
+  fine-made : (turn : Bool) → Sound L t length → 8 ≤ t → (turn ≡ true → covering t length ≡ 1) → (turn ≡ false → covering t length ≡ 0) → TrainFine L 1 turn t length
+  unfolding TrainFine
+  fine-made true s h c w = let l : length ≤ deficitOf t = omega (arith, c refl) in (s .0 h .0, s .0 h .1, l, s .1 l)
+  fine-made false s h c w = (s .0 h .0, s .0 h .1, omega (arith, w refl))
 
-  pub over-few : 8 < namedOf r → Good → ⊥
-  over-few h g = omega (arith, g .ordered .few)
+-- ---- the lane
 
-  pub not-ordered : (orderOf r / 2 ^ (4 * namedOf r) ≡ 0 → ⊥) → Good → ⊥
-  not-ordered n g = n (is-ordered r (g .ordered))
+some-or-none : (P : Type 0) (n : ℕ) → (n ≡ 0 → P) → ((m : ℕ) → n ≡ suc m → P) → P
+some-or-none P zero f g = f refl
+some-or-none P (suc m) f g = g m refl
 
-  pub not-names : (names : ℕ) → Names (fours (namedOf r) (orderOf r)) names → 256 ≤ names → Good → ⊥
-  not-names names n h g = n .bad h (good-names L r count ts lens g)
+module _ (L r count : ℕ) (ts lens : ℕ → ℕ) (o : Ordered r) (some-bytes : (p : ℕ) → 1 ≤ lens p) (fit : PlacesFit L lens) where
+  abbrev len : ℕ → ℕ
+  len k = lens (placeOf k (headOf (ts k)))
 
-  -- ---- train after train
+  abbrev Matches : Type 0
+  Matches = Tallied L ts lens (filled r o) (namedOf r)
 
-  abbrev Fine : ℕ → ℕ → Type 0
-  Fine names k = TrainFine L (bit k names) (eqb (turnOf r) k) (ts k) (lens (placeOf k (headOf (ts k))))
+  long : length (roundOf r) ≡ namedOf r
+  unfolding roundOf
+  long = length-fours (namedOf r) (orderOf r)
 
-  pub record Looked (names held k : ℕ) : Type 0 where
-    pub within : k ≤ 8
-    pub fine : (i : ℕ) → i < k → Fine names i
-    pub total : held ≡ heldBelow ts k
-    pub small : held ≤ 16 * k
+  none-named : namedOf r ≡ 0 → (k : ℕ) → times k (roundOf r) ≡ 0
+  unfolding roundOf fours
+  none-named z k = ap (λ (n : ℕ). times k (fours n (orderOf r))) z
 
-  pub looked-none : (names : ℕ) → Looked names 0 0
-  unfolding heldBelow
-  looked-none names = record { within = omega arith; fine = λ i h. absurd (omega arith); total = refl; small = omega arith }
+  module _ (a : Matches) where
+    least : (k : ℕ) → k < 8 → holding (ts k) ≤ times k (roundOf r)
+    least k h = omega (arith, a .names k h, filled-times r o k h)
 
-  -- and the number at hand is that of train k
-  pub record Looking (names held train k : ℕ) : Type 0 where
-    pub looked : Looked names held k
-    pub number : k < 8 → train ≡ ts k
+    is : (k : ℕ) → k < 8 → holding (ts k) ≡ times k (roundOf r)
+    is = exact (roundOf r) (λ k. holding (ts k)) least (a .number ∙ sym long)
 
-  module _ (names held k : ℕ) (l : Looked names held k) (lt : k < 8) (train q : ℕ) (is : train ≡ ts k)
-      (reads : q ≡ digit 16 ((lengths + 8 * k + train % 8) % 4) (wordAt t ((lengths + 8 * k + train % 8) / 4))) where
-    length-is : q + 1 ≡ lens (placeOf k (headOf (ts k)))
-    length-is = length-read t lengths k train q reads ∙ ap (λ (x : ℕ). lens (placeOf k (headOf x))) is
+    fine : (k : ℕ) → k < 8 → TrainFine L (times k (roundOf r)) (eqb (turnOf r) k) (ts k) (len k)
+    unfolding TrainFine
+    fine k h =
+        elim (decLt (ts k) 8) [
+          | yes p ↦ let none : 0 ≡ times k (roundOf r) = omega (arith, is k h, p) in subst (λ (n : ℕ). TrainFine L n (eqb (turnOf r) k) (ts k) (len k)) none p
+          | no p ↦
+              let once : 1 ≡ times k (roundOf r) = omega (arith, is k h, p) in
+              subst (λ (n : ℕ). TrainFine L n (eqb (turnOf r) k) (ts k) (len k)) once
+              (some-or-none (TrainFine L 1 (eqb (turnOf r) k) (ts k) (len k)) (namedOf r)
+              (λ z. absurd (omega (arith, once, none-named z k)))
+              (λ m e.
+              let turn : covering (ts k) (len k) ≡ times k (turnOf r ∷ []) = a .turn k h ∙ ap (λ (x : ℕ). times k (x ∷ [])) (filled-turn r o m e) in
+              fine-made L (ts k) (len k) (some-bytes (placeOf k (headOf (ts k)))) (eqb (turnOf r) k) (a .each k h) (omega (arith, p))
+              (λ q. turn ∙ omega (arith, one-same (turnOf r) k (eqb-true (turnOf r) k q)))
+              (λ q. turn ∙ omega (arith, one-other (turnOf r) k (eqb-false (turnOf r) k q)))))
+        ]
 
-    pub looked-more : TrainFine L (bit k names) (eqb (turnOf r) k) train (q + 1) → Looked names (held + train / 8 % 16) (k + 1)
-    unfolding heldBelow
-    looked-more f =
+    pub tallied-good : heldBelow ts 8 ≡ count → SharedGood L ts lens r count
+    tallied-good =
+        all-good L r count ts lens o some-bytes fit fine (λ k h. omega (arith, is k h))
+        (no-other (roundOf r) (λ k. holding (ts k)) least (a .number ∙ sym long))
+
+  module _ (g : SharedGood L ts lens r count) where
+    each : (k : ℕ) → k < 8 → TrainFine L (times k (roundOf r)) (eqb (turnOf r) k) (ts k) (len k)
+    each = good-all L r count ts lens o some-bytes fit g
+
+    once : (k : ℕ) → times k (roundOf r) ≤ 1
+    once = named-once L r count ts lens o some-bytes fit g
+
+    held-to : (k : ℕ) → k < 8 → times k (roundOf r) ≡ holding (ts k)
+    held-to k h = fine-holding L (ts k) (len k) (some-bytes (placeOf k (headOf (ts k)))) (times k (roundOf r)) (eqb (turnOf r) k) (once k) (each k h)
+
+    number : below (λ k. holding (ts k)) 8 ≡ namedOf r
+    number =
+        omega (
+          arith,
+          le-below (λ k. holding (ts k)) (λ k. times k (roundOf r)) 8 (λ k h. omega (arith, held-to k h)),
+          le-below (λ k. times k (roundOf r)) (λ k. holding (ts k)) 8 (λ k h. omega (arith, held-to k h)),
+        )
+        ∙ named-all (roundOf r) (named-known L r count ts lens o some-bytes fit g)
+        ∙ long
+
+    in-turn : (m : ℕ) → namedOf r ≡ suc m → (k : ℕ) → turnOf r ≡ k → 0 < times k (roundOf r)
+    in-turn m e k q = rw (round-cons r m o e) (omega (arith, one-same (turnOf r) k q))
+
+    turn : (k : ℕ) → k < 8 → covering (ts k) (len k) ≡ times k (filled r o % 16 ∷ [])
+    unfolding TrainFine
+    turn k h =
+        some-or-none (covering (ts k) (len k) ≡ times k (filled r o % 16 ∷ [])) (namedOf r)
+        (λ z.
+        let none : ts k < 8 = omega (arith, held-to k h, none-named z k) in
+        omega (arith, none, some-bytes (placeOf k (headOf (ts k))), ap (λ (x : ℕ). times k (x ∷ [])) (filled-none r o z), one-other 15 k (λ e. omega (arith, e))))
+        (λ m e. by m e (eqb (turnOf r) k) refl ∙ ap (λ (x : ℕ). times k (x ∷ [])) (sym (filled-turn r o m e)))
+      where
+        by : (m : ℕ) → namedOf r ≡ suc m → (b : Bool) → eqb (turnOf r) k ≡ b → covering (ts k) (len k) ≡ times k (turnOf r ∷ [])
+        by m e true q =
+            let is = eqb-true (turnOf r) k q in
+            fine-covers L (ts k) (len k) (some-bytes (placeOf k (headOf (ts k)))) (times k (roundOf r)) (in-turn m e k is)
+            (subst (λ (b : Bool). TrainFine L (times k (roundOf r)) b (ts k) (len k)) q (each k h))
+            ∙ omega (arith, one-same (turnOf r) k is)
+        by m e false q =
+            fine-waits L (ts k) (len k) (some-bytes (placeOf k (headOf (ts k)))) (times k (roundOf r))
+            (subst (λ (b : Bool). TrainFine L (times k (roundOf r)) b (ts k) (len k)) q (each k h))
+            ∙ omega (arith, one-other (turnOf r) k (eqb-false (turnOf r) k q))
+
+    pub good-tallied : Matches
+    good-tallied =
         record {
-          within = omega arith;
-          fine = below-more (Fine names) k (l .fine) (subst (λ (x : ℕ). TrainFine L (bit k names) (eqb (turnOf r) k) (ts k) x) length-is (subst (λ (x : ℕ). TrainFine L (bit k names) (eqb (turnOf r) k) x (q + 1)) is f));
-          total = ap (λ (x : ℕ). held + countOf x) is ∙ ap (λ (x : ℕ). x + countOf (ts k)) (l .total) ∙ ap (heldBelow ts) (sym (add-one k));
-          small = omega (arith, l .small);
+          each = λ k h. fine-sound L (ts k) (len k) (some-bytes (placeOf k (headOf (ts k)))) (times k (roundOf r)) (eqb (turnOf r) k) (each k h);
+          names = λ k h. omega (arith, held-to k h, once k, filled-times r o k h);
+          number = number;
+          turn = turn;
         }
 
-    module _ (o : Ordered r) (fit : PlacesFit L lens) (named : Names (fours (namedOf r) (orderOf r)) names) (word : names < 256) where
-      pub looked-bad : (TrainFine L (bit k names) (eqb (turnOf r) k) train (q + 1) → ⊥) → Good → ⊥
-      looked-bad n g =
-          n (subst (λ (x : ℕ). TrainFine L (bit k names) (eqb (turnOf r) k) x (q + 1)) (sym is)
-          (subst (λ (x : ℕ). TrainFine L (bit k names) (eqb (turnOf r) k) (ts k) x) (sym length-is) (good-all L r count ts lens o (λ p. omega arith) fit names named word g k lt)))
-
-  pub looked-all : (names held k : ℕ) → Looked names held k → 8 ≤ k → Ordered r → PlacesFit L lens → Names (fours (namedOf r) (orderOf r)) names → names < 256 → Says (eqb held count) Good
-  looked-all names held k l h o fit named word = go (eqb held count) refl
-    where
-      eight : k ≡ 8
-      eight = omega (arith, l .within)
-
-      all-held : held ≡ heldBelow ts 8
-      all-held = l .total ∙ ap (heldBelow ts) eight
-
-      go : (b : Bool) → eqb held count ≡ b → Says b Good
-      go true e = all-good L r count ts lens o (λ p. omega arith) fit names named word (λ i q. l .fine i (omega arith)) (sym all-held ∙ eqb-true held count e)
-      go false e = λ g. eqb-false held count e (all-held ∙ good-held L r count ts lens o (λ p. omega arith) fit g)
+    pub good-count : heldBelow ts 8 ≡ count
+    good-count = good-held L r count ts lens o some-bytes fit g

@@ -3,29 +3,31 @@
 --   numbersAt      the numbers of 8 trains that stand in the halves of bytes, from a half on
 --   lengthsAt      the lengths of 64 places, each less one in a quarter of bytes, from a quarter on
 --   PlacesFit      every place holds a length of 1 to the longest, a record there or not
---   Once           a round names trains only, each at most once
---   Names          the word of the trains that a round names, or 256 where it is no such round
 --   TrainFine      what a train's number must be, the train named in the round or not, in turn or not, length being that of its first record
+--   below          the sum of a function over the numbers below n
 --   heldBelow      the records of the first n trains
 --   Holds          a train's number has 1 to 8 records
---   AllHold        so have all, and these are so many
---   Covered        a deficit is right for the length of a train's first record, the train in turn or not
---   AllCovered     so are those of all trains, one of them being in turn
+--   atLeast        1 if a number is at least another one, else 0
+--   holding        1 for a train's number that is more than a head, else 0
+--   covering       1 if a train's deficit covers a length, else 0
+--   Sound          what is asked of a train's number before it is held to the round
+--   Seen           the word of the trains that eight numbers of four bits name
+--   Wanted         the tally that the trains of a round must make
+--   Tallied        the trains' numbers are sound, and make that tally
 --   SharedGood     the lane is good, and holds so many records
 --
 -- Assumes nothing.
-use Prim.Native.Nat.{ℕ, zero, suc, _+_, _*_, _/_, _%_, _≤_, _<_}
+use Prim.Native.Nat.{ℕ, zero, suc, _+_, _-_, _*_, _/_, _%_, _^_, _≤_, _<_, min}
 use mathlib.Core.Path.{_≡_}
 use mathlib.Core.Bool.{Bool, true, false}
-use mathlib.Core.List.{List}
-use lib.Dec.{eqb}
+use mathlib.Core.List.{List, [], _∷_}
 use Rattle.units.specs.Plain.{times}
 use Rattle.words.specs.Bits.{bit}
 use Rattle.words.specs.Words.{wordAt}
 use Rattle.digits.specs.Digits.{digit}
 use Rattle.rounds.specs.Round.{Rec, trainCount, trainDepth, held}
 use Rattle.rounds.specs.Good.{Good}
-use Rattle.turns.specs.Turns.{headOf, countOf, deficitOf, placeOf, sharedOf, Ordered}
+use Rattle.turns.specs.Turns.{headOf, countOf, deficitOf, placeOf, fours, sharedOf, Ordered}
 
 abbrev pub Says : Bool → Type 0 → Type 0
 Says true P = P
@@ -40,39 +42,55 @@ lengthsAt t from p = digit 16 ((from + p) % 4) (wordAt t ((from + p) / 4)) + 1
 abbrev pub PlacesFit : ℕ → (ℕ → ℕ) → Type 0
 PlacesFit L lengths = (p : ℕ) → p < trainCount * trainDepth → lengths p ≤ L
 
-abbrev pub Once : List ℕ → Type 0
-Once ks = (k : ℕ) → (times k ks ≤ 1) × (0 < times k ks → k < trainCount)
-
-pub record Names (ks : List ℕ) (r : ℕ) : Type 0 where
-  pub fine : r < 256 → (k : ℕ) → times k ks ≡ bit k r
-  pub bad : 256 ≤ r → Once ks → ⊥
-
 -- a train that is not named has a head at most; one that is has records, and a deficit as the rule for a good table asks
 unfoldable pub TrainFine : ℕ → ℕ → Bool → ℕ → ℕ → Type 0
 TrainFine L zero turn t length = t < 8
 TrainFine L (suc n) true t length = (0 < countOf t) × (countOf t ≤ trainDepth) × (length ≤ deficitOf t) × (deficitOf t < 2 * L)
 TrainFine L (suc n) false t length = (0 < countOf t) × (countOf t ≤ trainDepth) × (deficitOf t < length)
 
--- ---- of a round that names all trains
+-- ---- the trains' numbers
 
-unfoldable pub heldBelow : (ℕ → ℕ) → ℕ → ℕ
-heldBelow ts zero = 0
-heldBelow ts (suc n) = heldBelow ts n + countOf (ts n)
+unfoldable pub below : (ℕ → ℕ) → ℕ → ℕ
+below f zero = 0
+below f (suc n) = below f n + f n
+
+abbrev pub heldBelow : (ℕ → ℕ) → ℕ → ℕ
+heldBelow ts n = below (λ k. countOf (ts k)) n
 
 abbrev pub Holds : ℕ → Type 0
 Holds t = (0 < countOf t) × (countOf t ≤ trainDepth)
 
-pub record AllHold (ts : ℕ → ℕ) (count : ℕ) : Type 0 where
-  pub each : (k : ℕ) → k < trainCount → Holds (ts k)
-  pub all : heldBelow ts trainCount ≡ count
+abbrev pub atLeast : ℕ → ℕ → ℕ
+atLeast b x = 1 - (b - x)
 
--- R18.8
-abbrev pub Covered : ℕ → Bool → ℕ → ℕ → Type 0
-Covered L true d length = (length ≤ d) × (d < 2 * L)
-Covered L false d length = d < length
+abbrev pub holding : ℕ → ℕ
+holding t = atLeast 8 t
 
-abbrev pub AllCovered : ℕ → ℕ → (ℕ → ℕ) → (ℕ → ℕ) → Type 0
-AllCovered L turn ts lengths = (k : ℕ) → k < trainCount → Covered L (eqb turn k) (deficitOf (ts k)) (lengths (placeOf k (headOf (ts k))))
+abbrev pub covering : ℕ → ℕ → ℕ
+covering t length = atLeast length (deficitOf t)
+
+-- more than a head is 1 to 8 records; and a deficit that covers the first of them is no greater than one turn makes it
+abbrev pub Sound : ℕ → ℕ → ℕ → Type 0
+Sound L t length = (8 ≤ t → Holds t) × (length ≤ deficitOf t → deficitOf t < 2 * L)
+
+-- ---- the round and the trains
+
+pub record Seen (order r : ℕ) : Type 0 where
+  pub small : r < 256
+  pub bits : (k : ℕ) → k < trainCount → bit k r ≡ min 1 (times k (fours 8 order))
+
+-- the trains named, how many they are, and the one in turn
+pub record Wanted (order named r : ℕ) : Type 0 where
+  pub names : ℕ
+  pub seen : Seen order names
+  pub is : r ≡ names + 256 * named + 4096 * (2 ^ (order % 16) % 256)
+
+-- the trains that hold are those named, as many as there are names; the deficit of the one in turn covers its first record, and of no other one
+pub record Tallied (L : ℕ) (ts lengths : ℕ → ℕ) (order named : ℕ) : Type 0 where
+  pub each : (k : ℕ) → k < trainCount → Sound L (ts k) (lengths (placeOf k (headOf (ts k))))
+  pub names : (k : ℕ) → k < trainCount → holding (ts k) ≡ min 1 (times k (fours 8 order))
+  pub number : below (λ k. holding (ts k)) trainCount ≡ named
+  pub turn : (k : ℕ) → k < trainCount → covering (ts k) (lengths (placeOf k (headOf (ts k)))) ≡ times k (order % 16 ∷ [])
 
 -- ---- the lane
 

@@ -1,17 +1,18 @@
 // The good-table test of one shared lane, by the numbers that the lane is kept in (crate `turns`).
 //
-// The round is read once, into a word of the trains that it names; then each train's number is held to it and to the length of its first record. Every
-// place of the lane holds a length within the numbers: that is tested before, for all 64 at once.
+// The round is held to the trains by one number, a tally of three parts: a bit for each of 8 trains, how many trains these are, and again a bit for each train.
+// From the round it has the trains named, the number of names, and the train in turn; from the trains' numbers the trains that hold records, how many these
+// are, and the trains whose deficit covers their first record. In a good lane both tallies are the same; and where they are, with as many names as trains that
+// hold and each of these named, none is named twice and nothing else is named. Every place of the lane holds a length within the numbers: that is tested
+// before, for all 64 at once.
 //
-// A round of all 8 trains is tested apart, and takes less that way: what is asked of the trains' numbers is then the same of each, so their counts are
-// tested two at a time, and no number has to be held to the word.
-//
-// In the loops over the trains each number is read a step ahead. It then compiles to one load, though its low byte is used alone too.
+// The lengths are lent as a part of the bytes, from the lane's own on: the compiler then keeps their address, and a train takes two instructions less. The
+// counts are added up first, two at a time: each word is then loaded once for them and for the trains.
 ghost use mathlib.Core.Path.{_≡_};
 ghost use Prim.Native.Nat.{_+_, _*_, _/_, _^_, _<_, _≤_};
 ghost use lib.ListN.{length};
-ghost use Rattle.turns.specs.Turns.{headOf, countOf, deficitOf, placeOf, fours, namedOf};
-ghost use Rattle.round_test.specs.Shared.{Says, numbersAt, lengthsAt, PlacesFit, Names, TrainFine, AllHold, AllCovered, SharedGood};
+ghost use Rattle.turns.specs.Turns.{headOf, countOf, deficitOf, placeOf};
+ghost use Rattle.round_test.specs.Shared.{Says, numbersAt, lengthsAt, PlacesFit, heldBelow, Holds, Seen, Wanted, Tallied, SharedGood};
 use digits::half;
 use digits::quarter;
 use turns::COUNT_UNIT;
@@ -23,71 +24,20 @@ use turns::TRAIN_DEPTH;
 // A lane has up to 8 trains.
 const TRAINS: usize = 8;
 
-// A word of trains is below this.
-const NONE: u64 = 256;
+// The parts of a tally behind the first: how many trains, and the trains in turn or covered.
+const NUMBER_UNIT: u64 = 256;
 
-// The word of all trains.
-const ALL: u64 = 255;
+const COVERED_UNIT: u64 = 4096;
 
 // Where the second number begins in a word of two.
 const HALF_UNIT: u64 = 4294967296;
 
-// 15, and 8, in each half of a word.
+// 15 in each half of a word.
 const FIFTEENS: u64 = 64424509455;
 
-const EIGHTS: u64 = 34359738376;
-
-// The trains that a round of `named` trains names, as a word; 256 where one is over 7, or is named twice.
-fn names(order: u64, named: u64) -> u64
-    requires { ⌜ named ≤ 8 ⌝ }
-    ensures { λ r. ⌜ Names (fours named order) r ⌝ }
-{
-    let mut rest = order;
-    let mut trains: u64 = 0;
-    let mut i = 0;
-    while i < named {
-        let k = rest % ORDER_UNIT;
-        if k >= 8 {
-            return NONE;
-        }
-        if (trains >> (k as u32)) % 2 == 1 {
-            return NONE;
-        }
-        trains += 1u64 << (k as u32);
-        rest = rest / ORDER_UNIT;
-        i += 1;
-    }
-    trains
-}
-
-// Whether a train's number is that of a good lane; `named` is 1 if the round names it, and `length` that of its first record.
-fn train_good(train: u64, length: u64, named: u64, turn: bool, longest: u64) -> bool
-    requires { ⌜ longest ≤ 2 ^ 15 ⌝ }
-    ensures { λ r. ⌜ Says r (TrainFine longest named turn train length) ⌝ }
-{
-    if named == 0 {
-        return train < COUNT_UNIT;
-    }
-    let count = train / COUNT_UNIT % 16;
-    if count == 0 {
-        return false;
-    }
-    if count > TRAIN_DEPTH {
-        return false;
-    }
-    let deficit = train / DEFICIT_UNIT;
-    if turn {
-        if deficit < length {
-            return false;
-        }
-        return deficit < 2 * longest;
-    }
-    deficit < length
-}
-
-// Whether a round of 8 trains names all: then it names each once. Of 16 bits for 16 numbers, the lowest 8 are looked at.
-fn all_named(order: u64) -> bool
-    ensures { λ r. ⌜ Says r (Names (fours 8 order) 255) ⌝ }
+// The trains that eight numbers of four bits name, as a word. Of 16 bits for 16 numbers, the lowest 8 are trains.
+fn seen(order: u64) -> u64
+    ensures { λ r. ⌜ Seen order r ⌝ }
 {
     let mut rest = order;
     let mut seen: u64 = 0;
@@ -97,96 +47,99 @@ fn all_named(order: u64) -> bool
         rest = rest / ORDER_UNIT;
         i += 1;
     }
-    seen % NONE == ALL
+    seen % NUMBER_UNIT
 }
 
-// The counts of trains `k` and `k + 1`, one in each half of a word. Both numbers make one load.
+// The tally of a round of `named` trains; `order` has 15, which is no train, behind them.
+fn wanted(order: u64, named: u64) -> u64
+    requires { ⌜ named ≤ 8 ⌝ }
+    ensures { λ r. ⌜ Wanted order named r ⌝ }
+{
+    let turn = (1u64 << ((order % ORDER_UNIT) as u32)) % NUMBER_UNIT;
+    seen(order) + NUMBER_UNIT * named + COVERED_UNIT * turn
+}
+
+// The numbers of trains `k` and `k + 1`, in one word. A function of its own, it makes one load.
+fn both(t: &[u8], trains: usize, k: usize) -> u64
+    requires { ⌜ ((trains + 7) / 2 * 8 + 8 ≤ length (now t)) × (k ≤ 6) ⌝ }
+    ensures { λ r. ⌜ (r ≡ numbersAt (now (t .entry)) trains k + 2 ^ 32 * numbersAt (now (t .entry)) trains (k + 1)) × (numbersAt (now (t .entry)) trains k < 2 ^ 32) ⌝ }
+{
+    half(t, trains + k) + half(t, trains + k + 1) * HALF_UNIT
+}
+
+// The counts of trains `k` and `k + 1`, one in each half of a word.
 fn two_counts(t: &[u8], trains: usize, k: usize) -> u64
     requires { ⌜ ((trains + 7) / 2 * 8 + 8 ≤ length (now t)) × (k ≤ 6) ⌝ }
     ensures { λ r. ⌜ r ≡ countOf (numbersAt (now (t .entry)) trains k) + 2 ^ 32 * countOf (numbersAt (now (t .entry)) trains (k + 1)) ⌝ }
 {
-    let both = half(t, trains + k) + half(t, trains + k + 1) * HALF_UNIT;
-    (both / COUNT_UNIT) & FIFTEENS
+    (both(t, trains, k) / COUNT_UNIT) & FIFTEENS
 }
 
-// Whether each train holds 1 to 8 records, and all together `count`. With 15 added, a count has bit 3 exactly if it is none of these.
-fn all_hold(t: &[u8], trains: usize, count: u64) -> bool
+// How many records the trains hold.
+fn held(t: &[u8], trains: usize) -> u64
     requires { ⌜ (trains + 7) / 2 * 8 + 8 ≤ length (now t) ⌝ }
-    ensures { λ r. ⌜ Says r (AllHold (numbersAt (now (t .entry)) trains) count) ⌝ }
+    ensures { λ r. ⌜ r ≡ heldBelow (numbersAt (now (t .entry)) trains) 8 ⌝ }
 {
     let mut held: u64 = 0;
-    let mut bad: u64 = 0;
     let mut k = 0;
     while k < TRAINS {
-        let counts = two_counts(t, trains, k);
-        held += counts;
-        bad = bad | (counts + FIFTEENS);
+        held += two_counts(t, trains, k);
         k += 2;
     }
-    if bad & EIGHTS != 0 {
-        return false;
-    }
-    held % HALF_UNIT + held / HALF_UNIT == count
+    held % HALF_UNIT + held / HALF_UNIT
 }
 
-// Whether train `k`, whose number this is, waits for its turn with a deficit that does not cover its first record; or is the one in turn.
-fn waits(t: &[u8], lengths: usize, k: usize, turn: usize, train: u64) -> bool
-    requires { ⌜ ((lengths + 63) / 4 * 8 + 8 ≤ length (now t)) × (k < 8) ⌝ }
-    ensures { λ r. ⌜ Says r ((k ≡ turn → ⊥) → deficitOf train < lengthsAt (now (t .entry)) lengths (placeOf k (headOf train))) ⌝ }
+// Whether a train's number has 1 to 8 records: with 15 added, a count has bit 3 exactly if it is none of these.
+fn holds(train: u64) -> bool
+    requires { ⌜ train < 2 ^ 32 ⌝ }
+    ensures { λ r. ⌜ Says r (Holds train) ⌝ }
 {
-    if k == turn {
-        return true;
-    }
-    train / DEFICIT_UNIT <= quarter(t, lengths + 8 * k + (train % TRAIN_DEPTH) as usize)
+    (train + 15 * COUNT_UNIT) / (8 * COUNT_UNIT) % 2 == 0
 }
 
-// Train `k`, and behind the last train another one.
-fn next(k: usize, other: usize) -> usize
-    ensures { λ r. ⌜ (k < 8 → r ≡ k) × (8 ≤ k → r ≡ other) ⌝ }
+// Whether the deficit of train `k`, whose number this is, covers its first record.
+fn covered(lens: &[u8], lengths: usize, k: usize, train: u64) -> bool
+    requires { ⌜ ((lengths + 63) / 4 * 8 + 8 ≤ length (now lens)) × (k < 8) ⌝ }
+    ensures { λ r. ⌜ Says r (lengthsAt (now (lens .entry)) lengths (placeOf k (headOf train)) ≤ deficitOf train) ⌝ }
 {
-    if k < TRAINS {
-        return k;
-    }
-    other
+    let length = quarter(lens, lengths + 8 * k + (train % TRAIN_DEPTH) as usize) + 1;
+    length <= train / DEFICIT_UNIT
 }
 
-// Whether the deficit of each train is right for the length of its first record, train `turn` being the one in turn. That one's number is read last.
-fn all_covered(t: &[u8], trains: usize, lengths: usize, turn: usize, longest: u64) -> bool
-    requires { ⌜ ((trains + 7) / 2 * 8 + 8 ≤ length (now t)) × ((lengths + 63) / 4 * 8 + 8 ≤ length (now t)) × (turn < 8) × (longest ≤ 2 ^ 15) ⌝ }
-    ensures { λ r. ⌜ Says r (AllCovered longest turn (numbersAt (now (t .entry)) trains) (lengthsAt (now (t .entry)) lengths)) ⌝ }
+// Whether the trains' numbers are those of a round of `named` trains; `order` is as in `wanted`.
+fn trains_good(
+    t: &[u8],
+    trains: usize,
+    lens: &[u8],
+    lengths: usize,
+    order: u64,
+    named: u64,
+    longest: u64,
+) -> bool
+    requires { ⌜ ((trains + 7) / 2 * 8 + 8 ≤ length (now t)) × ((lengths + 63) / 4 * 8 + 8 ≤ length (now lens)) × (named ≤ 8) × (longest ≤ 2 ^ 15) ⌝ }
+    ensures { λ r. ⌜ Says r (Tallied longest (numbersAt (now (t .entry)) trains) (lengthsAt (now (lens .entry)) lengths) order named) ⌝ }
 {
-    let mut train = half(t, trains);
+    let mut tally: u64 = 0;
     let mut k = 0;
     while k < TRAINS {
-        let fine = waits(t, lengths, k, turn, train);
-        if !fine {
-            return false;
+        let train = half(t, trains + k);
+        let one = 1u64 << (k as u32);
+        if holds(train) {
+            tally += one + NUMBER_UNIT;
+            if covered(lens, lengths, k, train) {
+                if train / DEFICIT_UNIT >= 2 * longest {
+                    return false;
+                }
+                tally += COVERED_UNIT * one;
+            }
+        } else {
+            if train >= COUNT_UNIT {
+                return false;
+            }
         }
         k += 1;
-        train = half(t, trains + next(k, turn));
     }
-    let deficit = train / DEFICIT_UNIT;
-    if deficit <= quarter(t, lengths + 8 * turn + (train % TRAIN_DEPTH) as usize) {
-        return false;
-    }
-    deficit < 2 * longest
-}
-
-// The same as `shared_good`, of a round of 8 trains.
-fn full_good(t: &[u8], trains: usize, lengths: usize, round: u64, longest: u64, count: u64) -> bool
-    requires { ⌜ ((trains + 7) / 2 * 8 + 8 ≤ length (now t)) × ((lengths + 63) / 4 * 8 + 8 ≤ length (now t)) × (namedOf round ≡ 8) × (longest ≤ 2 ^ 15) × PlacesFit longest (lengthsAt (now t) lengths) ⌝ }
-    ensures { λ r. ⌜ Says r (SharedGood longest (numbersAt (now (t .entry)) trains) (lengthsAt (now (t .entry)) lengths) round count) ⌝ }
-{
-    let order = round % NAMED_UNIT;
-    let named = all_named(order);
-    if !named {
-        return false;
-    }
-    let hold = all_hold(t, trains, count);
-    if !hold {
-        return false;
-    }
-    all_covered(t, trains, lengths, (order % ORDER_UNIT) as usize, longest)
+    tally == wanted(order, named)
 }
 
 // Whether a shared lane is good and holds `count` records: its trains' numbers are in the halves of the bytes from `trains` on, the lengths of its places
@@ -203,33 +156,25 @@ pub fn shared_good(
     ensures { λ r. ⌜ Says r (SharedGood longest (numbersAt (now (t .entry)) trains) (lengthsAt (now (t .entry)) lengths) round count) ⌝ }
 {
     let named = round / NAMED_UNIT;
-    let order = round % NAMED_UNIT;
-    if named == 8 {
-        return full_good(t, trains, lengths, round, longest, count);
-    }
     if named > 8 {
         return false;
     }
-    if order >> ((4 * named) as u32) != 0 {
+    let order = round % NAMED_UNIT;
+    let end = 1u64 << ((4 * named) as u32);
+    if order >= end {
         return false;
     }
-    let names = names(order, named);
-    if names >= NONE {
+    if held(t, trains) != count {
         return false;
     }
-    let turn = (order % ORDER_UNIT) as usize;
-    let mut held: u64 = 0;
-    let mut train = half(t, trains);
-    let mut k = 0;
-    while k < TRAINS {
-        let length = quarter(t, lengths + 8 * k + (train % TRAIN_DEPTH) as usize) + 1;
-        let fine = train_good(train, length, (names >> (k as u32)) % 2, turn == k, longest);
-        if !fine {
-            return false;
-        }
-        held += train / COUNT_UNIT % 16;
-        k += 1;
-        train = half(t, trains + next(k, 0));
-    }
-    held == count
+    let from = lengths / 4 * 8;
+    trains_good(
+        t,
+        trains,
+        &t[from..],
+        lengths % 4,
+        order + (NAMED_UNIT - end),
+        named,
+        longest,
+    )
 }
