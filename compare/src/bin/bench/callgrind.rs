@@ -43,7 +43,7 @@ impl Counted<'_> {
     }
 
     /// The instructions of one by function. What the compiler inlined stands in its caller.
-    pub fn parts(&self) -> Vec<(String, f64)> {
+    pub fn parts(&self) -> BTreeMap<String, f64> {
         let file = std::env::temp_dir().join(format!("bench-parts-{}", std::process::id()));
         let name = file.to_str().expect("a plain path");
         let [few, many] = self.numbers.map(|number| {

@@ -5,13 +5,15 @@
 //!     bench instructions     instructions of a put and a take, counted by valgrind's callgrind, of the same loads
 //!     bench calls            every public call by itself, the small halt's and the board's too: instructions, and times where it can be made alone
 //!     bench parts            instructions of a put and a take, of the public calls and of Linux's schedulers, by function
-//!     bench same             nothing is measured: public and inner calls do the same work, or it stops
+//!     bench same             nothing is measured: public and inner calls do the same work and Linux's schedulers are fair, or it stops
 //!
 //! With the feature `linux` Linux's schedulers are linked (`linux/build`); without it their columns are not there.
 
 mod callgrind;
 mod calls;
 mod pairs;
+mod scenes;
+mod sides;
 mod spread;
 
 fn main() {
@@ -22,11 +24,11 @@ fn main() {
         ["instructions"] => pairs::instructions(),
         ["calls"] => calls::all(),
         ["parts"] => pairs::parts(),
-        ["same"] => pairs::same(),
+        ["same"] => sides::same(),
         // What callgrind runs: so many of one thing.
-        ["count", number, "pair", side, load] => pairs::count(number.parse().expect("how many"), side, load),
+        ["count", number, "pair", side, load] => sides::count(number.parse().expect("how many"), side, load),
         ["count", number, "call", scene, call] => {
-            calls::count(number.parse().expect("how many"), scene, call)
+            scenes::count(number.parse().expect("how many"), scene, call)
         }
         _ => println!("bench times | bench instructions | bench calls | bench parts | bench same"),
     }
