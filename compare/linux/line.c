@@ -91,3 +91,16 @@ s64 linux_line_take(struct line *line) {
   line->stock = packet;
   return (s64)(packet->priority - HANDLE - 1) << 16 | packet->pkt_len;
 }
+
+/* Makes so many calls, of three bytes each, as the library of the unit's inner calls reads them: a lane and a length, high byte first; a lane from 64 on is a
+ * take. Answers how many of them failed. */
+size_t linux_line_calls(struct line *line, const uint8_t *calls, size_t count) {
+  size_t failed = 0;
+  for (size_t i = 0; i < count; i++, calls += 3) {
+    if (calls[0] < LANES)
+      failed += linux_line_put(line, calls[0], (u32)calls[1] << 8 | calls[2]) != 0;
+    else
+      failed += linux_line_take(line) < 0;
+  }
+  return failed;
+}

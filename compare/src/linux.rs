@@ -2,7 +2,7 @@
 
 #![allow(unsafe_code)]
 
-use crate::loads::{length_of, Line, Load, Queue, LENGTHS, TAKE};
+use crate::loads::{length_of, Call, Line, Load, Queue, LENGTHS, TAKE};
 use std::ffi::{c_char, c_int, c_uint};
 
 /// A line of `linux/line.c`.
@@ -20,6 +20,7 @@ extern "C" {
     ) -> *mut Raw;
     fn linux_line_put(line: *mut Raw, lane: u32, length: u32) -> c_int;
     fn linux_line_take(line: *mut Raw) -> i64;
+    fn linux_line_calls(line: *mut Raw, calls: *const u8, count: usize) -> usize;
     fn linux_line_free(line: *mut Raw);
 }
 
@@ -64,6 +65,12 @@ impl Line for Linux {
         let taken = unsafe { linux_line_take(self.line) };
         assert!(taken >= 0, "no packet was handed out");
         ((taken >> 16) as u8, 0)
+    }
+
+    /// In one call, as the unit's inner calls are made.
+    fn make(&mut self, calls: &[Call]) {
+        let failed = unsafe { linux_line_calls(self.line, calls.as_ptr().cast(), calls.len()) };
+        assert!(failed == 0, "{failed} calls failed");
     }
 }
 

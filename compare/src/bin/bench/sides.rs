@@ -15,6 +15,8 @@ use compare::unit::Unit;
 
 /// The pairs of a batch.
 pub const PAIRS: usize = 500;
+/// The pairs of a batch of the inner calls: more, so that making and filling the table, which is taken off, is little beside them.
+const INNER_PAIRS: usize = 8_000;
 /// The sessions of a batch.
 pub const SESSIONS: usize = 4;
 /// The area for the answers of a session.
@@ -161,10 +163,10 @@ impl Side {
         let (mut table, mut answers) = (vec![0; Linked.table_size()], vec![0; AREA]);
         match self.what {
             What::Inner => {
-                let [none, all] = [0, PAIRS].map(|pairs| load.list(pairs).whole());
+                let [none, all] = [0, INNER_PAIRS].map(|pairs| load.list(pairs).whole());
                 Box::new(move |_| {
-                    let filled = timed(PAIRS, || run_inner(load, &none, &mut table));
-                    timed(PAIRS, || run_inner(load, &all, &mut table)) - filled
+                    let filled = timed(INNER_PAIRS, || run_inner(load, &none, &mut table));
+                    timed(INNER_PAIRS, || run_inner(load, &all, &mut table)) - filled
                 })
             }
             What::Session => {
