@@ -16,7 +16,6 @@ typedef int64_t s64;
 
 #define __rcu
 #define __read_mostly
-#define __always_unused __attribute__((unused))
 #define fallthrough __attribute__((fallthrough))
 #define unlikely(condition) __builtin_expect((condition) != 0, 0)
 

@@ -16,7 +16,6 @@ static inline int tcf_classify_qdisc(struct sk_buff *skb, const struct tcf_proto
   (void)skb, (void)filters, (void)result, (void)compatible;
   return -1;
 }
-#define tcf_classify(skb, block, filters, result, compatible) tcf_classify_qdisc(skb, filters, result, compatible)
 
 static inline int tcf_block_get(struct tcf_block **block, struct tcf_proto **filters, struct Qdisc *sch, struct netlink_ext_ack *ack) {
   (void)block, (void)filters, (void)sch, (void)ack;
