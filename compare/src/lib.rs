@@ -7,8 +7,8 @@
 //! sheets, [`convert`] a second converter of old tables and [`halts`] a second small halt, each with its own comparison; [`pages`] is a second reader of
 //! settings pages.
 //! [`flips`] turns single bits of tables over.
-//! The machinery: [`rng`], [`gen`], [`laws`], [`unit`], [`stand_in`], [`on_words`], [`driver`], [`pipes`]; [`loads`] and, with the feature `inner`,
-//! `inner` are the benchmark's.
+//! The machinery: [`rng`], [`gen`], [`laws`], [`unit`], [`stand_in`], [`on_words`], [`driver`], [`pipes`]; [`loads`] and, with features of their
+//! names, `inner` and `linux` are the benchmark's.
 //!
 //! Units: a *byte* is a byte of a record; a *clock unit* is the clock's smallest step, 1,024 of them for each
 //! byte sent (QFQ calls the clock virtual time). Clock units are `i128` here, so that no sum can leave its range.
@@ -29,6 +29,8 @@ pub mod laws;
 pub mod layout;
 #[cfg(feature = "unit")]
 pub mod linked;
+#[cfg(feature = "linux")]
+pub mod linux;
 pub mod loads;
 pub mod numbers;
 pub mod on_words;

@@ -3,10 +3,10 @@
 //! They are those on which packet schedulers are commonly set side by side: equal weights and mixed ones, every flow backlogged or few of them, lengths
 //! that are uniform from the shortest to the longest.
 
-use crate::numbers;
+use crate::numbers::{self, TRAINS};
 use crate::rng::Rng;
 use crate::rules::State;
-use crate::setup;
+use crate::{session, setup};
 
 /// The records of a lane in a steady load.
 pub const DEPTH: usize = 16;
@@ -40,56 +40,69 @@ pub struct Load {
     pub lanes: u8,
     pub weights: Weights,
     pub fill: Fill,
+    /// Eight trains share each lane, and hold as many records each, or those of chance.
+    pub shared: bool,
 }
 
-/// A put or a take, in the three bytes that the library of the inner calls reads: a lane and a length, high byte first; lane 64 stands for a take.
+/// A put or a take, in the three bytes that the library of the inner calls reads: a lane, and a number, high byte first, of which the lowest 12 bits are a
+/// length and the highest four a train; lane 64 stands for a take.
 pub type Call = [u8; 3];
 pub const TAKE: Call = [64, 0, 0];
 
-fn put(lane: u8, length: u64) -> Call {
-    let [high, low] = u16::try_from(length).expect("at most 1,500").to_be_bytes();
+fn put((lane, train): Queue, length: u64) -> Call {
+    let length = u16::try_from(length).expect("at most 1,500");
+    let [high, low] = (u16::from(train) << 12 | length).to_be_bytes();
     [lane, high, low]
 }
 
-pub fn length_of(call: Call) -> u64 {
-    u64::from(u16::from_be_bytes([call[1], call[2]]))
+pub fn queue_of(call: Call) -> Queue {
+    (call[0], call[1] >> 4)
 }
 
-/// Either side: what makes a load's calls.
+pub fn length_of(call: Call) -> u64 {
+    u64::from(u16::from_be_bytes([call[1] % 16, call[2]]))
+}
+
+/// A lane and a train of it, 0 where it is not shared.
+pub type Queue = (u8, u8);
+
+/// A side of the benchmark: what makes a load's calls.
 pub trait Line {
-    fn put(&mut self, lane: u8, length: u64);
-    fn take(&mut self);
+    fn put(&mut self, queue: Queue, length: u64);
+    /// Where the record was that is handed out.
+    fn take(&mut self) -> Queue;
 
     fn make(&mut self, calls: &[Call]) {
         for &call in calls {
             if call == TAKE {
                 self.take();
             } else {
-                self.put(call[0], length_of(call));
+                self.put(queue_of(call), length_of(call));
             }
         }
     }
 }
 
 impl Line for State {
-    fn put(&mut self, lane: u8, length: u64) {
-        plain_put(self, lane, length);
+    fn put(&mut self, queue: Queue, length: u64) {
+        plain_put(self, queue, length);
     }
 
-    fn take(&mut self) {
-        plain_take(self);
+    fn take(&mut self) -> Queue {
+        plain_take(self)
     }
 }
 
 // Not inlined, so that callgrind can tell them from the load's own instructions.
 #[inline(never)]
-fn plain_put(state: &mut State, lane: u8, length: u64) {
-    state.put(lane, 7, length).expect("a put that is accepted");
+fn plain_put(state: &mut State, (lane, train): Queue, length: u64) {
+    state.put_train(lane, train, 7, length).expect("a put that is accepted");
 }
 
 #[inline(never)]
-fn plain_take(state: &mut State) {
-    state.take().expect("a record is held");
+fn plain_take(state: &mut State) -> Queue {
+    let taken = state.take().expect("a record is held");
+    (taken.lane, taken.train)
 }
 
 /// A load's calls: first the lanes are filled, then pairs follow. A longer list begins with a shorter one.
@@ -112,7 +125,7 @@ impl Load {
             for weights in [Weights::Equal, Weights::Mixed] {
                 for fill in [Fill::Steady, Fill::Full, Fill::Sparse] {
                     if lanes > 1 || weights == Weights::Equal {
-                        all.push(Load { lanes, weights, fill });
+                        all.push(Load { lanes, weights, fill, shared: false });
                     }
                 }
             }
@@ -120,11 +133,33 @@ impl Load {
         all
     }
 
+    /// Six loads more, of lanes that trains share.
+    pub fn shared() -> Vec<Load> {
+        let of = |lanes| {
+            [Fill::Steady, Fill::Sparse].map(|fill| Load {
+                lanes,
+                weights: Weights::Equal,
+                fill,
+                shared: true,
+            })
+        };
+        [1, 8, 64].into_iter().flat_map(of).collect()
+    }
+
+    pub fn weight(&self, lane: u8) -> u8 {
+        match self.weights {
+            Weights::Mixed => MIXED[usize::from(lane % 8)],
+            Weights::Equal => EQUAL,
+        }
+    }
+
     pub fn setup(&self) -> Vec<u8> {
         let mut bytes = vec![0x01, 0, 2, 0, 1];
         for lane in 0..self.lanes {
-            let weight = if self.weights == Weights::Mixed { MIXED[usize::from(lane % 8)] } else { EQUAL };
-            bytes.extend([0x10, 0, 3, lane, 0, weight]);
+            bytes.extend([0x10, 0, 3, lane, 0, self.weight(lane)]);
+            if self.shared {
+                bytes.extend([0x12, 0, 1, lane]);
+            }
         }
         bytes.extend([0x7F, 0, 0]);
         bytes
@@ -150,31 +185,41 @@ impl Load {
 
     /// The calls; the rules say which lane a take serves.
     pub fn list(&self, pairs: usize) -> List {
-        self.list_of(self.depth(), pairs)
+        self.list_of(self.depth(), pairs, &mut self.plain())
     }
 
-    fn list_of(&self, depth: usize, pairs: usize) -> List {
-        let (mut state, mut random) = (self.plain(), Rng::new(7));
-        let mut accepted = |state: &mut State, lane: Option<u8>| {
-            let lane = lane.unwrap_or_else(|| random.below(u64::from(self.lanes)) as u8);
+    /// The calls for another line, which says by itself which lane a take serves.
+    pub fn list_for(&self, line: &mut dyn Line, pairs: usize) -> List {
+        self.list_of(self.depth(), pairs, line)
+    }
+
+    fn list_of(&self, depth: usize, pairs: usize, line: &mut dyn Line) -> List {
+        let mut random = Rng::new(7);
+        let trains = if self.shared { TRAINS } else { 1 };
+        let mut accepted = |line: &mut dyn Line, queue: Option<Queue>| {
+            let queue = queue.unwrap_or_else(|| {
+                let lane = random.below(u64::from(self.lanes)) as u8;
+                (lane, if self.shared { random.below(u64::from(TRAINS)) as u8 } else { 0 })
+            });
             let length = random.between(LENGTHS.0, LENGTHS.1);
-            state.put(lane, 7, length).expect("a put that is accepted");
-            put(lane, length)
+            line.put(queue, length);
+            put(queue, length)
         };
         let filling = match self.fill {
-            Fill::Steady | Fill::Full => {
-                (0..depth).flat_map(|_| 0..self.lanes).map(|lane| accepted(&mut state, Some(lane))).collect()
-            }
-            Fill::Sparse => (0..self.sparse()).map(|_| accepted(&mut state, None)).collect(),
+            Fill::Steady | Fill::Full => (0..depth)
+                .flat_map(|turn| (0..self.lanes).map(move |lane| (lane, (turn % usize::from(trains)) as u8)))
+                .map(|queue| accepted(line, Some(queue)))
+                .collect(),
+            Fill::Sparse => (0..self.sparse()).map(|_| accepted(line, None)).collect(),
         };
         let mut list = List { filling, pairs: Vec::new() };
         for _ in 0..pairs {
             if self.fill != Fill::Sparse {
-                let lane = state.take().expect("a record is held").lane;
-                list.pairs.extend([TAKE, accepted(&mut state, Some(lane))]);
+                let served = line.take();
+                list.pairs.extend([TAKE, accepted(line, Some(served))]);
             } else {
-                list.pairs.extend([accepted(&mut state, None), TAKE]);
-                state.take().expect("a record is held");
+                list.pairs.extend([accepted(line, None), TAKE]);
+                line.take();
             }
         }
         list
@@ -187,17 +232,21 @@ impl Load {
 
     /// The pairs of a session of 1,000 requests.
     pub fn session_pairs(&self) -> usize {
-        (REQUESTS - self.list_of(self.session_depth(), 0).filling.len()) / 2
+        (REQUESTS - self.list_of(self.session_depth(), 0, &mut self.plain()).filling.len()) / 2
     }
 
     pub fn session(&self, pairs: usize) -> Vec<u8> {
-        let calls = self.list_of(self.session_depth(), pairs).whole();
+        let calls = self.list_of(self.session_depth(), pairs, &mut self.plain()).whole();
         assert!(calls.len() <= REQUESTS);
         let mut bytes = self.setup();
         for call in calls {
+            let ((lane, train), [high, low]) = (queue_of(call), [call[1] % 16, call[2]]);
             match call {
-                TAKE => bytes.extend([0x21, 0, 0]),
-                [lane, high, low] => bytes.extend([0x20, 0, 7, lane, 0, 0, 0, 7, high, low]),
+                TAKE => bytes.extend([session::TAKE, 0, 0]),
+                _ if self.shared => {
+                    bytes.extend([session::PUT_TRAIN, 0, 8, lane, train, 0, 0, 0, 7, high, low])
+                }
+                _ => bytes.extend([session::PUT, 0, 7, lane, 0, 0, 0, 7, high, low]),
             }
         }
         bytes.extend([0x7F, 0, 0]);
@@ -205,14 +254,15 @@ impl Load {
     }
 }
 
+/// As the first cells of a table's row.
 impl std::fmt::Display for Load {
     fn fmt(&self, f: &mut std::fmt::Formatter) -> std::fmt::Result {
         let weights = if self.weights == Weights::Equal { "equal" } else { "mixed" };
         let fill = match self.fill {
             Fill::Steady => "steady",
-            Fill::Full => "full  ",
+            Fill::Full => "full",
             Fill::Sparse => "sparse",
         };
-        write!(f, "{:>5}  {weights}    {fill}", self.lanes)
+        write!(f, "{} | {weights} | {fill}", self.lanes)
     }
 }

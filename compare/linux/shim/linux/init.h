@@ -1,0 +1,7 @@
+#ifndef SHIM_INIT_H
+#define SHIM_INIT_H
+
+#define __init
+#define __exit
+
+#endif
