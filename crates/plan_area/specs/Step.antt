@@ -21,7 +21,7 @@ use Rattle.plan_writer.specs.Write.{setupBytes, sizeOf, size, wrote}
 use Rattle.plan_writer.specs.Write as write
 use Rattle.plan_writer.specs.RoundTrip.{Bytes}
 use Rattle.plan_writer.specs.declared.Written.{Written}
-use Rattle.plan_area.specs.Area.{Room, planIn, Shows, AreaWithin}
+use Rattle.plan_area.specs.Area.{areaSize, Room, planIn, Shows, AreaWithin}
 use Rattle.plan_area.specs.declared.Got.{Got}
 use Rattle.plan_area.specs.declared.Got.the-variants.{Lanes, Refused}
 
@@ -36,11 +36,11 @@ got (Refused x) = refused (number x) (placeOf x)
 -- R14.43. Long enough, the setup decides: the plan is in the area, and the bytes past it stay; or a refusal, and the area stays.
 abbrev pub Follows : plan.Reply → List ℕ → Got → List ℕ → Type 0
 Follows (plan.refused n p) before a after = (got a ≡ refused n p) × (after ≡ before)
-Follows (plan.read v gs n at) before a after = (got a ≡ lanes n) × Shows (record { format = v; lanes = gs; count = n }) after × (drop (65 * 8) after ≡ drop (65 * 8) before)
+Follows (plan.read v gs n at) before a after = (got a ≡ lanes n) × Shows (record { format = v; lanes = gs; count = n }) after × (drop areaSize after ≡ drop areaSize before)
 
 -- R14.13, R14.37: 7 where the area is too short, first and at place 0.
 pub record ReadStep (setup before : List ℕ) (a : Got) (after : List ℕ) : Type 0 where
-  pub short : length before < 65 * 8 → (got a ≡ refused 7 (some 0)) × (after ≡ before)
+  pub short : length before < areaSize → (got a ≡ refused 7 (some 0)) × (after ≡ before)
   pub follows : Room before → Follows (readSetup setup) before a after
   pub size : length after ≡ length before
 

@@ -13,7 +13,7 @@ use mathlib.Core.Option.{some}
 use lib.ListN.{length, drop, take}
 use Rattle.words.specs.Words.{wordAt}
 use Rattle.plan_writer.specs.Write.{size, refused}
-use Rattle.plan_area.specs.Area.{Room, planIn, AreaWithin}
+use Rattle.plan_area.specs.Area.{areaSize, Room, planIn, AreaWithin}
 use Rattle.plan_area.specs.Step as area
 use Rattle.plan_area.specs.Step.{lanes, got, Follows}
 use Rattle.plan_area.specs.declared.Got.{Got}
@@ -24,7 +24,7 @@ use Rattle.sheet_writer.specs.declared.Written.{Written}
 -- R14.13, R14.41: 7 where the area is too short, first and at place 0. Else the sheet decides: its plan is in the area, and the bytes past it stay; or a
 -- refusal, and the area stays.
 pub record ReadStep (s before : List ℕ) (a : Got) (after : List ℕ) : Type 0 where
-  pub short : length before < 65 * 8 → (got a ≡ area.refused 7 (some 0)) × (after ≡ before)
+  pub short : length before < areaSize → (got a ≡ area.refused 7 (some 0)) × (after ≡ before)
   pub follows : Room before → Follows (readSheet s) before a after
   pub size : length after ≡ length before
 
