@@ -11,5 +11,6 @@ module _ {A : Type 0} {code : A → ℕ} {words : A → Four} {Does : A → Type
   pub not-made : length out < bufferSize → Same → Crosses code words Does Same out 255 out
   not-made h same = record { short = λ _. (refl, same, refl); told = λ room. absurd (omega arith) }
 
-  pub crossed : {r : ℕ} {out′ : List ℕ} → bufferSize ≤ length out → (a : A) → Does a → (r ≡ code a) × Spoken out (words a) out′ → Crosses code words Does Same out r out′
+  pub crossed : {r : ℕ} {out′ : List ℕ} → bufferSize ≤ length out → (a : A) → Does a → (r ≡ code a) × Spoken out (words a) out′
+      → Crosses code words Does Same out r out′
   crossed h a does said = record { short = λ small. absurd (omega arith); told = λ _. (a, does, said .0, said .1) }

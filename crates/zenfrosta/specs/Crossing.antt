@@ -121,8 +121,8 @@ pub record Spoken (out : List ℕ) (w : Four) (out′ : List ℕ) : Type 0 where
 abbrev pub bufferSize : ℕ
 bufferSize = 4 * 8
 
--- R13.2, R14.35: a buffer that is too short gives 255, and nothing is done: no lent byte is changed, `Same`. Else the call is made, which is `Does`, and what it
--- answers is told, by its code and its words.
+-- R13.2, R14.35: a buffer that is too short gives 255, and nothing is done: no lent byte is changed, `Same`. Else the call is made, which is `Does`, and what
+-- it answers is told, by its code and its words.
 pub record Crosses {A : Type 0} (code : A → ℕ) (words : A → Four) (Does : A → Type 0) (Same : Type 0) (out : List ℕ) (r : ℕ) (out′ : List ℕ) : Type 0 where
   pub short : length out < bufferSize → (r ≡ 255) × Same × (out′ ≡ out)
   pub told : bufferSize ≤ length out → (a : A) × Does a × (r ≡ code a) × Spoken out (words a) out′

@@ -47,7 +47,8 @@ heardOffer r w =
 
 pub data Crossed : List ℕ → List DeviceEvent → List ℕ → Type 0 where
   nothing : {t : List ℕ} → Crossed t [] t
-  short : {t u v out out′ : List ℕ} {c : Call} {r : ℕ} {es : List DeviceEvent} → length out < bufferSize → CrossesCall c t u out r out′ → Crossed u es v → Crossed t es v
+  short : {t u v out out′ : List ℕ} {c : Call} {r : ℕ} {es : List DeviceEvent} → length out < bufferSize → CrossesCall c t u out r out′ → Crossed u es v
+      → Crossed t es v
   whole : {t u v out out′ : List ℕ} {c : Call} {r : ℕ} {es : List DeviceEvent} → bufferSize ≤ length out → CrossesCall c t u out r out′ → Crossed u es v
       → Crossed t (record { call = ruled c; reply = answered (heard c r (wordsIn out′)) } ∷ es) v
   shortOffer : {t u v out out′ : List ℕ} {r : ℕ} {es : List DeviceEvent} (bytes : List ℕ) → length out < bufferSize

@@ -36,7 +36,8 @@ CrossesConverting old table table′ out r out′ =
 
 pub data HeardTakes : List ℕ → List calls.Reply → List ℕ → Type 0 where
   nothing : {t : List ℕ} → HeardTakes t [] t
-  short : {t u v out out′ : List ℕ} {r : ℕ} {qs : List calls.Reply} → length out < bufferSize → CrossesCall take t u out r out′ → HeardTakes u qs v → HeardTakes t qs v
+  short : {t u v out out′ : List ℕ} {r : ℕ} {qs : List calls.Reply} → length out < bufferSize → CrossesCall take t u out r out′ → HeardTakes u qs v
+      → HeardTakes t qs v
   whole : {t u v out out′ : List ℕ} {r : ℕ} {qs : List calls.Reply} → bufferSize ≤ length out → CrossesCall take t u out r out′ → HeardTakes u qs v
       → HeardTakes t (heard take r (wordsIn out′) ∷ qs) v
 

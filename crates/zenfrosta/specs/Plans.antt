@@ -53,4 +53,5 @@ CrossesSheetRead sheet plan plan′ out r out′ =
 -- R12.10, R13.5
 abbrev pub CrossesSheetWrite : (plan sheet sheet′ out : List ℕ) (r : ℕ) (out′ : List ℕ) → Type 0
 CrossesSheetWrite plan sheet sheet′ out r out′ =
-    Crosses (λ a. writeCode (sheetWrite.wrote a)) (λ a. writeValues (sheetWrite.wrote a)) (λ a. sheetArea.WriteStep plan sheet a sheet′) (sheet′ ≡ sheet) out r out′
+    Crosses (λ a. writeCode (sheetWrite.wrote a)) (λ a. writeValues (sheetWrite.wrote a)) (λ a. sheetArea.WriteStep plan sheet a sheet′) (sheet′ ≡ sheet)
+    out r out′

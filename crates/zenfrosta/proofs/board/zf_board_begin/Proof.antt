@@ -5,10 +5,6 @@ use Rattle.zenfrosta.proofs.Crossed.{not-made, crossed}
 use borrow.Author.Needs.{needs}
 use Rattle.zenfrosta.proofs.board.zf_board_begin.Statement.{statement}
 use Rattle.zenfrosta.proofs.board.zf_board_begin.Tie as tie
-use Rattle.zenfrosta.proofs.board.zf_board_begin.Reads as reads
-use Rattle.zenfrosta.proofs.board.zf_board_begin.Lts as lts
-use Rattle.journal.proofs.begin.Reads as begin-reads
-use Rattle.zenfrosta.proofs.board.tell_begun.Reads as tell-begun-reads
 
 returns : tie.Need-returns
 returns c = not-made (omega (arith, c .if1 .taken)) refl

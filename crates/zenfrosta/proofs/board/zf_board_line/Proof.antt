@@ -4,10 +4,6 @@ use Rattle.zenfrosta.proofs.Crossed.{not-made, crossed}
 use borrow.Author.Needs.{needs}
 use Rattle.zenfrosta.proofs.board.zf_board_line.Statement.{statement}
 use Rattle.zenfrosta.proofs.board.zf_board_line.Tie as tie
-use Rattle.zenfrosta.proofs.board.zf_board_line.Reads as reads
-use Rattle.zenfrosta.proofs.board.zf_board_line.Lts as lts
-use Rattle.journal.proofs.line.Reads as line-reads
-use Rattle.zenfrosta.proofs.board.tell_shown.Reads as tell-shown-reads
 
 returns : tie.Need-returns
 returns c = not-made (omega (arith, c .if1 .taken)) tt

@@ -5,10 +5,6 @@ use Rattle.zenfrosta.proofs.Crossed.{not-made, crossed}
 use borrow.Author.Needs.{needs}
 use Rattle.zenfrosta.proofs.offers.zf_offer.Statement.{statement}
 use Rattle.zenfrosta.proofs.offers.zf_offer.Tie as tie
-use Rattle.zenfrosta.proofs.offers.zf_offer.Reads as reads
-use Rattle.zenfrosta.proofs.offers.zf_offer.Lts as lts
-use Rattle.scheduler.proofs.offer.Reads as offer-reads
-use Rattle.zenfrosta.proofs.offers.tell_offer.Reads as tell-offer-reads
 
 returns : tie.Need-returns
 returns c = not-made (omega (arith, c .if1 .taken)) refl

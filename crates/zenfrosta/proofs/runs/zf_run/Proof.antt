@@ -6,12 +6,6 @@ use Rattle.zenfrosta.proofs.Spoken.{told-as}
 use borrow.Author.Needs.{needs}
 use Rattle.zenfrosta.proofs.runs.zf_run.Statement.{statement}
 use Rattle.zenfrosta.proofs.runs.zf_run.Tie as tie
-use Rattle.zenfrosta.proofs.runs.zf_run.Reads as reads
-use Rattle.zenfrosta.proofs.runs.zf_run.Lts as lts
-use Rattle.session.proofs.run.Reads as run-reads
-use Rattle.zenfrosta.proofs.runs.run_words.Reads as run-words-reads
-use Rattle.zenfrosta.proofs.speak.Reads as speak-reads
-use Rattle.zenfrosta.proofs.runs.stop_code.Reads as stop-code-reads
 
 returns : tie.Need-returns
 returns c = not-made (omega (arith, c .if1 .taken)) (refl, refl)
@@ -40,7 +34,8 @@ same-length-3 c = search needs
 returns-2 : tie.Need-returns-2
 returns-2 c =
     let m = c .before .before .before .before .before .before .before .before .before .before .run in
-    crossed (omega (arith, c .before .before .before .before .before .before .before .before .before .before .before .before .before .if1 .left)) (m .result) (m .ensures)
+    let room = c .before .before .before .before .before .before .before .before .before .before .before .before .before .if1 .left in
+    crossed (omega (arith, room)) (m .result) (m .ensures)
     (c .stop-code .ensures, told-as _ _ _ _ (c .before .before .before .before .before .run-words .ensures) (c .before .before .before .speak .ensures))
 
 pub zf-run-spec : {M : Type 1} → statement M
