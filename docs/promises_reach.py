@@ -8,6 +8,8 @@ ROOT = pathlib.Path(__file__).resolve().parent.parent
 CRATES = ROOT / "crates"
 DEFINES = re.compile(r"^ *(?:abbrev |unfoldable )?(?:pub )?(?:record |data )?([^\s(){}:;]+)(?: [^=]*)? : ")
 WORD = re.compile(r"[^\s(){}\[\],;.]+")
+# the names of a field or of cases, where they are defined
+LABEL = re.compile(r"  (?:pub )?((?:[^\s:(){}]+ )+): ")
 
 
 class File:
@@ -45,7 +47,7 @@ class File:
                     close()
             elif names and indent == 2:
                 # a field or a case has its own name, and stands for its whole block
-                case = re.match(r"  (?:pub )?((?:[^\s:(){}]+ )+): ", line)
+                case = LABEL.match(line)
                 if case:
                     names.extend(n for n in case[1].split() if n not in names)
             block.append(line)
@@ -95,7 +97,8 @@ def reach(roots):
             if (where, block[0]) in blocks:
                 continue
             blocks[(where, block[0])] = len(block)
-            text = "\n".join(block)
+            # a field's own label leads to no other record that has a field of that name
+            text = "\n".join(LABEL.sub("", line, 1) if LABEL.match(line) else line for line in block)
             for word in set(WORD.findall(text)):
                 for part in {word} | ({p for p in word.split("_") if p} if "_" in word else set()):
                     if part in file.blocks:

@@ -3,14 +3,16 @@
 use Prim.Native.Nat.{ℕ, _+_, _*_}
 use mathlib.Core.Path.{_≡_, refl, sym, ap, subst, _∙_}
 use mathlib.Core.Bool.{Bool, true, false}
-use mathlib.Core.List.{List}
+use mathlib.Core.List.{List, [], _∷_}
 use lib.Dec.{leb}
 use lib.ListN.{getD}
 use Rattle.units.specs.Plain.{if_then_else_, times}
 use Rattle.rules.specs.State.{clockFar, clockStep, Rec, Lane, noLane, State, group, holds, laneAt}
-use Rattle.rules.specs.Calls.{Call, Outcome, accept, step, takenOff, lowerAll, shifted}
+use Rattle.rules.specs.Calls.{Call, Reply, accept, fresh, step, takenOff, lowerAll, shifted}
+use Rattle.rules.specs.Runs.{after, Event, trace}
 use Rattle.rules.specs.Good.{Good}
-use Rattle.alike.specs.Alike.{Ties, Alike}
+use Rattle.alike.specs.Alike.{Ties, Alike, NoCallTells, NoListTells}
+use Rattle.rules.proofs.AlwaysGood.{Reached, fresh-reached, step-reached, reached, reached-good}
 use Rattle.rules.proofs.Keep.{Allowed}
 use Rattle.rules.proofs.Shift.{shifted-order, shifted-allowed}
 use Rattle.rules.proofs.Further.{holds-same}
@@ -104,11 +106,7 @@ shifted-alike s t g a =
       turns = λ j k h. rw (shifted-order s, shifted-order (record { clock = s .clock; lanes = s .lanes; order = t .order })) (a .turns j k (shifted-ties s g j k h));
     })
 
-pub record Respects (x y : Outcome) : Type 0 where
-  pub reply : x .reply ≡ y .reply
-  pub state : Alike (x .state) (y .state)
-
-pub step-alike : (s t : State) → Good s → Alike s t → (c : Call) → Respects (step s c) (step t c)
+pub step-alike : NoCallTells
 unfolding Tied
 step-alike s t g a c =
     let after : (j : ℕ) (r : Rec) → Allowed s j r → Turns (accept (shifted s) j r) (accept (shifted (record { clock = s .clock; lanes = s .lanes; order = t .order })) j r)
@@ -126,3 +124,15 @@ step-alike s t g a c =
         turns = same .state .turns;
       };
     }
+
+traces-alike : (s t : State) → Reached s → Alike s t → (cs : List Call) → trace s cs ≡ trace t cs
+unfolding trace
+traces-alike s t r a [] = refl
+traces-alike s t r a (c ∷ cs) =
+    let one = step-alike s t (reached-good s r) a c in
+    let rest = traces-alike ((step s c) .state) ((step t c) .state) (step-reached s c r) (one .state) cs in
+    ap (λ (p : Reply). record { call = c; reply = p } ∷ trace ((step s c) .state) cs) (one .reply)
+    ∙ ap (λ (es : List Event). record { call = c; reply = (step t c) .reply } ∷ es) rest
+
+pub lists-alike : NoListTells
+lists-alike gs ok before calls t a = traces-alike (after (fresh gs) before) t (reached (fresh gs) before (fresh-reached gs ok)) a calls

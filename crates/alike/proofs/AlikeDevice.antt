@@ -1,28 +1,17 @@
--- Every call of a unit with pages respects `AlikeDevice`, and what is alike to a good unit is good. Assumes nothing.
-use Prim.Native.Nat.{ℕ, _<_}
-use mathlib.Core.Path.{_≡_, refl, sym, ap, subst, _∙_}
+-- Every call of a unit with pages respects `AlikeDevice`. Assumes nothing.
+use Prim.Native.Nat.{ℕ}
+use mathlib.Core.Path.{refl, ap, subst}
 use mathlib.Core.Bool.{Bool, true, false}
 use mathlib.Core.Option.{Option, none, some}
 use lib.Dec.{leb}
 use Rattle.units.specs.Plain.{if_then_else_}
 use Rattle.rules.specs.State.{State, anyHolds}
 use Rattle.rules.specs.Calls.{refused, step}
-use Rattle.pages.specs.Device.{Page, Device, inForceOf, DeviceCall, ruled, offer, unread, answered, inForceNow, waitsNow, settledDevice, newestEdition, doOffer, deviceStepBy, deviceStep}
-use Rattle.pages.specs.Claims.{GoodPage, GoodDevice}
+use Rattle.pages.specs.Device.{Page, inForceOf, DeviceCall, ruled, offer, unread, answered, inForceNow, waitsNow, settledDevice, newestEdition, doOffer, deviceStepBy, deviceStep}
+use Rattle.pages.specs.Claims.{GoodDevice}
 use Rattle.alike.specs.Alike.{Alike}
 use Rattle.alike.specs.AlikeDevice.{AlikeDevice, RespectsDevice, DeviceRespects}
-use Rattle.alike.proofs.Alike.{alike-refl, alike-good, step-alike}
-
-waiting-alike : (d e : Device) (w : Option Page) → d .state .lanes ≡ e .state .lanes → d .edition ≡ e .edition → GoodPage d w → GoodPage e w
-unfolding GoodPage
-waiting-alike d e none l n g = tt
-waiting-alike d e (some p) l n g = (ap anyHolds (sym l) ∙ g .0, g .1, subst (λ (x : ℕ). x < p .edition) n (g .2))
-
-pub alike-good-device : (d e : Device) → AlikeDevice d e → GoodDevice d → GoodDevice e
-alike-good-device d e a g = record {
-  state = alike-good (d .state) (e .state) (a .state) (g .state);
-  waiting = subst (GoodPage e) (a .waiting) (waiting-alike d e (d .waiting) (a .state .lanes) (a .edition) (g .waiting));
-}
+use Rattle.alike.proofs.Alike.{alike-refl, step-alike}
 
 settled-alike : (s t : State) → Alike s t → (n : ℕ) (w : Option Page) → AlikeDevice (settledDevice s n w) (settledDevice t n w)
 unfolding settledDevice

@@ -64,9 +64,6 @@ module _ (l : Line) (x : Option Rec) (e : recOf l ≡ x) where
 -- ---- a search
 
 module _ (p : Option Rec → Bool) (b : Board) where
-  pub missed-none : (j : ℕ) → j < 0 → p (lineAt b j) ≡ false
-  missed-none j h = absurd (omega arith)
-
   pub missed-more : (k : ℕ) → ((j : ℕ) → j < k → p (lineAt b j) ≡ false) → p (lineAt b k) ≡ false → (j : ℕ) → j < k + 1 → p (lineAt b j) ≡ false
   missed-more k f e j h = ⊎-elim (λ (q : j ≡ k). rw q e) (λ (q : j ≡ k → ⊥). f j (omega arith)) (eq-or-ne j k)
 

@@ -1,5 +1,6 @@
 -- A board in bytes (R11.3): 64 lines of two words.
 --
+--   boardSize              the fixed size of a board, in bytes
 --   Room                   the bytes have room for a board
 --   trainWord, cellWord    the two words of a line
 --   putLine                the bytes with one line changed
@@ -31,8 +32,12 @@ use Rattle.words.specs.Words.{wordAt, putWord}
 use Rattle.desk.specs.Board.{Rec, Board, lineAt, isOf, Makeable}
 use Rattle.desk_line.specs.declared.Line.{Line}
 
+-- R11.3, R13.7: 1,024
+abbrev pub boardSize : ℕ
+boardSize = 64 * 2 * 8
+
 abbrev pub Room : List ℕ → Type 0
-Room t = 1024 ≤ length t
+Room t = boardSize ≤ length t
 
 -- ---- the words of a line
 

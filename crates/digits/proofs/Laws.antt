@@ -1,17 +1,13 @@
 -- Laws of a word's digits, over the width and the place. Assumes nothing.
 use mathlib.Core.Path.{_≡_, sym, ap, _∙_, subst}
 use mathlib.Core.Logic.{⊎-elim}
-use Prim.Native.Nat.{ℕ, zero, suc, _+_, _-_, _*_, _/_, _%_, _^_, _≤_, _<_}
+use Prim.Native.Nat.{ℕ, suc, _+_, _-_, _*_, _/_, _%_, _^_, _≤_, _<_}
 use native.Mathlib.Nat.{mod-lt, mul-suc, mul-le-mul-left}
 use native.Mathlib.Omega.{arith}
 use lib.Arith.{digits-lt}
 use lib.Pow.{pow-pos, pow-add, high, low, shr-shr, shr-lt, field, mod-mod-pow}
 use Rattle.words.proofs.Runs.{le-or-lt}
 use Rattle.digits.specs.Digits.{digit, putDigit}
-
-pub digit-small : (b j x : ℕ) → digit b j x < 2 ^ b
-unfolding digit
-digit-small b j x = mod-lt (x / 2 ^ (b * j)) (pow-pos b)
 
 module _ (b j v x : ℕ) where
   -- from digit j on

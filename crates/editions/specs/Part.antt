@@ -9,7 +9,7 @@
 --   Stores               what a store leaves
 --
 -- Assumes nothing.
-use Prim.Native.Nat.{ℕ, _*_, _≤_, _<_}
+use Prim.Native.Nat.{ℕ, _+_, _*_, _≤_, _<_}
 use mathlib.Core.Path.{_≡_}
 use mathlib.Core.Bool.{Bool, true}
 use mathlib.Core.List.{List}
@@ -22,10 +22,11 @@ use Rattle.rules.specs.Setup.{Setup}
 use Rattle.pages.specs.Device.{Page}
 use Rattle.plan.specs.Judge.{knownFormat}
 use Rattle.plan_writer.specs.Write.{Planned}
-use Rattle.plan_area.specs.Area.{planIn}
+use Rattle.plan_area.specs.Area.{areaSize, planIn}
 
+-- two words, and a plan area
 abbrev pub partBytes : ℕ
-partBytes = 67 * 8
+partBytes = 2 * 8 + areaSize
 
 abbrev pub Room : List ℕ → Type 0
 Room p = partBytes ≤ length p
@@ -40,7 +41,7 @@ newIn p = wordAt p 1
 
 -- R19.12
 abbrev pub planOf : List ℕ → Planned
-planOf p = planIn (drop 16 p)
+planOf p = planIn (drop (2 * 8) p)
 
 -- R19.12
 unfoldable pub waitingIn : List ℕ → Option Page

@@ -1,27 +1,26 @@
 -- The slots of a good state's lanes: those of one group lie within 29 of each other, so that 32 lists tell them apart. Assumes nothing.
-use Prim.Native.Nat.{ℕ, _+_, _-_, _*_, _/_, _%_, _^_, _≤_, _<_}
+use Prim.Native.Nat.{ℕ, _+_, _*_, _/_, _^_, _≤_, _<_}
 use native.Mathlib.Nat.{mul-le-mul-right, div-mul-le-self}
 use native.Mathlib.Omega.{arith}
 use native.Mathlib.Decide.{decLe}
 use lib.Pow.{pow-mono, pow-pos, shl-shr}
 use mathlib.Core.Path.{_≡_, refl, sym, ap, subst, _∙_}
-use mathlib.Core.Bool.{Bool, true, false, _&&_, false≢true}
-use mathlib.Core.Logic.{_⊎_, inl, inr, ⊎-elim}
+use mathlib.Core.Bool.{Bool, true, false≢true}
+use mathlib.Core.Logic.{⊎-elim}
 use mathlib.Core.List.{List}
 use mathlib.Core.Option.{Option, none, some}
-use lib.ListN.{getD}
 use Rattle.units.proofs.Round.{round-div}
 use Rattle.units.proofs.Whole.{whole-slots, slot-part}
 use Rattle.waiting.specs.Waiting.{GoodWaiting}
 use Rattle.waiting.proofs.Laws.{first-fits}
-use Rattle.rules.specs.State.{Rec, Setting, Lane, State, group, slot, startR, firstOf, holds, laneAt, setupOf}
+use Rattle.rules.specs.State.{Setting, Lane, State, group, slot, startR, firstOf, holds, laneAt, setupOf}
 use Rattle.rules.specs.Setup.{InNumbers, Setup, margin}
 use Rattle.rules.specs.Good.{Times, Good}
 use Rattle.rules.specs.Sets.{inGroup, groupStart}
 use Rattle.rules.proofs.Lane.{group-least}
 use Rattle.rules.proofs.Bounds.{first-is}
 use Rattle.rules.proofs.Figures.{framing-at, group-at}
-use Rattle.rules.proofs.Lowest.{LowOf, LowestOf}
+use Rattle.rules.proofs.Lowest.{LowOf}
 use Rattle.rules.proofs.GroupRule.{in-group, group-low}
 use Rattle.rules.proofs.SameSetup.{setting-lane}
 use Rattle.filing.specs.Filing.{Whole, slotAt, Window}
@@ -83,10 +82,6 @@ module _ (s : State) (good : Good s) where
       let f = first-is (firstOf (laneAt s k)) h in
       let t : Times (s .clock) (laneAt s k) (some (f .0)) = subst (Times (s .clock) (laneAt s k)) (f .1) (good .numbers k) in
       (t .1, t .2)
-
-  -- a lane that holds records is in the setup
-  pub numbers-held : (k : ℕ) → holds (laneAt s k) ≡ true → InNumbers (laneAt s k .given)
-  numbers-held = numbers-in s (good .setup) (good .waiting)
 
   pub group-held : (k : ℕ) → holds (laneAt s k) ≡ true → (16 ≤ group (laneAt s k .given)) × (group (laneAt s k .given) ≤ 31)
   group-held = group-in s (good .setup) (good .waiting)

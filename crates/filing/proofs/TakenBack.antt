@@ -1,13 +1,11 @@
 -- A put that takes the clock back moves no lane to another list, and each group's start loses what the clock loses. Assumes nothing.
-use Prim.Native.Nat.{ℕ, _+_, _-_, _*_, _/_, _%_, _^_, _≤_, _<_}
+use Prim.Native.Nat.{ℕ, _+_, _-_, _*_, _/_, _%_, _^_, _≤_}
 use native.Mathlib.Omega.{arith}
 use mathlib.Core.Path.{_≡_, refl, sym, ap, _∙_}
 use mathlib.Core.Bool.{Bool, true, false, _&&_}
-use mathlib.Core.List.{List}
 use mathlib.Core.Option.{Option, none, some}
 use lib.Dec.{eqb}
-use Rattle.waiting.specs.Waiting.{Waiting, first}
-use Rattle.rules.specs.State.{Setting, Lane, State, clockFar, clockStep, group, slot, some?, holds, laneAt}
+use Rattle.rules.specs.State.{Lane, State, clockFar, clockStep, group, slot, holds, laneAt}
 use Rattle.rules.specs.Calls.{takenOff, shifted}
 use Rattle.rules.specs.Sets.{inGroup, groupStart}
 use Rattle.rules.specs.Good.{Good}
@@ -17,7 +15,7 @@ use Rattle.rules.proofs.FurtherSets.{start-further}
 use Rattle.rules.proofs.Beside.{same-beside}
 use Rattle.rules.proofs.BesideCalls.{shifted-beside}
 use Rattle.rules.proofs.GoodShift.{small-lanes, good-above, sees, shifted-good, taken-off}
-use Rattle.filing.specs.Filing.{sift, Whole, slotAt, inList, Lists, Filing, Starting, Agrees}
+use Rattle.filing.specs.Filing.{sift, inList, Lists, Agrees}
 use Rattle.filing.proofs.Sift.{sift-ext}
 use Rattle.filing.proofs.Back.{list-stays}
 
@@ -32,9 +30,6 @@ module _ (s : State) (good : Good s) (far : clockFar ≤ s .clock) (B : ℕ) whe
   off : TakenOff K s (shifted s)
   unfolding TakeBackExact
   off = taken-off s good far
-
-  pub whole-stays : Whole B → Whole B′
-  whole-stays w = omega (arith, w, off .multiple .1)
 
   list-same : (g b k : ℕ) → inList B′ g b (laneAt (shifted s) k) ≡ inList B g b (laneAt s k)
   unfolding inList inGroup slot

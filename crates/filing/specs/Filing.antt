@@ -23,6 +23,8 @@ use lib.Dec.{eqb}
 use Rattle.units.specs.Plain.{if_then_else_}
 use Rattle.rules.specs.State.{Lane, State, group, slot, holds, laneAt}
 use Rattle.rules.specs.Sets.{inGroup, groupStart}
+pub use Rattle.parts.specs.Parts.{slotLists}
+use Rattle.parts.specs.Parts.{lowestGroup, highestGroup, groupCount}
 
 unfoldable pub sift : (ℕ → Bool) → List ℕ → List ℕ
 sift p [] = []
@@ -32,16 +34,12 @@ abbrev pub headOf : List ℕ → Option ℕ
 headOf [] = none
 headOf (k ∷ ks) = some k
 
--- groups are at most 31, so their slots divide it
+-- the slots of all groups divide those of the highest one
 abbrev pub Whole : ℕ → Type 0
-Whole B = B % 2 ^ 31 ≡ 0
+Whole B = B % 2 ^ highestGroup ≡ 0
 
 abbrev pub slotAt : ℕ → Lane → ℕ
 slotAt B l = (l .start + B) / slot (l .given)
-
--- the lists of a group
-abbrev pub slotLists : ℕ
-slotLists = 32
 
 unfoldable pub inList : ℕ → ℕ → ℕ → Lane → Bool
 inList B g b l = inGroup g l && eqb (slotAt B l % slotLists) b
@@ -56,13 +54,13 @@ flat (suc n) f = flat n f ++ f n
 
 -- all lists, by group and number, one behind the other
 unfoldable pub inARow : Lists → List ℕ
-inARow lists = flat 16 (λ i. flat slotLists (lists (16 + i)))
+inARow lists = flat groupCount (λ i. flat slotLists (lists (lowestGroup + i)))
 
 abbrev pub Filing : ℕ → Lists → State → Type 0
-Filing B lists s = (g b : ℕ) → 16 ≤ g → g ≤ 31 → b < slotLists → lists g b ≡ sift (λ k. inList B g b (laneAt s k)) (s .order)
+Filing B lists s = (g b : ℕ) → lowestGroup ≤ g → g ≤ highestGroup → b < slotLists → lists g b ≡ sift (λ k. inList B g b (laneAt s k)) (s .order)
 
 abbrev pub Starting : (ℕ → Option ℕ) → State → Type 0
-Starting starts s = (g : ℕ) → 16 ≤ g → g ≤ 31 → starts g ≡ groupStart (s .lanes) g
+Starting starts s = (g : ℕ) → lowestGroup ≤ g → g ≤ highestGroup → starts g ≡ groupStart (s .lanes) g
 
 pub record Agrees (B : ℕ) (lists : Lists) (starts : ℕ → Option ℕ) (s : State) : Type 0 where
   pub filed : Filing B lists s
@@ -73,9 +71,9 @@ pub record Window (B : ℕ) (s : State) (g a : ℕ) : Type 0 where
   pub to : (k : ℕ) → inGroup g (laneAt s k) ≡ true → slotAt B (laneAt s k) < a + slotLists
 
 pub record LeastGroup (starts : ℕ → Option ℕ) (v g r : ℕ) : Type 0 where
-  pub low : 16 ≤ g
-  pub high : g ≤ 31
+  pub low : lowestGroup ≤ g
+  pub high : g ≤ highestGroup
   pub start : starts g ≡ some r
   pub reached : r ≤ v
-  pub finish : (i q : ℕ) → 16 ≤ i → i ≤ 31 → starts i ≡ some q → q ≤ v → r + 2 * 2 ^ g ≤ q + 2 * 2 ^ i
-  pub lowest : (i q : ℕ) → 16 ≤ i → i ≤ 31 → starts i ≡ some q → q ≤ v → r + 2 * 2 ^ g ≡ q + 2 * 2 ^ i → g ≤ i
+  pub finish : (i q : ℕ) → lowestGroup ≤ i → i ≤ highestGroup → starts i ≡ some q → q ≤ v → r + 2 * 2 ^ g ≤ q + 2 * 2 ^ i
+  pub lowest : (i q : ℕ) → lowestGroup ≤ i → i ≤ highestGroup → starts i ≡ some q → q ≤ v → r + 2 * 2 ^ g ≡ q + 2 * 2 ^ i → g ≤ i

@@ -16,7 +16,7 @@ use lib.ListN.{length, drop}
 use Rattle.words.specs.Words.{wordAt}
 use Rattle.desk.specs.Board.{Rec, Board, place}
 use Rattle.desk.specs.Calls.{Call, enter, Made}
-use Rattle.board.specs.Layout.{Room, Written, Shows}
+use Rattle.board.specs.Layout.{boardSize, Room, Written, Shows}
 use Rattle.journal.specs.Reads.{Plain, refused, told, shown}
 use Rattle.journal.specs.Step.{Step, RecordStep, LineStep}
 use Rattle.journal.specs.declared.Told.{Told}
@@ -36,7 +36,7 @@ pub record Exact29 : Type 0 where
   pub line-call : (k : ℕ) (t : List ℕ) (a : Shown) → LineStep k t a → Exactly29 (shown a) t
 
 abbrev pub EachMade : Type 0
-EachMade = (b : Board) → Made b → (t : List ℕ) → Room t → (u : List ℕ) × Shows u b × (drop 1024 u ≡ drop 1024 t) × (length u ≡ length t)
+EachMade = (b : Board) → Made b → (t : List ℕ) → Room t → (u : List ℕ) × Shows u b × (drop boardSize u ≡ drop boardSize t) × (length u ≡ length t)
 
 abbrev pub OneBoard : Type 0
 OneBoard =

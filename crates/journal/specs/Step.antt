@@ -16,6 +16,7 @@ use lib.ListN.{length, drop}
 use Rattle.desk.specs.Board.{Rec, Board, emptyBoard, lineAt}
 use Rattle.desk.specs.Calls as Calls
 use Rattle.desk.specs.Calls.{Call, Reply, enter, clear, step}
+pub use Rattle.board.specs.Layout.{boardSize}
 use Rattle.board.specs.Layout.{Room, putLine, Shows, NoBoard}
 use Rattle.journal.specs.Reads.{Plain, line, stands, begun, refused, fromRules, told, shown, beginning}
 use Rattle.journal.specs.Record.{Reading, says, faulty, readRecord}
@@ -41,7 +42,7 @@ Stays (refused n p) before after = after ≡ before
 
 pub record Kept (a : Plain) (before after : List ℕ) : Type 0 where
   pub stays : Stays a before after
-  pub rest : drop 1024 after ≡ drop 1024 before
+  pub rest : drop boardSize after ≡ drop boardSize before
   pub size : length after ≡ length before
 
 -- R14.42. The call c on the bytes `before` answers a and leaves the bytes `after`.

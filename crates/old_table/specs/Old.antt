@@ -23,10 +23,10 @@ use Rattle.waiting.specs.Waiting.{plain}
 use Rattle.rules.specs.State.{Lane, State, noLane}
 use Rattle.rules.specs.Older.{oldDepth, GoodOld}
 use Rattle.alike.specs.Alike.{Alike}
-use Rattle.parts.specs.Parts.{lengthsFrom, ringsEnd}
+use Rattle.parts.specs.Parts.{laneCount, lengthsFrom, ringsEnd}
 use Rattle.slot_lists.specs.Lists.{backAt, listAt, startAt, Solid}
 use Rattle.filing.specs.Filing.{inARow, Agrees}
-use Rattle.table.specs.Layout.{cells, clockWord, laneWord, rowAt}
+use Rattle.table.specs.Layout.{cells, clockWord, laneWord, ringWord, rateFrom, rowAt}
 use Rattle.table.specs.Means.{presentAt, recOf, givenOf, timed, RowAgrees, RowPaced}
 use Rattle.table.specs.declared.LaneRow.{LaneRow}
 use Rattle.table.specs.declared.Entry.{Entry}
@@ -39,13 +39,13 @@ oldSize = ringsEnd
 unfoldable pub oldRowAt : List ℕ → ℕ → LaneRow
 oldRowAt w k =
     let l = rowAt w k in
-    let ring = getD w (laneWord k + 2) 0 in
+    let ring = getD w (ringWord k) 0 in
     record {
       longest = l .longest;
       framing = l .framing;
       weight = l .weight;
       group = l .group;
-      rate = record { 0 = getD w (laneWord k) 0 / 2 ^ 40 };
+      rate = record { 0 = getD w (laneWord k) 0 / 2 ^ rateFrom };
       shared = false;
       time = l .time;
       head = ring % oldDepth;
@@ -71,13 +71,13 @@ oldLane w k = if presentAt w k then timed (givenOf (oldRowAt w k)) (oldRowAt w k
 
 -- R7.2
 unfoldable pub oldMeant : List ℕ → State
-oldMeant t = record { clock = getD (cells t) clockWord 0; lanes = tab 64 (oldLane (cells t)); order = inARow (listAt t) }
+oldMeant t = record { clock = getD (cells t) clockWord 0; lanes = tab laneCount (oldLane (cells t)); order = inARow (listAt t) }
 
 -- R7.3
 pub record OldAgrees (t : List ℕ) : Type 0 where
-  pub rows : (k : ℕ) → k < 64 → presentAt (cells t) k ≡ true → RowAgrees (oldRowAt (cells t) k)
+  pub rows : (k : ℕ) → k < laneCount → presentAt (cells t) k ≡ true → RowAgrees (oldRowAt (cells t) k)
   -- c and the group of each lane, one that was idle too
-  pub paced : (k : ℕ) → k < 64 → presentAt (cells t) k ≡ true → RowPaced (oldRowAt (cells t) k)
+  pub paced : (k : ℕ) → k < laneCount → presentAt (cells t) k ≡ true → RowPaced (oldRowAt (cells t) k)
   pub solid : Solid t
   pub lists : Agrees (backAt t) (listAt t) (startAt t) (oldMeant t)
 

@@ -1,9 +1,9 @@
 -- Areas and setups go back and forth: the promises WritesBack and ReadsBack of specs/Step.antt.
 --
---   ReadInto     what reading that gave lanes leaves
+--   ReadInto, read-into   what reading that gave lanes leaves, of a setup or another text
 --
 -- Assumes nothing.
-use Prim.Native.Nat.{ℕ, zero, suc, _+_, _*_, _≤_, _<_}
+use Prim.Native.Nat.{ℕ, zero, suc, _+_, _≤_, _<_}
 use mathlib.Core.Path.{_≡_, refl, sym, ap, subst, _∙_}
 use mathlib.Core.Logic.{_⊎_, inl, inr, ⊎-elim}
 use mathlib.Core.List.{List, _++_}
@@ -21,37 +21,36 @@ use Rattle.plan_writer.specs.RoundTrip.{readAs}
 use Rattle.plan_writer.specs.declared.Written.{Written}
 use Rattle.plan_writer.proofs.Decided.{within-or-not}
 use Rattle.plan_writer.proofs.Round.{size-is, reads-back, read-within, writes-back}
-use Rattle.plan_area.specs.Area.{Room, planIn, Shows, AreaWithin}
-use Rattle.plan_area.specs.Step.{Reply, lanes, refused, got, Follows, ReadStep, WriteStep, WritesBack, ReadsBack}
+use Rattle.plan_area.specs.Area.{areaSize, Room, planIn, Shows, AreaWithin}
+use Rattle.plan_area.specs.Step.{Reply, lanes, refused, got, Follows, AreaRead, WriteStep, WritesBack, ReadsBack}
 use Rattle.plan_area.specs.declared.Got.{Got}
 use Rattle.plan_area.proofs.Shown.{shows-plan, shows-within, area-shows}
 
 lanes-refused : {A : Type 0} {n m : ℕ} {q : Option ℕ} → lanes n ≡ refused m q → A
 lanes-refused h = absurd (let z : _≡_ {A = ℕ} 0 1 = cc in omega arith)
 
--- what reading that gave lanes leaves
-pub record ReadInto (s area′ : List ℕ) : Type 0 where
+pub record ReadInto (said : plan.Reply) (area′ : List ℕ) : Type 0 where
   pub plan : Planned
   pub next : ℕ
-  pub reads : readSetup s ≡ readAs plan next
+  pub reads : said ≡ readAs plan next
   pub shows : Shows plan area′
   pub room : Room area′
 
-read-into : (s area area′ : List ℕ) (g : Got) (n : ℕ) → ReadStep s area g area′ → got g ≡ lanes n → ReadInto s area′
-read-into s area area′ g n r e =
-    elim (decLe (65 * 8) (length area)) [
-      | yes room ↦ by-reply room (readSetup s) refl (r .follows room)
+pub read-into : (said : plan.Reply) (area area′ : List ℕ) (g : Got) (n : ℕ) → AreaRead said area g area′ → got g ≡ lanes n → ReadInto said area′
+read-into said area area′ g n r e =
+    elim (decLe areaSize (length area)) [
+      | yes room ↦ by-reply room said refl (r .follows room)
       | no b ↦ lanes-refused (sym e ∙ r .short (omega (arith, b)) .0)
     ]
   where
-    by-reply : Room area → (x : plan.Reply) → readSetup s ≡ x → Follows x area g area′ → ReadInto s area′
+    by-reply : Room area → (x : plan.Reply) → said ≡ x → Follows x area g area′ → ReadInto said area′
     by-reply room (plan.refused m q) q-is f = lanes-refused (sym e ∙ f .0)
     by-reply room (plan.read v gs m next) q-is f = record { plan = record { format = v; lanes = gs; count = m }; next = next; reads = q-is; shows = f .1; room = omega (arith, room, r .size) }
 
 pub writes-back-area : WritesBack
 unfolding WritesBack
 writes-back-area s bytes form area area′ g n r e before after a h room =
-    let into = read-into s area area′ g n r e in
+    let into = read-into (readSetup s) area area′ g n r e in
     let p = into .plan in
     let w = read-within s p (into .next) (into .reads) in
     let plan-is = shows-plan p area′ w (into .shows) in
@@ -63,13 +62,13 @@ writes-back-area s bytes form area area′ g n r e before after a h room =
 
 pub within-area : (a : List ℕ) → AreaWithin a ⊎ (AreaWithin a → ⊥)
 within-area a =
-    elim (decLe (65 * 8) (length a)) [
+    elim (decLe areaSize (length a)) [
       | yes room ↦
           ⊎-elim (λ (w : Within (planIn a)). inl (record { room = room; plan = w })) (λ (o : Within (planIn a) → ⊥). inr (λ w. o (w .plan))) (within-or-not (planIn a))
       | no b ↦ inr (λ w. b (w .room))
     ]
 
-size-refused : {A : Type 0} {k n : ℕ} → size k ≡ write.refused n → A
+pub size-refused : {A : Type 0} {k n : ℕ} → size k ≡ write.refused n → A
 size-refused h = absurd (let z : _≡_ {A = ℕ} 0 1 = cc in omega arith)
 
 wrote-size : (area before after : List ℕ) (a : Written) (k : ℕ) → WriteStep area before a after → wrote a ≡ size k → AreaWithin area × (sizeOf (planIn area) ≤ length before) × (k ≡ sizeOf (planIn area))

@@ -1,10 +1,10 @@
 -- The promises of the two calls, from what their parts ensure.
 --
---   read-short, read-refused, read-stored   of reading
+--   read-short, read-refused, read-stored   of reading, a setup or another text; setup-good: a setup that was read
 --   write-short, write-plan    of writing
 --
 -- Assumes nothing.
-use Prim.Native.Nat.{ℕ, _*_, _≤_, _<_}
+use Prim.Native.Nat.{ℕ, _≤_, _<_}
 use mathlib.Core.Path.{_≡_, refl, sym, ap, subst, _∙_}
 use mathlib.Core.List.{List}
 use native.Mathlib.Omega.{arith}
@@ -23,38 +23,40 @@ use Rattle.plan_writer.specs.Write.{Planned, Writes}
 use Rattle.plan_writer.specs.declared.Written.{Written}
 use Rattle.plan_writer.specs.declared.Written.the-variants as written
 use Rattle.plan_writer.specs.declared.Unwritten.the-variants.{Outside}
-use Rattle.plan_area.specs.Area.{Room, planIn, Gives, Shows, AreaWithin}
-use Rattle.plan_area.specs.Step.{Follows, ReadStep, WriteStep}
+use Rattle.plan_area.specs.Area.{areaSize, Room, planIn, Gives, Shows, AreaWithin}
+use Rattle.plan_area.specs.Step.{Follows, AreaRead, WriteStep}
 use Rattle.plan_area.specs.declared.Got.the-variants.{Lanes, Refused}
 
-module _ (s a : List ℕ) where
-  pub read-short : length a < 65 * 8 → ReadStep s a (Refused TableShort) a
+-- what is read, whatever reader it is
+module _ {said : plan.Reply} {a : List ℕ} where
+  pub read-short : length a < areaSize → AreaRead said a (Refused TableShort) a
   read-short h = record { short = λ _. (refl, refl); follows = λ room. absurd (omega (arith, room, h)); size = refl }
 
-  module _ (room : Room a) (r : Reading) (e : reads r ≡ readSetup s) where
-    pub read-refused : (x : Refusal) → r .outcome ≡ outcome.Refused x → ReadStep s a (Refused x) a
+  module _ (room : Room a) (r : Reading) (e : reads r ≡ said) where
+    pub read-refused : (x : Refusal) → r .outcome ≡ outcome.Refused x → AreaRead said a (Refused x) a
     read-refused x o = record {
       short = λ h. absurd (omega (arith, room, h));
       follows = λ _. subst (λ (y : plan.Reply). Follows y a (Refused x) a) (sym (ap (came (r .plan)) o) ∙ e) (refl, refl);
       size = refl;
     }
 
-    pub read-setup-good : (next : ℕ) → r .outcome ≡ Read next → Setup (settings (r .plan)) × (r .plan .format ≤ 2)
-    read-setup-good next o = let a = accepted-setup r s next e o .0 in (a .setup, format-small (r .plan .format) (a .rule .format))
-
     pub read-stored : (next : ℕ) → r .outcome ≡ Read next → (b : List ℕ) → length b ≡ length a
-        → Shows (record { format = r .plan .format; lanes = settings (r .plan); count = r .plan .count }) b × (drop (65 * 8) b ≡ drop (65 * 8) a) → ReadStep s a (Lanes (r .plan .count)) b
+        → Shows (record { format = r .plan .format; lanes = settings (r .plan); count = r .plan .count }) b × (drop areaSize b ≡ drop areaSize a)
+        → AreaRead said a (Lanes (r .plan .count)) b
     read-stored next o b size w = record {
       short = λ h. absurd (omega (arith, room, h));
       follows = λ _. subst (λ (y : plan.Reply). Follows y a (Lanes (r .plan .count)) b) (sym (ap (came (r .plan)) o) ∙ e) (refl, w .0, w .1);
       size = size;
     }
 
+pub setup-good : (s : List ℕ) (r : Reading) → reads r ≡ readSetup s → (next : ℕ) → r .outcome ≡ Read next → Setup (settings (r .plan)) × (r .plan .format ≤ 2)
+setup-good s r e next o = let a = accepted-setup r s next e o .0 in (a .setup, format-small (r .plan .format) (a .rule .format))
+
 module _ (area before : List ℕ) where
   not-within : (AreaWithin area → ⊥) → WriteStep area before (written.Refused Outside) before
   not-within n = record { outside = λ _. (refl, refl); short = λ w _. absurd (n w); written = λ w _. absurd (n w) }
 
-  pub write-short : length area < 65 * 8 → WriteStep area before (written.Refused Outside) before
+  pub write-short : length area < areaSize → WriteStep area before (written.Refused Outside) before
   write-short h = not-within (λ w. omega (arith, w .room, h))
 
   pub write-plan : Room area → (p : Planned) → Gives (planIn area) p → (a : Written) (after : List ℕ) → Writes p before a after → WriteStep area before a after

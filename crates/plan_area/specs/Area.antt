@@ -1,5 +1,6 @@
 -- A plan in lent bytes (R9.7): 65 words, low byte first.
 --
+--   areaSize    the fixed size of a plan area, in bytes
 --   Room        long enough
 --   formatIn, framingIn, laneIn   the numbers of an area; settingIn: those of a lane's word
 --   planIn      the plan that an area is, in or out of the numbers
@@ -22,9 +23,12 @@ use Rattle.words.specs.Words.{wordAt}
 use Rattle.plan.specs.Accepted.{present}
 use Rattle.plan_writer.specs.Write.{Planned, Within}
 
--- 65 words of eight bytes.
+-- R9.7, R13.7: 520: a word for the plan, and one for each lane
+abbrev pub areaSize : ℕ
+areaSize = (1 + 64) * 8
+
 abbrev pub Room : List ℕ → Type 0
-Room a = 65 * 8 ≤ length a
+Room a = areaSize ≤ length a
 
 -- ---- what the words are
 

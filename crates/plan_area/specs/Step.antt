@@ -1,13 +1,14 @@
 -- The promises of the two calls on a plan area (R9.8, R9.9), whole: for all bytes and every length.
 --
 --   Reply       what reading answers: the number of lanes, or a refusal's number and its place
+--   AreaRead    what reading into an area comes to, by what a reader says of its bytes
 --   ReadStep    the promise of `read_setup`
 --   WriteStep   the promise of `write_setup`
 --   WritesBack  a setup that is read into an area, and is in the form, comes back as its own bytes
 --   ReadsBack   what was written from an area is read, into any area, as the same words
 --
 -- The theorems of the last two are `writes-back-area` and `reads-back-area` in proofs/Back.antt. Assumes nothing.
-use Prim.Native.Nat.{ℕ, _+_, _*_, _≤_, _<_}
+use Prim.Native.Nat.{ℕ, _≤_, _<_}
 use mathlib.Core.Path.{_≡_}
 use mathlib.Core.List.{List, _++_}
 use mathlib.Core.Option.{Option, some}
@@ -21,7 +22,7 @@ use Rattle.plan_writer.specs.Write.{setupBytes, sizeOf, size, wrote}
 use Rattle.plan_writer.specs.Write as write
 use Rattle.plan_writer.specs.RoundTrip.{Bytes}
 use Rattle.plan_writer.specs.declared.Written.{Written}
-use Rattle.plan_area.specs.Area.{Room, planIn, Shows, AreaWithin}
+use Rattle.plan_area.specs.Area.{areaSize, Room, planIn, Shows, AreaWithin}
 use Rattle.plan_area.specs.declared.Got.{Got}
 use Rattle.plan_area.specs.declared.Got.the-variants.{Lanes, Refused}
 
@@ -36,13 +37,18 @@ got (Refused x) = refused (number x) (placeOf x)
 -- R14.43. Long enough, the setup decides: the plan is in the area, and the bytes past it stay; or a refusal, and the area stays.
 abbrev pub Follows : plan.Reply → List ℕ → Got → List ℕ → Type 0
 Follows (plan.refused n p) before a after = (got a ≡ refused n p) × (after ≡ before)
-Follows (plan.read v gs n at) before a after = (got a ≡ lanes n) × Shows (record { format = v; lanes = gs; count = n }) after × (drop (65 * 8) after ≡ drop (65 * 8) before)
+Follows (plan.read v gs n at) before a after =
+    (got a ≡ lanes n) × Shows (record { format = v; lanes = gs; count = n }) after × (drop areaSize after ≡ drop areaSize before)
 
--- R14.13, R14.37: 7 where the area is too short, first and at place 0.
-pub record ReadStep (setup before : List ℕ) (a : Got) (after : List ℕ) : Type 0 where
-  pub short : length before < 65 * 8 → (got a ≡ refused 7 (some 0)) × (after ≡ before)
-  pub follows : Room before → Follows (readSetup setup) before a after
+-- R14.13: 7 where the area is too short, first and at place 0. Else it follows what a reader says of its bytes.
+pub record AreaRead (said : plan.Reply) (before : List ℕ) (a : Got) (after : List ℕ) : Type 0 where
+  pub short : length before < areaSize → (got a ≡ refused 7 (some 0)) × (after ≡ before)
+  pub follows : Room before → Follows said before a after
   pub size : length after ≡ length before
+
+-- R14.37
+abbrev pub ReadStep : (setup before : List ℕ) (a : Got) (after : List ℕ) → Type 0
+ReadStep setup before a after = AreaRead (readSetup setup) before a after
 
 -- 55 for an area that is no plan within the numbers, whatever the buffer; 56 for one that is, where the buffer is shorter than its exact size; the buffer
 -- stays for both. Else the answer is the size, the plan's bytes stand first, and those past them stay.

@@ -14,7 +14,7 @@ use Rattle.rounds.specs.Good.{Good}
 use Rattle.turns.specs.Turns.{headOf, countOf, namedOf, orderOf, roundOf, fours, trainOf, trainsOf, sharedOf, Ordered}
 use Rattle.turns.proofs.Train.{train-is, length-ring}
 use Rattle.turns.proofs.Good.{good-light, good-room}
-use Rattle.waiting.specs.Waiting.{shared, itemOf, first, held, known, full, GoodWaiting}
+use Rattle.waiting.specs.Waiting.{shared, itemOf, first, known, full, GoodWaiting}
 use Rattle.waiting.proofs.Laws.{Enters, first-nothing, held-none}
 use Rattle.rules.specs.State.{Rec, Setting, Lane, laneAt, laneDepth, firstOf, holds, some?}
 use Rattle.table.specs.Layout.{Now, cells, laneWord, roundAt, rowAt, putRow, putRing, trainNumber}
@@ -76,9 +76,6 @@ module _ (w o : List ℕ) (k : ℕ) (hk : k < 64) (p : presentAt w k ≡ true) w
 
   pub longest-row : laneAt (stateOf w o) k .given .longest ≡ l .longest .0
   longest-row = ap (λ (x : Lane). x .given .longest) (lane-is w o k hk) ∙ ap (λ (g : Setting). g .longest) (given-row w k p)
-
-  pub count-of : Beside w → held (laneAt (stateOf w o) k .waiting) ≡ l .count
-  count-of b = ap held waiting-of ∙ waiting-held w k l (b .housed k hk p)
 
   pub holds-row : holds (laneAt (stateOf w o) k) ≡ true → 0 < l .count
   holds-row h = go (l .count) refl

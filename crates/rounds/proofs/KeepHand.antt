@@ -20,10 +20,6 @@ held-inside [] k h = absurd (false≢true h)
 held-inside (t ∷ ts) zero h = zero-lt-suc (length ts)
 held-inside (t ∷ ts) (suc k) h = omega (arith, held-inside ts k h)
 
-pub empty-queue : (q : List Rec) → some? q ≡ false → q ≡ []
-empty-queue [] e = refl
-empty-queue (r ∷ rs) e = absurd (false≢true (sym e))
-
 -- a train that the round names holds a record
 pub named-holds : {L : ℕ} {b : Bool} {n : ℕ} {t : Train} → GoodTrain L b n t → 0 < n → some? (t .queue) ≡ true
 named-holds {n = n} {t = t} g h = go (some? (t .queue)) refl (g .named-once)

@@ -1,35 +1,23 @@
 -- The chosen record is there whenever a train holds one, and no put changes it; each train's records are handed out once and in order, or are still held.
 -- Assumes nothing.
-use Prim.Native.Nat.{ℕ, _+_, _-_, _≤_, _<_}
+use Prim.Native.Nat.{ℕ, _-_, _≤_, _<_}
 use native.Mathlib.Omega.{arith}
-use mathlib.Core.Path.{_≡_, refl, sym, ap, subst, _∙_}
-use mathlib.Core.Bool.{Bool, true, false, false≢true}
-use mathlib.Core.Option.{Option, none, some}
+use mathlib.Core.Path.{_≡_, refl, sym, ap, _∙_}
+use mathlib.Core.Bool.{Bool, true, false}
+use mathlib.Core.Option.{none, some}
 use mathlib.Core.List.{List, [], _∷_, _++_, append-assoc, append-nil}
 use lib.Dec.{leb, eqb}
 use lib.ListN.{length, getD, set}
 use borrow.Author.Tests.{eq-eqb, ne-eqb}
-use Rattle.units.specs.Plain.{if_then_else_, times}
-use Rattle.rounds.specs.Round.{Rec, Train, Shared, noTrain, some?, trainAt, holds, Moving, firstOf, firstIn, first, raised, begin, added, join, put, handOf, handIn, handOut}
+use Rattle.units.specs.Plain.{if_then_else_}
+use Rattle.rounds.specs.Round.{Rec, Train, Shared, noTrain, trainAt, holds, Moving, firstOf, firstIn, first, raised, begin, added, join, put, handOf, handIn, handOut}
 use Rattle.rounds.specs.Good.{Lengths, Good}
 use Rattle.rounds.specs.Runs.{Op, offer, take, allows, step, accepted, sent, ofTrain, after, acceptedOf, sentOf, InOrder}
 use Rattle.rounds.proofs.Lists.{if-ind, set-cases, set-keeps}
-use Rattle.rounds.proofs.Keep.{Allowed, allows-is, step-good}
+use Rattle.rounds.proofs.Keep.{allows-is, step-good}
 use Rattle.rounds.proofs.KeepHand.{held-inside, turn-holds}
 
 -- ---- the chosen record
-
-pub first-there : (L : ℕ) (s : Shared) → Good L s → (k : ℕ) → holds s k ≡ true → (x : Moving) × (first s ≡ some x)
-unfolding first firstIn firstOf
-first-there L s g k e = go (s .trains) (s .round) g e
-  where
-    chosen : (j : ℕ) (q : List Rec) → some? q ≡ true → (x : Moving) × (firstOf j q ≡ some x)
-    chosen j [] h = absurd (false≢true h)
-    chosen j (r ∷ rs) h = (record { train = j; item = r }, refl)
-
-    go : (ts : List Train) (ks : List ℕ) → Good L (record { trains = ts; round = ks }) → some? (getD ts k noTrain .queue) ≡ true → (x : Moving) × (firstIn ts ks ≡ some x)
-    go ts [] g e = absurd (omega (arith, simp e at (g .each k .named-once)))
-    go ts (j ∷ js) g e = chosen j (getD ts j noTrain .queue) (turn-holds L ts j js g)
 
 pub first-fits : (L : ℕ) (s : Shared) (x : Moving) → Good L s → first s ≡ some x → (0 < x .item .len) × (x .item .len ≤ L)
 unfolding first firstIn firstOf

@@ -3,7 +3,7 @@
 --   Rec           a waiting record: its mark and its length
 --   Train         a train's deficit and its queue, first record first
 --   Shared        the trains by number, and the round: the trains that hold records in the order of their turns, the one in turn first
---   holds         train k holds a record; anyTrain: some train does
+--   holds         train k holds a record
 --   inTurn        train k is the one in turn
 --   first         the chosen record, with its train
 --   begin         a turn begins
@@ -12,7 +12,7 @@
 --   held          how many records wait
 --
 -- L is the lane's longest record, in bytes. Assumes nothing.
-use Prim.Native.Nat.{ℕ, zero, suc, _+_, _-_}
+use Prim.Native.Nat.{ℕ, _+_, _-_}
 use mathlib.Core.Bool.{Bool, true, false}
 use mathlib.Core.List.{List, [], _∷_, _++_}
 use mathlib.Core.Option.{Option, none, some}
@@ -61,9 +61,6 @@ holds s k = some? (trainAt s k .queue)
 abbrev pub inTurn : ℕ → List ℕ → Bool
 inTurn k [] = false
 inTurn k (j ∷ js) = eqb j k
-
-abbrev pub anyTrain : Shared → Bool
-anyTrain s = elim (s .round) [ [] ↦ false | j ∷ js ↦ true ]
 
 -- a lane in which nothing waits
 unfoldable pub empty : Shared

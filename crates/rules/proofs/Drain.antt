@@ -2,16 +2,15 @@
 -- are held hand each out, and restart is accepted then. Assumes nothing.
 use Prim.Native.Nat.{ℕ, zero, suc, _<_}
 use native.Mathlib.Omega.{arith}
-use mathlib.Core.Path.{_≡_, refl, sym, ap}
-use mathlib.Core.Bool.{true, false, false≢true}
-use mathlib.Core.List.{List, [], _∷_}
+use mathlib.Core.Path.{_≡_, refl, ap}
+use mathlib.Core.Bool.{true, false}
 use mathlib.Core.Option.{Option, none, some}
-use lib.ListN.{length, getD, replicate}
+use lib.ListN.{replicate}
 use Rattle.units.specs.Plain.{sum}
 use Rattle.waiting.specs.Waiting.{held}
 use Rattle.waiting.proofs.Laws.{held-hand, held-none}
-use Rattle.rules.specs.State.{Rec, Lane, noLane, State, firstOf, holds, laneAt, setupOf, anyHolds}
-use Rattle.rules.specs.Calls.{take, restart, restarted, taken, served, serve, Pick, picked, takeOf, doTake, fresh, doRestart, step}
+use Rattle.rules.specs.State.{noLane, State, firstOf, holds, laneAt, anyHolds}
+use Rattle.rules.specs.Calls.{take, taken, served, serve, Pick, picked, takeOf, doTake, step}
 use Rattle.rules.specs.Runs.{after}
 use Rattle.rules.proofs.Bools.{not-passed}
 use Rattle.rules.proofs.Lists.{sum-set, le-sum, sum-zero}
@@ -20,7 +19,6 @@ use Rattle.rules.proofs.Keep.{AllSound, PickIs, pick-is}
 use Rattle.rules.proofs.Queues.{held-inside, served-waiting}
 use Rattle.rules.proofs.RangeTake.{heldIn}
 use Rattle.rules.proofs.Live.{Live, nothing-held, some-holds}
-use Rattle.rules.proofs.SameSetup.{setup-kept}
 use Rattle.rules.proofs.AlwaysGood.{Reached, step-reached, reached-good, reached-live}
 
 abbrev pub heldBy : State → ℕ
@@ -61,12 +59,3 @@ pub drained : (s : State) (n : ℕ) → Reached s → heldBy s ≡ n → anyHold
 unfolding after
 drained s zero r e = not-passed (anyHolds (s .lanes)) (λ h. let i = some-holds (s .lanes) h in omega (arith, held-some s (reached-good s r .waiting) (i .0) (i .1)))
 drained s (suc n) r e = drained ((step s take) .state) n (step-reached s take r) (take-one s n (reached-good s r .waiting) (reached-live s r) e .5)
-
--- and then a restart is done (R3.19)
-pub restarts : (s : State) → Reached s
-    → ((step (after s (replicate (heldBy s) take)) restart) .reply ≡ restarted)
-    × ((step (after s (replicate (heldBy s) take)) restart) .state ≡ fresh (setupOf s))
-unfolding step doRestart
-restarts s r =
-    let d = drained s (heldBy s) r refl in
-    (simp d, simp d (ap fresh (setup-kept s (replicate (heldBy s) take))))

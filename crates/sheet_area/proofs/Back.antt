@@ -1,68 +1,35 @@
 -- Sheets and areas go back and forth: the promises WritesBack and ReadsBack of specs/Step.antt.
 -- Assumes nothing.
-use Prim.Native.Nat.{ℕ, _+_, _*_, _≤_, _<_}
+use Prim.Native.Nat.{ℕ, _≤_, _<_}
 use mathlib.Core.Path.{_≡_, refl, sym, ap, subst, _∙_}
-use mathlib.Core.Logic.{_⊎_, inl, inr, ⊎-elim}
+use mathlib.Core.Logic.{⊎-elim}
 use mathlib.Core.List.{List, _++_}
-use mathlib.Core.Option.{Option}
 use native.Mathlib.Decide.{decLe}
 use native.Mathlib.Omega.{arith}
 use lib.ListN.{length, drop, take}
 use lib.Seq.{take-at}
-use Rattle.words.specs.Words.{wordAt}
 use Rattle.plan.specs.Read as plan
 use Rattle.plan.specs.Judge.{knownFormat}
 use Rattle.plan.specs.Read.{read}
 use Rattle.plan_writer.specs.Write.{Planned, Within, size}
-use Rattle.plan_writer.specs.Write as write
-use Rattle.plan_area.specs.Area.{Room, planIn, Shows, AreaWithin}
-use Rattle.plan_area.specs.Step.{lanes, refused, got, Follows}
-use Rattle.plan_area.specs.declared.Got.{Got}
-use Rattle.plan_area.proofs.Back.{within-area}
+use Rattle.plan_area.specs.Area.{planIn, AreaWithin}
+use Rattle.plan_area.specs.Step.{lanes, Follows}
+use Rattle.plan_area.proofs.Back.{read-into, within-area, size-refused}
 use Rattle.plan_area.proofs.Shown.{shows-plan, shows-within, area-shows}
 use Rattle.sheet.specs.Read.{sheetFormat, readSheet}
-use Rattle.sheet.specs.Promises.{Accepted}
 use Rattle.sheet.proofs.Back.{accepted-sheet}
 use Rattle.sheet.proofs.Forth.{written-read}
 use Rattle.sheet_writer.specs.Write.{sheetOf, sizeOf, Bare, wrote}
 use Rattle.sheet_writer.specs.declared.Written.{Written}
 use Rattle.sheet_writer.proofs.Calls.{bare-or-not, none-shared, no-shareds}
-use Rattle.sheet_area.specs.Step.{ReadStep, WriteStep, WritesBack, ReadsBack}
-
-lanes-refused : {A : Type 0} {n m : ℕ} {q : Option ℕ} → lanes n ≡ refused m q → A
-lanes-refused h = absurd (let z : _≡_ {A = ℕ} 0 1 = cc in omega arith)
-
--- what reading that gave lanes leaves
-record ReadInto (s area′ : List ℕ) : Type 0 where
-  plan : Planned
-  next : ℕ
-  reads : Accepted s (plan .format) (plan .lanes) (plan .count) next
-  shows : Shows plan area′
-  room : Room area′
-
-read-into : (s area area′ : List ℕ) (g : Got) (n : ℕ) → ReadStep s area g area′ → got g ≡ lanes n → ReadInto s area′
-read-into s area area′ g n r e =
-    elim (decLe (65 * 8) (length area)) [
-      | yes room ↦ by-reply room (readSheet s) refl (r .follows room)
-      | no b ↦ lanes-refused (sym e ∙ r .short (omega (arith, b)) .0)
-    ]
-  where
-    by-reply : Room area → (x : plan.Reply) → readSheet s ≡ x → Follows x area g area′ → ReadInto s area′
-    by-reply room (plan.refused m q) is f = lanes-refused (sym e ∙ f .0)
-    by-reply room (plan.read v gs m next) is f = record {
-      plan = record { format = v; lanes = gs; count = m };
-      next = next;
-      reads = accepted-sheet s v gs m next is;
-      shows = f .1;
-      room = omega (arith, room, r .size);
-    }
+use Rattle.sheet_area.specs.Step.{WriteStep, WritesBack, ReadsBack}
 
 pub writes-back-area : WritesBack
 unfolding WritesBack
 writes-back-area s area area′ g n r e before after a h room =
-    let into = read-into s area area′ g n r e in
+    let into = read-into (readSheet s) area area′ g n r e in
     let p = into .plan in
-    let x = into .reads in
+    let x = accepted-sheet s (p .format) (p .lanes) (p .count) (into .next) (into .reads) in
     let w : Within p = record { format = ap knownFormat (x .format); setup = x .setup; count = x .are-there } in
     let plan-is = shows-plan p area′ w (into .shows) in
     let bare : Bare (planIn area′) = subst Bare (sym plan-is) (x .bare, no-shareds (p .lanes) (x .unshared)) in
@@ -70,9 +37,6 @@ writes-back-area s area area′ g n r e before after a h room =
     let long-in : sizeOf (planIn area′) ≡ length s = ap sizeOf plan-is ∙ long in
     let done = h .written (shows-within p area′ w (into .shows) (into .room)) bare (omega (arith, long-in, room)) in
     (done .0 ∙ ap size long-in, done .1 ∙ ap (λ (y : Planned). sheetOf y ++ drop (sizeOf y) before) plan-is ∙ ap (λ (y : List ℕ). y ++ drop (sizeOf p) before) (x .same) ∙ ap (λ (i : ℕ). s ++ drop i before) long)
-
-size-refused : {A : Type 0} {k n : ℕ} → size k ≡ write.refused n → A
-size-refused h = absurd (let z : _≡_ {A = ℕ} 0 1 = cc in omega arith)
 
 record Sized (area before : List ℕ) (k : ℕ) : Type 0 where
   within : AreaWithin area

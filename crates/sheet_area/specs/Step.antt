@@ -6,27 +6,22 @@
 --   ReadsBack    what was written from an area is read, into any area, as the same lanes; the format is not given back
 --
 -- Theorems of the last two names in small letters are in proofs/Back.antt. Assumes nothing.
-use Prim.Native.Nat.{ℕ, _+_, _*_, _≤_, _<_}
+use Prim.Native.Nat.{ℕ, _+_, _≤_, _<_}
 use mathlib.Core.Path.{_≡_}
 use mathlib.Core.List.{List, _++_}
-use mathlib.Core.Option.{some}
 use lib.ListN.{length, drop, take}
 use Rattle.words.specs.Words.{wordAt}
 use Rattle.plan_writer.specs.Write.{size, refused}
 use Rattle.plan_area.specs.Area.{Room, planIn, AreaWithin}
-use Rattle.plan_area.specs.Step as area
-use Rattle.plan_area.specs.Step.{lanes, got, Follows}
+use Rattle.plan_area.specs.Step.{lanes, got, AreaRead}
 use Rattle.plan_area.specs.declared.Got.{Got}
 use Rattle.sheet.specs.Read.{readSheet}
 use Rattle.sheet_writer.specs.Write.{sheetOf, sizeOf, Bare, wrote}
 use Rattle.sheet_writer.specs.declared.Written.{Written}
 
--- R14.13, R14.41: 7 where the area is too short, first and at place 0. Else the sheet decides: its plan is in the area, and the bytes past it stay; or a
--- refusal, and the area stays.
-pub record ReadStep (s before : List ℕ) (a : Got) (after : List ℕ) : Type 0 where
-  pub short : length before < 65 * 8 → (got a ≡ area.refused 7 (some 0)) × (after ≡ before)
-  pub follows : Room before → Follows (readSheet s) before a after
-  pub size : length after ≡ length before
+-- R14.41
+abbrev pub ReadStep : (s before : List ℕ) (a : Got) (after : List ℕ) → Type 0
+ReadStep s before a after = AreaRead (readSheet s) before a after
 
 -- 55 for an area that is no plan within the numbers, whatever else; 82 for a plan with framing bytes or a shared lane; 56 where the buffer is shorter than the
 -- exact size; the buffer stays for all three. Else the answer is the size, the sheet stands first, and the bytes past it stay.

@@ -1,11 +1,10 @@
 -- Laws of bits: a bit taken off, and a word written twice. Assumes nothing.
-use mathlib.Core.Path.{_≡_, refl, sym, ap, subst, _∙_}
+use mathlib.Core.Path.{_≡_, refl, sym, ap, _∙_}
 use mathlib.Core.Bool.{Bool, true, false}
 use mathlib.Core.Logic.{⊎-elim}
 use Prim.Native.Nat.{ℕ, zero, suc, _+_, _-_, _*_, _/_, _%_, _^_, _≤_, _<_}
 use native.Mathlib.Nat.{two-pow-succ, le-div-iff-mul-le}
 use native.Mathlib.Omega.{arith}
-use native.Mathlib.Decide.{decLt}
 use lib.Pow.{pow-mono, pow-pos, shr-le}
 use lib.Count.{trailingZeros}
 use Rattle.words.specs.Bits.{bit}
@@ -26,9 +25,6 @@ bit-has (suc k) x h =
 
 pub bit-two : (k x : ℕ) → (bit k x ≡ 1 → ⊥) → bit k x ≡ 0
 bit-two k x h = ⊎-elim (λ (p : 1 ≤ bit k x). absurd (h (omega arith))) (λ (p : bit k x < 1). omega arith) (le-or-lt 1 (bit k x))
-
-pub bit-one : (k x : ℕ) → (bit k x ≡ 0 → ⊥) → bit k x ≡ 1
-bit-one k x h = ⊎-elim (λ (p : 1 ≤ bit k x). omega arith) (λ (p : bit k x < 1). absurd (h (omega arith))) (le-or-lt 1 (bit k x))
 
 module _ (x k : ℕ) where
   pub bit-on : bit k x ≡ 0 → WithBit x k true (x + 2 ^ k)

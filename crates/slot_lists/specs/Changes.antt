@@ -5,7 +5,7 @@
 --   Stored    a group's words were stored
 --   Emptied   all groups were cleared
 --   Lowered   the clock was taken back
---   Nearest   the first set bit of a word of 32 lists from one of them on, in circular order
+--   Nearest   the first set bit of a word of lists from one of them on, in circular order
 --   WithBit   a word with one bit set, or not
 --
 -- Assumes nothing.
@@ -19,14 +19,14 @@ use lib.ListN.{getD, drop}
 use Rattle.units.specs.Plain.{if_then_else_}
 use Rattle.words.specs.Bits.{bit}
 use Rattle.words.specs.Words.{wordAt}
-use Rattle.rings.specs.Rings.{ringsFrom, ringsEnd, ringAt}
-use Rattle.slot_lists.specs.Lists.{listsFrom, ringNumber, groupsAt, backAt, mapOf, listIn, startAt, Fills, Empty}
+use Rattle.rings.specs.Rings.{ringCount, ringsFrom, ringsEnd, ringAt}
+use Rattle.slot_lists.specs.Lists.{lowestGroup, highestGroup, slotLists, listsFrom, ringNumber, backEnd, groupsAt, backAt, mapOf, listIn, startAt, Fills, Empty}
 
 pub record Moved (before after : List ℕ) (g m m′ b : ℕ) (l : List ℕ) : Type 0 where
   pub list : listIn after g m′ b ≡ l
-  pub others : (c : ℕ) → c < 32 → (c ≡ b → ⊥) → listIn after g m′ c ≡ listIn before g m c
+  pub others : (c : ℕ) → c < slotLists → (c ≡ b → ⊥) → listIn after g m′ c ≡ listIn before g m c
   pub fills : Fills before g m → Fills after g m′
-  pub rings : (i c : ℕ) → 16 ≤ i → i ≤ 31 → c < 32 → (i ≡ g → ⊥) → ringAt after (ringNumber i c) ≡ ringAt before (ringNumber i c)
+  pub rings : (i c : ℕ) → lowestGroup ≤ i → i ≤ highestGroup → c < slotLists → (i ≡ g → ⊥) → ringAt after (ringNumber i c) ≡ ringAt before (ringNumber i c)
   pub below : (a : ℕ) → a < ringsFrom → getD after a 0 ≡ getD before a 0
   pub rest : drop ringsEnd after ≡ drop ringsEnd before
 
@@ -39,13 +39,13 @@ pub record Apart (before after : List ℕ) : Type 0 where
 pub record Stored (before after : List ℕ) (g m r : ℕ) : Type 0 where
   pub apart : Apart before after
   pub map : mapOf after g ≡ m
-  pub maps : (i : ℕ) → 16 ≤ i → i ≤ 31 → (i ≡ g → ⊥) → mapOf after i ≡ mapOf before i
+  pub maps : (i : ℕ) → lowestGroup ≤ i → i ≤ highestGroup → (i ≡ g → ⊥) → mapOf after i ≡ mapOf before i
   pub start : startAt after g ≡ (if eqb m 0 then none else some r)
-  pub starts : (i : ℕ) → 16 ≤ i → i ≤ 31 → (i ≡ g → ⊥) → startAt after i ≡ startAt before i
+  pub starts : (i : ℕ) → lowestGroup ≤ i → i ≤ highestGroup → (i ≡ g → ⊥) → startAt after i ≡ startAt before i
   pub group : bit g (groupsAt after) ≡ (if eqb m 0 then 0 else 1)
   pub groups : (i : ℕ) → (i ≡ g → ⊥) → bit i (groupsAt after) ≡ bit i (groupsAt before)
-  pub high : groupsAt before < 2 ^ 32 → groupsAt after < 2 ^ 32
-  pub rings : (i : ℕ) → i < 512 → ringAt after i ≡ ringAt before i
+  pub high : groupsAt before < 2 ^ (highestGroup + 1) → groupsAt after < 2 ^ (highestGroup + 1)
+  pub rings : (i : ℕ) → i < ringCount → ringAt after i ≡ ringAt before i
 
 pub record Emptied (before after : List ℕ) : Type 0 where
   pub empty : Empty after
@@ -60,10 +60,10 @@ earlierBy d (some r) = some (r - d)
 pub record Lowered (before after : List ℕ) (d : ℕ) : Type 0 where
   pub below : (j : ℕ) → j < listsFrom → wordAt after j ≡ wordAt before j
   pub groups : groupsAt after ≡ groupsAt before
-  pub back : backAt after ≡ (backAt before + d) % 2 ^ 36
-  pub maps : (g : ℕ) → 16 ≤ g → g ≤ 31 → mapOf after g ≡ mapOf before g
-  pub starts : (g : ℕ) → 16 ≤ g → g ≤ 31 → startAt after g ≡ earlierBy d (startAt before g)
-  pub rings : (i : ℕ) → i < 512 → ringAt after i ≡ ringAt before i
+  pub back : backAt after ≡ (backAt before + d) % backEnd
+  pub maps : (g : ℕ) → lowestGroup ≤ g → g ≤ highestGroup → mapOf after g ≡ mapOf before g
+  pub starts : (g : ℕ) → lowestGroup ≤ g → g ≤ highestGroup → startAt after g ≡ earlierBy d (startAt before g)
+  pub rings : (i : ℕ) → i < ringCount → ringAt after i ≡ ringAt before i
   pub rest : drop ringsEnd after ≡ drop ringsEnd before
 
 pub record WithBit (x k : ℕ) (on : Bool) (r : ℕ) : Type 0 where
@@ -72,6 +72,6 @@ pub record WithBit (x k : ℕ) (on : Bool) (r : ℕ) : Type 0 where
   pub small : (n : ℕ) → k < n → x < 2 ^ n → r < 2 ^ n
 
 pub record Nearest (map b d : ℕ) : Type 0 where
-  pub near : d < 32
-  pub set : bit ((b + d) % 32) map ≡ 1
-  pub none-before : (j : ℕ) → j < d → bit ((b + j) % 32) map ≡ 0
+  pub near : d < slotLists
+  pub set : bit ((b + d) % slotLists) map ≡ 1
+  pub none-before : (j : ℕ) → j < d → bit ((b + j) % slotLists) map ≡ 0

@@ -1,8 +1,9 @@
--- The slot lists of a table (R6.1): for each group 16 to 31 and each of its 32 list numbers the lanes that stand there, the first first.
+-- The slot lists of a table (R6.1): for each group, 16 to 31, and each of its 32 list numbers the lanes that stand there, the first first.
 --
 --   groupsWord, backWord   the words of the groups that have lanes, and of what was taken off the clock
 --   startWord, mapWord     group g's words: its start, and which of its lists have lanes
 --   ringNumber             the ring that keeps list b of group g
+--   backEnd                all lists of the greatest slots once round: what was taken off the clock counts up to here
 --   mapOf                  the word of group g's lists that have lanes; 0 where the group's own bit is not set
 --   listIn                 list b of group g, m being the word of the group's lists that have lanes
 --   listAt                 list b of group g
@@ -23,7 +24,8 @@ use Rattle.units.specs.Plain.{if_then_else_}
 use Rattle.words.specs.Bits.{bit}
 use Rattle.words.specs.Words.{wordAt}
 use Rattle.rings.specs.Rings.{ringAt}
-pub use Rattle.parts.specs.Parts.{listsFrom, groupsEnd}
+pub use Rattle.parts.specs.Parts.{lowestGroup, highestGroup, slotLists, listsFrom, groupsEnd}
+use Rattle.parts.specs.Parts.{groupCount}
 
 abbrev pub groupsWord : ℕ
 groupsWord = listsFrom
@@ -31,15 +33,20 @@ groupsWord = listsFrom
 abbrev pub backWord : ℕ
 backWord = listsFrom + 1
 
--- groups are 16 to 31
+-- the words before group 16's are for all groups, so a group's number is its distance from the first
 abbrev pub startWord : ℕ → ℕ
 startWord g = listsFrom + g
 
+-- behind the starts of all groups
 abbrev pub mapWord : ℕ → ℕ
-mapWord g = listsFrom + 16 + g
+mapWord g = listsFrom + groupCount + g
 
 abbrev pub ringNumber : ℕ → ℕ → ℕ
-ringNumber g b = 32 * (g - 16) + b
+ringNumber g b = slotLists * (g - lowestGroup) + b
+
+-- 2^36
+abbrev pub backEnd : ℕ
+backEnd = slotLists * 2 ^ highestGroup
 
 abbrev pub groupsAt : List ℕ → ℕ
 groupsAt t = wordAt t groupsWord
@@ -63,20 +70,20 @@ abbrev pub slotOf : List ℕ → ℕ → ℕ → ℕ
 slotOf t g x = (x + backAt t) / 2 ^ g
 
 abbrev pub listOf : List ℕ → ℕ → ℕ → ℕ
-listOf t g x = slotOf t g x % 32
+listOf t g x = slotOf t g x % slotLists
 
 pub record Fills (t : List ℕ) (g m : ℕ) : Type 0 where
-  pub narrow : m < 2 ^ 32
-  pub filled : (b : ℕ) → b < 32 → bit b m ≡ 1 → 0 < length (ringAt t (ringNumber g b))
+  pub narrow : m < 2 ^ slotLists
+  pub filled : (b : ℕ) → b < slotLists → bit b m ≡ 1 → 0 < length (ringAt t (ringNumber g b))
 
 pub record Solid (t : List ℕ) : Type 0 where
-  pub fills : (g : ℕ) → 16 ≤ g → g ≤ 31 → Fills t g (mapOf t g)
-  pub groups : (g : ℕ) → bit g (groupsAt t) ≡ 1 → (16 ≤ g) × (g ≤ 31)
+  pub fills : (g : ℕ) → lowestGroup ≤ g → g ≤ highestGroup → Fills t g (mapOf t g)
+  pub groups : (g : ℕ) → bit g (groupsAt t) ≡ 1 → (lowestGroup ≤ g) × (g ≤ highestGroup)
   pub some-list : (g : ℕ) → bit g (groupsAt t) ≡ 1 → 0 < mapOf t g
-  pub high : groupsAt t < 2 ^ 32
+  pub high : groupsAt t < 2 ^ (highestGroup + 1)
   -- whole slots of every group; what matters of it is its remainder by 32 slots of the greatest
-  pub back-whole : backAt t % 2 ^ 31 ≡ 0
-  pub back-small : backAt t < 2 ^ 36
+  pub back-whole : backAt t % 2 ^ highestGroup ≡ 0
+  pub back-small : backAt t < backEnd
 
 -- the other words, and the rings, mean nothing then
 pub record Empty (t : List ℕ) : Type 0 where

@@ -1,5 +1,5 @@
 -- Laws of the records in the cells: the same place, another place, and which cells a place is in. Assumes nothing.
-use mathlib.Core.Path.{_≡_, refl, sym, ap, _∙_}
+use mathlib.Core.Path.{_≡_, refl, ap, _∙_}
 use mathlib.Core.Logic.{⊎-elim}
 use Prim.Native.Nat.{ℕ, zero, suc, _+_, _-_, _*_, _/_, _%_, _^_, _≤_, _<_}
 use mathlib.Core.List.{List}
@@ -10,7 +10,7 @@ use lib.Seq.{getD-set-same, getD-set-other}
 use Rattle.words.proofs.Runs.{eq-or-ne}
 use Rattle.digits.specs.Digits.{digit, putDigit}
 use Rattle.digits.proofs.Laws.{digit-put-same, digit-put-other}
-use Rattle.table.specs.Layout.{CELLS, placeCount, halfCount, lengthsCell, marksCell, trainsCell, lengthCell, markCell, entryAt, putLength, putMark, putEntry, clearCells, trainPlace, trainNumber, putTrain}
+use Rattle.table.specs.Layout.{CELLS, placeCount, halfCount, trainsCell, lengthCell, markCell, entryAt, putLength, putMark, putEntry, clearCells, trainPlace, trainNumber, putTrain}
 use Rattle.table.specs.declared.Entry.{Entry}
 
 -- a record by what its two cells hold
@@ -70,10 +70,6 @@ pub record Fits (e : Entry) : Type 0 where
 pub put-other : (w : List ℕ) (p : ℕ) (e : Entry) (i : ℕ) → (i ≡ lengthCell p → ⊥) → (i ≡ markCell p → ⊥) → getD (putEntry w p e) i 0 ≡ getD w i 0
 unfolding putLength putMark
 put-other w p e i a b = getD-set-other (putLength w p (e .length .0)) (markCell p) i _ 0 b ∙ getD-set-other w (lengthCell p) i _ 0 a
-
-pub length-put : (w : List ℕ) (p : ℕ) (e : Entry) → length (putEntry w p e) ≡ length w
-unfolding putLength putMark
-length-put w p e = simp length-set
 
 module _ (w : List ℕ) (p : ℕ) (hp : p < placeCount) (size : length w ≡ CELLS) (e : Entry) (fits : Fits e) where
   abbrev u : List ℕ

@@ -33,6 +33,7 @@ use Rattle.waiting.specs.Waiting.{Waiting, plain, shared, first}
 use Rattle.rules.specs.State.{Setting, Lane, State, rate, group, noLane, laneDepth}
 use Rattle.rules.specs.Calls as rules
 use Rattle.rules.specs.Setup.{InNumbers}
+use Rattle.parts.specs.Parts.{laneCount}
 use Rattle.slot_lists.specs.Lists.{backAt, listAt, startAt, Solid}
 use Rattle.filing.specs.Filing.{inARow, Agrees}
 use Rattle.table.specs.Layout.{Room, Behind, cells, clockWord, presentWord, depthWord, placeOf, entryAt, rowAt, roundAt, trainNumber}
@@ -46,9 +47,9 @@ presentAt w k = eqb (bit k (getD w presentWord 0)) 1
 -- the first lane from a number on that a word of present lanes names; 64 where there is none
 pub record Next (lanes from k : ℕ) : Type 0 where
   pub on : from ≤ k
-  pub ends : k ≤ 64
+  pub ends : k ≤ laneCount
   pub absent : (i : ℕ) → from ≤ i → i < k → bit i lanes ≡ 0
-  pub present : k < 64 → bit k lanes ≡ 1
+  pub present : k < laneCount → bit k lanes ≡ 1
 
 -- a record as the rules have it, without its train
 abbrev pub recOf : Entry → Rec
@@ -88,7 +89,7 @@ unfoldable pub laneOf : List ℕ → ℕ → Lane
 laneOf w k = if presentAt w k then rowLane w k (rowAt w k) else noLane
 
 unfoldable pub stateOf : List ℕ → List ℕ → State
-stateOf w order = record { clock = getD w clockWord 0; lanes = tab 64 (laneOf w); order = order }
+stateOf w order = record { clock = getD w clockWord 0; lanes = tab laneCount (laneOf w); order = order }
 
 -- R6.1. No call looks at the order of two lanes of different lists, so any row of the lists will do (crate alike).
 abbrev pub meant : List ℕ → State
@@ -127,8 +128,8 @@ pub record Housed (w : List ℕ) (k : ℕ) (l : LaneRow) : Type 0 where
 
 pub record Beside (w : List ℕ) : Type 0 where
   pub depth : getD w depthWord 0 ≡ laneDepth
-  pub housed : (k : ℕ) → k < 64 → presentAt w k ≡ true → 0 < rowAt w k .count → Housed w k (rowAt w k)
-  pub rows : (k : ℕ) → k < 64 → presentAt w k ≡ true → RowAgrees (rowAt w k)
+  pub housed : (k : ℕ) → k < laneCount → presentAt w k ≡ true → 0 < rowAt w k .count → Housed w k (rowAt w k)
+  pub rows : (k : ℕ) → k < laneCount → presentAt w k ≡ true → RowAgrees (rowAt w k)
 
 -- R6.11: each lane that holds records stands in the list of its group and of the slot of its S, and in no other; each group's start is the least R of its lanes
 pub record Listed (t : List ℕ) : Type 0 where

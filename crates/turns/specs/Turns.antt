@@ -1,9 +1,9 @@
 -- A shared lane in numbers: one for each of its 8 trains, and one for the round.
 --
---   headOf, countOf, deficitOf   the parts of a train's number: head + 8 count + 128 deficit
+--   headOf, countOf, deficitOf   the parts of a train's number: head + 8 count + 128 deficit; countRange, deficitUnit: how far a count goes, and this 128
 --   placeOf k i                  which of the lane's 64 places is place i of train k, i counted on past the end of the train's 8
---   fours n r                    the n lowest numbers of four bits
---   namedOf, orderOf             the parts of the round's number: how many trains it names, from 2^32 on, and these, four bits each, the one in turn lowest
+--   fours n r                    the n lowest numbers of four bits; nameRange: how far such a number goes
+--   namedOf, orderOf             the parts of the round's number: how many trains it names, from orderEnd on, and these, four bits each, the one in turn lowest
 --   roundOf, turnOf              the round, and the train in turn
 --   sharedOf at ts r             the shared lane: at has the records by place, ts the trains' numbers, r is the round's
 --   with                         the trains' numbers with one changed
@@ -25,14 +25,22 @@ use Rattle.turns.specs.declared.Change.{Change}
 
 -- ---- a train
 
+-- four bits, though a train holds 8 records at most: a count of 9 or more can be seen
+abbrev pub countRange : ℕ
+countRange = 16
+
+-- 128
+abbrev pub deficitUnit : ℕ
+deficitUnit = trainDepth * countRange
+
 abbrev pub headOf : ℕ → ℕ
-headOf t = t % 8
+headOf t = t % trainDepth
 
 abbrev pub countOf : ℕ → ℕ
-countOf t = t / 8 % 16
+countOf t = t / trainDepth % countRange
 
 abbrev pub deficitOf : ℕ → ℕ
-deficitOf t = t / 128
+deficitOf t = t / deficitUnit
 
 abbrev pub placeOf : ℕ → ℕ → ℕ
 placeOf k i = trainDepth * k + i % trainDepth
@@ -46,27 +54,35 @@ trainOf at k t = record { deficit = deficitOf t; queue = ringOf at k (headOf t) 
 
 -- ---- the round
 
+-- four bits, though trains are 0 to 7: a number that is no train can be seen
+abbrev pub nameRange : ℕ
+nameRange = 16
+
+-- 2^32
+abbrev pub orderEnd : ℕ
+orderEnd = nameRange ^ trainCount
+
 unfoldable pub fours : ℕ → ℕ → List ℕ
 fours zero r = []
-fours (suc n) r = r % 16 ∷ fours n (r / 16)
+fours (suc n) r = r % nameRange ∷ fours n (r / nameRange)
 
 abbrev pub namedOf : ℕ → ℕ
-namedOf r = r / 2 ^ 32
+namedOf r = r / orderEnd
 
 abbrev pub orderOf : ℕ → ℕ
-orderOf r = r % 2 ^ 32
+orderOf r = r % orderEnd
 
 unfoldable pub roundOf : ℕ → List ℕ
 roundOf r = fours (namedOf r) (orderOf r)
 
 -- the train in turn
 abbrev pub turnOf : ℕ → ℕ
-turnOf r = orderOf r % 16
+turnOf r = orderOf r % nameRange
 
 -- R18.9
 pub record Ordered (r : ℕ) : Type 0 where
   pub few : namedOf r ≤ trainCount
-  pub fits : orderOf r < 16 ^ namedOf r
+  pub fits : orderOf r < nameRange ^ namedOf r
 
 -- every number that the round names is one of a train
 abbrev pub Known : ℕ → Type 0
@@ -99,7 +115,7 @@ pub record Puts (L t r k : ℕ) (c : Change) : Type 0 where
 
 -- where a turn begins, the deficit of the train then in turn grows by the longest
 unfoldable pub begun : ℕ → Bool → (ℕ → ℕ) → ℕ → ℕ → ℕ
-begun L b ts r = if b then with ts (turnOf r) (ts (turnOf r) + 128 * L) else ts
+begun L b ts r = if b then with ts (turnOf r) (ts (turnOf r) + deficitUnit * L) else ts
 
 -- of a lane whose first record is of this length, and the one behind it, where there is one, of the next length
 pub record HandsOut (t r length next : ℕ) (c : Change) : Type 0 where

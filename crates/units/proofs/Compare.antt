@@ -1,9 +1,9 @@
--- What the answer of a comparison of times says: b is what `not_after`, `before` or `same_time` answered. Assumes nothing.
+-- What the answer of a comparison of times says: b is what `not_after` or `before` answered. Assumes nothing.
 use Prim.Native.Nat.{ℕ, _≤_, _<_}
 use mathlib.Core.Path.{_≡_, sym, _∙_}
-use mathlib.Core.Bool.{Bool, true, false, false≢true}
-use lib.Dec.{eqb, leb, ltb}
-use borrow.Author.Tests.{leb-true, leb-false, ltb-true, ltb-false, eqb-true, eq-eqb}
+use mathlib.Core.Bool.{Bool, true, false}
+use lib.Dec.{leb, ltb}
+use borrow.Author.Tests.{leb-true, leb-false, ltb-true, ltb-false}
 
 module _ {b : Bool} (x y : ℕ) where
   pub is-not-after : b ≡ leb x y → b ≡ true → x ≤ y
@@ -17,9 +17,3 @@ module _ {b : Bool} (x y : ℕ) where
 
   pub is-not-before : b ≡ ltb x y → b ≡ false → y ≤ x
   is-not-before e f = ltb-false x y (sym e ∙ f)
-
-  pub is-same : b ≡ eqb x y → b ≡ true → x ≡ y
-  is-same e t = eqb-true x y (sym e ∙ t)
-
-  pub is-other : b ≡ eqb x y → b ≡ false → x ≡ y → ⊥
-  is-other e f q = false≢true (sym f ∙ e ∙ eq-eqb x y q)

@@ -4,7 +4,7 @@ use native.Mathlib.Nat.{mul-le-mul-left, div-add-mod, mod-lt, div-le-of-le-mul, 
 use mathlib.Core.Path.{_≡_}
 use native.Mathlib.Omega.{arith}
 use Rattle.units.specs.Numbers.{perByte}
-use Rattle.units.specs.Rules.{RateRule, IsRate}
+use Rattle.units.specs.Rules.{RateRule}
 
 -- c w ≥ 2^20: c is rounded up, so weights never exceed the line
 pub rate-weight-ge : (w : ℕ) → 0 < w → 2 ^ 20 ≤ perByte w * w
@@ -15,13 +15,6 @@ rate-weight-ge w h = omega (arith, div-add-mod (1048576 + (w - 1)) w, mod-lt (10
 pub rate-weight-lt : (w : ℕ) → 0 < w → perByte w * w < 2 ^ 20 + w
 unfolding perByte
 rate-weight-lt w h = omega (arith, div-add-mod (1048576 + (w - 1)) w)
-
-pub pred-rate-weight-lt : (w : ℕ) → 0 < w → (perByte w - 1) * w < 2 ^ 20
-pred-rate-weight-lt w h = go (perByte w) (rate-weight-lt w h)
-  where
-    go : (c : ℕ) → c * w < 2 ^ 20 + w → (c - 1) * w < 2 ^ 20
-    go zero l = omega arith
-    go (suc c) l = let e : suc c - 1 ≡ c = omega arith in rw e (omega arith)
 
 -- c is the only number between the two: what a stored c is tested by
 pub rate-unique : (w c : ℕ) → 0 < w → 2 ^ 20 ≤ c * w → c * w < 2 ^ 20 + w → c ≡ perByte w

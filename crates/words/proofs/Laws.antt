@@ -8,9 +8,9 @@ use native.Mathlib.Numerals.{towards-suc}
 use native.Mathlib.Omega.{arith}
 use lib.ListN.{length, drop, getD, set}
 use lib.Seq.{sets, length-sets}
-use Rattle.words.specs.Runs.{reads, tab}
-use Rattle.words.specs.Words.{leVal, leBytes, wordAt, putWord, wordsOf}
-use Rattle.words.proofs.Runs.{le-or-lt, drop-sets-lt, reads-below, reads-above, reads-same, length-tab, getD-tab, tab-set}
+use Rattle.words.specs.Runs.{reads}
+use Rattle.words.specs.Words.{leVal, leBytes, wordAt, putWord}
+use Rattle.words.proofs.Runs.{le-or-lt, drop-sets-lt, reads-below, reads-above, reads-same}
 
 pub leVal-leBytes : (k v : ℕ) → v < 256 ^ k → leVal (leBytes k v) ≡ v
 unfolding leVal leBytes
@@ -47,21 +47,6 @@ wordAt-putWord-other t i j v ne =
     (λ (h : i ≤ j). reads-above (leBytes 8 v) t (i * 8) (j * 8) 8 (omega arith))
     (λ (h : j < i). reads-below (leBytes 8 v) t (i * 8) (j * 8) 8 (omega arith))
     (le-or-lt i j))
-
-pub getD-wordsOf : (n : ℕ) (t : List ℕ) (i : ℕ) → i < n → getD (wordsOf n t) i 0 ≡ wordAt t i
-unfolding wordsOf
-getD-wordsOf n t i h = getD-tab n i (wordAt t) 0 h
-
-pub length-wordsOf : (n : ℕ) (t : List ℕ) → length (wordsOf n t) ≡ n
-unfolding wordsOf
-length-wordsOf n t = length-tab n (wordAt t)
-
--- in the words a store is one `set`, and the bytes past them stay
-pub wordsOf-putWord : (n : ℕ) (t : List ℕ) (i v : ℕ) → i < n → n * 8 ≤ length t → v < 2 ^ 64 → wordsOf n (putWord t i v) ≡ set (wordsOf n t) i v
-unfolding wordsOf
-wordsOf-putWord n t i v lt fit h =
-    tab-set n i (wordAt t) (wordAt (putWord t i v)) lt (λ j p q. wordAt-putWord-other t i j v q)
-    ∙ ap (λ (x : ℕ). set (tab n (wordAt t)) i x) (wordAt-putWord-same t i v (omega arith) h)
 
 pub drop-putWord : (n : ℕ) (t : List ℕ) (i v : ℕ) → i < n → drop (n * 8) (putWord t i v) ≡ drop (n * 8) t
 unfolding putWord leBytes

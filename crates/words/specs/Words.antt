@@ -4,13 +4,12 @@
 --   leBytes k v     the lowest k base-256 digits of v, lowest first
 --   wordAt t i      word i of the bytes t
 --   putWord t i v   t with word i changed to v
---   wordsOf n t     the first n words of t
 --
 -- Assumes nothing.
 use Prim.Native.Nat.{ℕ, zero, suc, _+_, _*_, _/_, _%_}
 use mathlib.Core.List.{List, [], _∷_}
 use lib.Seq.{sets}
-use Rattle.words.specs.Runs.{reads, tab}
+use Rattle.words.specs.Runs.{reads}
 
 unfoldable pub leVal : List ℕ → ℕ
 leVal [] = 0
@@ -25,6 +24,3 @@ wordAt t i = leVal (reads t (i * 8) 8)
 
 unfoldable pub putWord : List ℕ → ℕ → ℕ → List ℕ
 putWord t i v = sets t (i * 8) (leBytes 8 v)
-
-unfoldable pub wordsOf : ℕ → List ℕ → List ℕ
-wordsOf n t = tab n (wordAt t)

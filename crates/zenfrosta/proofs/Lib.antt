@@ -1,4 +1,5 @@
 pub mod Spoken
+pub mod Crossed
 pub mod AfterRun
 pub mod Heard
 pub mod HostLists

@@ -1,33 +1,48 @@
 -- How the board's answers cross to a host: a code, and four words in a lent buffer, as in Crossing.
 --
---   code, values    of an answer: 0 or the refusal's number; what stands in the four words
---   CrossesBoard    the promise of an exported call of the board
+--   boardCode, boardValues   of an answer: 0 or the refusal's number; what stands in the four words
+--   CrossesBegin, CrossesRecord, CrossesClear, CrossesLine   the promises of zf_board_begin, zf_board_record, zf_board_clear and zf_board_line
 --
 -- Assumes nothing.
-use Prim.Native.Nat.{ℕ, _≤_, _<_}
+use Prim.Native.Nat.{ℕ}
 use mathlib.Core.Path.{_≡_}
 use mathlib.Core.List.{List}
 use mathlib.Core.Option.{none, some}
-use lib.ListN.{length}
-use Rattle.journal.specs.Reads.{Plain, line, stands, begun, refused}
-use Rattle.zenfrosta.specs.Crossing.{four, refusalWords, Spoken}
+use Rattle.desk.specs.Calls.{clear}
+use Rattle.journal.specs.Reads.{Plain, line, stands, begun, refused, told, shown, beginning}
+use Rattle.journal.specs.Step.{Step, RecordStep, LineStep, BeginStep}
+use Rattle.zenfrosta.specs.Crossing.{four, refusalWords, Crosses}
 use Rattle.zenfrosta.specs.declared.Four.{Four}
 
-abbrev pub code : Plain → ℕ
-code (line k) = 0
-code (stands x) = 0
-code begun = 0
-code (refused n p) = n
+abbrev pub boardCode : Plain → ℕ
+boardCode (line k) = 0
+boardCode (stands x) = 0
+boardCode begun = 0
+boardCode (refused n p) = n
 
 -- R13.5. The line that was changed. What stands on a line: kind, train, cell, sequence, all 0 where it is free. A refusal as in every call.
-abbrev pub values : Plain → Four
-values (line k) = four k 0 0 0
-values (stands none) = four 0 0 0 0
-values (stands (some r)) = four (r .kind) (r .train) (r .cell) (r .sequence)
-values begun = four 0 0 0 0
-values (refused n p) = refusalWords p
+abbrev pub boardValues : Plain → Four
+boardValues (line k) = four k 0 0 0
+boardValues (stands none) = four 0 0 0 0
+boardValues (stands (some r)) = four (r .kind) (r .train) (r .cell) (r .sequence)
+boardValues begun = four 0 0 0 0
+boardValues (refused n p) = refusalWords p
 
--- R13.2, R13.5: a buffer shorter than 32 bytes gives 255, and nothing is done. Else the call is made, and its answer is told.
-pub record CrossesBoard {A : Type 0} (plain : A → Plain) (Call : A → Type 0) (same : Type 0) (out : List ℕ) (r : ℕ) (out′ : List ℕ) : Type 0 where
-  pub short : length out < 32 → (r ≡ 255) × same × (out′ ≡ out)
-  pub told : 32 ≤ length out → (a : A) × Call a × (r ≡ code (plain a)) × Spoken out (values (plain a)) out′
+-- R13.5
+abbrev pub CrossesBegin : (board board′ out : List ℕ) (r : ℕ) (out′ : List ℕ) → Type 0
+CrossesBegin board board′ out r out′ =
+    Crosses (λ a. boardCode (beginning a)) (λ a. boardValues (beginning a)) (λ a. BeginStep board a board′) (board′ ≡ board) out r out′
+
+-- R13.5
+abbrev pub CrossesRecord : (field board board′ out : List ℕ) (r : ℕ) (out′ : List ℕ) → Type 0
+CrossesRecord field board board′ out r out′ =
+    Crosses (λ a. boardCode (told a)) (λ a. boardValues (told a)) (λ a. RecordStep field board a board′) (board′ ≡ board) out r out′
+
+-- R13.5
+abbrev pub CrossesClear : (train : ℕ) (board board′ out : List ℕ) (r : ℕ) (out′ : List ℕ) → Type 0
+CrossesClear train board board′ out r out′ =
+    Crosses (λ a. boardCode (told a)) (λ a. boardValues (told a)) (λ a. Step (clear train) board a board′) (board′ ≡ board) out r out′
+
+-- R13.5: the board is lent to be read, so there is no byte of it that could change
+abbrev pub CrossesLine : (line : ℕ) (board out : List ℕ) (r : ℕ) (out′ : List ℕ) → Type 0
+CrossesLine k board out r out′ = Crosses (λ a. boardCode (shown a)) (λ a. boardValues (shown a)) (LineStep k board) (Unit {0}) out r out′

@@ -1,13 +1,17 @@
--- How an answer crosses to a host in C or Rust: a code, and four words in a lent buffer.
+-- How an answer crosses to a host in C or Rust: a code, and four words in a lent buffer; and what the exported calls of crates scheduler and session promise.
 --
 --   code, values   of a reply: 0 or the refusal's number; what stands in the four words
+--   makeCode, makeValues     of making a table; offerCode, offerValues: of an offer's answer; stopCode, runValues: of a run
 --   refusalWords   of a refusal: its place, and whether it has one
 --   spoken         a buffer with these words at its start; wordsIn: the words that a host reads there
---   offerCode, offerValues   of an offer's answer
---   Crosses        the promise of an exported call; CrossesCall of those on a table, CrossesMaking of zf_make, CrossesOffer of zf_offer, CrossesRun of zf_run
+--   bufferSize     the least size of a buffer, in bytes
+--   Crosses        the one rule by which every exported call answers
+--   CrossesCall    the promise of zf_put, zf_put_train, zf_take, zf_look, zf_sets, zf_lag and zf_restart
+--   CrossesMaking, CrossesOffer, CrossesRun   the promises of zf_make, zf_offer and zf_run
 --
--- Assumes nothing.
-use Prim.Native.Nat.{ℕ, _≤_, _<_}
+-- The promise of an exported call is one definition over the bytes that are lent to it: each area before the call, with a prime what stands there after it,
+-- and r, the result. The other calls' promises are in Board, Plans, Old, Views and Halts. Assumes nothing.
+use Prim.Native.Nat.{ℕ, _*_, _≤_, _<_}
 use mathlib.Core.Path.{_≡_}
 use mathlib.Core.List.{List}
 use mathlib.Core.Option.{Option, none, some}
@@ -17,16 +21,14 @@ use mir.Val.{ofZ}
 use Rattle.words.specs.Words.{wordAt, putWord}
 use Rattle.rules.specs.Calls.{Call, Reply, accepted, taken, seen, words, lagged, restarted, refused}
 use Rattle.rules.specs.Reads.{reads}
-use Rattle.rules.specs.declared.Answer.{Answer}
 use Rattle.pages.specs.Device.{DeviceReply, answered, inForceNow, waitsNow}
-use Rattle.scheduler.specs.Step.{Step, offering}
-use Rattle.scheduler.specs.declared.Offering.{Offering}
+use Rattle.scheduler.specs.Step.{Step, offering, OfferStep}
 use Rattle.scheduler.specs.Make as making
-use Rattle.scheduler.specs.Make.{made, notMade}
-use Rattle.scheduler.specs.declared.Making.{Making}
+use Rattle.scheduler.specs.Make.{made, notMade, MakeStep}
 use Rattle.walk.specs.Script.{Why, atEnd, atLimit, refusal}
 use Rattle.walk.specs.Follows.{whyIs}
 use Rattle.walk.specs.declared.RunResult.{RunResult}
+use Rattle.session.specs.Ran.{Ran}
 use Rattle.zenfrosta.specs.declared.Four.{Four}
 
 abbrev pub four : ℕ → ℕ → ℕ → ℕ → Four
@@ -115,26 +117,32 @@ pub record Spoken (out : List ℕ) (w : Four) (out′ : List ℕ) : Type 0 where
   pub buffer : out′ ≡ spoken out w
   pub read : wordsIn out′ ≡ w
 
--- R13.2, R14.35: a buffer shorter than 32 bytes gives 255, and nothing is done. Else the call is made, and its answer is told.
-pub record Crosses (Call : Answer → Type 0) (same : Type 0) (out : List ℕ) (r : ℕ) (out′ : List ℕ) : Type 0 where
-  pub short : length out < 32 → (r ≡ 255) × same × (out′ ≡ out)
-  pub told : 32 ≤ length out → (a : Answer) × Call a × (r ≡ code (reads a)) × Spoken out (values (reads a)) out′
+-- R13.1: four words of eight bytes
+abbrev pub bufferSize : ℕ
+bufferSize = 4 * 8
 
--- R13.4: .. of a call on a table, which leaves the bytes u
-abbrev pub CrossesCall : Call → List ℕ → List ℕ → List ℕ → ℕ → List ℕ → Type 0
-CrossesCall c t u out r out′ = Crosses (λ a. Step c t a u) (u ≡ t) out r out′
+-- R13.2, R14.35: a buffer that is too short gives 255, and nothing is done: no lent byte is changed, `Same`. Else the call is made, which is `Does`, and what
+-- it answers is told, by its code and its words.
+pub record Crosses {A : Type 0} (code : A → ℕ) (words : A → Four) (Does : A → Type 0) (Same : Type 0) (out : List ℕ) (r : ℕ) (out′ : List ℕ) : Type 0 where
+  pub short : length out < bufferSize → (r ≡ 255) × Same × (out′ ≡ out)
+  pub told : bufferSize ≤ length out → (a : A) × Does a × (r ≡ code a) × Spoken out (words a) out′
 
--- R13.2, R13.4
-pub record CrossesMaking (Make : Making → Type 0) (same : Type 0) (out : List ℕ) (r : ℕ) (out′ : List ℕ) : Type 0 where
-  pub short : length out < 32 → (r ≡ 255) × same × (out′ ≡ out)
-  pub told : 32 ≤ length out → (a : Making) × Make a × (r ≡ makeCode (making.reads a)) × Spoken out (makeValues (making.reads a)) out′
+-- R13.4: .. of a call c of the rules on a table
+abbrev pub CrossesCall : (c : Call) (table table′ out : List ℕ) (r : ℕ) (out′ : List ℕ) → Type 0
+CrossesCall c table table′ out r out′ =
+    Crosses (λ a. code (reads a)) (λ a. values (reads a)) (λ a. Step c table a table′) (table′ ≡ table) out r out′
 
--- R19.17, R13.2
-pub record CrossesOffer (Offer : Offering → Type 0) (same : Type 0) (out : List ℕ) (r : ℕ) (out′ : List ℕ) : Type 0 where
-  pub short : length out < 32 → (r ≡ 255) × same × (out′ ≡ out)
-  pub told : 32 ≤ length out → (o : Offering) × Offer o × (r ≡ offerCode (offering o)) × Spoken out (offerValues (offering o)) out′
+-- R13.4
+abbrev pub CrossesMaking : (setup table table′ out : List ℕ) (r : ℕ) (out′ : List ℕ) → Type 0
+CrossesMaking setup table table′ out r out′ =
+    Crosses (λ a. makeCode (making.reads a)) (λ a. makeValues (making.reads a)) (λ a. MakeStep setup table a table′) (table′ ≡ table) out r out′
 
--- R13.2, R13.6
-pub record CrossesRun (Run : RunResult → Type 0) (same : Type 0) (out : List ℕ) (r : ℕ) (out′ : List ℕ) : Type 0 where
-  pub short : length out < 32 → (r ≡ 255) × same × (out′ ≡ out)
-  pub told : 32 ≤ length out → (x : RunResult) × Run x × (r ≡ stopCode (whyIs (x .why))) × Spoken out (runValues x) out′
+-- R19.17
+abbrev pub CrossesOffer : (page table table′ out : List ℕ) (r : ℕ) (out′ : List ℕ) → Type 0
+CrossesOffer page table table′ out r out′ =
+    Crosses (λ a. offerCode (offering a)) (λ a. offerValues (offering a)) (λ a. OfferStep page table a table′) (table′ ≡ table) out r out′
+
+-- R13.6
+abbrev pub CrossesRun : (session : List ℕ) (limit : ℕ) (table table′ answers answers′ out : List ℕ) (r : ℕ) (out′ : List ℕ) → Type 0
+CrossesRun session limit table table′ answers answers′ out r out′ =
+    Crosses (λ x. stopCode (whyIs (x .why))) runValues (Ran session limit table table′ answers answers′) ((table′ ≡ table) × (answers′ ≡ answers)) out r out′

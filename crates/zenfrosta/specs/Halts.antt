@@ -1,27 +1,27 @@
 -- How the answers of the halt's calls cross to a host, as in Crossing (R20.6).
 --
---   CrossesHalt         the promise of the halt's calls on a table
+--   CrossesHalt         the promise of zf_halt_put, zf_halt_take, zf_halt_look, zf_halt_sets, zf_halt_lag and zf_halt_restart
 --   CrossesHaltMaking   the promise of zf_halt_make
 --   HaltCrosses         on the halt's tables its exported calls are the others, so what holds of lists of those (Heard) holds of them
 --
 -- Assumes nothing.
-use Prim.Native.Nat.{ℕ, _≤_, _<_}
+use Prim.Native.Nat.{ℕ}
 use mathlib.Core.Path.{_≡_}
 use mathlib.Core.List.{List}
-use lib.ListN.{length}
 use Rattle.rules.specs.Calls.{Call}
-use Rattle.halt.specs.Halt.{HaltTable, HaltStep, reads}
-use Rattle.halt.specs.declared.Making.{Making}
-use Rattle.zenfrosta.specs.Crossing.{makeCode, makeValues, Spoken, Crosses, CrossesCall}
+use Rattle.rules.specs.Reads as answer
+use Rattle.halt.specs.Halt.{HaltTable, HaltStep, HaltMake, reads}
+use Rattle.zenfrosta.specs.Crossing.{code, values, makeCode, makeValues, Crosses, CrossesCall}
 
--- R13.2, R13.4, R20.6
-abbrev pub CrossesHalt : Call → List ℕ → List ℕ → List ℕ → ℕ → List ℕ → Type 0
-CrossesHalt c t u out r out′ = Crosses (λ a. HaltStep c t a u) (u ≡ t) out r out′
+-- R13.4, R20.6
+abbrev pub CrossesHalt : (c : Call) (table table′ out : List ℕ) (r : ℕ) (out′ : List ℕ) → Type 0
+CrossesHalt c table table′ out r out′ =
+    Crosses (λ a. code (answer.reads a)) (λ a. values (answer.reads a)) (λ a. HaltStep c table a table′) (table′ ≡ table) out r out′
 
--- R13.2, R13.4, R20.6
-pub record CrossesHaltMaking (Make : Making → Type 0) (same : Type 0) (out : List ℕ) (r : ℕ) (out′ : List ℕ) : Type 0 where
-  pub short : length out < 32 → (r ≡ 255) × same × (out′ ≡ out)
-  pub told : 32 ≤ length out → (a : Making) × Make a × (r ≡ makeCode (reads a)) × Spoken out (makeValues (reads a)) out′
+-- R13.4, R20.6
+abbrev pub CrossesHaltMaking : (setup table table′ out : List ℕ) (r : ℕ) (out′ : List ℕ) → Type 0
+CrossesHaltMaking setup table table′ out r out′ =
+    Crosses (λ a. makeCode (reads a)) (λ a. makeValues (reads a)) (λ a. HaltMake setup table a table′) (table′ ≡ table) out r out′
 
 -- R20.4, R20.6
 unfoldable pub HaltCrosses : Type 0

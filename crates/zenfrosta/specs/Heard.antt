@@ -21,11 +21,10 @@ use Rattle.rules.specs.Calls.{Call, put, take, look, sets, lag, restart, Reply,
 use Rattle.pages.specs.Device.{ruled, DeviceReply, answered, inForceNow, waitsNow}
 use Rattle.pages.specs.Offers.{DeviceEvent}
 use Rattle.plan.specs.Read.{read, readSetup}
-use Rattle.scheduler.specs.Step.{offered, OfferStep}
-use Rattle.scheduler.specs.Make.{MakeStep}
+use Rattle.scheduler.specs.Step.{offered}
 use Rattle.scheduler.specs.Chain.{Chain, Led}
 use Rattle.scheduler.specs.Demands.{Demands}
-use Rattle.zenfrosta.specs.Crossing.{wordsIn, CrossesCall, CrossesMaking, CrossesOffer}
+use Rattle.zenfrosta.specs.Crossing.{wordsIn, bufferSize, CrossesCall, CrossesMaking, CrossesOffer}
 use Rattle.zenfrosta.specs.declared.Four.{Four}
 
 -- a call that gave 0
@@ -48,13 +47,14 @@ heardOffer r w =
 
 pub data Crossed : List ℕ → List DeviceEvent → List ℕ → Type 0 where
   nothing : {t : List ℕ} → Crossed t [] t
-  short : {t u v out out′ : List ℕ} {c : Call} {r : ℕ} {es : List DeviceEvent} → length out < 32 → CrossesCall c t u out r out′ → Crossed u es v → Crossed t es v
-  whole : {t u v out out′ : List ℕ} {c : Call} {r : ℕ} {es : List DeviceEvent} → 32 ≤ length out → CrossesCall c t u out r out′ → Crossed u es v
+  short : {t u v out out′ : List ℕ} {c : Call} {r : ℕ} {es : List DeviceEvent} → length out < bufferSize → CrossesCall c t u out r out′ → Crossed u es v
+      → Crossed t es v
+  whole : {t u v out out′ : List ℕ} {c : Call} {r : ℕ} {es : List DeviceEvent} → bufferSize ≤ length out → CrossesCall c t u out r out′ → Crossed u es v
       → Crossed t (record { call = ruled c; reply = answered (heard c r (wordsIn out′)) } ∷ es) v
-  shortOffer : {t u v out out′ : List ℕ} {r : ℕ} {es : List DeviceEvent} (bytes : List ℕ) → length out < 32
-      → CrossesOffer (λ o. OfferStep bytes t o u) (u ≡ t) out r out′ → Crossed u es v → Crossed t es v
-  wholeOffer : {t u v out out′ : List ℕ} {r : ℕ} {es : List DeviceEvent} (bytes : List ℕ) → 32 ≤ length out
-      → CrossesOffer (λ o. OfferStep bytes t o u) (u ≡ t) out r out′ → Crossed u es v
+  shortOffer : {t u v out out′ : List ℕ} {r : ℕ} {es : List DeviceEvent} (bytes : List ℕ) → length out < bufferSize
+      → CrossesOffer bytes t u out r out′ → Crossed u es v → Crossed t es v
+  wholeOffer : {t u v out out′ : List ℕ} {r : ℕ} {es : List DeviceEvent} (bytes : List ℕ) → bufferSize ≤ length out
+      → CrossesOffer bytes t u out r out′ → Crossed u es v
       → Crossed t (record { call = offered bytes; reply = heardOffer r (wordsIn out′) } ∷ es) v
 
 unfoldable pub HostLists : Type 0
@@ -72,5 +72,5 @@ pub record Begun (setup t out : List ℕ) : Type 0 where
 
 unfoldable pub HostMakes : Type 0
 HostMakes =
-    (setup before t out out′ : List ℕ) (r : ℕ) → CrossesMaking (λ a. MakeStep setup before a t) (t ≡ before) out r out′ → r ≡ 0
+    (setup before t out out′ : List ℕ) (r : ℕ) → CrossesMaking setup before t out r out′ → r ≡ 0
     → Begun setup t out′

@@ -16,8 +16,7 @@ use Rattle.rules.specs.Calls.{take}
 use Rattle.old_table.specs.Old.{OldTable}
 use Rattle.convert.specs.Converts.{Reply, converted, notConverted, reads, TakenOver, Converts}
 use Rattle.convert.specs.Takes.{OldTakes, UntilTen}
-use Rattle.convert.specs.declared.Converting.{Converting}
-use Rattle.zenfrosta.specs.Crossing.{four, refusalWords, wordsIn, Spoken, CrossesCall}
+use Rattle.zenfrosta.specs.Crossing.{four, refusalWords, wordsIn, bufferSize, Crosses, CrossesCall}
 use Rattle.zenfrosta.specs.Heard.{heard}
 use Rattle.zenfrosta.specs.declared.Four.{Four}
 
@@ -30,15 +29,16 @@ abbrev pub convertValues : Reply → Four
 convertValues converted = four 0 0 0 0
 convertValues (notConverted n p) = refusalWords p
 
--- R13.2: a buffer shorter than 32 bytes gives 255, and nothing is done. Else the table is converted, or refused, and that is told.
-pub record CrossesConverting (Convert : Converting → Type 0) (same : Type 0) (out : List ℕ) (r : ℕ) (out′ : List ℕ) : Type 0 where
-  pub short : length out < 32 → (r ≡ 255) × same × (out′ ≡ out)
-  pub told : 32 ≤ length out → (a : Converting) × Convert a × (r ≡ convertCode (reads a)) × Spoken out (convertValues (reads a)) out′
+-- R13.4
+abbrev pub CrossesConverting : (old table table′ out : List ℕ) (r : ℕ) (out′ : List ℕ) → Type 0
+CrossesConverting old table table′ out r out′ =
+    Crosses (λ a. convertCode (reads a)) (λ a. convertValues (reads a)) (λ a. Converts old table a table′) (table′ ≡ table) out r out′
 
 pub data HeardTakes : List ℕ → List calls.Reply → List ℕ → Type 0 where
   nothing : {t : List ℕ} → HeardTakes t [] t
-  short : {t u v out out′ : List ℕ} {r : ℕ} {qs : List calls.Reply} → length out < 32 → CrossesCall take t u out r out′ → HeardTakes u qs v → HeardTakes t qs v
-  whole : {t u v out out′ : List ℕ} {r : ℕ} {qs : List calls.Reply} → 32 ≤ length out → CrossesCall take t u out r out′ → HeardTakes u qs v
+  short : {t u v out out′ : List ℕ} {r : ℕ} {qs : List calls.Reply} → length out < bufferSize → CrossesCall take t u out r out′ → HeardTakes u qs v
+      → HeardTakes t qs v
+  whole : {t u v out out′ : List ℕ} {r : ℕ} {qs : List calls.Reply} → bufferSize ≤ length out → CrossesCall take t u out r out′ → HeardTakes u qs v
       → HeardTakes t (heard take r (wordsIn out′) ∷ qs) v
 
 pub record GoesOn (old before after : List ℕ) : Type 0 where
@@ -49,5 +49,5 @@ pub record GoesOn (old before after : List ℕ) : Type 0 where
 -- R13.4, with R7.5 and R7.6
 unfoldable pub HostConverts : Type 0
 HostConverts =
-    (old before after out out′ : List ℕ) (r : ℕ) → CrossesConverting (λ a. Converts old before a after) (after ≡ before) out r out′
+    (old before after out out′ : List ℕ) (r : ℕ) → CrossesConverting old before after out r out′
     → (r ≡ 0 → GoesOn old before after) × ((r ≡ 0 → ⊥) → after ≡ before)

@@ -2,17 +2,19 @@
 --
 --   readCode, readValues     of reading a setup: 0 or the refusal's number; the number of lanes, or the refusal's place
 --   writeCode, writeValues   of writing one: 0 or the refusal's number, which has no place; the size
---   CrossesPlan              the promise of an exported call on a plan area
+--   CrossesSetupRead, CrossesSetupWrite   the promises of zf_setup_read and zf_setup_write
+--   CrossesSheetRead, CrossesSheetWrite   the promises of zf_sheet_read and zf_sheet_write
 --
 -- Assumes nothing.
-use Prim.Native.Nat.{ℕ, _≤_, _<_}
+use Prim.Native.Nat.{ℕ}
 use mathlib.Core.Path.{_≡_}
 use mathlib.Core.List.{List}
 use mathlib.Core.Option.{none}
-use lib.ListN.{length}
 use Rattle.plan_writer.specs.Write as write
 use Rattle.plan_area.specs.Step as area
-use Rattle.zenfrosta.specs.Crossing.{four, refusalWords, Spoken}
+use Rattle.sheet_writer.specs.Write as sheetWrite
+use Rattle.sheet_area.specs.Step as sheetArea
+use Rattle.zenfrosta.specs.Crossing.{four, refusalWords, Crosses}
 use Rattle.zenfrosta.specs.declared.Four.{Four}
 
 abbrev pub readCode : area.Reply → ℕ
@@ -33,7 +35,23 @@ abbrev pub writeValues : write.Reply → Four
 writeValues (write.size n) = four n 0 0 0
 writeValues (write.refused n) = refusalWords none
 
--- R13.2: a buffer shorter than 32 bytes gives 255, and nothing is done. Else the call is made, and its answer is told.
-pub record CrossesPlan {A B : Type 0} (plain : A → B) (code : B → ℕ) (values : B → Four) (Call : A → Type 0) (same : Type 0) (out : List ℕ) (r : ℕ) (out′ : List ℕ) : Type 0 where
-  pub short : length out < 32 → (r ≡ 255) × same × (out′ ≡ out)
-  pub told : 32 ≤ length out → (a : A) × Call a × (r ≡ code (plain a)) × Spoken out (values (plain a)) out′
+-- R13.5
+abbrev pub CrossesSetupRead : (setup plan plan′ out : List ℕ) (r : ℕ) (out′ : List ℕ) → Type 0
+CrossesSetupRead setup plan plan′ out r out′ =
+    Crosses (λ a. readCode (area.got a)) (λ a. readValues (area.got a)) (λ a. area.ReadStep setup plan a plan′) (plan′ ≡ plan) out r out′
+
+-- R13.5
+abbrev pub CrossesSetupWrite : (plan setup setup′ out : List ℕ) (r : ℕ) (out′ : List ℕ) → Type 0
+CrossesSetupWrite plan setup setup′ out r out′ =
+    Crosses (λ a. writeCode (write.wrote a)) (λ a. writeValues (write.wrote a)) (λ a. area.WriteStep plan setup a setup′) (setup′ ≡ setup) out r out′
+
+-- R12.10, R13.5
+abbrev pub CrossesSheetRead : (sheet plan plan′ out : List ℕ) (r : ℕ) (out′ : List ℕ) → Type 0
+CrossesSheetRead sheet plan plan′ out r out′ =
+    Crosses (λ a. readCode (area.got a)) (λ a. readValues (area.got a)) (λ a. sheetArea.ReadStep sheet plan a plan′) (plan′ ≡ plan) out r out′
+
+-- R12.10, R13.5
+abbrev pub CrossesSheetWrite : (plan sheet sheet′ out : List ℕ) (r : ℕ) (out′ : List ℕ) → Type 0
+CrossesSheetWrite plan sheet sheet′ out r out′ =
+    Crosses (λ a. writeCode (sheetWrite.wrote a)) (λ a. writeValues (sheetWrite.wrote a)) (λ a. sheetArea.WriteStep plan sheet a sheet′) (sheet′ ≡ sheet)
+    out r out′

@@ -2,11 +2,10 @@
 ghost use mathlib.Core.Path.{_≡_};
 ghost use Prim.Native.Nat.{_≤_};
 ghost use lib.ListN.{length};
-ghost use Rattle.desk.specs.Calls as Calls;
 ghost use Rattle.journal.specs.Reads.{listed, told, shown, beginning, refusedBy};
-ghost use Rattle.journal.specs.Step as Step;
+ghost use Rattle.journal.specs.Step.{boardSize};
 ghost use Rattle.zenfrosta.specs.Crossing.{Spoken};
-ghost use Rattle.zenfrosta.specs.Board.{code, values, CrossesBoard};
+ghost use Rattle.zenfrosta.specs.Board.{boardCode, boardValues, CrossesBegin, CrossesRecord, CrossesClear, CrossesLine};
 use crate::Four;
 use crate::one;
 use crate::speak;
@@ -47,7 +46,7 @@ fn placed(place: u64) -> Four
 
 // The words of a refusal.
 fn refusal_words(x: Refusal) -> Four
-    ensures { λ r. ⌜ r ≡ values (refusedBy x) ⌝ }
+    ensures { λ r. ⌜ r ≡ boardValues (refusedBy x) ⌝ }
 {
     match x {
         Refusal::Cut(p) => placed(p as u64),
@@ -66,7 +65,7 @@ fn refusal_words(x: Refusal) -> Four
 // Tells a refusal.
 fn refuse(out: &mut [u8], x: Refusal) -> u64
     requires { ⌜ 32 ≤ length (now out) ⌝ }
-    ensures { λ r. ⌜ (r ≡ code (refusedBy x)) × Spoken (now (out .entry)) (values (refusedBy x)) (now (out .exit)) ⌝ }
+    ensures { λ r. ⌜ (r ≡ boardCode (refusedBy x)) × Spoken (now (out .entry)) (boardValues (refusedBy x)) (now (out .exit)) ⌝ }
 {
     let w = refusal_words(x);
     speak(out, w.a, w.b, w.c, w.d);
@@ -76,7 +75,7 @@ fn refuse(out: &mut [u8], x: Refusal) -> u64
 // Tells the line that record or clear changed.
 fn tell_line(out: &mut [u8], x: Told) -> u64
     requires { ⌜ 32 ≤ length (now out) ⌝ }
-    ensures { λ r. ⌜ (r ≡ code (told x)) × Spoken (now (out .entry)) (values (told x)) (now (out .exit)) ⌝ }
+    ensures { λ r. ⌜ (r ≡ boardCode (told x)) × Spoken (now (out .entry)) (boardValues (told x)) (now (out .exit)) ⌝ }
 {
     match x {
         Told::Line(k) => {
@@ -90,7 +89,7 @@ fn tell_line(out: &mut [u8], x: Told) -> u64
 // Tells what stands on a line.
 fn tell_shown(out: &mut [u8], x: Shown) -> u64
     requires { ⌜ 32 ≤ length (now out) ⌝ }
-    ensures { λ r. ⌜ (r ≡ code (shown x)) × Spoken (now (out .entry)) (values (shown x)) (now (out .exit)) ⌝ }
+    ensures { λ r. ⌜ (r ≡ boardCode (shown x)) × Spoken (now (out .entry)) (boardValues (shown x)) (now (out .exit)) ⌝ }
 {
     match x {
         Shown::Free => {
@@ -114,7 +113,7 @@ fn tell_shown(out: &mut [u8], x: Shown) -> u64
 // Tells how beginning a board went.
 fn tell_begun(out: &mut [u8], x: Begun) -> u64
     requires { ⌜ 32 ≤ length (now out) ⌝ }
-    ensures { λ r. ⌜ (r ≡ code (beginning x)) × Spoken (now (out .entry)) (values (beginning x)) (now (out .exit)) ⌝ }
+    ensures { λ r. ⌜ (r ≡ boardCode (beginning x)) × Spoken (now (out .entry)) (boardValues (beginning x)) (now (out .exit)) ⌝ }
 {
     match x {
         Begun::Begun => {
@@ -128,7 +127,7 @@ fn tell_begun(out: &mut [u8], x: Begun) -> u64
 // The fixed size of a board, in bytes.
 #[no_mangle]
 pub extern "C" fn zf_board_size() -> u64
-    ensures { λ r. ⌜ r ≡ 1024 ⌝ }
+    ensures { λ r. ⌜ r ≡ boardSize ⌝ }
 {
     journal::SIZE as u64
 }
@@ -136,7 +135,7 @@ pub extern "C" fn zf_board_size() -> u64
 // Begins an empty board in the lent bytes.
 #[no_mangle]
 pub extern "C" fn zf_board_begin(board: &mut [u8], out: &mut [u8]) -> u64
-    ensures { λ r. ⌜ CrossesBoard beginning (λ a. Step.BeginStep (now (board .entry)) a (now (board .exit))) (now (board .exit) ≡ now (board .entry)) (now (out .entry)) r (now (out .exit)) ⌝ }
+    ensures { λ r. ⌜ CrossesBegin (now (board .entry)) (now (board .exit)) (now (out .entry)) r (now (out .exit)) ⌝ }
 {
     if out.len() < 32 {
         return 255;
@@ -147,7 +146,7 @@ pub extern "C" fn zf_board_begin(board: &mut [u8], out: &mut [u8]) -> u64
 // Enters the handover record of a field.
 #[no_mangle]
 pub extern "C" fn zf_board_record(board: &mut [u8], field: &[u8], out: &mut [u8]) -> u64
-    ensures { λ r. ⌜ CrossesBoard told (λ a. Step.RecordStep (now (field .entry)) (now (board .entry)) a (now (board .exit))) (now (board .exit) ≡ now (board .entry)) (now (out .entry)) r (now (out .exit)) ⌝ }
+    ensures { λ r. ⌜ CrossesRecord (now (field .entry)) (now (board .entry)) (now (board .exit)) (now (out .entry)) r (now (out .exit)) ⌝ }
 {
     if out.len() < 32 {
         return 255;
@@ -158,7 +157,7 @@ pub extern "C" fn zf_board_record(board: &mut [u8], field: &[u8], out: &mut [u8]
 // Frees the line of a train that has left (R11.12).
 #[no_mangle]
 pub extern "C" fn zf_board_clear(board: &mut [u8], train: u32, out: &mut [u8]) -> u64
-    ensures { λ r. ⌜ CrossesBoard told (λ a. Step.Step (Calls.clear train) (now (board .entry)) a (now (board .exit))) (now (board .exit) ≡ now (board .entry)) (now (out .entry)) r (now (out .exit)) ⌝ }
+    ensures { λ r. ⌜ CrossesClear train (now (board .entry)) (now (board .exit)) (now (out .entry)) r (now (out .exit)) ⌝ }
 {
     if out.len() < 32 {
         return 255;
@@ -169,7 +168,7 @@ pub extern "C" fn zf_board_clear(board: &mut [u8], train: u32, out: &mut [u8]) -
 // What stands on a line.
 #[no_mangle]
 pub extern "C" fn zf_board_line(board: &[u8], at: u8, out: &mut [u8]) -> u64
-    ensures { λ r. ⌜ CrossesBoard shown (λ a. Step.LineStep at (now (board .entry)) a) (Unit {0}) (now (out .entry)) r (now (out .exit)) ⌝ }
+    ensures { λ r. ⌜ CrossesLine at (now (board .entry)) (now (out .entry)) r (now (out .exit)) ⌝ }
 {
     if out.len() < 32 {
         return 255;

@@ -3,7 +3,7 @@ ghost use mathlib.Core.Path.{_≡_};
 ghost use Prim.Native.Nat.{_≤_};
 ghost use lib.ListN.{length};
 ghost use Rattle.rules.specs.Calls as Calls;
-ghost use Rattle.halt.specs.Halt.{reads, HaltMake};
+ghost use Rattle.halt.specs.Halt.{reads};
 ghost use Rattle.zenfrosta.specs.Crossing.{makeCode, makeValues, Spoken};
 ghost use Rattle.zenfrosta.specs.Halts.{CrossesHalt, CrossesHaltMaking};
 use crate::refusal_words;
@@ -40,7 +40,7 @@ fn tell_made(out: &mut [u8], x: Making) -> u64
 // Makes the halt's fresh table in the lent bytes: the number of lanes, or a refusal with its place.
 #[no_mangle]
 pub extern "C" fn zf_halt_make(setup: &[u8], table: &mut [u8], out: &mut [u8]) -> u64
-    ensures { λ r. ⌜ CrossesHaltMaking (λ a. HaltMake (now (setup .entry)) (now (table .entry)) a (now (table .exit))) (now (table .exit) ≡ now (table .entry)) (now (out .entry)) r (now (out .exit)) ⌝ }
+    ensures { λ r. ⌜ CrossesHaltMaking (now (setup .entry)) (now (table .entry)) (now (table .exit)) (now (out .entry)) r (now (out .exit)) ⌝ }
 {
     if out.len() < 32 {
         return 255;

@@ -2,7 +2,7 @@
 ghost use mathlib.Core.Path.{_≡_};
 ghost use Prim.Native.Nat.{_≤_};
 ghost use lib.ListN.{length};
-ghost use Rattle.scheduler.specs.Step.{offering, OfferStep};
+ghost use Rattle.scheduler.specs.Step.{offering};
 ghost use Rattle.zenfrosta.specs.Crossing.{offerCode, offerValues, Spoken, CrossesOffer};
 use crate::refusal_words;
 use crate::speak;
@@ -37,7 +37,7 @@ fn tell_offer(out: &mut [u8], x: Offering) -> u64
 // Offers a settings page: word 0 is 0 where it is in force, 1 where it waits.
 #[no_mangle]
 pub extern "C" fn zf_offer(table: &mut [u8], page: &[u8], out: &mut [u8]) -> u64
-    ensures { λ r. ⌜ CrossesOffer (λ o. OfferStep (now (page .entry)) (now (table .entry)) o (now (table .exit))) (now (table .exit) ≡ now (table .entry)) (now (out .entry)) r (now (out .exit)) ⌝ }
+    ensures { λ r. ⌜ CrossesOffer (now (page .entry)) (now (table .entry)) (now (table .exit)) (now (out .entry)) r (now (out .exit)) ⌝ }
 {
     // First: a page that is in force and cannot be told so would be offered again.
     if out.len() < 32 {

@@ -3,7 +3,7 @@ ghost use mathlib.Core.Path.{_≡_};
 ghost use Prim.Native.Nat.{_≤_};
 ghost use lib.ListN.{length};
 ghost use Rattle.old_table.specs.Old.{oldSize};
-ghost use Rattle.convert.specs.Converts.{reads, Converts};
+ghost use Rattle.convert.specs.Converts.{reads};
 ghost use Rattle.zenfrosta.specs.Crossing.{Spoken};
 ghost use Rattle.zenfrosta.specs.Old.{convertCode, convertValues, CrossesConverting};
 use crate::refusal_words;
@@ -39,7 +39,7 @@ pub extern "C" fn zf_old_table_size() -> u64
 // Takes over a table of 16 places in a lane into other bytes, as one of 64.
 #[no_mangle]
 pub extern "C" fn zf_convert(old: &[u8], table: &mut [u8], out: &mut [u8]) -> u64
-    ensures { λ r. ⌜ CrossesConverting (λ a. Converts (now (old .entry)) (now (table .entry)) a (now (table .exit))) (now (table .exit) ≡ now (table .entry)) (now (out .entry)) r (now (out .exit)) ⌝ }
+    ensures { λ r. ⌜ CrossesConverting (now (old .entry)) (now (table .entry)) (now (table .exit)) (now (out .entry)) r (now (out .exit)) ⌝ }
 {
     if out.len() < 32 {
         return 255;

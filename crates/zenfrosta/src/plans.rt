@@ -1,12 +1,13 @@
 // Plans for the depot's tool (R13.7, R13.9): a setup read into a plan area, and a plan area written as a setup. Answers cross as those of lib.rt do
 // (specs/Plans.antt).
 ghost use mathlib.Core.Path.{_≡_};
-ghost use Prim.Native.Nat.{_*_, _≤_};
+ghost use Prim.Native.Nat.{_≤_};
 ghost use lib.ListN.{length};
 ghost use Rattle.plan_writer.specs.Write.{number, wrote};
-ghost use Rattle.plan_area.specs.Step.{got, ReadStep, WriteStep};
+ghost use Rattle.plan_area.specs.Area.{areaSize};
+ghost use Rattle.plan_area.specs.Step.{got};
 ghost use Rattle.zenfrosta.specs.Crossing.{Spoken};
-ghost use Rattle.zenfrosta.specs.Plans.{readCode, readValues, writeCode, writeValues, CrossesPlan};
+ghost use Rattle.zenfrosta.specs.Plans.{readCode, readValues, writeCode, writeValues, CrossesSetupRead, CrossesSetupWrite};
 use crate::refusal_words;
 use crate::speak;
 use plan_area::Got;
@@ -61,7 +62,7 @@ fn tell_written(out: &mut [u8], x: Written) -> u64
 // The fixed size of a plan area, in bytes.
 #[no_mangle]
 pub extern "C" fn zf_plan_size() -> u64
-    ensures { λ r. ⌜ r ≡ 65 * 8 ⌝ }
+    ensures { λ r. ⌜ r ≡ areaSize ⌝ }
 {
     plan_area::SIZE as u64
 }
@@ -69,7 +70,7 @@ pub extern "C" fn zf_plan_size() -> u64
 // Reads a setup into a plan area: the number of lanes, or a refusal with its place.
 #[no_mangle]
 pub extern "C" fn zf_setup_read(setup: &[u8], plan: &mut [u8], out: &mut [u8]) -> u64
-    ensures { λ r. ⌜ CrossesPlan got readCode readValues (λ a. ReadStep (now (setup .entry)) (now (plan .entry)) a (now (plan .exit))) (now (plan .exit) ≡ now (plan .entry)) (now (out .entry)) r (now (out .exit)) ⌝ }
+    ensures { λ r. ⌜ CrossesSetupRead (now (setup .entry)) (now (plan .entry)) (now (plan .exit)) (now (out .entry)) r (now (out .exit)) ⌝ }
 {
     if out.len() < 32 {
         return 255;
@@ -80,7 +81,7 @@ pub extern "C" fn zf_setup_read(setup: &[u8], plan: &mut [u8], out: &mut [u8]) -
 // Writes the plan of an area as a setup: its size.
 #[no_mangle]
 pub extern "C" fn zf_setup_write(plan: &[u8], setup: &mut [u8], out: &mut [u8]) -> u64
-    ensures { λ r. ⌜ CrossesPlan wrote writeCode writeValues (λ a. WriteStep (now (plan .entry)) (now (setup .entry)) a (now (setup .exit))) (now (setup .exit) ≡ now (setup .entry)) (now (out .entry)) r (now (out .exit)) ⌝ }
+    ensures { λ r. ⌜ CrossesSetupWrite (now (plan .entry)) (now (setup .entry)) (now (setup .exit)) (now (out .entry)) r (now (out .exit)) ⌝ }
 {
     if out.len() < 32 {
         return 255;

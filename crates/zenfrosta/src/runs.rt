@@ -1,7 +1,6 @@
 // The run of a session, exported (R13.9): the call of crate session. Answers cross as those of lib.rt do, but for a refusal's place (specs/Crossing.antt).
 ghost use mathlib.Core.Path.{_≡_};
 ghost use Rattle.walk.specs.Follows.{whyIs};
-ghost use Rattle.session.specs.Ran.{Ran};
 ghost use Rattle.zenfrosta.specs.Crossing.{stopCode, runValues, CrossesRun};
 use crate::Four;
 use crate::speak;
@@ -63,7 +62,7 @@ pub extern "C" fn zf_run(
     answers: &mut [u8],
     out: &mut [u8],
 ) -> u64
-    ensures { λ r. ⌜ CrossesRun (Ran (now (session .entry)) limit (now (table .entry)) (now (table .exit)) (now (answers .entry)) (now (answers .exit))) ((now (table .exit) ≡ now (table .entry)) × (now (answers .exit) ≡ now (answers .entry))) (now (out .entry)) r (now (out .exit)) ⌝ }
+    ensures { λ r. ⌜ CrossesRun (now (session .entry)) limit (now (table .entry)) (now (table .exit)) (now (answers .entry)) (now (answers .exit)) (now (out .entry)) r (now (out .exit)) ⌝ }
 {
     if out.len() < 32 {
         return 255;

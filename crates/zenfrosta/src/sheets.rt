@@ -3,11 +3,9 @@
 ghost use mathlib.Core.Path.{_≡_};
 ghost use Prim.Native.Nat.{_≤_};
 ghost use lib.ListN.{length};
-ghost use Rattle.plan_area.specs.Step.{got};
 ghost use Rattle.sheet_writer.specs.Write.{number, wrote};
-ghost use Rattle.sheet_area.specs.Step.{ReadStep, WriteStep};
 ghost use Rattle.zenfrosta.specs.Crossing.{Spoken};
-ghost use Rattle.zenfrosta.specs.Plans.{readCode, readValues, writeCode, writeValues, CrossesPlan};
+ghost use Rattle.zenfrosta.specs.Plans.{writeCode, writeValues, CrossesSheetRead, CrossesSheetWrite};
 use crate::plans::tell_got;
 use crate::speak;
 use sheet_writer::Unwritten;
@@ -44,7 +42,7 @@ fn tell_written(out: &mut [u8], x: Written) -> u64
 // Reads a text sheet into a plan area: the number of lanes, or a refusal with its place.
 #[no_mangle]
 pub extern "C" fn zf_sheet_read(sheet: &[u8], plan: &mut [u8], out: &mut [u8]) -> u64
-    ensures { λ r. ⌜ CrossesPlan got readCode readValues (λ a. ReadStep (now (sheet .entry)) (now (plan .entry)) a (now (plan .exit))) (now (plan .exit) ≡ now (plan .entry)) (now (out .entry)) r (now (out .exit)) ⌝ }
+    ensures { λ r. ⌜ CrossesSheetRead (now (sheet .entry)) (now (plan .entry)) (now (plan .exit)) (now (out .entry)) r (now (out .exit)) ⌝ }
 {
     if out.len() < 32 {
         return 255;
@@ -55,7 +53,7 @@ pub extern "C" fn zf_sheet_read(sheet: &[u8], plan: &mut [u8], out: &mut [u8]) -
 // Writes the plan of an area as a text sheet: its size.
 #[no_mangle]
 pub extern "C" fn zf_sheet_write(plan: &[u8], sheet: &mut [u8], out: &mut [u8]) -> u64
-    ensures { λ r. ⌜ CrossesPlan wrote writeCode writeValues (λ a. WriteStep (now (plan .entry)) (now (sheet .entry)) a (now (sheet .exit))) (now (sheet .exit) ≡ now (sheet .entry)) (now (out .entry)) r (now (out .exit)) ⌝ }
+    ensures { λ r. ⌜ CrossesSheetWrite (now (plan .entry)) (now (sheet .entry)) (now (sheet .exit)) (now (out .entry)) r (now (out .exit)) ⌝ }
 {
     if out.len() < 32 {
         return 255;

@@ -1,11 +1,11 @@
 -- `read_setup` meets its contract. Assumes nothing.
-use Rattle.plan_area.proofs.Steps.{read-short, read-refused, read-setup-good, read-stored}
+use Rattle.plan_area.proofs.Steps.{read-short, read-refused, setup-good, read-stored}
 use borrow.Author.Needs.{needs}
 use Rattle.plan_area.proofs.read_setup.Statement.{statement}
 use Rattle.plan_area.proofs.read_setup.Tie as tie
 
 returns : tie.Need-returns
-returns c = read-short (c .before .before .before .args .setup .now) (c .before .before .before .args .area .now) (c .if1 .taken)
+returns c = read-short (c .if1 .taken)
 
 read-setup-requires : tie.Need-read-setup-requires
 read-setup-requires c κs = search needs
@@ -21,22 +21,24 @@ store-requires c κs =
     let s = c .before .before .before .before .before .before .before .before in
     let r = c .before .before .before .before .read-setup in
     let o = c .before .before .enum-told .given in
-    let good = read-setup-good (s .args .setup .now) (s .args .area .now) (c .before .before .before .before .before .if1 .left) (r .result) (r .ensures) (o .0 .0) (o .1) in
+    let good = setup-good (s .args .setup .now) (r .result) (r .ensures) (o .0 .0) (o .1) in
     (c .before .before .before .before .before .if1 .left, good .0, good .1)
 
 returns-2 : tie.Need-returns-2
-returns-2 c = read-refused (c .before .before .before .before .before .before .before .args .setup .now) (c .before .before .before .before .before .before .before .args .area .now) (c .before .before .before .before .if1 .left) (c .before .before .before .read-setup .result) (c .before .before .before .read-setup .ensures) _ (c .before .outcome .given .1)
+returns-2 c =
+    let r = c .before .before .before .read-setup in
+    read-refused (c .before .before .before .before .if1 .left) (r .result) (r .ensures) _ (c .before .outcome .given .1)
 
 same-length : tie.Need-same-length
 same-length c = search needs
 
 returns-3 : tie.Need-returns-3
 returns-3 c =
-    let s = c .before .before .before .before .before .before .before .before .before .before .before in
     let r = c .before .before .before .before .before .before .before .read-setup in
     let o = c .before .before .before .before .before .enum-told .given in
     let w = c .before .before .store in
-    read-stored (s .args .setup .now) (s .args .area .now) (c .before .before .before .before .before .before .before .before .if1 .left) (r .result) (r .ensures) (o .0 .0) (o .1) _ (w .kept .0) (w .ensures)
+    let room = c .before .before .before .before .before .before .before .before .if1 .left in
+    read-stored room (r .result) (r .ensures) (o .0 .0) (o .1) _ (w .kept .0) (w .ensures)
 
 pub read-setup-spec : {M : Type 1} → statement M
 read-setup-spec =

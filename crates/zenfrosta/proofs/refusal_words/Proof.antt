@@ -5,10 +5,6 @@ use Rattle.zenfrosta.specs.Crossing.{refusalWords}
 use borrow.Author.Needs.{needs}
 use Rattle.zenfrosta.proofs.refusal_words.Statement.{statement}
 use Rattle.zenfrosta.proofs.refusal_words.Tie as tie
-use Rattle.zenfrosta.proofs.refusal_words.Reads as reads
-use Rattle.zenfrosta.proofs.refusal_words.Lts as lts
-use Rattle.lines.proofs.place_of.Reads as place-of-reads
-use Rattle.zenfrosta.proofs.one.Reads as one-reads
 
 place-of-requires : tie.Need-place-of-requires
 place-of-requires c κs = search needs

@@ -8,9 +8,6 @@ use Rattle.zenfrosta.proofs.Spoken.{spoken-read}
 use borrow.Author.Needs.{needs}
 use Rattle.zenfrosta.proofs.speak.Statement.{statement}
 use Rattle.zenfrosta.proofs.speak.Tie as tie
-use Rattle.zenfrosta.proofs.speak.Reads as reads
-use Rattle.zenfrosta.proofs.speak.Lts as lts
-use Rattle.words.proofs.set_word.Reads as set-word-reads
 
 set-word-requires : tie.Need-set-word-requires
 set-word-requires c κs = search needs

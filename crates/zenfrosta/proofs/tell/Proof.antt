@@ -3,11 +3,6 @@ use Rattle.zenfrosta.proofs.Spoken.{told-as}
 use borrow.Author.Needs.{needs}
 use Rattle.zenfrosta.proofs.tell.Statement.{statement}
 use Rattle.zenfrosta.proofs.tell.Tie as tie
-use Rattle.zenfrosta.proofs.tell.Reads as reads
-use Rattle.zenfrosta.proofs.tell.Lts as lts
-use Rattle.zenfrosta.proofs.code_of.Reads as code-of-reads
-use Rattle.zenfrosta.proofs.speak.Reads as speak-reads
-use Rattle.zenfrosta.proofs.words_of.Reads as words-of-reads
 
 words-of-requires : tie.Need-words-of-requires
 words-of-requires c κs = search needs

@@ -6,12 +6,6 @@ use mir.ValLaws.{toZ-ofZ}
 use borrow.Author.Needs.{needs}
 use Rattle.zenfrosta.proofs.words_of.Statement.{statement}
 use Rattle.zenfrosta.proofs.words_of.Tie as tie
-use Rattle.zenfrosta.proofs.words_of.Reads as reads
-use Rattle.zenfrosta.proofs.words_of.Lts as lts
-use Rattle.zenfrosta.proofs.complement.Reads as complement-reads
-use Rattle.zenfrosta.proofs.one.Reads as one-reads
-use Rattle.zenfrosta.proofs.record_words.Reads as record-words-reads
-use Rattle.zenfrosta.proofs.refusal_words.Reads as refusal-words-reads
 
 enum-known-x : tie.Need-enum-known-x
 enum-known-x c = search needs

@@ -1,16 +1,13 @@
 -- `zf_lag` meets its contract. Assumes nothing.
 use mathlib.Core.Path.{refl}
 use native.Mathlib.Omega.{arith}
+use Rattle.zenfrosta.proofs.Crossed.{not-made, crossed}
 use borrow.Author.Needs.{needs}
 use Rattle.zenfrosta.proofs.zf_lag.Statement.{statement}
 use Rattle.zenfrosta.proofs.zf_lag.Tie as tie
-use Rattle.zenfrosta.proofs.zf_lag.Reads as reads
-use Rattle.zenfrosta.proofs.zf_lag.Lts as lts
-use Rattle.scheduler.proofs.lag.Reads as lag-reads
-use Rattle.zenfrosta.proofs.tell.Reads as tell-reads
 
 returns : tie.Need-returns
-returns c = record { short = λ _. (refl, refl, refl); told = λ h. absurd (omega (arith, c .if1 .taken)) }
+returns c = not-made (omega (arith, c .if1 .taken)) refl
 
 lag-requires : tie.Need-lag-requires
 lag-requires c κs = search needs
@@ -25,7 +22,7 @@ returns-2 : tie.Need-returns-2
 returns-2 c =
     let m = c .before .before .before .lag in
     let w = c .before .before .tell .ensures in
-    record { short = λ h. absurd (omega (arith, c .before .before .before .before .before .if1 .left)); told = λ _. (m .result, m .ensures, w .0, w .1) }
+    crossed (omega (arith, c .before .before .before .before .before .if1 .left)) (m .result) (m .ensures) w
 
 pub zf-lag-spec : {M : Type 1} → statement M
 zf-lag-spec = tie.close (tie.spec returns lag-requires tell-requires same-length returns-2)

@@ -1,19 +1,14 @@
 -- `zf_make` meets its contract. Assumes nothing.
 use mathlib.Core.Path.{refl, _∙_}
 use native.Mathlib.Omega.{arith}
+use Rattle.zenfrosta.proofs.Crossed.{not-made, crossed}
 use Rattle.zenfrosta.proofs.Spoken.{told-as}
 use borrow.Author.Needs.{needs}
 use Rattle.zenfrosta.proofs.zf_make.Statement.{statement}
 use Rattle.zenfrosta.proofs.zf_make.Tie as tie
-use Rattle.zenfrosta.proofs.zf_make.Reads as reads
-use Rattle.zenfrosta.proofs.zf_make.Lts as lts
-use Rattle.scheduler.proofs.make.Reads as make-reads
-use Rattle.lines.proofs.number.Reads as number-reads
-use Rattle.zenfrosta.proofs.refusal_words.Reads as refusal-words-reads
-use Rattle.zenfrosta.proofs.speak.Reads as speak-reads
 
 returns : tie.Need-returns
-returns c = record { short = λ _. (refl, refl, refl); told = λ h. absurd (omega (arith, c .if1 .taken)) }
+returns c = not-made (omega (arith, c .if1 .taken)) refl
 
 make-requires : tie.Need-make-requires
 make-requires c κs = search needs
@@ -46,10 +41,8 @@ returns-2 : tie.Need-returns-2
 returns-2 c =
     let m = c .before .before .before .before .before .before .before .before .before .make in
     let e = c .before .before .before .before .before .n .given .1 in
-    record {
-      short = λ h. absurd (omega (arith, c .before .before .before .before .before .before .before .before .before .before .before .if1 .left));
-      told = λ _. (m .result, m .ensures, rw e, told-as _ _ _ _ (rw e) (c .before .before .speak .ensures));
-    }
+    crossed (omega (arith, c .before .before .before .before .before .before .before .before .before .before .before .if1 .left)) (m .result) (m .ensures)
+    (rw e, told-as _ _ _ _ (rw e) (c .before .before .speak .ensures))
 
 same-length-3 : tie.Need-same-length-3
 same-length-3 c = search needs
@@ -61,10 +54,10 @@ returns-3 : tie.Need-returns-3
 returns-3 c =
     let m = c .before .before .before .before .before .before .before .before .before .before .before .make in
     let e = c .before .before .before .before .before .before .before .x .given .1 in
-    record {
-      short = λ h. absurd (omega (arith, c .before .before .before .before .before .before .before .before .before .before .before .before .before .if1 .left));
-      told = λ _. (m .result, m .ensures, c .number .ensures .0 ∙ rw e, told-as _ _ _ _ (c .before .before .before .before .before .refusal-words .ensures ∙ rw e) (c .before .before .before .speak2 .ensures));
-    }
+    let w = c .before .before .before .before .before .refusal-words in
+    let room = c .before .before .before .before .before .before .before .before .before .before .before .before .before .if1 .left in
+    crossed (omega (arith, room)) (m .result) (m .ensures)
+    (c .number .ensures .0 ∙ rw e, told-as _ _ _ _ (w .ensures ∙ rw e) (c .before .before .before .speak2 .ensures))
 
 pub zf-make-spec : {M : Type 1} → statement M
 zf-make-spec =

@@ -2,10 +2,6 @@
 use borrow.Author.Needs.{needs}
 use Rattle.zenfrosta.proofs.board.refusal_words.Statement.{statement}
 use Rattle.zenfrosta.proofs.board.refusal_words.Tie as tie
-use Rattle.zenfrosta.proofs.board.refusal_words.Reads as reads
-use Rattle.zenfrosta.proofs.board.refusal_words.Lts as lts
-use Rattle.zenfrosta.proofs.board.placed.Reads as placed-reads
-use Rattle.zenfrosta.proofs.one.Reads as one-reads
 
 enum-known-x : tie.Need-enum-known-x
 enum-known-x c = search needs

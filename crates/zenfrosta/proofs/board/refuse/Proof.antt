@@ -3,11 +3,6 @@ use Rattle.zenfrosta.proofs.Spoken.{told-as}
 use borrow.Author.Needs.{needs}
 use Rattle.zenfrosta.proofs.board.refuse.Statement.{statement}
 use Rattle.zenfrosta.proofs.board.refuse.Tie as tie
-use Rattle.zenfrosta.proofs.board.refuse.Reads as reads
-use Rattle.zenfrosta.proofs.board.refuse.Lts as lts
-use Rattle.zenfrosta.proofs.board.number.Reads as number-reads
-use Rattle.zenfrosta.proofs.board.refusal_words.Reads as refusal-words-reads
-use Rattle.zenfrosta.proofs.speak.Reads as speak-reads
 
 refusal-words-requires : tie.Need-refusal-words-requires
 refusal-words-requires c κs = search needs

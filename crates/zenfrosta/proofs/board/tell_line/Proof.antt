@@ -3,10 +3,6 @@ use Rattle.zenfrosta.proofs.Spoken.{told-as}
 use borrow.Author.Needs.{needs}
 use Rattle.zenfrosta.proofs.board.tell_line.Statement.{statement}
 use Rattle.zenfrosta.proofs.board.tell_line.Tie as tie
-use Rattle.zenfrosta.proofs.board.tell_line.Reads as reads
-use Rattle.zenfrosta.proofs.board.tell_line.Lts as lts
-use Rattle.zenfrosta.proofs.board.refuse.Reads as refuse-reads
-use Rattle.zenfrosta.proofs.speak.Reads as speak-reads
 
 enum-known-x : tie.Need-enum-known-x
 enum-known-x c = search needs

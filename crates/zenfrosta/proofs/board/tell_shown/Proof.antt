@@ -3,10 +3,6 @@ use Rattle.zenfrosta.proofs.Spoken.{told-as}
 use borrow.Author.Needs.{needs}
 use Rattle.zenfrosta.proofs.board.tell_shown.Statement.{statement}
 use Rattle.zenfrosta.proofs.board.tell_shown.Tie as tie
-use Rattle.zenfrosta.proofs.board.tell_shown.Reads as reads
-use Rattle.zenfrosta.proofs.board.tell_shown.Lts as lts
-use Rattle.zenfrosta.proofs.board.refuse.Reads as refuse-reads
-use Rattle.zenfrosta.proofs.speak.Reads as speak-reads
 
 enum-told : tie.Need-enum-told
 enum-told c = search needs

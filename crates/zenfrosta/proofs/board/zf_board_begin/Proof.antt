@@ -1,16 +1,13 @@
 -- `zf_board_begin` meets its contract. Assumes nothing.
 use mathlib.Core.Path.{refl}
 use native.Mathlib.Omega.{arith}
+use Rattle.zenfrosta.proofs.Crossed.{not-made, crossed}
 use borrow.Author.Needs.{needs}
 use Rattle.zenfrosta.proofs.board.zf_board_begin.Statement.{statement}
 use Rattle.zenfrosta.proofs.board.zf_board_begin.Tie as tie
-use Rattle.zenfrosta.proofs.board.zf_board_begin.Reads as reads
-use Rattle.zenfrosta.proofs.board.zf_board_begin.Lts as lts
-use Rattle.journal.proofs.begin.Reads as begin-reads
-use Rattle.zenfrosta.proofs.board.tell_begun.Reads as tell-begun-reads
 
 returns : tie.Need-returns
-returns c = record { short = λ _. (refl, refl, refl); told = λ h. absurd (omega (arith, c .if1 .taken)) }
+returns c = not-made (omega (arith, c .if1 .taken)) refl
 
 begin-requires : tie.Need-begin-requires
 begin-requires c κs = search needs
@@ -25,7 +22,10 @@ same-length-2 : tie.Need-same-length-2
 same-length-2 c = search needs
 
 returns-2 : tie.Need-returns-2
-returns-2 c = let m = c .before .before .before .before .before .begin in let w = c .before .before .tell-begun .ensures in record { short = λ h. absurd (omega (arith, c .before .before .before .before .before .before .before .before .if1 .left)); told = λ _. (m .result, m .ensures, w .0, w .1) }
+returns-2 c =
+    let m = c .before .before .before .before .before .begin in
+    let w = c .before .before .tell-begun .ensures in
+    crossed (omega (arith, c .before .before .before .before .before .before .before .before .if1 .left)) (m .result) (m .ensures) w
 
 pub zf-board-begin-spec : {M : Type 1} → statement M
 zf-board-begin-spec =

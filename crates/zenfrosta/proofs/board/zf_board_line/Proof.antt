@@ -1,16 +1,12 @@
 -- `zf_board_line` meets its contract. Assumes nothing.
-use mathlib.Core.Path.{refl}
 use native.Mathlib.Omega.{arith}
+use Rattle.zenfrosta.proofs.Crossed.{not-made, crossed}
 use borrow.Author.Needs.{needs}
 use Rattle.zenfrosta.proofs.board.zf_board_line.Statement.{statement}
 use Rattle.zenfrosta.proofs.board.zf_board_line.Tie as tie
-use Rattle.zenfrosta.proofs.board.zf_board_line.Reads as reads
-use Rattle.zenfrosta.proofs.board.zf_board_line.Lts as lts
-use Rattle.journal.proofs.line.Reads as line-reads
-use Rattle.zenfrosta.proofs.board.tell_shown.Reads as tell-shown-reads
 
 returns : tie.Need-returns
-returns c = record { short = λ _. (refl, tt, refl); told = λ h. absurd (omega (arith, c .if1 .taken)) }
+returns c = not-made (omega (arith, c .if1 .taken)) tt
 
 line-requires : tie.Need-line-requires
 line-requires c κs = search needs
@@ -22,7 +18,10 @@ same-length : tie.Need-same-length
 same-length c = search needs
 
 returns-2 : tie.Need-returns-2
-returns-2 c = let m = c .before .before .before .line in let w = c .before .before .tell-shown .ensures in record { short = λ h. absurd (omega (arith, c .before .before .before .before .before .if1 .left)); told = λ _. (m .result, m .ensures, w .0, w .1) }
+returns-2 c =
+    let m = c .before .before .before .line in
+    let w = c .before .before .tell-shown .ensures in
+    crossed (omega (arith, c .before .before .before .before .before .if1 .left)) (m .result) (m .ensures) w
 
 pub zf-board-line-spec : {M : Type 1} → statement M
 zf-board-line-spec =

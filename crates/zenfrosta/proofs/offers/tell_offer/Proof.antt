@@ -4,11 +4,6 @@ use Rattle.zenfrosta.proofs.Spoken.{told-as}
 use borrow.Author.Needs.{needs}
 use Rattle.zenfrosta.proofs.offers.tell_offer.Statement.{statement}
 use Rattle.zenfrosta.proofs.offers.tell_offer.Tie as tie
-use Rattle.zenfrosta.proofs.offers.tell_offer.Reads as reads
-use Rattle.zenfrosta.proofs.offers.tell_offer.Lts as lts
-use Rattle.lines.proofs.number.Reads as number-reads
-use Rattle.zenfrosta.proofs.refusal_words.Reads as refusal-words-reads
-use Rattle.zenfrosta.proofs.speak.Reads as speak-reads
 
 enum-told : tie.Need-enum-told
 enum-told c = search needs

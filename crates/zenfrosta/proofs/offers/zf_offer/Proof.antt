@@ -1,16 +1,13 @@
 -- `zf_offer` meets its contract. Assumes nothing.
 use mathlib.Core.Path.{refl}
 use native.Mathlib.Omega.{arith}
+use Rattle.zenfrosta.proofs.Crossed.{not-made, crossed}
 use borrow.Author.Needs.{needs}
 use Rattle.zenfrosta.proofs.offers.zf_offer.Statement.{statement}
 use Rattle.zenfrosta.proofs.offers.zf_offer.Tie as tie
-use Rattle.zenfrosta.proofs.offers.zf_offer.Reads as reads
-use Rattle.zenfrosta.proofs.offers.zf_offer.Lts as lts
-use Rattle.scheduler.proofs.offer.Reads as offer-reads
-use Rattle.zenfrosta.proofs.offers.tell_offer.Reads as tell-offer-reads
 
 returns : tie.Need-returns
-returns c = record { short = λ _. (refl, refl, refl); told = λ h. absurd (omega (arith, c .if1 .taken)) }
+returns c = not-made (omega (arith, c .if1 .taken)) refl
 
 offer-requires : tie.Need-offer-requires
 offer-requires c κs = search needs
@@ -28,7 +25,7 @@ returns-2 : tie.Need-returns-2
 returns-2 c =
     let m = c .before .before .before .before .before .offer in
     let w = c .before .before .tell-offer .ensures in
-    record { short = λ h. absurd (omega (arith, c .before .before .before .before .before .before .before .before .if1 .left)); told = λ _. (m .result, m .ensures, w .0, w .1) }
+    crossed (omega (arith, c .before .before .before .before .before .before .before .before .if1 .left)) (m .result) (m .ensures) w
 
 pub zf-offer-spec : {M : Type 1} → statement M
 zf-offer-spec =

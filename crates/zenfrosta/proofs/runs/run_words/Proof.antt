@@ -12,9 +12,6 @@ use Rattle.zenfrosta.specs.Crossing.{four, stopKind, stopPlace, runValue
 use borrow.Author.Needs.{needs}
 use Rattle.zenfrosta.proofs.runs.run_words.Statement.{statement}
 use Rattle.zenfrosta.proofs.runs.run_words.Tie as tie
-use Rattle.zenfrosta.proofs.runs.run_words.Reads as reads
-use Rattle.zenfrosta.proofs.runs.run_words.Lts as lts
-use Rattle.lines.proofs.place_of.Reads as place-of-reads
 
 -- a run that a refusal ended, by the refusal's place
 at-refusal : (x : RunResult) (f : Refusal) (o : Option ℕ) → x .why ≡ Refused f → o ≡ placeOf f

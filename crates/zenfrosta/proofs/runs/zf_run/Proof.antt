@@ -1,19 +1,14 @@
 -- `zf_run` meets its contract. Assumes nothing.
 use mathlib.Core.Path.{refl}
 use native.Mathlib.Omega.{arith}
+use Rattle.zenfrosta.proofs.Crossed.{not-made, crossed}
 use Rattle.zenfrosta.proofs.Spoken.{told-as}
 use borrow.Author.Needs.{needs}
 use Rattle.zenfrosta.proofs.runs.zf_run.Statement.{statement}
 use Rattle.zenfrosta.proofs.runs.zf_run.Tie as tie
-use Rattle.zenfrosta.proofs.runs.zf_run.Reads as reads
-use Rattle.zenfrosta.proofs.runs.zf_run.Lts as lts
-use Rattle.session.proofs.run.Reads as run-reads
-use Rattle.zenfrosta.proofs.runs.run_words.Reads as run-words-reads
-use Rattle.zenfrosta.proofs.speak.Reads as speak-reads
-use Rattle.zenfrosta.proofs.runs.stop_code.Reads as stop-code-reads
 
 returns : tie.Need-returns
-returns c = record { short = λ _. (refl, (refl, refl), refl); told = λ h. absurd (omega (arith, c .if1 .taken)) }
+returns c = not-made (omega (arith, c .if1 .taken)) (refl, refl)
 
 run-requires : tie.Need-run-requires
 run-requires c κs = search needs
@@ -39,10 +34,9 @@ same-length-3 c = search needs
 returns-2 : tie.Need-returns-2
 returns-2 c =
     let m = c .before .before .before .before .before .before .before .before .before .before .run in
-    record {
-      short = λ h. absurd (omega (arith, c .before .before .before .before .before .before .before .before .before .before .before .before .before .if1 .left));
-      told = λ _. (m .result, m .ensures, c .stop-code .ensures, told-as _ _ _ _ (c .before .before .before .before .before .run-words .ensures) (c .before .before .before .speak .ensures));
-    }
+    let room = c .before .before .before .before .before .before .before .before .before .before .before .before .before .if1 .left in
+    crossed (omega (arith, room)) (m .result) (m .ensures)
+    (c .stop-code .ensures, told-as _ _ _ _ (c .before .before .before .before .before .run-words .ensures) (c .before .before .before .speak .ensures))
 
 pub zf-run-spec : {M : Type 1} → statement M
 zf-run-spec =

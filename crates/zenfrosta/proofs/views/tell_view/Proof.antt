@@ -4,13 +4,6 @@ use Rattle.zenfrosta.proofs.Spoken.{told-as}
 use borrow.Author.Needs.{needs}
 use Rattle.zenfrosta.proofs.views.tell_view.Statement.{statement}
 use Rattle.zenfrosta.proofs.views.tell_view.Tie as tie
-use Rattle.zenfrosta.proofs.views.tell_view.Reads as reads
-use Rattle.zenfrosta.proofs.views.tell_view.Lts as lts
-use Rattle.lines.proofs.number.Reads as number-reads
-use Rattle.zenfrosta.proofs.record_words.Reads as record-words-reads
-use Rattle.zenfrosta.proofs.refusal_words.Reads as refusal-words-reads
-use Rattle.zenfrosta.proofs.speak.Reads as speak-reads
-use Rattle.zenfrosta.proofs.views.shared_part.Reads as shared-part-reads
 
 enum-known-x : tie.Need-enum-known-x
 enum-known-x c = search needs
