@@ -18,10 +18,11 @@ use Rattle.fields.proofs.Numbers.{big-two}
 use Rattle.units.specs.Plain.{if_then_else_}
 use Rattle.plan.proofs.Inside.{true-false}
 use Rattle.page.specs.Fields.{Item, whole, bad, fieldOf, itemAt}
-use Rattle.page.specs.Read.{onward, skipping, pastSkipped, valueAt}
+use Rattle.page.specs.Read.{skipWalk, pastSkipped, valueAt}
 use Rattle.page.specs.Form.{Bytes, two, fieldBytes, Extra, AllSkippable, extraBytes}
 use Rattle.page.specs.declared.parse.PageField.{PageField}
 use Rattle.page.specs.declared.parse.PageField.the-variants.{Edition, Settings, Skipped, End}
+use Rattle.page.proofs.Skips.{passed}
 use Rattle.page.proofs.Stands.{Stands, stands}
 
 differ : {A : Type 0} → _≡_ {A = ℕ} 0 1 → A
@@ -152,15 +153,15 @@ one-passed s b at m p i q =
     }
 
 module _ (s : List ℕ) (b : Bytes s) where
-  passing : (turns at : ℕ) (more : (m : ℕ) → Passed s m (skipping turns s m)) (i : Item) → itemAt s at ≡ i → Passed s at (onward at i (skipping turns s))
+  passing : (turns at : ℕ) (more : (m : ℕ) → Passed s m (skipWalk turns s m)) (i : Item) → itemAt s at ≡ i → Passed s at (passed turns s at i)
   passing turns at more (bad n p) i = none-passed s at
   passing turns at more (whole (Edition e) m) i = none-passed s at
   passing turns at more (whole (Settings v n) m) i = none-passed s at
-  passing turns at more (whole Skipped m) i = one-passed s b at m (skipping turns s m) i (more m)
+  passing turns at more (whole Skipped m) i = one-passed s b at m (skipWalk turns s m) i (more m)
   passing turns at more (whole End m) i = none-passed s at
 
-  skip-turns : (turns at : ℕ) → Passed s at (skipping turns s at)
-  unfolding skipping
+  skip-turns : (turns at : ℕ) → Passed s at (skipWalk turns s at)
+  unfolding skipWalk
   skip-turns zero at = none-passed s at
   skip-turns (suc turns) at = passing turns at (λ m. skip-turns turns m) (itemAt s at) refl
 

@@ -15,7 +15,7 @@ use Rattle.rules.specs.State.{Setting}
 use Rattle.plan.specs.Read as plan
 use Rattle.plan.specs.Read.{readSetup}
 use Rattle.page.specs.Fields.{Item, whole, itemAt}
-use Rattle.page.specs.Read.{Reply, read, refused, skipping, pastSkipped, endAt, valueAt, moved, inside, settingsAt, readPage}
+use Rattle.page.specs.Read.{Reply, read, refused, skipWalk, pastSkipped, endAt, valueAt, moved, inside, settingsAt, readPage}
 use Rattle.page.specs.Form.{two, fieldBytes, Extra, AllSkippable, extraBytes, uptoSetup, pageBytes, Accepted}
 use Rattle.page.specs.declared.parse.PageField.the-variants.{Settings, Skipped, End}
 use Rattle.page.proofs.Skips.{Stops, stopped, turn}
@@ -25,9 +25,9 @@ use Rattle.page.proofs.Bytes.{stood, rest-from, edition-item, settings-
 -- ---- skipped fields
 
 skips : (turns : ℕ) (s : List ℕ) (at : ℕ) (xs : List Extra) (rest : List ℕ) (p : ℕ) (i : Item) → AllSkippable xs → drop at s ≡ extraBytes xs ++ rest
-    → at + length (extraBytes xs) ≡ p → length s - at ≤ turns → itemAt s p ≡ i → Stops p i → skipping turns s at ≡ p
+    → at + length (extraBytes xs) ≡ p → length s - at ≤ turns → itemAt s p ≡ i → Stops s p i → skipWalk turns s at ≡ p
 unfolding AllSkippable extraBytes
-skips turns s at [] rest p i all h e low j stop = let q : at ≡ p = omega (arith, e) in ap (skipping turns s) q ∙ stopped turns s p i j stop
+skips turns s at [] rest p i all h e low j stop = let q : at ≡ p = omega (arith, e) in ap (skipWalk turns s) q ∙ stopped turns s p i j stop
 skips turns s at (x ∷ xs) rest p i all h e low j stop =
     let b = all .0 in
     let f : drop at s ≡ fieldBytes (x .tag) (x .value) ++ (extraBytes xs ++ rest) = h ∙ append-assoc (fieldBytes (x .tag) (x .value)) (extraBytes xs) rest in
@@ -39,7 +39,7 @@ skips turns s at (x ∷ xs) rest p i all h e low j stop =
     ∙ skips (turns - 1) s m xs rest p i (all .1) (st .follows) size (omega (arith, low, st .long)) j stop
 
 pub skip-bytes : (s : List ℕ) (at : ℕ) (xs : List Extra) (rest : List ℕ) (p : ℕ) (i : Item) → AllSkippable xs → drop at s ≡ extraBytes xs ++ rest
-    → at + length (extraBytes xs) ≡ p → itemAt s p ≡ i → Stops p i → pastSkipped s at ≡ p
+    → at + length (extraBytes xs) ≡ p → itemAt s p ≡ i → Stops s p i → pastSkipped s at ≡ p
 unfolding pastSkipped
 skip-bytes s at xs rest p i all h e j stop = skips (length s - at) s at xs rest p i all h e (omega arith) j stop
 
@@ -76,7 +76,7 @@ module _ (e : ℕ) (xs : List Extra) (setup rest : List ℕ) (high : e < 65536) 
   behind-setup = stood page at 65 setup rest short here .follows
 
   skipped : pastSkipped page 5 ≡ at
-  skipped = skip-bytes page 5 xs body at _ all behind-first refl second (λ go. refl)
+  skipped = skip-bytes page 5 xs body at _ all behind-first refl second (λ turns. refl)
 
   pub upto-reads : readPage page ≡ inside page e (at + 3) end (readSetup setup)
   upto-reads =
@@ -112,7 +112,7 @@ module _ (e : ℕ) (xs : List Extra) (setup : List ℕ) (ys : List Extra) (high 
   ends r =
       let item = end-item full last [] third in
       let st = stood full last 127 [] [] (omega arith) third in
-      ap (λ (p : ℕ). endAt full p r) (skip-bytes full (end e xs setup tail high all short) ys (fieldBytes 127 []) last _ all′ behind refl item (λ go. refl))
+      ap (λ (p : ℕ). endAt full p r) (skip-bytes full (end e xs setup tail high all short) ys (fieldBytes 127 []) last _ all′ behind refl item (λ turns. refl))
       ∙ end-closed full last r (last + 3 + 0) item (omega (arith, st .long))
 
   pub page-reads : (v : ℕ) (gs : List Setting) (n p : ℕ) → readSetup setup ≡ plan.read v gs n p → readPage full ≡ read e v gs n

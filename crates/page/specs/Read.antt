@@ -12,6 +12,7 @@
 --
 -- Assumes nothing.
 use Prim.Native.Nat.{ℕ, zero, suc, _+_, _-_}
+use mathlib.Core.Bool.{Bool, true, false}
 use mathlib.Core.List.{List}
 use mathlib.Core.Option.{Option, some, none}
 use lib.Dec.{ltb}
@@ -26,6 +27,7 @@ use Rattle.page.specs.Fields.{Item, whole, bad, itemAt}
 use Rattle.page.specs.declared.Reading.{Reading}
 use Rattle.page.specs.declared.Outcome.{Outcome}
 use Rattle.page.specs.declared.Outcome.the-variants.{Read, Refused}
+use Rattle.page.specs.declared.parse.PageField.{PageField}
 use Rattle.page.specs.declared.parse.PageField.the-variants.{Edition, Settings, Skipped, End}
 
 -- A page that was read: its edition, and of its setup the format, the settings by lane number and how many lanes it has. Or a refusal: its number and its
@@ -36,21 +38,24 @@ pub data Reply : Type 0 where
 
 -- ---- what is skipped
 
--- A skipped field leads on to what stands behind it; at any other field, and at a fault, is the place to look at.
-abbrev pub onward : ℕ → Item → (ℕ → ℕ) → ℕ
-onward at (bad n p) go = at
-onward at (whole (Edition e) next) go = at
-onward at (whole (Settings value n) next) go = at
-onward at (whole Skipped next) go = go next
-onward at (whole End next) go = at
+-- R19.2: a field of 0x80 or above
+abbrev pub isSkipped : PageField → Bool
+isSkipped (Edition e) = false
+isSkipped (Settings value n) = false
+isSkipped Skipped = true
+isSkipped End = false
 
--- A field has three bytes or more, so a turn for each byte left is enough.
-unfoldable pub skipping : ℕ → List ℕ → ℕ → ℕ
-skipping zero s at = at
-skipping (suc turns) s at = onward at (itemAt s at) (skipping turns s)
+-- Behind a skipped field the walk goes on; at any other field, and at a fault, is the place to look at. A field has three bytes or more, so a turn for each byte
+-- left is enough.
+unfoldable pub skipWalk : ℕ → List ℕ → ℕ → ℕ
+skipWalk zero s at = at
+skipWalk (suc turns) s at = elim (itemAt s at) [
+  | bad n p ↦ at
+  | whole f next ↦ if isSkipped f then skipWalk turns s next else at
+]
 
 unfoldable pub pastSkipped : List ℕ → ℕ → ℕ
-pastSkipped s at = skipping (length s - at) s at
+pastSkipped s at = skipWalk (length s - at) s at
 
 -- ---- 0x7F
 

@@ -19,13 +19,14 @@ use Rattle.rules.specs.State.{Setting}
 use Rattle.rules.proofs.Figures.{framing-bound, framed-by}
 use Rattle.plan.specs.Fields.{Item, whole, bad}
 use Rattle.plan.specs.Judge.{knownFormat, judgedAt, after}
-use Rattle.plan.specs.Read.{Reply, read, refused, nothingSeen, noLanes, placed, next, walk, readPlan, closed, readSetup, settings, came, reads}
+use Rattle.plan.specs.Read.{Reply, read, refused, nothingSeen, noLanes, placed, setupWalk, readPlan, closed, readSetup, settings, came, reads}
 use Rattle.plan.specs.Accepted.{Laid, framed, framedBy, placedAll, behind, fieldsOf, PlanWithin}
 use Rattle.plan.specs.declared.judge.Seen.{Seen}
 use Rattle.plan.specs.declared.Reading.{Reading}
 use Rattle.plan.specs.declared.Outcome.the-variants.{Read}
 use Rattle.plan.specs.declared.parse.SetupField.{SetupField}
 use Rattle.plan.specs.declared.parse.SetupField.the-variants.{Format, Lane, Framing, Shared, End}
+use Rattle.plan.proofs.Turn.{turned}
 use Rattle.plan.proofs.Inside.{true-false, format-known, framing-small}
 use Rattle.plan.proofs.Stands.{Taken, is-taken}
 use Rattle.plan.proofs.Sound.{Sound, sound-first, sound-after}
@@ -86,7 +87,7 @@ module _ (s : List ℕ) (at v : ℕ) (gs : List Setting) (n p : ℕ) where
     ok : Sound begun noLanes
     ok = sound-after nothingSeen noLanes (Format w) sound-first (k .in-place) (k .inside) (k .under)
 
-    second-field : (turns : ℕ) (f : SetupField) (m₁ : ℕ) → Taken begun s m f m₁ → next begun noLanes (whole f m₁) (walk turns s) ≡ read v gs n p → PlanWithin s at v gs n p
+    second-field : (turns : ℕ) (f : SetupField) (m₁ : ℕ) → Taken begun s m f m₁ → turned turns s begun noLanes (whole f m₁) ≡ read v gs n p → PlanWithin s at v gs n p
     unfolding Laid
     second-field turns (Format x) m₁ q h = true-false (q .in-place)
     second-field turns (Lane l) m₁ q h =
@@ -99,16 +100,16 @@ module _ (s : List ℕ) (at v : ℕ) (gs : List Setting) (n p : ℕ) where
     second-field turns (Shared j) m₁ q h = true-false (q .in-place)
     second-field turns End m₁ q h = true-false (q .in-place)
 
-    second-item : (turns : ℕ) (i : Item) → judgedAt begun s m ≡ i → next begun noLanes i (walk turns s) ≡ read v gs n p → PlanWithin s at v gs n p
+    second-item : (turns : ℕ) (i : Item) → judgedAt begun s m ≡ i → turned turns s begun noLanes i ≡ read v gs n p → PlanWithin s at v gs n p
     second-item turns (bad a b) j h = refused-read h
     second-item turns (whole f m₁) j h = second-field turns f m₁ (is-taken begun s m f m₁ j) h
 
-    second-turn : (turns : ℕ) → walk turns s begun noLanes m ≡ read v gs n p → PlanWithin s at v gs n p
-    unfolding walk
+    second-turn : (turns : ℕ) → setupWalk turns s begun noLanes m ≡ read v gs n p → PlanWithin s at v gs n p
+    unfolding setupWalk
     second-turn zero h = refused-read h
     second-turn (suc turns) h = second-item turns (judgedAt begun s m) refl h
 
-  first-field : (turns : ℕ) (f : SetupField) (m : ℕ) → Taken nothingSeen s at f m → next nothingSeen noLanes (whole f m) (walk turns s) ≡ read v gs n p
+  first-field : (turns : ℕ) (f : SetupField) (m : ℕ) → Taken nothingSeen s at f m → turned turns s nothingSeen noLanes (whole f m) ≡ read v gs n p
       → PlanWithin s at v gs n p
   first-field turns (Format w) m k h = second-turn w m k turns h
   first-field turns (Lane l) m k h = true-false (k .in-place)
@@ -116,13 +117,13 @@ module _ (s : List ℕ) (at v : ℕ) (gs : List Setting) (n p : ℕ) where
   first-field turns (Shared j) m k h = true-false (k .in-place)
   first-field turns End m k h = true-false (k .in-place)
 
-  first-item : (turns : ℕ) (i : Item) → judgedAt nothingSeen s at ≡ i → next nothingSeen noLanes i (walk turns s) ≡ read v gs n p
+  first-item : (turns : ℕ) (i : Item) → judgedAt nothingSeen s at ≡ i → turned turns s nothingSeen noLanes i ≡ read v gs n p
       → PlanWithin s at v gs n p
   first-item turns (bad a b) j h = refused-read h
   first-item turns (whole f m) j h = first-field turns f m (is-taken nothingSeen s at f m j) h
 
-  first-turn : (turns : ℕ) → walk turns s nothingSeen noLanes at ≡ read v gs n p → PlanWithin s at v gs n p
-  unfolding walk
+  first-turn : (turns : ℕ) → setupWalk turns s nothingSeen noLanes at ≡ read v gs n p → PlanWithin s at v gs n p
+  unfolding setupWalk
   first-turn zero h = refused-read h
   first-turn (suc turns) h = first-item turns (judgedAt nothingSeen s at) refl h
 

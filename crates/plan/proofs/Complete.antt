@@ -15,7 +15,7 @@ use lib.Seq.{getD-set-same, set-set}
 use Rattle.rules.specs.State.{Setting, noSetting, settingAt}
 use Rattle.plan.specs.Fields.{Item, whole, itemAt}
 use Rattle.plan.specs.Judge.{given, longestOf, longestRight, mostFraming, misplaced, Inside, over, judgedAt, after}
-use Rattle.plan.specs.Read.{Reply, read, nothingSeen, noLanes, asShared, placed, next, walk, readPlan}
+use Rattle.plan.specs.Read.{Reply, read, nothingSeen, noLanes, asShared, placed, setupWalk, readPlan}
 use Rattle.plan.specs.Accepted.{Laid, LaneFields, Rising, LaneWithin, LanesWithin, weighed, givenBy, framed, framedBy, placedAll, behind, fieldsOf, Accepted}
 use Rattle.plan.specs.declared.judge.Fault.the-variants.{NoFault}
 use Rattle.plan.specs.declared.judge.Seen.{Seen}
@@ -24,6 +24,7 @@ use Rattle.plan.specs.declared.parse.Longest.the-variants.{Given, Defaul
 use Rattle.plan.specs.declared.parse.LaneField.{LaneField}
 use Rattle.plan.specs.declared.parse.SetupField.{SetupField}
 use Rattle.plan.specs.declared.parse.SetupField.the-variants.{Format, Lane, Framing, Shared, End}
+use Rattle.plan.proofs.Turn.{turned}
 use Rattle.plan.proofs.Judged.{outside-none, judged-whole}
 use Rattle.plan.proofs.Stands.{stands}
 
@@ -40,12 +41,12 @@ inside l w =
 module _ (s : List ℕ) where
   -- a turn at a field that stands and is taken
   turn : (turns : ℕ) (seen : Seen) (gs : List Setting) (at : ℕ) (f : SetupField) (m : ℕ) (r : Reply) → length s - at ≤ turns → itemAt s at ≡ whole f m → judgedAt seen s at ≡ whole f m
-      → ((less : ℕ) → length s - m ≤ less → next seen gs (whole f m) (walk less s) ≡ r) → walk turns s seen gs at ≡ r
-  unfolding walk
+      → ((less : ℕ) → length s - m ≤ less → turned less s seen gs (whole f m) ≡ r) → setupWalk turns s seen gs at ≡ r
+  unfolding setupWalk
   turn zero seen gs at f m r low i j go = absurd (omega (arith, low, stands s at f m i .fits))
   turn (suc turns) seen gs at f m r low i j go =
       let st = stands s at f m i in
-      ap (λ (x : Item). next seen gs x (walk turns s)) j ∙ go turns (omega (arith, low, st .after, st .fits))
+      ap (turned turns s seen gs) j ∙ go turns (omega (arith, low, st .after, st .fits))
 
   -- 0x12 behind the 0x10 of its lane, or none
   module _ (seen : Seen) (gs : List Setting) (l : LaneField) (size : length gs ≡ 64) (small : l .lane ≤ 63) where
@@ -69,21 +70,21 @@ module _ (s : List ℕ) where
     -- what follows reads the same whether 0x12 closed the lane or not
     shared-read : (turns : ℕ) (m : ℕ) (b : Bool) (fs : List SetupField) (p : ℕ) (r : Reply) → length s - m ≤ turns → Laid s m (behind b (l .lane) ++ fs) p
         → ((less q : ℕ) (seen₁ : Seen) → seen₁ .begun ≡ true → seen₁ .format ≡ seen .format → seen₁ .framing ≡ seen .framing → seen₁ .floor ≡ l .lane + 1
-        → seen₁ .total ≡ seen .total + l .weight → seen₁ .count ≡ seen .count + 1 → length s - q ≤ less → Laid s q fs p → walk less s seen₁ (whole-lane b) q ≡ r)
-        → walk turns s there′ gs₁ m ≡ r
+        → seen₁ .total ≡ seen .total + l .weight → seen₁ .count ≡ seen .count + 1 → length s - q ≤ less → Laid s q fs p → setupWalk less s seen₁ (whole-lane b) q ≡ r)
+        → setupWalk turns s there′ gs₁ m ≡ r
     unfolding Laid
     shared-read turns m false fs p r low f go = go turns m there′ refl refl refl refl refl refl low f
     shared-read turns m true fs p r low f go =
         let right : misplaced there′ (Shared (l .lane)) ≡ false = simp (eq-eqb (l .lane + 1) (l .lane + 1) refl) in
         let j = judged-whole there′ s m (Shared (l .lane)) (f .0) (f .1) right refl refl in
         turn turns there′ gs₁ m (Shared (l .lane)) (f .0) r low (f .1) j (λ less q.
-        ap (λ (x : List Setting). walk less s (after there′ (Shared (l .lane))) x (f .0)) as-shared
+        ap (λ (x : List Setting). setupWalk less s (after there′ (Shared (l .lane))) x (f .0)) as-shared
         ∙ go less (f .0) (after there′ (Shared (l .lane))) refl refl refl refl refl refl q (f .2))
 
   -- once the format is there: the fields of lanes, and 0x7F
   lanes-read : (turns : ℕ) (seen : Seen) (gs : List Setting) (at : ℕ) (lanes : List LaneFields) (p : ℕ) → length gs ≡ 64 → seen .begun ≡ true → length s - at ≤ turns
       → Laid s at (fieldsOf lanes ++ (End ∷ [])) p → Rising (seen .floor) lanes → LanesWithin lanes
-      → seen .total + weighed lanes ≤ 1024 → 1 ≤ seen .count + length lanes → walk turns s seen gs at ≡ read (seen .format) (placedAll (seen .format) (seen .framing) gs lanes) (seen .count + length lanes) p
+      → seen .total + weighed lanes ≤ 1024 → 1 ≤ seen .count + length lanes → setupWalk turns s seen gs at ≡ read (seen .format) (placedAll (seen .format) (seen .framing) gs lanes) (seen .count + length lanes) p
   unfolding Laid Rising LanesWithin placedAll
   lanes-read turns seen gs at [] p size b low f r a w c =
       let j = judged-whole seen s at End (f .0) (f .1) (ne-eqb (seen .count) 0 (λ e. omega arith)) refl refl in
@@ -108,7 +109,7 @@ module _ (s : List ℕ) where
   module _ (at v : ℕ) (gs : List Setting) (n p : ℕ) (k : Accepted s at v gs n p) where
     -- 0x11, where there is one
     from-second : (f : Option ℕ) (m : ℕ) → framedBy f ≤ 64 → Laid s m (framed f ++ (fieldsOf (k .lanes) ++ (End ∷ []))) p → (turns : ℕ) → length s - m ≤ turns
-        → walk turns s (after nothingSeen (Format v)) noLanes m ≡ read v (placedAll v (framedBy f) noLanes (k .lanes)) (0 + length (k .lanes)) p
+        → setupWalk turns s (after nothingSeen (Format v)) noLanes m ≡ read v (placedAll v (framedBy f) noLanes (k .lanes)) (0 + length (k .lanes)) p
     unfolding Laid
     from-second none m most f turns low =
         lanes-read turns (after nothingSeen (Format v)) noLanes m (k .lanes) p refl refl low f (k .rising) (k .each) (omega (arith, k .total)) (omega (arith, k .some-lane))
@@ -118,7 +119,7 @@ module _ (s : List ℕ) where
         turn turns begun noLanes m (Framing h) (f .0) _ low (f .1) j (λ less q.
         lanes-read less (after begun (Framing h)) noLanes (f .0) (k .lanes) p refl refl q (f .2) (k .rising) (k .each) (omega (arith, k .total)) (omega (arith, k .some-lane)))
 
-    from-first : walk (length s - at) s nothingSeen noLanes at ≡ read v (placedAll v (framedBy (k .framing)) noLanes (k .lanes)) (0 + length (k .lanes)) p
+    from-first : setupWalk (length s - at) s nothingSeen noLanes at ≡ read v (placedAll v (framedBy (k .framing)) noLanes (k .lanes)) (0 + length (k .lanes)) p
     unfolding Laid
     from-first =
         let f = k .laid in

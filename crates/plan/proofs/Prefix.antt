@@ -17,14 +17,15 @@ use Rattle.fields.proofs.Numbers.{big-same}
 use Rattle.fields.proofs.Header.{header-whole}
 use Rattle.units.specs.Plain.{if_then_else_}
 use Rattle.rules.specs.State.{Setting}
-use Rattle.plan.specs.Fields.{Item, whole, bad, known, fitting, longestAt, laneAt, fieldOf, itemAt}
+use Rattle.plan.specs.Fields.{Item, whole, bad, ends, known, fitting, longestAt, laneAt, fieldOf, itemAt}
 use Rattle.plan.specs.Judge.{judgedAt, after}
-use Rattle.plan.specs.Read.{read, nothingSeen, noLanes, placed, next, walk, readPlan}
+use Rattle.plan.specs.Read.{read, nothingSeen, noLanes, placed, setupWalk, readPlan}
 use Rattle.plan.specs.declared.judge.Seen.{Seen}
 use Rattle.plan.specs.declared.parse.Longest.{Longest}
 use Rattle.plan.specs.declared.parse.Longest.the-variants.{Given, Default}
 use Rattle.plan.specs.declared.parse.SetupField.{SetupField}
 use Rattle.plan.specs.declared.parse.SetupField.the-variants.{Format, Lane, Framing, Shared, End}
+use Rattle.plan.proofs.Turn.{turned}
 use Rattle.plan.proofs.Tags.{lane-long, lane-three}
 use Rattle.plan.proofs.Items.{item-whole}
 use Rattle.plan.proofs.Judged.{judged-whole}
@@ -95,23 +96,19 @@ item-same s t at f m h same fits =
 
 module _ (s : List ℕ) (v : ℕ) (gs′ : List Setting) (n p : ℕ) where
   -- a setup that is read ends further on
-  past-item : (turns : ℕ) (seen : Seen) (gs : List Setting) (at : ℕ) (more : (seen₁ : Seen) (gs₁ : List Setting) (m : ℕ) → walk turns s seen₁ gs₁ m ≡ read v gs′ n p → m < p)
-      → (i : Item) → judgedAt seen s at ≡ i → next seen gs i (walk turns s) ≡ read v gs′ n p → at < p
+  past-item : (turns : ℕ) (seen : Seen) (gs : List Setting) (at : ℕ) (more : (seen₁ : Seen) (gs₁ : List Setting) (m : ℕ) → setupWalk turns s seen₁ gs₁ m ≡ read v gs′ n p → m < p)
+      → (i : Item) → judgedAt seen s at ≡ i → turned turns s seen gs i ≡ read v gs′ n p → at < p
   past-item turns seen gs at more (bad a b) e h = refused-read h
-  past-item turns seen gs at more (whole (Format v) m) e h =
-      omega (arith, is-taken seen s at (Format v) m e .stand .after, more (after seen (Format v)) (placed (seen .format) (seen .framing) gs (Format v)) m h)
-  past-item turns seen gs at more (whole (Lane l) m) e h =
-      omega (arith, is-taken seen s at (Lane l) m e .stand .after, more (after seen (Lane l)) (placed (seen .format) (seen .framing) gs (Lane l)) m h)
-  past-item turns seen gs at more (whole (Framing l) m) e h =
-      omega (arith, is-taken seen s at (Framing l) m e .stand .after, more (after seen (Framing l)) (placed (seen .format) (seen .framing) gs (Framing l)) m h)
-  past-item turns seen gs at more (whole (Shared l) m) e h =
-      omega (arith, is-taken seen s at (Shared l) m e .stand .after, more (after seen (Shared l)) (placed (seen .format) (seen .framing) gs (Shared l)) m h)
-  past-item turns seen gs at more (whole End m) e h =
-      let q : m ≡ p = cc in
-      omega (arith, is-taken seen s at End m e .stand .after)
+  past-item turns seen gs at more (whole f m) e h = past-field (ends f) h
+    where
+      past-field : (b : Bool) → (if b then read (seen .format) gs (seen .count) m else setupWalk turns s (after seen f) (placed (seen .format) (seen .framing) gs f) m) ≡ read v gs′ n p → at < p
+      past-field true h =
+          let q : m ≡ p = cc in
+          omega (arith, is-taken seen s at f m e .stand .after)
+      past-field false h = omega (arith, is-taken seen s at f m e .stand .after, more (after seen f) (placed (seen .format) (seen .framing) gs f) m h)
 
-  past : (turns : ℕ) (seen : Seen) (gs : List Setting) (at : ℕ) → walk turns s seen gs at ≡ read v gs′ n p → at < p
-  unfolding walk
+  past : (turns : ℕ) (seen : Seen) (gs : List Setting) (at : ℕ) → setupWalk turns s seen gs at ≡ read v gs′ n p → at < p
+  unfolding setupWalk
   past zero seen gs at h = refused-read h
   past (suc turns) seen gs at h = past-item turns seen gs at (λ seen₁ gs₁ m h₁. past turns seen₁ gs₁ m h₁) (judgedAt seen s at) refl h
 
@@ -123,36 +120,25 @@ module _ (s : List ℕ) (v : ℕ) (gs′ : List Setting) (n p : ℕ) where
 
     -- one turn, and the rest as `more` has it
     same-turn : (turns turns₁ : ℕ) (seen : Seen) (gs : List Setting) (at : ℕ) → length t - at ≤ suc turns₁
-        → (more : (seen₁ : Seen) (gs₁ : List Setting) (m : ℕ) → length t - m ≤ turns₁ → walk turns s seen₁ gs₁ m ≡ read v gs′ n p → walk turns₁ t seen₁ gs₁ m ≡ read v gs′ n p)
-        → (i : Item) → judgedAt seen s at ≡ i → next seen gs i (walk turns s) ≡ read v gs′ n p → next seen gs (judgedAt seen t at) (walk turns₁ t) ≡ read v gs′ n p
+        → (more : (seen₁ : Seen) (gs₁ : List Setting) (m : ℕ) → length t - m ≤ turns₁ → setupWalk turns s seen₁ gs₁ m ≡ read v gs′ n p → setupWalk turns₁ t seen₁ gs₁ m ≡ read v gs′ n p)
+        → (i : Item) → judgedAt seen s at ≡ i → turned turns s seen gs i ≡ read v gs′ n p → turned turns₁ t seen gs (judgedAt seen t at) ≡ read v gs′ n p
     same-turn turns turns₁ seen gs at low more (bad a b) e h = refused-read h
-    same-turn turns turns₁ seen gs at low more (whole (Format v) m) e h =
-        let q = past turns (after seen (Format v)) (placed (seen .format) (seen .framing) gs (Format v)) m h in
-        let k = is-taken seen s at (Format v) m e in
-        ap (λ (i : Item). next seen gs i (walk turns₁ t)) (judged-same seen at (Format v) m e (omega arith))
-        ∙ more (after seen (Format v)) (placed (seen .format) (seen .framing) gs (Format v)) m (omega (arith, k .stand .after)) h
-    same-turn turns turns₁ seen gs at low more (whole (Lane l) m) e h =
-        let q = past turns (after seen (Lane l)) (placed (seen .format) (seen .framing) gs (Lane l)) m h in
-        let k = is-taken seen s at (Lane l) m e in
-        ap (λ (i : Item). next seen gs i (walk turns₁ t)) (judged-same seen at (Lane l) m e (omega arith))
-        ∙ more (after seen (Lane l)) (placed (seen .format) (seen .framing) gs (Lane l)) m (omega (arith, k .stand .after)) h
-    same-turn turns turns₁ seen gs at low more (whole (Framing l) m) e h =
-        let q = past turns (after seen (Framing l)) (placed (seen .format) (seen .framing) gs (Framing l)) m h in
-        let k = is-taken seen s at (Framing l) m e in
-        ap (λ (i : Item). next seen gs i (walk turns₁ t)) (judged-same seen at (Framing l) m e (omega arith))
-        ∙ more (after seen (Framing l)) (placed (seen .format) (seen .framing) gs (Framing l)) m (omega (arith, k .stand .after)) h
-    same-turn turns turns₁ seen gs at low more (whole (Shared l) m) e h =
-        let q = past turns (after seen (Shared l)) (placed (seen .format) (seen .framing) gs (Shared l)) m h in
-        let k = is-taken seen s at (Shared l) m e in
-        ap (λ (i : Item). next seen gs i (walk turns₁ t)) (judged-same seen at (Shared l) m e (omega arith))
-        ∙ more (after seen (Shared l)) (placed (seen .format) (seen .framing) gs (Shared l)) m (omega (arith, k .stand .after)) h
-    same-turn turns turns₁ seen gs at low more (whole End m) e h =
-        let q : m ≡ p = cc in
-        ap (λ (i : Item). next seen gs i (walk turns₁ t)) (judged-same seen at End m e (omega arith)) ∙ h
+    same-turn turns turns₁ seen gs at low more (whole f m) e h = same-field (ends f) refl h
+      where
+        same-field : (b : Bool) → ends f ≡ b → (if b then read (seen .format) gs (seen .count) m else setupWalk turns s (after seen f) (placed (seen .format) (seen .framing) gs f) m) ≡ read v gs′ n p
+            → turned turns₁ t seen gs (judgedAt seen t at) ≡ read v gs′ n p
+        same-field true b h =
+            let q : m ≡ p = cc in
+            ap (turned turns₁ t seen gs) (judged-same seen at f m e (omega arith)) ∙ simp b h
+        same-field false b h =
+            let q = past turns (after seen f) (placed (seen .format) (seen .framing) gs f) m h in
+            let k = is-taken seen s at f m e in
+            ap (turned turns₁ t seen gs) (judged-same seen at f m e (omega arith))
+            ∙ simp b (more (after seen f) (placed (seen .format) (seen .framing) gs f) m (omega (arith, k .stand .after)) h)
 
-    walk-same : (turns turns₁ : ℕ) (seen : Seen) (gs : List Setting) (at : ℕ) → length t - at ≤ turns₁ → walk turns s seen gs at ≡ read v gs′ n p
-        → walk turns₁ t seen gs at ≡ read v gs′ n p
-    unfolding walk
+    walk-same : (turns turns₁ : ℕ) (seen : Seen) (gs : List Setting) (at : ℕ) → length t - at ≤ turns₁ → setupWalk turns s seen gs at ≡ read v gs′ n p
+        → setupWalk turns₁ t seen gs at ≡ read v gs′ n p
+    unfolding setupWalk
     walk-same zero turns₁ seen gs at low h = refused-read h
     walk-same (suc turns) zero seen gs at low h = absurd (omega (arith, past (suc turns) seen gs at h))
     walk-same (suc turns) (suc turns₁) seen gs at low h =

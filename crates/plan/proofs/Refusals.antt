@@ -17,15 +17,16 @@ use Rattle.fields.specs.Header.{pick}
 use Rattle.fields.specs.declared.Field.the-variants.{Nothing, Cut, Header}
 use Rattle.units.specs.Plain.{if_then_else_}
 use Rattle.rules.specs.State.{Setting}
-use Rattle.plan.specs.Fields.{Item, whole, bad, known, fitting, fieldOf, taken, itemAt}
+use Rattle.plan.specs.Fields.{Item, whole, bad, ends, known, fitting, fieldOf, taken, itemAt}
 use Rattle.plan.specs.Judge.{misplaced, outside, over, offset, faulted, judged, judgedAt, after}
-use Rattle.plan.specs.Read.{read, refused, nothingSeen, noLanes, placed, next, walk, readPlan}
+use Rattle.plan.specs.Read.{read, refused, nothingSeen, noLanes, placed, setupWalk, readPlan}
 use Rattle.plan.specs.Accepted.{refusals, among, wrongAt, Refused}
 use Rattle.plan.specs.declared.judge.Fault.{Fault}
 use Rattle.plan.specs.declared.judge.Fault.the-variants.{NoFault, BadFormat, BadLane, BadWeight, BadLongest, BadFraming, TotalOver}
 use Rattle.plan.specs.declared.judge.Seen.{Seen}
 use Rattle.plan.specs.declared.parse.SetupField.{SetupField}
 use Rattle.plan.specs.declared.parse.SetupField.the-variants.{Format, Lane, Framing, Shared, End}
+use Rattle.plan.proofs.Turn.{turned}
 use Rattle.plan.proofs.Stands.{Stands, stands, is-taken}
 use Rattle.plan.proofs.Offsets.{outside-in, over-in}
 use Rattle.plan.proofs.Shown.{Shows, shows, over-shows}
@@ -122,27 +123,21 @@ read-refused h = absurd (let z : _≡_ {A = ℕ} 0 1 = cc in omega arith)
 
 module _ (s : List ℕ) (n : ℕ) (q : Option ℕ) where
   turn-refused : (turns : ℕ) (seen : Seen) (gs : List Setting) (at : ℕ)
-      → (more : (seen₁ : Seen) (gs₁ : List Setting) (m : ℕ) → walk turns s seen₁ gs₁ m ≡ refused n q → Refused s m n q)
-      → (i : Item) → judgedAt seen s at ≡ i → next seen gs i (walk turns s) ≡ refused n q → Refused s at n q
+      → (more : (seen₁ : Seen) (gs₁ : List Setting) (m : ℕ) → setupWalk turns s seen₁ gs₁ m ≡ refused n q → Refused s m n q)
+      → (i : Item) → judgedAt seen s at ≡ i → turned turns s seen gs i ≡ refused n q → Refused s at n q
   turn-refused turns seen gs at more (bad k p) e h =
       let a : bad k p ≡ bad n q = cc in
       judged-bad s at n q seen (e ∙ a)
-  turn-refused turns seen gs at more (whole (Format v) m) e h =
-      let k = is-taken seen s at (Format v) m e .stand in
-      earlier s at m n q (omega (arith, k .after)) (omega (arith, k .after, k .fits)) (more (after seen (Format v)) (placed (seen .format) (seen .framing) gs (Format v)) m h)
-  turn-refused turns seen gs at more (whole (Lane l) m) e h =
-      let k = is-taken seen s at (Lane l) m e .stand in
-      earlier s at m n q (omega (arith, k .after)) (omega (arith, k .after, k .fits)) (more (after seen (Lane l)) (placed (seen .format) (seen .framing) gs (Lane l)) m h)
-  turn-refused turns seen gs at more (whole (Framing l) m) e h =
-      let k = is-taken seen s at (Framing l) m e .stand in
-      earlier s at m n q (omega (arith, k .after)) (omega (arith, k .after, k .fits)) (more (after seen (Framing l)) (placed (seen .format) (seen .framing) gs (Framing l)) m h)
-  turn-refused turns seen gs at more (whole (Shared l) m) e h =
-      let k = is-taken seen s at (Shared l) m e .stand in
-      earlier s at m n q (omega (arith, k .after)) (omega (arith, k .after, k .fits)) (more (after seen (Shared l)) (placed (seen .format) (seen .framing) gs (Shared l)) m h)
-  turn-refused turns seen gs at more (whole End m) e h = read-refused h
+  turn-refused turns seen gs at more (whole f m) e h = field-refused (ends f) h
+    where
+      field-refused : (b : Bool) → (if b then read (seen .format) gs (seen .count) m else setupWalk turns s (after seen f) (placed (seen .format) (seen .framing) gs f) m) ≡ refused n q → Refused s at n q
+      field-refused true h = read-refused h
+      field-refused false h =
+          let k = is-taken seen s at f m e .stand in
+          earlier s at m n q (omega (arith, k .after)) (omega (arith, k .after, k .fits)) (more (after seen f) (placed (seen .format) (seen .framing) gs f) m h)
 
-  walk-refused : (turns : ℕ) (seen : Seen) (gs : List Setting) (at : ℕ) → walk turns s seen gs at ≡ refused n q → Refused s at n q
-  unfolding walk
+  walk-refused : (turns : ℕ) (seen : Seen) (gs : List Setting) (at : ℕ) → setupWalk turns s seen gs at ≡ refused n q → Refused s at n q
+  unfolding setupWalk
   walk-refused zero seen gs at h =
       let a : bad 1 (some (length s)) ≡ bad n q = cc in
       at-place s at n q 1 (length s) refl (λ l. l) (omega arith) (λ z. refl) refl a

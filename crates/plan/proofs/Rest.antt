@@ -16,12 +16,13 @@ use lib.Seq.{getD-set-same, set-set}
 use Rattle.rules.specs.State.{Setting, noSetting, settingAt}
 use Rattle.plan.specs.Fields.{Item, whole, bad}
 use Rattle.plan.specs.Judge.{given, judgedAt, after}
-use Rattle.plan.specs.Read.{read, refused, asShared, placed, next, walk}
+use Rattle.plan.specs.Read.{read, refused, asShared, placed, setupWalk}
 use Rattle.plan.specs.Accepted.{Laid, LaneFields, Rising, LanesWithin, weighed, givenBy, placedAll, behind, fieldsOf}
 use Rattle.plan.specs.declared.judge.Seen.{Seen}
 use Rattle.plan.specs.declared.parse.LaneField.{LaneField}
 use Rattle.plan.specs.declared.parse.SetupField.{SetupField}
 use Rattle.plan.specs.declared.parse.SetupField.the-variants.{Format, Lane, Framing, Shared, End}
+use Rattle.plan.proofs.Turn.{turned}
 use Rattle.plan.proofs.Inside.{true-false, lane-number, in-numbers, is-rising, is-laned, is-last}
 use Rattle.plan.proofs.Stands.{Taken, is-taken}
 use Rattle.plan.proofs.Sound.{Sound, sound-after}
@@ -149,8 +150,8 @@ module _ (turns : ℕ) (s : List ℕ) (seen : Seen) (gs : List Setting) (at v : 
         within = r .within;
       }
 
-  module _ (shut : seen .opening ≡ false) (more : (seen₁ : Seen) (gs₁ : List Setting) (m : ℕ) → seen₁ .begun ≡ true → seen₁ .opening ≡ false → Sound seen₁ gs₁ → walk turns s seen₁ gs₁ m ≡ read v gs′ n p → Rest s seen₁ gs₁ m v gs′ n p) where
-    rest-field : (f : SetupField) (m : ℕ) → Taken seen s at f m → next seen gs (whole f m) (walk turns s) ≡ read v gs′ n p → Rest s seen gs at v gs′ n p
+  module _ (shut : seen .opening ≡ false) (more : (seen₁ : Seen) (gs₁ : List Setting) (m : ℕ) → seen₁ .begun ≡ true → seen₁ .opening ≡ false → Sound seen₁ gs₁ → setupWalk turns s seen₁ gs₁ m ≡ read v gs′ n p → Rest s seen₁ gs₁ m v gs′ n p) where
+    rest-field : (f : SetupField) (m : ℕ) → Taken seen s at f m → turned turns s seen gs (whole f m) ≡ read v gs′ n p → Rest s seen gs at v gs′ n p
     rest-field (Format w) m k h = true-false (sym begun ∙ k .in-place)
     rest-field (Lane l) m k h =
         rest-lane l m k (more (after seen (Lane l)) (placed (seen .format) (seen .framing) gs (Lane l)) m refl refl (sound-after seen gs (Lane l) ok (k .in-place) (k .inside) (k .under)) h)
@@ -159,13 +160,13 @@ module _ (turns : ℕ) (s : List ℕ) (seen : Seen) (gs : List Setting) (at v : 
         rest-shared j m k (more (after seen (Shared j)) (placed (seen .format) (seen .framing) gs (Shared j)) m refl refl (sound-after seen gs (Shared j) ok (k .in-place) (k .inside) (k .under)) h)
     rest-field End m k h = rest-end m k h
 
-    rest-item : (i : Item) → judgedAt seen s at ≡ i → next seen gs i (walk turns s) ≡ read v gs′ n p → Rest s seen gs at v gs′ n p
+    rest-item : (i : Item) → judgedAt seen s at ≡ i → turned turns s seen gs i ≡ read v gs′ n p → Rest s seen gs at v gs′ n p
     rest-item (bad a b) e h = refused-read h
     rest-item (whole f m) e h = rest-field f m (is-taken seen s at f m e) h
 
 pub rest : (turns : ℕ) (s : List ℕ) (seen : Seen) (gs : List Setting) (at v : ℕ) (gs′ : List Setting) (n p : ℕ) → seen .begun ≡ true → seen .opening ≡ false → Sound seen gs
-    → walk turns s seen gs at ≡ read v gs′ n p → Rest s seen gs at v gs′ n p
-unfolding walk
+    → setupWalk turns s seen gs at ≡ read v gs′ n p → Rest s seen gs at v gs′ n p
+unfolding setupWalk
 rest zero s seen gs at v gs′ n p b c ok h = refused-read h
 rest (suc turns) s seen gs at v gs′ n p b c ok h =
     rest-item turns s seen gs at v gs′ n p b ok c (λ seen₁ gs₁ m b₁ c₁ ok₁ h₁. rest turns s seen₁ gs₁ m v gs′ n p b₁ c₁ ok₁ h₁) (judgedAt seen s at) refl h

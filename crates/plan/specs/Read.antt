@@ -1,6 +1,7 @@
 -- What reading a setup answers: the promise of `read_plan` and of `read_setup`.
 --
 --   Reply       what reading answers
+--   setupWalk   the fields of a setup, from a place on
 --   readPlan    the reply at a place of an input
 --   readSetup   the reply where the setup is the whole input, as for making a table
 --   reads       the code's answer as a `Reply`
@@ -51,19 +52,18 @@ placed v h gs (Framing w) = gs
 placed v h gs (Shared k) = set gs k (asShared (settingAt gs k))
 placed v h gs End = gs
 
--- R8.2. A field that was taken: 0x7F ends the setup, and after any other one the walk goes on.
-abbrev pub next : Seen → List Setting → Item → (Seen → List Setting → ℕ → Reply) → Reply
-next seen gs (bad n p) go = refused n p
-next seen gs (whole f at) go = if ends f then read (seen .format) gs (seen .count) at else go (after seen f) (placed (seen .format) (seen .framing) gs f) at
-
--- R8.2. Fields in order, from a place on. A field has three bytes or more, so there is a turn for each byte left, and after them no byte is left.
-unfoldable pub walk : ℕ → List ℕ → Seen → List Setting → ℕ → Reply
-walk zero s seen gs at = refused 1 (some (length s))
-walk (suc turns) s seen gs at = next seen gs (judgedAt seen s at) (walk turns s)
+-- R8.2. Fields in order, from a place on, each judged by those before it. The walk stops at a field that is refused, and at 0x7F, which ends the setup; behind
+-- any other field it goes on. A field has three bytes or more, so there is a turn for each byte left, and after them no byte is left.
+unfoldable pub setupWalk : ℕ → List ℕ → Seen → List Setting → ℕ → Reply
+setupWalk zero s seen gs at = refused 1 (some (length s))
+setupWalk (suc turns) s seen gs at = elim (judgedAt seen s at) [
+  | bad n p ↦ refused n p
+  | whole f next ↦ if ends f then read (seen .format) gs (seen .count) next else setupWalk turns s (after seen f) (placed (seen .format) (seen .framing) gs f) next
+]
 
 -- R8.2, R10.6: a setup from a place on, to its own 0x7F. A place past the end is one with no byte left.
 unfoldable pub readPlan : List ℕ → ℕ → Reply
-readPlan s at = walk (length s - at) s nothingSeen noLanes at
+readPlan s at = setupWalk (length s - at) s nothingSeen noLanes at
 
 -- R8.14, R14.6: 4 at a byte behind the 0x7F
 abbrev pub closed : List ℕ → Reply → Reply

@@ -23,15 +23,14 @@ use Rattle.requests.specs.Request.{Item, request, last, bad, itemAt}
 use Rattle.answers.specs.Lines.{lineBy}
 use Rattle.walk.specs.Script.{Script, closing, runOf}
 
--- a request, and those behind it; none at the end field or a refused field
-abbrev pub asked : Item → (ℕ → List Call) → List Call
-asked (bad n p) go = []
-asked (last at) go = []
-asked (request c at) go = c ∷ go at
-
+-- none at the end field or a refused field; else the request, and those behind it
 unfoldable pub requestsOf : ℕ → List ℕ → ℕ → List Call
 requestsOf zero s at = []
-requestsOf (suc left) s at = asked (itemAt s at) (requestsOf left s)
+requestsOf (suc left) s at = elim (itemAt s at) [
+  | bad n p ↦ []
+  | last next ↦ []
+  | request c next ↦ c ∷ requestsOf left s next
+]
 
 unfoldable pub linesOf : List Setting → List Event → List ℕ
 linesOf gs [] = []

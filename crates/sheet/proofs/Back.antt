@@ -27,7 +27,7 @@ use Rattle.plan.proofs.Rest.{refused-read}
 use Rattle.plan.proofs.Sound.{Sound, sound-first, sound-after}
 use Rattle.sheet.specs.Form.{begin, step}
 use Rattle.sheet.specs.Judge.{verdict, fieldOf}
-use Rattle.sheet.specs.Read.{sheetFormat, noneSeen, blank, after-line, next, walk, readSheet}
+use Rattle.sheet.specs.Read.{sheetFormat, noneSeen, blank, sheetWalk, readSheet}
 use Rattle.sheet.specs.Text.{sheetFrom, sheetBytes}
 use Rattle.sheet.specs.Promises.{Accepted}
 use Rattle.sheet.specs.declared.form.Part as part
@@ -38,6 +38,7 @@ use Rattle.sheet.specs.declared.form.Step.{Step}
 use Rattle.sheet.specs.declared.form.Step.the-variants.{More, Whole, Wrong}
 use Rattle.sheet.specs.declared.judge.Verdict.{Verdict}
 use Rattle.sheet.specs.declared.judge.Verdict.the-variants.{Taken, Refused}
+use Rattle.sheet.proofs.Turn.{after-line, after-byte}
 use Rattle.sheet.proofs.Decimals.{append-assoc, append-nil}
 use Rattle.sheet.proofs.Steps.{soFar, lastBytes, bytesOf, rowBytes, Sane, sane-begin, Stepped, stepped, true-false}
 use Rattle.sheet.proofs.Rows.{Bare, is-taken, in-place}
@@ -114,9 +115,9 @@ module _ (v′ : ℕ) (gs′ : List Setting) (n p : ℕ) where
       }
 
   module _ (seen : Seen) (gs : List Setting) (f : Line) (at b : ℕ) (bs : List ℕ) (ok : Sound seen gs) (bare : Bare seen)
-      (more : (seen₁ : Seen) (gs₁ : List Setting) (f₁ : Line) → Sound seen₁ gs₁ → Bare seen₁ → Sane f₁ (at + 1) → walk seen₁ gs₁ f₁ (at + 1) bs ≡ read v′ gs′ n p → Back gs₁ f₁ (at + 1) bs) where
+      (more : (seen₁ : Seen) (gs₁ : List Setting) (f₁ : Line) → Sound seen₁ gs₁ → Bare seen₁ → Sane f₁ (at + 1) → sheetWalk seen₁ gs₁ f₁ (at + 1) bs ≡ read v′ gs′ n p → Back gs₁ f₁ (at + 1) bs) where
     abbrev go : Seen → List Setting → Line → Reply
-    go seen₁ gs₁ f₁ = walk seen₁ gs₁ f₁ (at + 1) bs
+    go seen₁ gs₁ f₁ = sheetWalk seen₁ gs₁ f₁ (at + 1) bs
 
     back-line : (r : Row) → bytesOf f ++ b ∷ [] ≡ rowBytes r → (v : Verdict) → verdict seen r ≡ v → after-line seen gs (at + 1) r v go ≡ read v′ gs′ n p → Back gs f at (b ∷ bs)
     back-line r x (Refused y) e h = refused-read h
@@ -137,7 +138,7 @@ module _ (v′ : ℕ) (gs′ : List Setting) (n p : ℕ) where
           some-lane = k .some-lane;
         }
 
-    back-step : (s : Step) → Stepped f at b s → next seen gs at s go ≡ read v′ gs′ n p → Back gs f at (b ∷ bs)
+    back-step : (s : Step) → Stepped f at b s → after-byte seen gs at s go ≡ read v′ gs′ n p → Back gs f at (b ∷ bs)
     back-step Wrong x h = refused-read h
     back-step (More g) x h =
         let k = more seen gs g ok bare (x .0) h in
@@ -152,8 +153,8 @@ module _ (v′ : ℕ) (gs′ : List Setting) (n p : ℕ) where
         }
     back-step (Whole r) x h = back-line r (x .1) (verdict seen r) refl h
 
-  pub back : (bs : List ℕ) (seen : Seen) (gs : List Setting) (f : Line) (at : ℕ) → Sound seen gs → Bare seen → Sane f at → walk seen gs f at bs ≡ read v′ gs′ n p → Back gs f at bs
-  unfolding walk
+  pub back : (bs : List ℕ) (seen : Seen) (gs : List Setting) (f : Line) (at : ℕ) → Sound seen gs → Bare seen → Sane f at → sheetWalk seen gs f at bs ≡ read v′ gs′ n p → Back gs f at bs
+  unfolding sheetWalk
   back [] seen gs f at ok b sane h = back-end seen gs f at (blank (f .part) (f .begun)) (ltb 0 (seen .count)) ok b refl refl h
   back (b ∷ bs) seen gs f at ok bare sane h =
       back-step seen gs f at b bs ok bare (λ seen₁ gs₁ f₁ ok₁ bare₁ sane₁ h₁. back bs seen₁ gs₁ f₁ (at + 1) ok₁ bare₁ sane₁ h₁) (step f at b) (stepped f at b sane) h

@@ -24,7 +24,7 @@ use Rattle.plan.specs.declared.parse.SetupField.the-variants.{Lane}
 use Rattle.plan.proofs.Rest.{refused-read}
 use Rattle.sheet.specs.Form.{begin, step}
 use Rattle.sheet.specs.Judge.{verdict, fieldOf}
-use Rattle.sheet.specs.Read.{sheetFormat, noneSeen, blank, after-line, next, walk, readSheet}
+use Rattle.sheet.specs.Read.{sheetFormat, noneSeen, blank, sheetWalk, readSheet}
 use Rattle.sheet.specs.Promises as promises
 use Rattle.sheet.specs.Promises.{refusals}
 use Rattle.sheet.specs.declared.form.Line.{Line}
@@ -33,6 +33,7 @@ use Rattle.sheet.specs.declared.form.Step.{Step}
 use Rattle.sheet.specs.declared.form.Step.the-variants.{More, Whole, Wrong}
 use Rattle.sheet.specs.declared.judge.Verdict.{Verdict}
 use Rattle.sheet.specs.declared.judge.Verdict.the-variants.{Taken, Refused}
+use Rattle.sheet.proofs.Turn.{after-line, after-byte}
 use Rattle.sheet.proofs.Rows.{byTests}
 use Rattle.sheet.proofs.Steps.{Sane, SaneRow, sane-begin, Stepped, stepped}
 
@@ -91,9 +92,9 @@ module _ (n : ℕ) (q : Option ℕ) where
       record { one-of = subst (λ (k : ℕ). among refusals k ≡ true) e₁ s; place = p; is = sym e₂; within = l; at-end = λ z. sym e₁ ∙ last z }
 
   module _ (seen : Seen) (gs : List Setting) (f : Line) (at b : ℕ) (bs : List ℕ)
-      (more : (seen₁ : Seen) (gs₁ : List Setting) (f₁ : Line) → Sane f₁ (at + 1) → walk seen₁ gs₁ f₁ (at + 1) bs ≡ refused n q → Fault n q (at + 1 + length bs)) where
+      (more : (seen₁ : Seen) (gs₁ : List Setting) (f₁ : Line) → Sane f₁ (at + 1) → sheetWalk seen₁ gs₁ f₁ (at + 1) bs ≡ refused n q → Fault n q (at + 1 + length bs)) where
     abbrev go : Seen → List Setting → Line → Reply
-    go seen₁ gs₁ f₁ = walk seen₁ gs₁ f₁ (at + 1) bs
+    go seen₁ gs₁ f₁ = sheetWalk seen₁ gs₁ f₁ (at + 1) bs
 
     longer : Fault n q (at + 1 + length bs) → Fault n q (at + length (b ∷ bs))
     longer f = record { one-of = f .one-of; place = f .place; is = f .is; within = omega (arith, f .within); at-end = λ z. f .at-end (omega (arith, z)) }
@@ -104,7 +105,7 @@ module _ (n : ℕ) (q : Option ℕ) where
         (ap (refused (number x)) (sym (j .is)) ∙ h)
     fault-line r Taken j h = longer (more (after seen (Lane (fieldOf r))) (placed sheetFormat 0 gs (Lane (fieldOf r))) (begin (at + 1)) (sane-begin (at + 1)) h)
 
-    fault-step : (s : Step) → Stepped f at b s → next seen gs at s go ≡ refused n q → Fault n q (at + length (b ∷ bs))
+    fault-step : (s : Step) → Stepped f at b s → after-byte seen gs at s go ≡ refused n q → Fault n q (at + length (b ∷ bs))
     fault-step Wrong x h = fault-at 80 at (at + length (b ∷ bs)) refl (omega arith) (λ z. absurd (omega (arith, z))) h
     fault-step (More g) x h = longer (more seen gs g (x .0) h)
     fault-step (Whole r) x h = fault-line r (verdict seen r) (judged-fault seen r at (x .0)) h
@@ -113,8 +114,8 @@ module _ (n : ℕ) (q : Option ℕ) where
   fault-end seen gs at true h = read-refused h
   fault-end seen gs at false h = fault-at 81 at (at + 0) refl (omega arith) (λ z. refl) h
 
-  fault-walk : (bs : List ℕ) (seen : Seen) (gs : List Setting) (f : Line) (at : ℕ) → Sane f at → walk seen gs f at bs ≡ refused n q → Fault n q (at + length bs)
-  unfolding walk
+  fault-walk : (bs : List ℕ) (seen : Seen) (gs : List Setting) (f : Line) (at : ℕ) → Sane f at → sheetWalk seen gs f at bs ≡ refused n q → Fault n q (at + length bs)
+  unfolding sheetWalk
   fault-walk [] seen gs f at sane h = fault-end seen gs at (blank (f .part) (f .begun) && ltb 0 (seen .count)) h
   fault-walk (b ∷ bs) seen gs f at sane h =
       fault-step seen gs f at b bs (λ seen₁ gs₁ f₁ sane₁ h₁. fault-walk bs seen₁ gs₁ f₁ (at + 1) sane₁ h₁) (step f at b) (stepped f at b sane) h

@@ -24,10 +24,11 @@ use Rattle.plan.specs.declared.judge.Seen.{Seen}
 use Rattle.plan.specs.declared.parse.SetupField.the-variants.{Lane}
 use Rattle.sheet.specs.Form.{begin}
 use Rattle.sheet.specs.Judge.{fieldOf}
-use Rattle.sheet.specs.Read.{sheetFormat, noneSeen, after-line, walk, readSheet}
+use Rattle.sheet.specs.Read.{sheetFormat, noneSeen, sheetWalk, readSheet}
 use Rattle.sheet.specs.Text.{lineBytes, laneLine, sheetFrom, sheetBytes}
 use Rattle.sheet.specs.declared.form.Row.{Row}
 use Rattle.sheet.specs.declared.judge.Verdict.{Verdict}
+use Rattle.sheet.proofs.Turn.{after-line}
 use Rattle.sheet.proofs.Decimals.{append-assoc}
 use Rattle.sheet.proofs.Rows.{passes}
 use Rattle.sheet.proofs.Sheets.{line-there}
@@ -43,7 +44,7 @@ snoc xs x ys = sym (append-assoc xs (x ∷ []) ys)
 -- what is to be shown of the lanes from k on
 abbrev Goes : List Setting → List Setting → Seen → ℕ → ℕ → Type 0
 Goes rest pre seen k at =
-    walk seen (pre ++ blanks rest) (begin at) at (sheetFrom k rest) ≡ read sheetFormat (pre ++ rest) (seen .count + present rest) (at + length (sheetFrom k rest))
+    sheetWalk seen (pre ++ blanks rest) (begin at) at (sheetFrom k rest) ≡ read sheetFormat (pre ++ rest) (seen .count + present rest) (at + length (sheetFrom k rest))
 
 -- what is known there
 record Ready (rest pre : List Setting) (seen : Seen) (k : ℕ) : Type 0 where
@@ -57,7 +58,7 @@ record Ready (rest pre : List Setting) (seen : Seen) (k : ℕ) : Type 0 where
   some-lane : 0 < seen .count + present rest
 
 goes-end : (pre : List Setting) (seen : Seen) (k at : ℕ) → Ready [] pre seen k → Goes [] pre seen k at
-unfolding walk sheetFrom
+unfolding sheetWalk sheetFrom
 goes-end pre seen k at h =
     let c : 0 < seen .count = omega (arith, h .some-lane) in
     let n : seen .count ≡ seen .count + 0 = omega arith in
@@ -85,9 +86,9 @@ module _ (g : Setting) (rest pre : List Setting) (seen : Seen) (k at : ℕ) (h :
         total = omega (arith, h .total);
         some-lane = omega (arith, h .some-lane, t);
       } in
-      ap (λ (x : List ℕ). walk seen (pre ++ noSetting ∷ blanks rest) (begin at) at x) bytes
-      ∙ ap (λ (x : Setting). walk seen (pre ++ x ∷ blanks rest) (begin at) at (sheetFrom (suc k) rest)) (sym e)
-      ∙ ap (λ (x : List Setting). walk seen x (begin at) at (sheetFrom (suc k) rest)) (snoc pre g (blanks rest))
+      ap (λ (x : List ℕ). sheetWalk seen (pre ++ noSetting ∷ blanks rest) (begin at) at x) bytes
+      ∙ ap (λ (x : Setting). sheetWalk seen (pre ++ x ∷ blanks rest) (begin at) at (sheetFrom (suc k) rest)) (sym e)
+      ∙ ap (λ (x : List Setting). sheetWalk seen x (begin at) at (sheetFrom (suc k) rest)) (snoc pre g (blanks rest))
       ∙ more r
       ∙ ap (λ (x : List Setting). read sheetFormat x (seen .count + present rest) (at + length (sheetFrom (suc k) rest))) (sym (snoc pre g rest))
       ∙ ap (λ (x : ℕ). read sheetFormat (pre ++ g ∷ rest) x (at + length (sheetFrom (suc k) rest))) (omega (arith, t))
@@ -127,11 +128,11 @@ module _ (g : Setting) (rest pre : List Setting) (seen : Seen) (k at : ℕ) (h :
         let count : seen₁ .count + present rest ≡ seen .count + present (g ∷ rest) = omega (arith, t) in
         let end : at₁ + length (sheetFrom (suc k) rest) ≡ at + length (sheetFrom k (g ∷ rest)) =
         omega (arith, length-line k (g .weight) (g .longest) at, ap length bytes, length-append (lineBytes k (g .weight) (g .longest)) (sheetFrom (suc k) rest)) in
-        ap (λ (x : List ℕ). walk seen (pre ++ noSetting ∷ blanks rest) (begin at) at x) bytes
+        ap (λ (x : List ℕ). sheetWalk seen (pre ++ noSetting ∷ blanks rest) (begin at) at x) bytes
         ∙ line-walk k (g .weight) (g .longest) at seen (pre ++ noSetting ∷ blanks rest) (sheetFrom (suc k) rest) (omega arith) (omega (arith, i .weight-high)) (omega (arith, i .longest-high))
-        ∙ ap (λ (v : Verdict). after-line seen (pre ++ noSetting ∷ blanks rest) at₁ row v (λ seen₂ gs₂ f₂. walk seen₂ gs₂ f₂ at₁ (sheetFrom (suc k) rest))) ok
-        ∙ ap (λ (x : Setting). walk seen₁ (set (pre ++ noSetting ∷ blanks rest) k x) (begin at₁) at₁ (sheetFrom (suc k) rest)) own
-        ∙ ap (λ (x : List Setting). walk seen₁ x (begin at₁) at₁ (sheetFrom (suc k) rest)) (set-at pre noSetting (blanks rest) g k (h .size) ∙ snoc pre g (blanks rest))
+        ∙ ap (λ (v : Verdict). after-line seen (pre ++ noSetting ∷ blanks rest) at₁ row v (λ seen₂ gs₂ f₂. sheetWalk seen₂ gs₂ f₂ at₁ (sheetFrom (suc k) rest))) ok
+        ∙ ap (λ (x : Setting). sheetWalk seen₁ (set (pre ++ noSetting ∷ blanks rest) k x) (begin at₁) at₁ (sheetFrom (suc k) rest)) own
+        ∙ ap (λ (x : List Setting). sheetWalk seen₁ x (begin at₁) at₁ (sheetFrom (suc k) rest)) (set-at pre noSetting (blanks rest) g k (h .size) ∙ snoc pre g (blanks rest))
         ∙ more r
         ∙ ap (λ (x : List Setting). read sheetFormat x (seen₁ .count + present rest) (at₁ + length (sheetFrom (suc k) rest))) (sym (snoc pre g rest))
         ∙ ap (λ (x : ℕ). read sheetFormat (pre ++ g ∷ rest) x (at₁ + length (sheetFrom (suc k) rest))) count
@@ -161,7 +162,7 @@ all-bare gs s none k = ⊎-elim (λ i. s .framed k (i .weight-low) ∙ none) (λ
 pub written-read : (gs : List Setting) → Setup gs → framingOf gs ≡ 0 → Unshared gs → readSheet (sheetBytes gs) ≡ read sheetFormat gs (present gs) (length (sheetBytes gs))
 unfolding readSheet sheetBytes
 written-read gs s none un =
-    ap (λ (n : ℕ). walk noneSeen (replicate n noSetting) (begin 0) 0 (sheetFrom 0 gs)) (sym (s .size))
+    ap (λ (n : ℕ). sheetWalk noneSeen (replicate n noSetting) (begin 0) 0 (sheetFrom 0 gs)) (sym (s .size))
     ∙ forth gs [] noneSeen 0 0 (record {
       size = refl;
       whole = omega (arith, s .size);

@@ -21,7 +21,7 @@ use Rattle.plan.specs.declared.judge.Seen.{Seen}
 use Rattle.plan.specs.declared.parse.SetupField.the-variants.{Lane}
 use Rattle.sheet.specs.Form.{begin, step}
 use Rattle.sheet.specs.Judge.{verdict, fieldOf}
-use Rattle.sheet.specs.Read.{sheetFormat, noneSeen, blank, after-line, next, walk, readSheet}
+use Rattle.sheet.specs.Read.{sheetFormat, noneSeen, blank, sheetWalk, readSheet}
 use Rattle.sheet.specs.Text.{Begins}
 use Rattle.sheet.specs.Promises.{WrongByte, Unfinished}
 use Rattle.sheet.specs.declared.form.Line.{Line}
@@ -30,6 +30,7 @@ use Rattle.sheet.specs.declared.form.Step.{Step}
 use Rattle.sheet.specs.declared.form.Step.the-variants.{More, Whole, Wrong}
 use Rattle.sheet.specs.declared.judge.Verdict.{Verdict}
 use Rattle.sheet.specs.declared.judge.Verdict.the-variants.{Taken, Refused}
+use Rattle.sheet.proofs.Turn.{after-line, after-byte}
 use Rattle.sheet.proofs.Decimals.{append-nil}
 use Rattle.sheet.proofs.Steps.{bytesOf, rowBytes, Sane, SaneRow, sane-begin, Stepped, stepped, true-false}
 use Rattle.sheet.proofs.Back.{add-byte}
@@ -47,16 +48,16 @@ pub record Wronged (seen : Seen) (gs : List Setting) (f : Line) (at p : ℕ) (bs
   pub is : front ++ byte ∷ back ≡ bs
   pub place : p ≡ at + length front
   pub begins : Begins (bytesOf f ++ front)
-  pub always : (t : List ℕ) → walk seen gs f at (front ++ byte ∷ t) ≡ refused 80 (some p)
+  pub always : (t : List ℕ) → sheetWalk seen gs f at (front ++ byte ∷ t) ≡ refused 80 (some p)
 
 module _ (p : ℕ) where
   module _ (seen : Seen) (gs : List Setting) (f : Line) (at b : ℕ) (bs : List ℕ) (sane : Sane f at)
-      (more : (seen₁ : Seen) (gs₁ : List Setting) (f₁ : Line) → Sane f₁ (at + 1) → walk seen₁ gs₁ f₁ (at + 1) bs ≡ refused 80 (some p) → Wronged seen₁ gs₁ f₁ (at + 1) p bs) where
+      (more : (seen₁ : Seen) (gs₁ : List Setting) (f₁ : Line) → Sane f₁ (at + 1) → sheetWalk seen₁ gs₁ f₁ (at + 1) bs ≡ refused 80 (some p) → Wronged seen₁ gs₁ f₁ (at + 1) p bs) where
     abbrev go : Seen → List Setting → Line → Reply
-    go seen₁ gs₁ f₁ = walk seen₁ gs₁ f₁ (at + 1) bs
+    go seen₁ gs₁ f₁ = sheetWalk seen₁ gs₁ f₁ (at + 1) bs
 
     module _ (s : Step) (e : step f at b ≡ s) (seen₁ : Seen) (gs₁ : List Setting) (f₁ : Line)
-        (same : (t : List ℕ) → next seen gs at s (λ seen₂ gs₂ f₂. walk seen₂ gs₂ f₂ (at + 1) t) ≡ walk seen₁ gs₁ f₁ (at + 1) t)
+        (same : (t : List ℕ) → after-byte seen gs at s (λ seen₂ gs₂ f₂. sheetWalk seen₂ gs₂ f₂ (at + 1) t) ≡ sheetWalk seen₁ gs₁ f₁ (at + 1) t)
         (x : List ℕ) (begun : Begins x) (w : Wronged seen₁ gs₁ f₁ (at + 1) p bs) (y : bytesOf f ++ b ∷ w .front ≡ x) where
       wronged-on : Wronged seen gs f at p (b ∷ bs)
       wronged-on = record {
@@ -75,10 +76,10 @@ module _ (p : ℕ) where
     wronged-line r e s x Taken d j h =
         let w = more (after seen (Lane (fieldOf r))) (placed sheetFormat 0 gs (Lane (fieldOf r))) (begin (at + 1)) (sane-begin (at + 1)) h in
         wronged-on (Whole r) e (after seen (Lane (fieldOf r))) (placed sheetFormat 0 gs (Lane (fieldOf r))) (begin (at + 1))
-        (λ t. ap (λ (v : Verdict). after-line seen gs (at + 1) r v (λ seen₂ gs₂ f₂. walk seen₂ gs₂ f₂ (at + 1) t)) d)
+        (λ t. ap (λ (v : Verdict). after-line seen gs (at + 1) r v (λ seen₂ gs₂ f₂. sheetWalk seen₂ gs₂ f₂ (at + 1) t)) d)
         (rowBytes r ++ w .front) (begins-behind r at (w .front) s (w .begins)) w (add-byte f (rowBytes r) b (w .front) x)
 
-    wronged-step : (s : Step) → step f at b ≡ s → Stepped f at b s → next seen gs at s go ≡ refused 80 (some p) → Wronged seen gs f at p (b ∷ bs)
+    wronged-step : (s : Step) → step f at b ≡ s → Stepped f at b s → after-byte seen gs at s go ≡ refused 80 (some p) → Wronged seen gs f at p (b ∷ bs)
     wronged-step Wrong e x h =
         let q : at ≡ p = cc in
         record {
@@ -99,8 +100,8 @@ module _ (p : ℕ) where
   not-80 seen gs at true h = read-refused h
   not-80 seen gs at false h = absurd (let z : _≡_ {A = ℕ} 81 80 = cc in omega arith)
 
-  wronged : (bs : List ℕ) (seen : Seen) (gs : List Setting) (f : Line) (at : ℕ) → Sane f at → walk seen gs f at bs ≡ refused 80 (some p) → Wronged seen gs f at p bs
-  unfolding walk
+  wronged : (bs : List ℕ) (seen : Seen) (gs : List Setting) (f : Line) (at : ℕ) → Sane f at → sheetWalk seen gs f at bs ≡ refused 80 (some p) → Wronged seen gs f at p bs
+  unfolding sheetWalk
   wronged [] seen gs f at sane h = not-80 seen gs at (blank (f .part) (f .begun) && ltb 0 (seen .count)) h
   wronged (b ∷ bs) seen gs f at sane h =
       wronged-step seen gs f at b bs sane (λ seen₁ gs₁ f₁ sane₁ h₁. wronged bs seen₁ gs₁ f₁ (at + 1) sane₁ h₁) (step f at b) refl (stepped f at b sane) h
@@ -112,9 +113,9 @@ module _ (p : ℕ) where
   Cut f at bs = (p ≡ at + length bs) × Begins (bytesOf f ++ bs)
 
   module _ (seen : Seen) (gs : List Setting) (f : Line) (at b : ℕ) (bs : List ℕ)
-      (more : (seen₁ : Seen) (gs₁ : List Setting) (f₁ : Line) → Sane f₁ (at + 1) → walk seen₁ gs₁ f₁ (at + 1) bs ≡ refused 81 (some p) → Cut f₁ (at + 1) bs) where
+      (more : (seen₁ : Seen) (gs₁ : List Setting) (f₁ : Line) → Sane f₁ (at + 1) → sheetWalk seen₁ gs₁ f₁ (at + 1) bs ≡ refused 81 (some p) → Cut f₁ (at + 1) bs) where
     abbrev onward : Seen → List Setting → Line → Reply
-    onward seen₁ gs₁ f₁ = walk seen₁ gs₁ f₁ (at + 1) bs
+    onward seen₁ gs₁ f₁ = sheetWalk seen₁ gs₁ f₁ (at + 1) bs
 
     cut-line : (r : Row) → SaneRow r at → bytesOf f ++ b ∷ [] ≡ rowBytes r → (v : Verdict) → Judged at v → after-line seen gs (at + 1) r v onward ≡ refused 81 (some p) → Cut f at (b ∷ bs)
     cut-line r s x (Refused y) j h = true-false (sym (line-not (number y) 81 (j .listed) cc))
@@ -122,7 +123,7 @@ module _ (p : ℕ) where
         let w = more (after seen (Lane (fieldOf r))) (placed sheetFormat 0 gs (Lane (fieldOf r))) (begin (at + 1)) (sane-begin (at + 1)) h in
         (omega (arith, w .0), subst Begins (sym (add-byte f (rowBytes r) b bs x)) (begins-behind r at bs s (w .1)))
 
-    cut-step : (s : Step) → Stepped f at b s → next seen gs at s onward ≡ refused 81 (some p) → Cut f at (b ∷ bs)
+    cut-step : (s : Step) → Stepped f at b s → after-byte seen gs at s onward ≡ refused 81 (some p) → Cut f at (b ∷ bs)
     cut-step Wrong x h = absurd (let z : _≡_ {A = ℕ} 80 81 = cc in omega arith)
     cut-step (More g) x h = let w = more seen gs g (x .0) h in (omega (arith, w .0), subst Begins (sym (add-byte f (bytesOf g) b bs (x .1))) (w .1))
     cut-step (Whole r) x h = cut-line r (x .0) (x .1) (verdict seen r) (judged-fault seen r at (x .0)) h
@@ -131,8 +132,8 @@ module _ (p : ℕ) where
   cut-end seen gs f at sane true h = read-refused h
   cut-end seen gs f at sane false h = let q : at ≡ p = cc in (omega arith, subst Begins (sym (append-nil (bytesOf f))) (begins-line f at sane))
 
-  cut : (bs : List ℕ) (seen : Seen) (gs : List Setting) (f : Line) (at : ℕ) → Sane f at → walk seen gs f at bs ≡ refused 81 (some p) → Cut f at bs
-  unfolding walk
+  cut : (bs : List ℕ) (seen : Seen) (gs : List Setting) (f : Line) (at : ℕ) → Sane f at → sheetWalk seen gs f at bs ≡ refused 81 (some p) → Cut f at bs
+  unfolding sheetWalk
   cut [] seen gs f at sane h = cut-end seen gs f at sane (blank (f .part) (f .begun) && ltb 0 (seen .count)) h
   cut (b ∷ bs) seen gs f at sane h = cut-step seen gs f at b bs (λ seen₁ gs₁ f₁ sane₁ h₁. cut bs seen₁ gs₁ f₁ (at + 1) sane₁ h₁) (step f at b) (stepped f at b sane) h
 

@@ -19,7 +19,7 @@ use Rattle.plan.proofs.Lists.{set-cases}
 use Rattle.plan.proofs.Rest.{refused-read}
 use Rattle.sheet.specs.Form.{begin, step}
 use Rattle.sheet.specs.Judge.{verdict, fieldOf}
-use Rattle.sheet.specs.Read.{sheetFormat, blank, after-line, next, walk}
+use Rattle.sheet.specs.Read.{sheetFormat, blank, sheetWalk}
 use Rattle.sheet.specs.Promises.{Unshared}
 use Rattle.sheet.specs.declared.form.Line.{Line}
 use Rattle.sheet.specs.declared.form.Row.{Row}
@@ -27,6 +27,7 @@ use Rattle.sheet.specs.declared.form.Step.{Step}
 use Rattle.sheet.specs.declared.form.Step.the-variants.{More, Whole, Wrong}
 use Rattle.sheet.specs.declared.judge.Verdict.{Verdict}
 use Rattle.sheet.specs.declared.judge.Verdict.the-variants.{Taken, Refused}
+use Rattle.sheet.proofs.Turn.{after-line, after-byte}
 
 placed-unshared : (gs : List Setting) (r : Row) → Unshared gs → Unshared (placed sheetFormat 0 gs (Lane (fieldOf r)))
 placed-unshared gs r un k = set-cases (λ (g : Setting). g .shared ≡ false) gs (r .lane .value) k (given sheetFormat 0 (fieldOf r)) noSetting (λ e. refl) (λ e. un k) refl
@@ -42,13 +43,13 @@ module _ (v : ℕ) (gs′ : List Setting) (n p : ℕ) where
     judged r (Refused y) h = refused-read h
     judged r Taken h = more (after seen (Lane (fieldOf r))) (placed sheetFormat 0 gs (Lane (fieldOf r))) (begin (at + 1)) (placed-unshared gs r un) h
 
-    stepped-on : (s : Step) → next seen gs at s go ≡ read v gs′ n p → Unshared gs′
+    stepped-on : (s : Step) → after-byte seen gs at s go ≡ read v gs′ n p → Unshared gs′
     stepped-on Wrong h = refused-read h
     stepped-on (More f) h = more seen gs f un h
     stepped-on (Whole r) h = judged r (verdict seen r) h
 
-  pub stays : (bs : List ℕ) (seen : Seen) (gs : List Setting) (f : Line) (at : ℕ) → Unshared gs → walk seen gs f at bs ≡ read v gs′ n p → Unshared gs′
-  unfolding walk
+  pub stays : (bs : List ℕ) (seen : Seen) (gs : List Setting) (f : Line) (at : ℕ) → Unshared gs → sheetWalk seen gs f at bs ≡ read v gs′ n p → Unshared gs′
+  unfolding sheetWalk
   stays [] seen gs f at un h = ended gs (seen .count) at (blank (f .part) (f .begun) && ltb 0 (seen .count)) un h
   stays (b ∷ bs) seen gs f at un h =
-      stepped-on seen gs at (λ seen₁ gs₁ f₁. walk seen₁ gs₁ f₁ (at + 1) bs) un (λ seen₁ gs₁ f₁ un₁ h₁. stays bs seen₁ gs₁ f₁ (at + 1) un₁ h₁) (step f at b) h
+      stepped-on seen gs at (λ seen₁ gs₁ f₁. sheetWalk seen₁ gs₁ f₁ (at + 1) bs) un (λ seen₁ gs₁ f₁ un₁ h₁. stays bs seen₁ gs₁ f₁ (at + 1) un₁ h₁) (step f at b) h

@@ -25,13 +25,14 @@ use Rattle.plan.specs.declared.parse.SetupField.the-variants.{Lane}
 use Rattle.plan.proofs.Sound.{Sound}
 use Rattle.sheet.specs.Form.{begin, step}
 use Rattle.sheet.specs.Judge.{verdict, fieldOf}
-use Rattle.sheet.specs.Read.{sheetFormat, noneSeen, blank, after-line, next, walk, readSheet}
+use Rattle.sheet.specs.Read.{sheetFormat, noneSeen, blank, sheetWalk, readSheet}
 use Rattle.sheet.specs.declared.form.Line.{Line}
 use Rattle.sheet.specs.declared.form.Row.{Row}
 use Rattle.sheet.specs.declared.form.Step.{Step}
 use Rattle.sheet.specs.declared.form.Step.the-variants.{More, Whole, Wrong}
 use Rattle.sheet.specs.declared.judge.Verdict.{Verdict}
 use Rattle.sheet.specs.declared.judge.Verdict.the-variants.{Taken, Refused}
+use Rattle.sheet.proofs.Turn.{after-line, after-byte}
 use Rattle.sheet.proofs.Steps.{Sane, SaneRow, sane-begin, Stepped, stepped}
 use Rattle.sheet.proofs.Rows.{Bare}
 use Rattle.sheet.proofs.Back.{grows, bare-none, sound-none}
@@ -42,7 +43,7 @@ pub record Standing (s : List ℕ) (seen : Seen) (gs : List Setting) (f : Line) 
   pub bare : Bare seen
   pub sane : Sane f i
   pub low : i ≤ length s
-  pub same : walk seen gs f i (drop i s) ≡ readSheet s
+  pub same : sheetWalk seen gs f i (drop i s) ≡ readSheet s
 
 pub stand-first : (s : List ℕ) → Standing s noneSeen noLanes (begin 0) 0
 unfolding readSheet
@@ -54,13 +55,13 @@ module _ (s : List ℕ) (seen : Seen) (gs : List Setting) (f : Line) (i : ℕ) (
 
   module _ (h : i < length s) where
     abbrev go : Seen → List Setting → Line → Reply
-    go seen₁ gs₁ f₁ = walk seen₁ gs₁ f₁ (i + 1) (drop (i + 1) s)
+    go seen₁ gs₁ f₁ = sheetWalk seen₁ gs₁ f₁ (i + 1) (drop (i + 1) s)
 
     split : drop i s ≡ getD s i 0 ∷ drop (i + 1) s
     split = let e : suc i ≡ i + 1 = omega arith in drop-cons s i 0 h ∙ ap (λ (k : ℕ). getD s i 0 ∷ drop k s) e
 
-    here : (x : Step) → step f i (getD s i 0) ≡ x → next seen gs i x go ≡ readSheet s
-    here x e = sym (ap (walk seen gs f i) split ∙ walk-byte seen gs f i (getD s i 0) (drop (i + 1) s) x (sym e)) ∙ st .same
+    here : (x : Step) → step f i (getD s i 0) ≡ x → after-byte seen gs i x go ≡ readSheet s
+    here x e = sym (ap (sheetWalk seen gs f i) split ∙ walk-byte seen gs f i (getD s i 0) (drop (i + 1) s) x (sym e)) ∙ st .same
 
     did : (x : Step) → step f i (getD s i 0) ≡ x → Stepped f i (getD s i 0) x
     did x e = subst (Stepped f i (getD s i 0)) e (stepped f i (getD s i 0) (st .sane))
@@ -92,8 +93,8 @@ module _ (s : List ℕ) (seen : Seen) (gs : List Setting) (f : Line) (i : ℕ) (
 
   module _ (h : length s ≤ i) where
     at-end : (if blank (f .part) (f .begun) && ltb 0 (seen .count) then read sheetFormat gs (seen .count) i else refused 81 (some i)) ≡ readSheet s
-    unfolding walk
-    at-end = sym (ap (walk seen gs f i) (drop-of-length-le s h)) ∙ st .same
+    unfolding sheetWalk
+    at-end = sym (ap (sheetWalk seen gs f i) (drop-of-length-le s h)) ∙ st .same
 
     pub stand-read : blank (f .part) (f .begun) ≡ true → ltb 0 (seen .count) ≡ true → read sheetFormat gs (seen .count) i ≡ readSheet s
     stand-read a b = rw (← at-end, a, b)

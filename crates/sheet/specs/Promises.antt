@@ -17,15 +17,19 @@ use mathlib.Core.Option.{Option, some}
 use lib.ListN.{length}
 use Rattle.rules.specs.State.{Setting, settingAt}
 use Rattle.rules.specs.Setup.{Setup, framingOf}
-use Rattle.plan.specs.Read.{read, refused}
+use Rattle.rules.specs.Reads.{number, placeOf}
+use Rattle.plan.specs.Judge.{after}
+use Rattle.plan.specs.Read.{read, refused, placed}
 use Rattle.plan.specs.Accepted.{present, among}
 use Rattle.plan.specs.declared.judge.Seen.{Seen}
+use Rattle.plan.specs.declared.parse.SetupField.the-variants.{Lane}
 use Rattle.text.specs.Decimal.{decimal}
 use Rattle.sheet.specs.Form.{begin}
-use Rattle.sheet.specs.Judge.{verdict}
-use Rattle.sheet.specs.Read.{sheetFormat, after-line, walk, readSheet}
+use Rattle.sheet.specs.Judge.{verdict, fieldOf}
+use Rattle.sheet.specs.Read.{sheetFormat, sheetWalk, readSheet}
 use Rattle.sheet.specs.Text.{lineBytes, Formed, Begins, sheetBytes}
 use Rattle.sheet.specs.declared.form.Row.{Row}
+use Rattle.sheet.specs.declared.judge.Verdict.the-variants as verdicts
 
 -- no lane is shared
 abbrev pub Unshared : List Setting → Type 0
@@ -66,8 +70,11 @@ module _ (a b c at : ℕ) where
 unfoldable pub LineByLine : Type 0
 LineByLine =
     (a b c at : ℕ) (seen : Seen) (gs : List Setting) (bs : List ℕ) → a < 100000 → b < 100000 → c < 100000
-    → walk seen gs (begin at) at (lineBytes a b c ++ bs)
-    ≡ after-line seen gs (place₃ a b c at) (rowAt a b c at) (verdict seen (rowAt a b c at)) (λ seen₁ gs₁ f₁. walk seen₁ gs₁ f₁ (place₃ a b c at) bs)
+    → sheetWalk seen gs (begin at) at (lineBytes a b c ++ bs)
+    ≡ (elim (verdict seen (rowAt a b c at)) [
+      | verdicts.Refused x ↦ refused (number x) (placeOf x)
+      | verdicts.Taken ↦ sheetWalk (after seen (Lane (fieldOf (rowAt a b c at)))) (placed sheetFormat 0 gs (Lane (fieldOf (rowAt a b c at)))) (begin (place₃ a b c at)) (place₃ a b c at) bs
+    ])
 
 abbrev pub refusals : List ℕ
 refusals = 80 ∷ 81 ∷ 51 ∷ 52 ∷ 53 ∷ 4 ∷ 6 ∷ []

@@ -24,7 +24,7 @@ use Rattle.fresh.specs.Makes.{Makes}
 use Rattle.lines.specs.Line.{noLine, lanesLine, endLine, Wrote, Line}
 use Rattle.lines.proofs.Writing.{wrote-both}
 use Rattle.walk.specs.Script as Script
-use Rattle.walk.specs.Script.{walk, closing, finished, script}
+use Rattle.walk.specs.Script.{sessionWalk, closing, finished, script}
 use Rattle.walk.specs.Follows.{whyIs, Follows, FollowsCore}
 use Rattle.walk.specs.Walks.{Walks, Closes}
 use Rattle.walk.specs.declared.Stop.the-variants.{End, Limit, Refused}
@@ -80,7 +80,7 @@ module _ (s : List ℕ) (limit : ℕ) where
 
   -- the requests on the fresh table
   pub begun-is : (v : ℕ) (gs : List Setting) (lanes at : ℕ) {t t₀ t₁ t′ a a′ : List ℕ} {r : RunResult} → plan.readPlan s 0 ≡ plan.read v gs lanes at
-      → tableSize ≤ length t′ → Blank t t₀ → Makes t₀ t₁ gs → FollowsCore t₁ t′ a a′ r (finished lanes (walk limit s at 0 [] (meant t₁))) → Follows t t′ a a′ r (script s limit)
+      → tableSize ≤ length t′ → Blank t t₀ → Makes t₀ t₁ gs → FollowsCore t₁ t′ a a′ r (finished lanes (sessionWalk limit s at 0 [] (meant t₁))) → Follows t t′ a a′ r (script s limit)
   unfolding script
   begun-is v gs lanes at {t} {t₀} {t₁} {t′} e room b m x =
       rw e (let y = rw (m .state) at x in record {
