@@ -3,13 +3,15 @@ use Prim.Native.Nat.{ℕ}
 use mathlib.Core.List.{List}
 use Rattle.units.specs.Plain.{if_then_else_}
 use Rattle.rules.specs.State.{Setting}
-use Rattle.plan.specs.Fields.{Item, whole, bad, ends}
-use Rattle.plan.specs.Judge.{after}
-use Rattle.plan.specs.Read.{Reply, read, refused, placed, setupWalk}
+use Rattle.plan.specs.Fields.{SetupItem, wholeField, badField, ends}
+use Rattle.plan.specs.Judge.{seenAfter}
+use Rattle.plan.specs.Read.{SetupReply, setupRead, setupRefused, placed, setupWalk}
 use Rattle.plan.specs.declared.judge.Seen.{Seen}
 
-abbrev pub turned : ℕ → List ℕ → Seen → List Setting → Item → Reply
+abbrev pub turned : ℕ → List ℕ → Seen → List Setting → SetupItem → SetupReply
 turned turns s seen gs i = elim i [
-  | bad n p ↦ refused n p
-  | whole f next ↦ if ends f then read (seen .format) gs (seen .count) next else setupWalk turns s (after seen f) (placed (seen .format) (seen .framing) gs f) next
+  | badField n p ↦ setupRefused n p
+  | wholeField f next ↦
+      if ends f then setupRead (seen .format) gs (seen .count) next
+      else setupWalk turns s (seenAfter seen f) (placed (seen .format) (seen .framing) gs f) next
 ]

@@ -13,7 +13,7 @@ use Rattle.rules.specs.Setup.{Setup}
 use Rattle.rules.specs.declared.Refusal.{Refusal}
 use Rattle.rules.specs.declared.Refusal.the-variants.{TableShort}
 use Rattle.plan.specs.Read as plan
-use Rattle.plan.specs.Read.{readSetup, settings, came, reads}
+use Rattle.plan.specs.Read.{readSetup, settings, setupCame, setupReply}
 use Rattle.plan.specs.declared.Reading.{Reading}
 use Rattle.plan.specs.declared.Outcome.the-variants.{Read}
 use Rattle.plan.specs.declared.Outcome.the-variants as outcome
@@ -23,19 +23,19 @@ use Rattle.plan_writer.specs.Write.{Planned, Writes}
 use Rattle.plan_writer.specs.declared.Written.{Written}
 use Rattle.plan_writer.specs.declared.Written.the-variants as written
 use Rattle.plan_writer.specs.declared.Unwritten.the-variants.{Outside}
-use Rattle.plan_area.specs.Area.{Room, planIn, Shows, AreaWithin}
-use Rattle.plan_area.specs.Step.{Follows, ReadStep, WriteStep}
+use Rattle.plan_area.specs.Area.{AreaRoom, planIn, ShowsPlan, AreaWithin}
+use Rattle.plan_area.specs.Step.{AreaBySetup, ReadStep, WriteStep}
 use Rattle.plan_area.specs.declared.Got.the-variants.{Lanes, Refused}
 
 module _ (s a : List ℕ) where
   pub read-short : length a < 65 * 8 → ReadStep s a (Refused TableShort) a
   read-short h = record { short = λ _. (refl, refl); follows = λ room. absurd (omega (arith, room, h)); size = refl }
 
-  module _ (room : Room a) (r : Reading) (e : reads r ≡ readSetup s) where
+  module _ (room : AreaRoom a) (r : Reading) (e : setupReply r ≡ readSetup s) where
     pub read-refused : (x : Refusal) → r .outcome ≡ outcome.Refused x → ReadStep s a (Refused x) a
     read-refused x o = record {
       short = λ h. absurd (omega (arith, room, h));
-      follows = λ _. subst (λ (y : plan.Reply). Follows y a (Refused x) a) (sym (ap (came (r .plan)) o) ∙ e) (refl, refl);
+      follows = λ _. subst (λ (y : plan.SetupReply). AreaBySetup y a (Refused x) a) (sym (ap (setupCame (r .plan)) o) ∙ e) (refl, refl);
       size = refl;
     }
 
@@ -43,10 +43,10 @@ module _ (s a : List ℕ) where
     read-setup-good next o = let a = accepted-setup r s next e o .0 in (a .setup, format-small (r .plan .format) (a .rule .format))
 
     pub read-stored : (next : ℕ) → r .outcome ≡ Read next → (b : List ℕ) → length b ≡ length a
-        → Shows (record { format = r .plan .format; lanes = settings (r .plan); count = r .plan .count }) b × (drop (65 * 8) b ≡ drop (65 * 8) a) → ReadStep s a (Lanes (r .plan .count)) b
+        → ShowsPlan (record { format = r .plan .format; lanes = settings (r .plan); count = r .plan .count }) b × (drop (65 * 8) b ≡ drop (65 * 8) a) → ReadStep s a (Lanes (r .plan .count)) b
     read-stored next o b size w = record {
       short = λ h. absurd (omega (arith, room, h));
-      follows = λ _. subst (λ (y : plan.Reply). Follows y a (Lanes (r .plan .count)) b) (sym (ap (came (r .plan)) o) ∙ e) (refl, w .0, w .1);
+      follows = λ _. subst (λ (y : plan.SetupReply). AreaBySetup y a (Lanes (r .plan .count)) b) (sym (ap (setupCame (r .plan)) o) ∙ e) (refl, w .0, w .1);
       size = size;
     }
 
@@ -57,7 +57,7 @@ module _ (area before : List ℕ) where
   pub write-short : length area < 65 * 8 → WriteStep area before (written.Refused Outside) before
   write-short h = not-within (λ w. omega (arith, w .room, h))
 
-  pub write-plan : Room area → (p : Planned) → p ≡ planIn area → (a : Written) (after : List ℕ) → Writes p before a after → WriteStep area before a after
+  pub write-plan : AreaRoom area → (p : Planned) → p ≡ planIn area → (a : Written) (after : List ℕ) → Writes p before a after → WriteStep area before a after
   write-plan room p is a after h =
       let w : Writes (planIn area) before a after = subst (λ (x : Planned). Writes x before a after) is h in
       record {

@@ -1,10 +1,10 @@
 -- A plan in lent bytes (R9.7): 65 words, low byte first.
 --
---   Room        long enough
+--   AreaRoom                      long enough
 --   formatIn, framingIn, laneIn   the numbers of an area; settingIn: those of a lane's word
---   planIn      the plan that an area is, in or out of the numbers
---   Shows       the words of an area that shows a plan
---   AreaWithin  an area that is a plan within the numbers
+--   planIn                        the plan that an area is, in or out of the numbers
+--   ShowsPlan                     the words of an area that shows a plan
+--   AreaWithin                    an area that is a plan within the numbers
 --
 -- Assumes nothing.
 use Prim.Native.Nat.{ℕ, _+_, _-_, _*_, _/_, _%_, _≤_, _<_}
@@ -22,8 +22,8 @@ use Rattle.plan.specs.Accepted.{present}
 use Rattle.plan_writer.specs.Write.{Planned, Within}
 
 -- 65 words of eight bytes.
-abbrev pub Room : List ℕ → Type 0
-Room a = 65 * 8 ≤ length a
+abbrev pub AreaRoom : List ℕ → Type 0
+AreaRoom a = 65 * 8 ≤ length a
 
 -- ---- what the words are
 
@@ -60,14 +60,14 @@ planIn a = record { format = formatIn a; lanes = lanesIn a; count = present (lan
 abbrev pub sharedPart : Bool → ℕ
 sharedPart b = if b then 4294967296 else 0
 
-abbrev pub laneWord : Setting → ℕ
-laneWord g = g .weight + 65536 * g .longest + sharedPart (g .shared)
+abbrev pub planLaneWord : Setting → ℕ
+planLaneWord g = g .weight + 65536 * g .longest + sharedPart (g .shared)
 
-pub record Shows (p : Planned) (a : List ℕ) : Type 0 where
+pub record ShowsPlan (p : Planned) (a : List ℕ) : Type 0 where
   pub head : wordAt a 0 ≡ p .format + 65536 * framingOf (p .lanes)
-  pub lane : (k : ℕ) → k < 64 → wordAt a (k + 1) ≡ laneWord (settingAt (p .lanes) k)
+  pub lane : (k : ℕ) → k < 64 → wordAt a (k + 1) ≡ planLaneWord (settingAt (p .lanes) k)
 
 -- R9.9. Long enough, and within the numbers.
 pub record AreaWithin (a : List ℕ) : Type 0 where
-  pub room : Room a
+  pub room : AreaRoom a
   pub plan : Within (planIn a)

@@ -15,20 +15,20 @@ use Rattle.rules.specs.Runs.{after, trace}
 use Rattle.rules.specs.Fair.{Demand3, TwoLanes}
 use Rattle.rules.proofs.SameSetup.{same-setup, fresh-setup}
 use Rattle.rules.proofs.Fair.{demand3, two-lanes}
-use Rattle.plan.specs.Read as plan
+use Rattle.plan.specs.Read.{SetupReply, readPlan, setupRefused, setupRead}
 use Rattle.plan.proofs.Accepted.{accepted}
 use Rattle.table.specs.Layout.{tableSize}
 use Rattle.lines.specs.Line.{lanesLine}
-use Rattle.requests.specs.Request.{Item, request, last, bad, itemAt}
+use Rattle.requests.specs.Request.{RequestItem, request, last, badRequest, requestItemAt}
 use Rattle.answers.specs.Lines.{lineBy}
-use Rattle.walk.specs.Script.{Walked, closing, sessionWalk, begun, script, nothing, runOf}
+use Rattle.walk.specs.Script.{Walked, closing, sessionWalk, sessionBegun, script, nothingDone, runOf}
 use Rattle.walk.proofs.Walking.{walked}
 use Rattle.session.specs.Requests.{requestsOf, linesOf, Lists, RunLists}
 
 -- one turn of `requestsOf`, as a function of what stands at the place
-abbrev asked : ℕ → List ℕ → Item → List Call
+abbrev asked : ℕ → List ℕ → RequestItem → List Call
 asked left s i = elim i [
-  | bad n p ↦ []
+  | badRequest n p ↦ []
   | last next ↦ []
   | request c next ↦ c ∷ requestsOf left s next
 ]
@@ -47,11 +47,11 @@ walk-stops lines n left σ w a b c = record { text = a ∙ sym (append-nil lines
 walk-lists : (left : ℕ) (s : List ℕ) (at n : ℕ) (lines : List ℕ) (σ : State) → WalkLists lines n σ (requestsOf left s at) left (sessionWalk left s at n lines σ)
 unfolding sessionWalk requestsOf trace after linesOf
 walk-lists zero s at n lines σ = walk-stops lines n 0 σ (sessionWalk zero s at n lines σ) refl refl refl
-walk-lists (suc left) s at n lines σ = go (itemAt s at) (λ q m ls τ. walk-lists left s q m ls τ)
+walk-lists (suc left) s at n lines σ = go (requestItemAt s at) (λ q m ls τ. walk-lists left s q m ls τ)
   where
-    go : (i : Item) → ((q m : ℕ) (ls : List ℕ) (τ : State) → WalkLists ls m τ (requestsOf left s q) left (sessionWalk left s q m ls τ))
+    go : (i : RequestItem) → ((q m : ℕ) (ls : List ℕ) (τ : State) → WalkLists ls m τ (requestsOf left s q) left (sessionWalk left s q m ls τ))
         → WalkLists lines n σ (asked left s i) (suc left) (walked left s n lines σ i)
-    go (bad r p) more = walk-stops lines n (suc left) σ (walked left s n lines σ (bad r p)) refl refl refl
+    go (badRequest r p) more = walk-stops lines n (suc left) σ (walked left s n lines σ (badRequest r p)) refl refl refl
     go (last q) more = walk-stops lines n (suc left) σ (walked left s n lines σ (last q)) refl refl refl
     go (request c q) more =
         let line = lineBy (setupOf σ) ((step σ c) .reply) in
@@ -65,10 +65,10 @@ walk-lists (suc left) s at n lines σ = go (itemAt s at) (λ q m ls τ. walk-lis
         }
 
 module _ (s : List ℕ) (limit : ℕ) (σ : State) where
-  begun-lists : (r : plan.Reply) → plan.readPlan s 0 ≡ r → begun s limit r .state ≡ some σ → Lists s limit (begun s limit r)
+  begun-lists : (r : SetupReply) → readPlan s 0 ≡ r → sessionBegun s limit r .state ≡ some σ → Lists s limit (sessionBegun s limit r)
   unfolding Demand3 TwoLanes
-  begun-lists (plan.refused n p) e h = let z : _≡_ {A = ℕ} 0 1 = cc in absurd (omega arith)
-  begun-lists (plan.read v gs lanes at) e h =
+  begun-lists (setupRefused n p) e h = let z : _≡_ {A = ℕ} 0 1 = cc in absurd (omega arith)
+  begun-lists (setupRead v gs lanes at) e h =
       let w = sessionWalk limit s at 0 [] (fresh gs) in
       let i = walk-lists limit s at 0 [] (fresh gs) in
       let ok : Setup gs = accepted s 0 v gs lanes at e .setup in
@@ -92,8 +92,8 @@ pub run-lists : RunLists
 unfolding RunLists runOf script
 run-lists s limit table area σ = go (ltb 1000 limit || ltb area (64 * (limit + 2))) (ltb table tableSize)
   where
-    go : (a b : Bool) → (if a then nothing 17 none else (if b then nothing 7 (some 0) else begun s limit (plan.readPlan s 0))) .state ≡ some σ
-        → Lists s limit (if a then nothing 17 none else (if b then nothing 7 (some 0) else begun s limit (plan.readPlan s 0)))
+    go : (a b : Bool) → (if a then nothingDone 17 none else (if b then nothingDone 7 (some 0) else sessionBegun s limit (readPlan s 0))) .state ≡ some σ
+        → Lists s limit (if a then nothingDone 17 none else (if b then nothingDone 7 (some 0) else sessionBegun s limit (readPlan s 0)))
     go true b h = let z : _≡_ {A = ℕ} 0 1 = cc in absurd (omega arith)
     go false true h = let z : _≡_ {A = ℕ} 0 1 = cc in absurd (omega arith)
-    go false false h = begun-lists s limit σ (plan.readPlan s 0) refl h
+    go false false h = begun-lists s limit σ (readPlan s 0) refl h

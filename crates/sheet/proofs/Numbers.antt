@@ -16,7 +16,7 @@ use borrow.Author.Tests.{le-leb, lt-ltb}
 use Rattle.rules.specs.State.{Setting}
 use Rattle.plan.specs.declared.judge.Seen.{Seen}
 use Rattle.text.specs.Decimal.{decimal}
-use Rattle.sheet.specs.Form.{digit, extends, stop, unread, begin, closed, step}
+use Rattle.sheet.specs.Form.{digit, extends, stop, noDigits, newLine, numberClosed, lineStep}
 use Rattle.sheet.specs.Judge.{verdict}
 use Rattle.sheet.specs.Read.{sheetWalk}
 use Rattle.sheet.specs.Text.{lineBytes}
@@ -30,7 +30,7 @@ use Rattle.sheet.proofs.Decimals.{append-assoc, decimal-more, decimal-o
 use Rattle.sheet.proofs.Answers.{step-digit, step-stop}
 
 -- one byte of the walk
-pub walk-byte : (seen : Seen) (gs : List Setting) (f : Line) (at b : ℕ) (bs : List ℕ) (s : Step) → s ≡ step f at b
+pub walk-byte : (seen : Seen) (gs : List Setting) (f : Line) (at b : ℕ) (bs : List ℕ) (s : Step) → s ≡ lineStep f at b
     → sheetWalk seen gs f at (b ∷ bs) ≡ after-byte seen gs at s (λ seen₁ gs₁ f₁. sheetWalk seen₁ gs₁ f₁ (at + 1) bs)
 unfolding sheetWalk
 walk-byte seen gs f at b bs s e = ap (λ (t : Step). after-byte seen gs at t (λ seen₁ gs₁ f₁. sheetWalk seen₁ gs₁ f₁ (at + 1) bs)) (sym e)
@@ -96,7 +96,7 @@ module _ (seen : Seen) (gs : List Setting) (f : Line) where
     -- and the byte that ends it
     pub word-walk : (n at : ℕ) (bs : List ℕ) → n < 100000
         → sheetWalk seen gs f at (decimal n ++ stop (f .part) ∷ bs)
-        ≡ after-byte seen gs (at + length (decimal n)) (closed (f .part) (numbered f n) (at + length (decimal n) + 1)) (λ seen₁ gs₁ f₁. sheetWalk seen₁ gs₁ f₁ (at + length (decimal n) + 1) bs)
+        ≡ after-byte seen gs (at + length (decimal n)) (numberClosed (f .part) (numbered f n) (at + length (decimal n) + 1)) (λ seen₁ gs₁ f₁. sheetWalk seen₁ gs₁ f₁ (at + length (decimal n) + 1) bs)
     word-walk n at bs few =
         number-walk n at (stop (f .part) ∷ bs) few
         ∙ walk-byte seen gs (numbered f n) (at + length (decimal n)) (stop (f .part)) bs _
@@ -112,15 +112,15 @@ module _ (a b c at : ℕ) where
       ∙ ap (λ (l : List ℕ). decimal a ++ 32 ∷ l) (append-assoc (decimal b) (32 ∷ (decimal c ++ 10 ∷ [])) bs ∙ ap (λ (l : List ℕ). decimal b ++ 32 ∷ l) (append-assoc (decimal c) (10 ∷ []) bs))
 
   abbrev line₁ : Line
-  line₁ = record { part = Weight; lane = record { value = a; place = at }; weight = unread at; begun = false; last = unread (place₁ a b c at) }
+  line₁ = record { part = Weight; lane = record { value = a; place = at }; weight = noDigits at; begun = false; last = noDigits (place₁ a b c at) }
 
   abbrev line₂ : Line
-  line₂ = record { part = Longest; lane = record { value = a; place = at }; weight = record { value = b; place = place₁ a b c at }; begun = false; last = unread (place₂ a b c at) }
+  line₂ = record { part = Longest; lane = record { value = a; place = at }; weight = record { value = b; place = place₁ a b c at }; begun = false; last = noDigits (place₂ a b c at) }
 
   pub line-walk : (seen : Seen) (gs : List Setting) (bs : List ℕ) → a < 100000 → b < 100000 → c < 100000
-      → sheetWalk seen gs (begin at) at (lineBytes a b c ++ bs) ≡ after-line seen gs (place₃ a b c at) (rowAt a b c at) (verdict seen (rowAt a b c at)) (λ seen₁ gs₁ f₁. sheetWalk seen₁ gs₁ f₁ (place₃ a b c at) bs)
+      → sheetWalk seen gs (newLine at) at (lineBytes a b c ++ bs) ≡ after-line seen gs (place₃ a b c at) (rowAt a b c at) (verdict seen (rowAt a b c at)) (λ seen₁ gs₁ f₁. sheetWalk seen₁ gs₁ f₁ (place₃ a b c at) bs)
   line-walk seen gs bs ha hb hc =
-      ap (sheetWalk seen gs (begin at) at) (parted bs)
-      ∙ word-walk seen gs (begin at) refl refl a at (decimal b ++ 32 ∷ (decimal c ++ 10 ∷ bs)) ha
+      ap (sheetWalk seen gs (newLine at) at) (parted bs)
+      ∙ word-walk seen gs (newLine at) refl refl a at (decimal b ++ 32 ∷ (decimal c ++ 10 ∷ bs)) ha
       ∙ word-walk seen gs line₁ refl refl b (place₁ a b c at) (decimal c ++ 10 ∷ bs) hb
       ∙ word-walk seen gs line₂ refl refl c (place₂ a b c at) bs hc

@@ -24,12 +24,12 @@ use Rattle.table.specs.Means.{meant}
 use Rattle.table.specs.Encodes.{Encodes}
 use Rattle.lines.specs.Line.{Wrote, Line}
 use Rattle.lines.proofs.Writing.{wrote-both}
-use Rattle.requests.specs.Request.{Item, request, last, bad, itemAt}
+use Rattle.requests.specs.Request.{RequestItem, request, last, badRequest, requestItemAt}
 use Rattle.answers.specs.Lines.{lineBy}
 use Rattle.answers.specs.Answers.{Made, Answers}
 use Rattle.answers.proofs.Made.{encodes-step, line-step}
 use Rattle.answers.specs.declared.Tally.{Tally}
-use Rattle.walk.specs.Script.{atLimit, refusal, Walked, closed, sessionWalk}
+use Rattle.walk.specs.Script.{atLimit, refusal, Walked, sessionClosed, sessionWalk}
 use Rattle.walk.specs.Follows.{whyIs}
 use Rattle.walk.specs.Walks.{lineCount, Walks}
 use Rattle.walk.specs.declared.Stop as Stop
@@ -37,10 +37,10 @@ use Rattle.walk.specs.declared.Stop as Stop
 -- ---- the script's walk, one turn
 
 -- as a function of what stands at the place, so that a proof can go by cases of it
-abbrev pub walked : ℕ → List ℕ → ℕ → List ℕ → State → Item → Walked
+abbrev pub walked : ℕ → List ℕ → ℕ → List ℕ → State → RequestItem → Walked
 walked left s n lines σ i = elim i [
-  | bad r p ↦ record { lines = lines; count = n; why = refusal r p; state = σ }
-  | last next ↦ record { lines = lines; count = n; why = closed s next; state = σ }
+  | badRequest r p ↦ record { lines = lines; count = n; why = refusal r p; state = σ }
+  | last next ↦ record { lines = lines; count = n; why = sessionClosed s next; state = σ }
   | request c next ↦ sessionWalk left s next (n + 1) (lines ++ lineBy (setupOf σ) ((step σ c) .reply)) ((step σ c) .state)
 ]
 
@@ -49,15 +49,15 @@ module _ (s : List ℕ) (limit at n : ℕ) (lines : List ℕ) (σ : State) where
   unfolding sessionWalk
   walk-limit h = let l : limit - n ≡ 0 = omega arith in rw l
 
-  pub walk-bad : n < limit → (r : ℕ) (p : Option ℕ) → itemAt s at ≡ bad r p → sessionWalk (limit - n) s at n lines σ ≡ record { lines = lines; count = n; why = refusal r p; state = σ }
+  pub walk-bad : n < limit → (r : ℕ) (p : Option ℕ) → requestItemAt s at ≡ badRequest r p → sessionWalk (limit - n) s at n lines σ ≡ record { lines = lines; count = n; why = refusal r p; state = σ }
   unfolding sessionWalk
   walk-bad h r p e = let l : limit - n ≡ suc (limit - (n + 1)) = omega arith in rw l (ap (walked (limit - (n + 1)) s n lines σ) e)
 
-  pub walk-last : n < limit → (at′ : ℕ) → itemAt s at ≡ last at′ → sessionWalk (limit - n) s at n lines σ ≡ record { lines = lines; count = n; why = closed s at′; state = σ }
+  pub walk-last : n < limit → (at′ : ℕ) → requestItemAt s at ≡ last at′ → sessionWalk (limit - n) s at n lines σ ≡ record { lines = lines; count = n; why = sessionClosed s at′; state = σ }
   unfolding sessionWalk
   walk-last h at′ e = let l : limit - n ≡ suc (limit - (n + 1)) = omega arith in rw l (ap (walked (limit - (n + 1)) s n lines σ) e)
 
-  pub walk-request : n < limit → (c : Call) (at′ : ℕ) → itemAt s at ≡ request c at′
+  pub walk-request : n < limit → (c : Call) (at′ : ℕ) → requestItemAt s at ≡ request c at′
       → sessionWalk (limit - n) s at n lines σ ≡ sessionWalk (limit - (n + 1)) s at′ (n + 1) (lines ++ lineBy (setupOf σ) ((step σ c) .reply)) ((step σ c) .state)
   unfolding sessionWalk
   walk-request h c at′ e = let l : limit - n ≡ suc (limit - (n + 1)) = omega arith in rw l (ap (walked (limit - (n + 1)) s n lines σ) e)
@@ -105,7 +105,7 @@ module _ {s : List ℕ} {from limit : ℕ} {t₀ a₀ : List ℕ} {start : ℕ} 
   pub stands-room : start ≤ 64 → n < limit → 64 * (limit + 2) ≤ length a₀ → next + 64 ≤ length a
   stands-room h l m = omega (arith, text-most h, same-area)
 
-  pub stands-next : n < limit → (c : Call) (at′ : ℕ) → itemAt s at ≡ request c at′ → {t′ a′ : List ℕ} {r : Tally} → Answers c t t′ a a′ (record { answered = n; next = next }) r
+  pub stands-next : n < limit → (c : Call) (at′ : ℕ) → requestItemAt s at ≡ request c at′ → {t′ a′ : List ℕ} {r : Tally} → Answers c t t′ a a′ (record { answered = n; next = next }) r
       → Stands s from limit t₀ a₀ start t′ a′ at′ (r .next) (r .answered)
   stands-next l c at′ e {t′} {a′} {r} x =
       let text : List ℕ = lineBy (setupOf (i .state)) ((step (i .state) c) .reply) in

@@ -12,7 +12,7 @@ ghost use lib.ListN.{length};
 ghost use Rattle.table.specs.Layout.{tableSize};
 ghost use Rattle.table.specs.Means.{meant};
 ghost use Rattle.answers.specs.Answers.{Made};
-ghost use Rattle.walk.specs.Script.{closed, sessionWalk, finished, script};
+ghost use Rattle.walk.specs.Script.{sessionClosed, sessionWalk, finished, script};
 ghost use Rattle.walk.specs.Follows.{whyIs, Follows, FollowsCore};
 ghost use Rattle.walk.specs.Walks.{lineCount, Walks, Closes};
 use answers::Tally;
@@ -55,7 +55,7 @@ fn wide(b: u8) -> u64
 
 // At the end field: a byte after it is out of order.
 fn closed(s: &[u8], at: usize) -> Stop
-    ensures { λ r. ⌜ whyIs r ≡ closed (now (s .entry)) at ⌝ }
+    ensures { λ r. ⌜ whyIs r ≡ sessionClosed (now (s .entry)) at ⌝ }
 {
     if at < s.len() {
         return Stop::Refused(Refusal::OutOfOrder(at));

@@ -9,7 +9,7 @@ use mathlib.Core.Path.{_≡_}
 use mathlib.Core.List.{List}
 use mathlib.Core.Option.{none, some}
 use lib.ListN.{length}
-use Rattle.journal.specs.Reads.{Plain, line, stands, begun, refused}
+use Rattle.journal.specs.Reads.{Plain, line, stands, begun, plainRefused}
 use Rattle.zenfrosta.specs.Crossing.{four, refusalWords, Spoken}
 use Rattle.zenfrosta.specs.declared.Four.{Four}
 
@@ -17,7 +17,7 @@ abbrev pub code : Plain → ℕ
 code (line k) = 0
 code (stands x) = 0
 code begun = 0
-code (refused n p) = n
+code (plainRefused n p) = n
 
 -- R13.5. The line that was changed. What stands on a line: kind, train, cell, sequence, all 0 where it is free. A refusal as in every call.
 abbrev pub values : Plain → Four
@@ -25,7 +25,7 @@ values (line k) = four k 0 0 0
 values (stands none) = four 0 0 0 0
 values (stands (some r)) = four (r .kind) (r .train) (r .cell) (r .sequence)
 values begun = four 0 0 0 0
-values (refused n p) = refusalWords p
+values (plainRefused n p) = refusalWords p
 
 -- R13.2, R13.5: a buffer shorter than 32 bytes gives 255, and nothing is done. Else the call is made, and its answer is told.
 pub record CrossesBoard {A : Type 0} (plain : A → Plain) (Call : A → Type 0) (same : Type 0) (out : List ℕ) (r : ℕ) (out′ : List ℕ) : Type 0 where

@@ -21,8 +21,7 @@ use Rattle.rules.specs.declared.Answer.{Answer}
 use Rattle.pages.specs.Device.{DeviceReply, answered, inForceNow, waitsNow}
 use Rattle.scheduler.specs.Step.{Step, offering}
 use Rattle.scheduler.specs.declared.Offering.{Offering}
-use Rattle.scheduler.specs.Make as making
-use Rattle.scheduler.specs.Make.{made, notMade}
+use Rattle.scheduler.specs.Make.{made, notMade, MakeReply, makeReply}
 use Rattle.scheduler.specs.declared.Making.{Making}
 use Rattle.walk.specs.Script.{Why, atEnd, atLimit, refusal}
 use Rattle.walk.specs.Follows.{whyIs}
@@ -58,12 +57,12 @@ values (lagged z) = four (ofZ w64 z) 0 0 0
 values restarted = four 0 0 0 0
 values (refused n p) = refusalWords p
 
-abbrev pub makeCode : making.Reply → ℕ
+abbrev pub makeCode : MakeReply → ℕ
 makeCode (made n) = 0
 makeCode (notMade n p) = n
 
 -- R13.4: the number of lanes, or a refusal
-abbrev pub makeValues : making.Reply → Four
+abbrev pub makeValues : MakeReply → Four
 makeValues (made n) = four n 0 0 0
 makeValues (notMade n p) = refusalWords p
 
@@ -127,7 +126,7 @@ CrossesCall c t u out r out′ = Crosses (λ a. Step c t a u) (u ≡ t) out r ou
 -- R13.2, R13.4
 pub record CrossesMaking (Make : Making → Type 0) (same : Type 0) (out : List ℕ) (r : ℕ) (out′ : List ℕ) : Type 0 where
   pub short : length out < 32 → (r ≡ 255) × same × (out′ ≡ out)
-  pub told : 32 ≤ length out → (a : Making) × Make a × (r ≡ makeCode (making.reads a)) × Spoken out (makeValues (making.reads a)) out′
+  pub told : 32 ≤ length out → (a : Making) × Make a × (r ≡ makeCode (makeReply a)) × Spoken out (makeValues (makeReply a)) out′
 
 -- R19.17, R13.2
 pub record CrossesOffer (Offer : Offering → Type 0) (same : Type 0) (out : List ℕ) (r : ℕ) (out′ : List ℕ) : Type 0 where

@@ -10,7 +10,7 @@ use mathlib.Core.Path.{_≡_}
 use mathlib.Core.List.{List}
 use lib.ListN.{length}
 use Rattle.rules.specs.Calls.{Call}
-use Rattle.halt.specs.Halt.{HaltTable, HaltStep, reads}
+use Rattle.halt.specs.Halt.{HaltTable, HaltStep, haltReply}
 use Rattle.halt.specs.declared.Making.{Making}
 use Rattle.zenfrosta.specs.Crossing.{makeCode, makeValues, Spoken, Crosses, CrossesCall}
 
@@ -21,7 +21,7 @@ CrossesHalt c t u out r out′ = Crosses (λ a. HaltStep c t a u) (u ≡ t) out 
 -- R13.2, R13.4, R20.6
 pub record CrossesHaltMaking (Make : Making → Type 0) (same : Type 0) (out : List ℕ) (r : ℕ) (out′ : List ℕ) : Type 0 where
   pub short : length out < 32 → (r ≡ 255) × same × (out′ ≡ out)
-  pub told : 32 ≤ length out → (a : Making) × Make a × (r ≡ makeCode (reads a)) × Spoken out (makeValues (reads a)) out′
+  pub told : 32 ≤ length out → (a : Making) × Make a × (r ≡ makeCode (haltReply a)) × Spoken out (makeValues (haltReply a)) out′
 
 -- R20.4, R20.6
 unfoldable pub HaltCrosses : Type 0

@@ -14,26 +14,26 @@ use lib.ListN.{length}
 use Rattle.rules.specs.Calls as calls
 use Rattle.rules.specs.Calls.{take}
 use Rattle.old_table.specs.Old.{OldTable}
-use Rattle.convert.specs.Converts.{Reply, converted, notConverted, reads, TakenOver, Converts}
+use Rattle.convert.specs.Converts.{ConvertReply, converted, notConverted, convertReply, TakenOver, Converts}
 use Rattle.convert.specs.Takes.{OldTakes, UntilTen}
 use Rattle.convert.specs.declared.Converting.{Converting}
 use Rattle.zenfrosta.specs.Crossing.{four, refusalWords, wordsIn, Spoken, CrossesCall}
 use Rattle.zenfrosta.specs.Heard.{heard}
 use Rattle.zenfrosta.specs.declared.Four.{Four}
 
-abbrev pub convertCode : Reply → ℕ
+abbrev pub convertCode : ConvertReply → ℕ
 convertCode converted = 0
 convertCode (notConverted n p) = n
 
 -- R13.4
-abbrev pub convertValues : Reply → Four
+abbrev pub convertValues : ConvertReply → Four
 convertValues converted = four 0 0 0 0
 convertValues (notConverted n p) = refusalWords p
 
 -- R13.2: a buffer shorter than 32 bytes gives 255, and nothing is done. Else the table is converted, or refused, and that is told.
 pub record CrossesConverting (Convert : Converting → Type 0) (same : Type 0) (out : List ℕ) (r : ℕ) (out′ : List ℕ) : Type 0 where
   pub short : length out < 32 → (r ≡ 255) × same × (out′ ≡ out)
-  pub told : 32 ≤ length out → (a : Converting) × Convert a × (r ≡ convertCode (reads a)) × Spoken out (convertValues (reads a)) out′
+  pub told : 32 ≤ length out → (a : Converting) × Convert a × (r ≡ convertCode (convertReply a)) × Spoken out (convertValues (convertReply a)) out′
 
 pub data HeardTakes : List ℕ → List calls.Reply → List ℕ → Type 0 where
   nothing : {t : List ℕ} → HeardTakes t [] t

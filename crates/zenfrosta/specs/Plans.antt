@@ -10,28 +10,28 @@ use mathlib.Core.Path.{_≡_}
 use mathlib.Core.List.{List}
 use mathlib.Core.Option.{none}
 use lib.ListN.{length}
-use Rattle.plan_writer.specs.Write as write
-use Rattle.plan_area.specs.Step as area
+use Rattle.plan_writer.specs.Write.{WriteReply, writtenSize, notWritten}
+use Rattle.plan_area.specs.Step.{AreaReply, areaLanes, areaRefused}
 use Rattle.zenfrosta.specs.Crossing.{four, refusalWords, Spoken}
 use Rattle.zenfrosta.specs.declared.Four.{Four}
 
-abbrev pub readCode : area.Reply → ℕ
-readCode (area.lanes n) = 0
-readCode (area.refused n p) = n
+abbrev pub readCode : AreaReply → ℕ
+readCode (areaLanes n) = 0
+readCode (areaRefused n p) = n
 
 -- R13.5
-abbrev pub readValues : area.Reply → Four
-readValues (area.lanes n) = four n 0 0 0
-readValues (area.refused n p) = refusalWords p
+abbrev pub readValues : AreaReply → Four
+readValues (areaLanes n) = four n 0 0 0
+readValues (areaRefused n p) = refusalWords p
 
-abbrev pub writeCode : write.Reply → ℕ
-writeCode (write.size n) = 0
-writeCode (write.refused n) = n
+abbrev pub writeCode : WriteReply → ℕ
+writeCode (writtenSize n) = 0
+writeCode (notWritten n) = n
 
 -- R13.5
-abbrev pub writeValues : write.Reply → Four
-writeValues (write.size n) = four n 0 0 0
-writeValues (write.refused n) = refusalWords none
+abbrev pub writeValues : WriteReply → Four
+writeValues (writtenSize n) = four n 0 0 0
+writeValues (notWritten n) = refusalWords none
 
 -- R13.2: a buffer shorter than 32 bytes gives 255, and nothing is done. Else the call is made, and its answer is told.
 pub record CrossesPlan {A B : Type 0} (plain : A → B) (code : B → ℕ) (values : B → Four) (Call : A → Type 0) (same : Type 0) (out : List ℕ) (r : ℕ) (out′ : List ℕ) : Type 0 where

@@ -4,7 +4,7 @@ ghost use Prim.Native.Nat.{_≤_};
 ghost use lib.ListN.{length};
 ghost use Rattle.desk.specs.Calls as Calls;
 ghost use Rattle.journal.specs.Reads.{listed, told, shown, beginning, refusedBy};
-ghost use Rattle.journal.specs.Step as Step;
+ghost use Rattle.journal.specs.Step.{BeginStep, RecordStep, BoardStep, LineStep};
 ghost use Rattle.zenfrosta.specs.Crossing.{Spoken};
 ghost use Rattle.zenfrosta.specs.Board.{code, values, CrossesBoard};
 use crate::Four;
@@ -136,7 +136,7 @@ pub extern "C" fn zf_board_size() -> u64
 // Begins an empty board in the lent bytes.
 #[no_mangle]
 pub extern "C" fn zf_board_begin(board: &mut [u8], out: &mut [u8]) -> u64
-    ensures { λ r. ⌜ CrossesBoard beginning (λ a. Step.BeginStep (now (board .entry)) a (now (board .exit))) (now (board .exit) ≡ now (board .entry)) (now (out .entry)) r (now (out .exit)) ⌝ }
+    ensures { λ r. ⌜ CrossesBoard beginning (λ a. BeginStep (now (board .entry)) a (now (board .exit))) (now (board .exit) ≡ now (board .entry)) (now (out .entry)) r (now (out .exit)) ⌝ }
 {
     if out.len() < 32 {
         return 255;
@@ -147,7 +147,7 @@ pub extern "C" fn zf_board_begin(board: &mut [u8], out: &mut [u8]) -> u64
 // Enters the handover record of a field.
 #[no_mangle]
 pub extern "C" fn zf_board_record(board: &mut [u8], field: &[u8], out: &mut [u8]) -> u64
-    ensures { λ r. ⌜ CrossesBoard told (λ a. Step.RecordStep (now (field .entry)) (now (board .entry)) a (now (board .exit))) (now (board .exit) ≡ now (board .entry)) (now (out .entry)) r (now (out .exit)) ⌝ }
+    ensures { λ r. ⌜ CrossesBoard told (λ a. RecordStep (now (field .entry)) (now (board .entry)) a (now (board .exit))) (now (board .exit) ≡ now (board .entry)) (now (out .entry)) r (now (out .exit)) ⌝ }
 {
     if out.len() < 32 {
         return 255;
@@ -158,7 +158,7 @@ pub extern "C" fn zf_board_record(board: &mut [u8], field: &[u8], out: &mut [u8]
 // Frees the line of a train that has left (R11.12).
 #[no_mangle]
 pub extern "C" fn zf_board_clear(board: &mut [u8], train: u32, out: &mut [u8]) -> u64
-    ensures { λ r. ⌜ CrossesBoard told (λ a. Step.Step (Calls.clear train) (now (board .entry)) a (now (board .exit))) (now (board .exit) ≡ now (board .entry)) (now (out .entry)) r (now (out .exit)) ⌝ }
+    ensures { λ r. ⌜ CrossesBoard told (λ a. BoardStep (Calls.clear train) (now (board .entry)) a (now (board .exit))) (now (board .exit) ≡ now (board .entry)) (now (out .entry)) r (now (out .exit)) ⌝ }
 {
     if out.len() < 32 {
         return 255;
@@ -169,7 +169,7 @@ pub extern "C" fn zf_board_clear(board: &mut [u8], train: u32, out: &mut [u8]) -
 // What stands on a line.
 #[no_mangle]
 pub extern "C" fn zf_board_line(board: &[u8], at: u8, out: &mut [u8]) -> u64
-    ensures { λ r. ⌜ CrossesBoard shown (λ a. Step.LineStep at (now (board .entry)) a) (Unit {0}) (now (out .entry)) r (now (out .exit)) ⌝ }
+    ensures { λ r. ⌜ CrossesBoard shown (λ a. LineStep at (now (board .entry)) a) (Unit {0}) (now (out .entry)) r (now (out .exit)) ⌝ }
 {
     if out.len() < 32 {
         return 255;

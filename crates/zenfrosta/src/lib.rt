@@ -14,7 +14,7 @@ ghost use lib.ListN.{length};
 ghost use Rattle.rules.specs.Calls as Calls;
 ghost use Rattle.rules.specs.Reads as Reads;
 ghost use Rattle.table.specs.Layout.{tableSize};
-ghost use Rattle.scheduler.specs.Make as Make;
+ghost use Rattle.scheduler.specs.Make.{MakeStep};
 ghost use Rattle.zenfrosta.specs.Crossing.{four, code, values, refusalWords, Spoken, CrossesCall, CrossesMaking};
 
 pub mod board;
@@ -158,7 +158,7 @@ pub extern "C" fn zf_table_size() -> u64
 // Makes the fresh table of a setup in the lent bytes: the number of lanes, or a refusal with its place.
 #[no_mangle]
 pub extern "C" fn zf_make(setup: &[u8], table: &mut [u8], out: &mut [u8]) -> u64
-    ensures { λ r. ⌜ CrossesMaking (λ a. Make.MakeStep (now (setup .entry)) (now (table .entry)) a (now (table .exit))) (now (table .exit) ≡ now (table .entry)) (now (out .entry)) r (now (out .exit)) ⌝ }
+    ensures { λ r. ⌜ CrossesMaking (λ a. MakeStep (now (setup .entry)) (now (table .entry)) a (now (table .exit))) (now (table .exit) ≡ now (table .entry)) (now (out .entry)) r (now (out .exit)) ⌝ }
 {
     if out.len() < 32 {
         return 255;

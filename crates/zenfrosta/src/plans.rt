@@ -3,8 +3,8 @@
 ghost use mathlib.Core.Path.{_≡_};
 ghost use Prim.Native.Nat.{_*_, _≤_};
 ghost use lib.ListN.{length};
-ghost use Rattle.plan_writer.specs.Write.{number, wrote};
-ghost use Rattle.plan_area.specs.Step.{got, ReadStep, WriteStep};
+ghost use Rattle.plan_writer.specs.Write.{unwrittenNumber, writeReply};
+ghost use Rattle.plan_area.specs.Step.{areaReply, ReadStep, WriteStep};
 ghost use Rattle.zenfrosta.specs.Crossing.{Spoken};
 ghost use Rattle.zenfrosta.specs.Plans.{readCode, readValues, writeCode, writeValues, CrossesPlan};
 use crate::refusal_words;
@@ -16,7 +16,7 @@ use plan_writer::Written;
 // Tells how reading went.
 pub(crate) fn tell_got(out: &mut [u8], x: Got) -> u64
     requires { ⌜ 32 ≤ length (now out) ⌝ }
-    ensures { λ r. ⌜ (r ≡ readCode (got x)) × Spoken (now (out .entry)) (readValues (got x)) (now (out .exit)) ⌝ }
+    ensures { λ r. ⌜ (r ≡ readCode (areaReply x)) × Spoken (now (out .entry)) (readValues (areaReply x)) (now (out .exit)) ⌝ }
 {
     match x {
         Got::Lanes(n) => {
@@ -33,7 +33,7 @@ pub(crate) fn tell_got(out: &mut [u8], x: Got) -> u64
 
 // The number of a refusal of writing.
 fn unwritten_code(x: Unwritten) -> u64
-    ensures { λ r. ⌜ r ≡ number x ⌝ }
+    ensures { λ r. ⌜ r ≡ unwrittenNumber x ⌝ }
 {
     match x {
         Unwritten::Outside => 55,
@@ -44,7 +44,7 @@ fn unwritten_code(x: Unwritten) -> u64
 // Tells how writing went.
 fn tell_written(out: &mut [u8], x: Written) -> u64
     requires { ⌜ 32 ≤ length (now out) ⌝ }
-    ensures { λ r. ⌜ (r ≡ writeCode (wrote x)) × Spoken (now (out .entry)) (writeValues (wrote x)) (now (out .exit)) ⌝ }
+    ensures { λ r. ⌜ (r ≡ writeCode (writeReply x)) × Spoken (now (out .entry)) (writeValues (writeReply x)) (now (out .exit)) ⌝ }
 {
     match x {
         Written::Size(n) => {
@@ -69,7 +69,7 @@ pub extern "C" fn zf_plan_size() -> u64
 // Reads a setup into a plan area: the number of lanes, or a refusal with its place.
 #[no_mangle]
 pub extern "C" fn zf_setup_read(setup: &[u8], plan: &mut [u8], out: &mut [u8]) -> u64
-    ensures { λ r. ⌜ CrossesPlan got readCode readValues (λ a. ReadStep (now (setup .entry)) (now (plan .entry)) a (now (plan .exit))) (now (plan .exit) ≡ now (plan .entry)) (now (out .entry)) r (now (out .exit)) ⌝ }
+    ensures { λ r. ⌜ CrossesPlan areaReply readCode readValues (λ a. ReadStep (now (setup .entry)) (now (plan .entry)) a (now (plan .exit))) (now (plan .exit) ≡ now (plan .entry)) (now (out .entry)) r (now (out .exit)) ⌝ }
 {
     if out.len() < 32 {
         return 255;
@@ -80,7 +80,7 @@ pub extern "C" fn zf_setup_read(setup: &[u8], plan: &mut [u8], out: &mut [u8]) -
 // Writes the plan of an area as a setup: its size.
 #[no_mangle]
 pub extern "C" fn zf_setup_write(plan: &[u8], setup: &mut [u8], out: &mut [u8]) -> u64
-    ensures { λ r. ⌜ CrossesPlan wrote writeCode writeValues (λ a. WriteStep (now (plan .entry)) (now (setup .entry)) a (now (setup .exit))) (now (setup .exit) ≡ now (setup .entry)) (now (out .entry)) r (now (out .exit)) ⌝ }
+    ensures { λ r. ⌜ CrossesPlan writeReply writeCode writeValues (λ a. WriteStep (now (plan .entry)) (now (setup .entry)) a (now (setup .exit))) (now (setup .exit) ≡ now (setup .entry)) (now (out .entry)) r (now (out .exit)) ⌝ }
 {
     if out.len() < 32 {
         return 255;

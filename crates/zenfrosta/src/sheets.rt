@@ -3,9 +3,9 @@
 ghost use mathlib.Core.Path.{_≡_};
 ghost use Prim.Native.Nat.{_≤_};
 ghost use lib.ListN.{length};
-ghost use Rattle.plan_area.specs.Step.{got};
-ghost use Rattle.sheet_writer.specs.Write.{number, wrote};
-ghost use Rattle.sheet_area.specs.Step.{ReadStep, WriteStep};
+ghost use Rattle.plan_area.specs.Step.{areaReply};
+ghost use Rattle.sheet_writer.specs.Write.{unwrittenSheetNumber, sheetWriteReply};
+ghost use Rattle.sheet_area.specs.Step.{SheetReadStep, SheetWriteStep};
 ghost use Rattle.zenfrosta.specs.Crossing.{Spoken};
 ghost use Rattle.zenfrosta.specs.Plans.{readCode, readValues, writeCode, writeValues, CrossesPlan};
 use crate::plans::tell_got;
@@ -15,7 +15,7 @@ use sheet_writer::Written;
 
 // The number of a refusal of writing.
 fn unwritten_code(x: Unwritten) -> u64
-    ensures { λ r. ⌜ r ≡ number x ⌝ }
+    ensures { λ r. ⌜ r ≡ unwrittenSheetNumber x ⌝ }
 {
     match x {
         Unwritten::Outside => 55,
@@ -27,7 +27,7 @@ fn unwritten_code(x: Unwritten) -> u64
 // Tells how writing went.
 fn tell_written(out: &mut [u8], x: Written) -> u64
     requires { ⌜ 32 ≤ length (now out) ⌝ }
-    ensures { λ r. ⌜ (r ≡ writeCode (wrote x)) × Spoken (now (out .entry)) (writeValues (wrote x)) (now (out .exit)) ⌝ }
+    ensures { λ r. ⌜ (r ≡ writeCode (sheetWriteReply x)) × Spoken (now (out .entry)) (writeValues (sheetWriteReply x)) (now (out .exit)) ⌝ }
 {
     match x {
         Written::Size(n) => {
@@ -44,7 +44,7 @@ fn tell_written(out: &mut [u8], x: Written) -> u64
 // Reads a text sheet into a plan area: the number of lanes, or a refusal with its place.
 #[no_mangle]
 pub extern "C" fn zf_sheet_read(sheet: &[u8], plan: &mut [u8], out: &mut [u8]) -> u64
-    ensures { λ r. ⌜ CrossesPlan got readCode readValues (λ a. ReadStep (now (sheet .entry)) (now (plan .entry)) a (now (plan .exit))) (now (plan .exit) ≡ now (plan .entry)) (now (out .entry)) r (now (out .exit)) ⌝ }
+    ensures { λ r. ⌜ CrossesPlan areaReply readCode readValues (λ a. SheetReadStep (now (sheet .entry)) (now (plan .entry)) a (now (plan .exit))) (now (plan .exit) ≡ now (plan .entry)) (now (out .entry)) r (now (out .exit)) ⌝ }
 {
     if out.len() < 32 {
         return 255;
@@ -55,7 +55,7 @@ pub extern "C" fn zf_sheet_read(sheet: &[u8], plan: &mut [u8], out: &mut [u8]) -
 // Writes the plan of an area as a text sheet: its size.
 #[no_mangle]
 pub extern "C" fn zf_sheet_write(plan: &[u8], sheet: &mut [u8], out: &mut [u8]) -> u64
-    ensures { λ r. ⌜ CrossesPlan wrote writeCode writeValues (λ a. WriteStep (now (plan .entry)) (now (sheet .entry)) a (now (sheet .exit))) (now (sheet .exit) ≡ now (sheet .entry)) (now (out .entry)) r (now (out .exit)) ⌝ }
+    ensures { λ r. ⌜ CrossesPlan sheetWriteReply writeCode writeValues (λ a. SheetWriteStep (now (plan .entry)) (now (sheet .entry)) a (now (sheet .exit))) (now (sheet .exit) ≡ now (sheet .entry)) (now (out .entry)) r (now (out .exit)) ⌝ }
 {
     if out.len() < 32 {
         return 255;
