@@ -15,7 +15,7 @@ use Rattle.rules.specs.State.{Setting, settingAt}
 use Rattle.rules.specs.Setup.{weights, framingOf}
 use Rattle.plan.specs.Judge.{knownFormat}
 use Rattle.plan.specs.Accepted.{present}
-use Rattle.plan_writer.specs.Write.{Planned, Within, Fitting, Tells, writtenSize}
+use Rattle.plan_writer.specs.Write.{Planned, Within, Fitting, Tells}
 use Rattle.plan_writer.proofs.Lane.{absent-lane, last-test, is-there, is-absent}
 use Rattle.plan_writer.proofs.Framing.{fitting-each, fitting-framed, fitting-line}
 
@@ -78,7 +78,7 @@ module _ (p : Planned) where
 
   -- the numbers that are compared
   pub record Counts : Type 0 where
-    pub writtenSize : length gs ≡ 64
+    pub size : length gs ≡ 64
     pub count : present gs ≡ p .count
     pub some-lane : 1 ≤ weights gs
     pub total : weights gs ≤ 1024
