@@ -16,7 +16,7 @@ use Rattle.words.specs.Words.{wordAt}
 use Rattle.rules.specs.Reads.{number, placeOf}
 use Rattle.plan.specs.Read.{readSetup, SetupReply, setupRefused, setupRead}
 use Rattle.plan_writer.specs.Format.{InForm}
-use Rattle.plan_writer.specs.Write.{setupBytes, setupSize, writtenSize, writeReply}
+use Rattle.plan_writer.specs.Write.{setupBytes, setupSize, writtenSize, writeReply, notWritten}
 use Rattle.plan_writer.specs.RoundTrip.{Bytes}
 use Rattle.plan_writer.specs.declared.Written.{Written}
 use Rattle.plan_area.specs.Area.{AreaRoom, planIn, ShowsPlan, AreaWithin}
