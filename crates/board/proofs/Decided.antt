@@ -12,31 +12,31 @@ use lib.ListN.{length}
 use borrow.Author.Tests.{eqb-true, eq-eqb}
 use Rattle.words.specs.Words.{wordAt}
 use Rattle.words.proofs.Runs.{le-or-lt, eq-or-ne}
-use Rattle.desk.specs.Board.{Rec, Board, lineAt, isOf}
+use Rattle.desk.specs.Board.{Handover, Board, lineAt, isOf}
 use Rattle.board.specs.Layout.{boardOf, wellFormed, NoBoard, Parted, Decided}
 use Rattle.board.proofs.Means.{Passed, passed-none, passed-more, passed-all, fails-room, fails-formed, fails-parted}
 use Rattle.board.proofs.Stores.{words-fit}
 
 -- two lines of one train
-clash : Option Rec → Option Rec → Bool
+clash : Option Handover → Option Handover → Bool
 clash none y = false
 clash (some r) none = false
 clash (some r) (some q) = eqb (r .train) (q .train)
 
-clash-train : (x y : Option Rec) → clash x y ≡ true → (u : ℕ) × (isOf u x ≡ true) × (isOf u y ≡ true)
+clash-train : (x y : Option Handover) → clash x y ≡ true → (u : ℕ) × (isOf u x ≡ true) × (isOf u y ≡ true)
 unfolding clash
 clash-train none y e = absurd (false≢true e)
 clash-train (some r) none e = absurd (false≢true e)
 clash-train (some r) (some q) e = (q .train, e, eq-eqb (q .train) (q .train) refl)
 
-clash-none : (x y : Option Rec) (u : ℕ) → isOf u x ≡ true → isOf u y ≡ true → clash x y ≡ true
+clash-none : (x y : Option Handover) (u : ℕ) → isOf u x ≡ true → isOf u y ≡ true → clash x y ≡ true
 unfolding clash
 clash-none none y u e f = absurd (false≢true e)
 clash-none (some r) none u e f = absurd (false≢true f)
 clash-none (some r) (some q) u e f = eq-eqb (r .train) (q .train) (eqb-true (r .train) u e ∙ sym (eqb-true (q .train) u f))
 
 -- the first n lines against one
-parted-below : (b : Board) (x : Option Rec) (n : ℕ)
+parted-below : (b : Board) (x : Option Handover) (n : ℕ)
     → ((j u : ℕ) → j < n → isOf u (lineAt b j) ≡ true → isOf u x ≡ true → ⊥) ⊎ ((j : ℕ) × (u : ℕ) × (j < n) × (isOf u (lineAt b j) ≡ true) × (isOf u x ≡ true))
 parted-below b x zero = inl (λ j u h. absurd (omega arith))
 parted-below b x (suc n) = go (clash (lineAt b n) x) refl (parted-below b x n)

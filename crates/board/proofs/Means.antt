@@ -11,9 +11,9 @@ use lib.Seq.{ext-getD}
 use borrow.Author.Tests.{eqb-true, eq-eqb, ne-eqb, lt-ltb, le-ltb, leb-true, le-leb}
 use Rattle.words.proofs.Runs.{le-or-lt, eq-or-ne, length-tab, getD-tab}
 use Rattle.words.specs.Words.{wordAt}
-use Rattle.desk.specs.Board.{Rec, Board, lineAt, isOf, Fine}
+use Rattle.desk.specs.Board.{Handover, Board, lineAt, isOf, Fine}
 use Rattle.desk.proofs.Lines.{beyond}
-use Rattle.board.specs.Layout.{Room, trainWord, cellWord, Shows, lineOf, boardOf, wellFormed, Tells, Parted}
+use Rattle.board.specs.Layout.{BoardRoom, trainWord, cellWord, ShowsBoard, lineOf, boardOf, wellFormed, Tells, Parted}
 
 pub board-line : (t : List ℕ) (k : ℕ) → k < 64 → lineAt (boardOf t) k ≡ lineOf (wordAt t (k * 2)) (wordAt t (k * 2 + 1))
 unfolding boardOf
@@ -28,7 +28,7 @@ board-size t = length-tab 64 (λ i. lineOf (wordAt t (i * 2)) (wordAt t (i * 2 +
 pub record IsLine (a c : ℕ) : Type 0 where
   pub train : trainWord (lineOf a c) ≡ a
   pub cell : cellWord (lineOf a c) ≡ c
-  pub fine : (r : Rec) → lineOf a c ≡ some r → Fine r
+  pub fine : (r : Handover) → lineOf a c ≡ some r → Fine r
 
 formed-cases : (a c : ℕ) → wellFormed a c ≡ true → ((c ≡ 0) × (a ≡ 0)) ⊎ ((65536 ≤ c) × (c < 131072)) ⊎ ((131072 ≤ c) × (c < 196608) × (4294967296 ≤ a))
 unfolding wellFormed
@@ -67,15 +67,15 @@ is-line a c w e =
     (formed-cases a c e)
 
 -- and back: the words of a line
-pub record OfLine (x : Option Rec) : Type 0 where
+pub record OfLine (x : Option Handover) : Type 0 where
   pub formed : wellFormed (trainWord x) (cellWord x) ≡ true
   pub back : lineOf (trainWord x) (cellWord x) ≡ x
 
-rec-ext : (r s : Rec) → r .train ≡ s .train → r .cell ≡ s .cell → r .kind ≡ s .kind → r .sequence ≡ s .sequence → r ≡ s
+rec-ext : (r s : Handover) → r .train ≡ s .train → r .cell ≡ s .cell → r .kind ≡ s .kind → r .sequence ≡ s .sequence → r ≡ s
 rec-ext r s a b c d =
-    let z : _≡_ {A = Rec} (record { train = r .train; cell = r .cell; kind = r .kind; sequence = r .sequence }) (record { train = s .train; cell = s .cell; kind = s .kind; sequence = s .sequence }) = rw (a, b, c, d) in z
+    let z : _≡_ {A = Handover} (record { train = r .train; cell = r .cell; kind = r .kind; sequence = r .sequence }) (record { train = s .train; cell = s .cell; kind = s .kind; sequence = s .sequence }) = rw (a, b, c, d) in z
 
-pub of-line : (x : Option Rec) → ((r : Rec) → x ≡ some r → Fine r) → OfLine x
+pub of-line : (x : Option Handover) → ((r : Handover) → x ≡ some r → Fine r) → OfLine x
 unfolding wellFormed
 of-line none f = record { formed = refl; back = refl }
 of-line (some r) f =
@@ -92,13 +92,13 @@ of-line (some r) f =
 
 -- ---- the whole board
 
-pub shows-line : (t : List ℕ) (b : Board) → Shows t b → (k : ℕ) → k < 64 → lineAt (boardOf t) k ≡ lineAt b k
+pub shows-line : (t : List ℕ) (b : Board) → ShowsBoard t b → (k : ℕ) → k < 64 → lineAt (boardOf t) k ≡ lineAt b k
 shows-line t b s k h = board-line t k h ∙ rw (s .trains k h, s .cells k h) ((of-line (lineAt b k) (s .makeable .fine k)) .back)
 
-pub shows-is : (t : List ℕ) (b : Board) → Shows t b → boardOf t ≡ b
+pub shows-is : (t : List ℕ) (b : Board) → ShowsBoard t b → boardOf t ≡ b
 shows-is t b s = ext-getD none (boardOf t) b (board-size t ∙ sym (s .makeable .size)) (λ i h. shows-line t b s i (omega (arith, board-size t)))
 
-pub shows-formed : (t : List ℕ) (b : Board) → Shows t b → (k : ℕ) → k < 64 → wellFormed (wordAt t (k * 2)) (wordAt t (k * 2 + 1)) ≡ true
+pub shows-formed : (t : List ℕ) (b : Board) → ShowsBoard t b → (k : ℕ) → k < 64 → wellFormed (wordAt t (k * 2)) (wordAt t (k * 2 + 1)) ≡ true
 shows-formed t b s k h = rw (s .trains k h, s .cells k h) ((of-line (lineAt b k) (s .makeable .fine k)) .formed)
 
 -- what the test has found when it has passed n lines
@@ -117,7 +117,7 @@ passed-more t n p h w e d = record {
   parted = λ j k u lt below. ⊎-elim (λ (q : k ≡ n). λ x y. d j u (omega arith) x (rw q at y)) (λ (q : k ≡ n → ⊥). p .parted j k u (omega arith) below) (eq-or-ne k n);
 }
 
-pub passed-all : (t : List ℕ) → Room t → Passed t 64 → Tells true t
+pub passed-all : (t : List ℕ) → BoardRoom t → Passed t 64 → Tells true t
 passed-all t room p = record {
   room = room;
   makeable = record {

@@ -9,7 +9,7 @@ use lib.ListN.{length, set}
 use lib.Seq.{set-comm, sets}
 use Rattle.words.specs.Words.{leBytes, putWord}
 use Rattle.words.proofs.Runs.{le-or-lt}
-use Rattle.desk.specs.Board.{Rec}
+use Rattle.desk.specs.Board.{Handover}
 use Rattle.board.specs.Layout.{trainWord, cellWord, putLine}
 
 -- two runs that do not meet
@@ -44,7 +44,7 @@ put-put t i j v w n =
     apart : j < suc i → length (leBytes 8 w) ≡ 8 → j * 8 + length (leBytes 8 w) ≤ i * 8
     apart h y = ⊎-elim (λ (z : suc j ≤ i). omega (arith, y)) (λ (z : i < suc j). absurd (n (omega arith))) (le-or-lt (suc j) i)
 
-pub lines-either : (t : List ℕ) (j k : ℕ) (x y : Option Rec) → (j ≡ k → ⊥) → putLine (putLine t j x) k y ≡ putLine (putLine t k y) j x
+pub lines-either : (t : List ℕ) (j k : ℕ) (x y : Option Handover) → (j ≡ k → ⊥) → putLine (putLine t j x) k y ≡ putLine (putLine t k y) j x
 lines-either t j k x y n =
     let a = putWord t (j * 2) (trainWord x) in
     let c = putWord t (k * 2) (trainWord y) in

@@ -13,7 +13,7 @@ use borrow.Author.Tests.{eq-eqb, ne-eqb, lt-ltb, le-ltb, eqb-true, eqb-false}
 use Rattle.words.specs.Bits.{bit}
 use Rattle.words.proofs.Runs.{le-or-lt, eq-or-ne}
 use Rattle.words.proofs.Bits.{bit-add-same, bit-add-other}
-use Rattle.desk.specs.Board.{Rec, Board, lineAt, isOf, isFree}
+use Rattle.desk.specs.Board.{Handover, Board, lineAt, isOf, isFree}
 use Rattle.board.specs.Layout.{Marked, TrainOf, SeenBelow, SeenHere, recOf, wellFormed, Parted, Found}
 use Rattle.desk_line.specs.declared.Line.{Line}
 
@@ -42,7 +42,7 @@ module _ (a c : ℕ) where
 
 -- ---- a line by value
 
-module _ (l : Line) (x : Option Rec) (e : recOf l ≡ x) where
+module _ (l : Line) (x : Option Handover) (e : recOf l ≡ x) where
   pub of-free : (u : ℕ) → l .kind ≡ 0 → false ≡ isOf u x
   of-free u z = rw (← e, eq-eqb (l .kind) 0 z)
 
@@ -63,7 +63,7 @@ module _ (l : Line) (x : Option Rec) (e : recOf l ≡ x) where
 
 -- ---- a search
 
-module _ (p : Option Rec → Bool) (b : Board) where
+module _ (p : Option Handover → Bool) (b : Board) where
   pub missed-more : (k : ℕ) → ((j : ℕ) → j < k → p (lineAt b j) ≡ false) → p (lineAt b k) ≡ false → (j : ℕ) → j < k + 1 → p (lineAt b j) ≡ false
   missed-more k f e j h = ⊎-elim (λ (q : j ≡ k). rw q e) (λ (q : j ≡ k → ⊥). f j (omega arith)) (eq-or-ne j k)
 

@@ -1,11 +1,11 @@
 -- A board in bytes (R11.3): 64 lines of two words.
 --
 --   boardSize              the fixed size of a board, in bytes
---   Room                   the bytes have room for a board
+--   BoardRoom              the bytes have room for a board
 --   trainWord, cellWord    the two words of a line
 --   putLine                the bytes with one line changed
 --   Written                a board is written in the bytes
---   Shows                  the bytes show a board that the rules can make
+--   ShowsBoard             the bytes show a board that the rules can make
 --   recOf, lineOf          the line of a value; of two words
 --   boardOf                the board that bytes mean
 --   wellFormed             two words are a line: the test of 29, for one line
@@ -29,50 +29,50 @@ use Rattle.units.specs.Plain.{if_then_else_}
 use Rattle.words.specs.Runs.{tab}
 use Rattle.words.specs.Bits.{bit}
 use Rattle.words.specs.Words.{wordAt, putWord}
-use Rattle.desk.specs.Board.{Rec, Board, lineAt, isOf, Makeable}
+use Rattle.desk.specs.Board.{Handover, Board, lineAt, isOf, Makeable}
 use Rattle.desk_line.specs.declared.Line.{Line}
 
 -- R11.3, R13.7: 1,024
 abbrev pub boardSize : ℕ
 boardSize = 64 * 2 * 8
 
-abbrev pub Room : List ℕ → Type 0
-Room t = boardSize ≤ length t
+abbrev pub BoardRoom : List ℕ → Type 0
+BoardRoom t = boardSize ≤ length t
 
 -- ---- the words of a line
 
-abbrev pub trainWord : Option Rec → ℕ
+abbrev pub trainWord : Option Handover → ℕ
 trainWord none = 0
 trainWord (some r) = r .train + 4294967296 * r .sequence
 
-abbrev pub cellWord : Option Rec → ℕ
+abbrev pub cellWord : Option Handover → ℕ
 cellWord none = 0
 cellWord (some r) = r .cell + 65536 * r .kind
 
 -- the bytes t with line k changed to x: its two words, and no other byte
-abbrev pub putLine : List ℕ → ℕ → Option Rec → List ℕ
+abbrev pub putLine : List ℕ → ℕ → Option Handover → List ℕ
 putLine t k x = putWord (putWord t (k * 2) (trainWord x)) (k * 2 + 1) (cellWord x)
 
 -- b is written in t, whether the rules can make it or not
 pub record Written (t : List ℕ) (b : Board) : Type 0 where
-  pub room : Room t
+  pub room : BoardRoom t
   pub size : length b ≡ 64
   pub trains : (k : ℕ) → k < 64 → wordAt t (k * 2) ≡ trainWord (lineAt b k)
   pub cells : (k : ℕ) → k < 64 → wordAt t (k * 2 + 1) ≡ cellWord (lineAt b k)
 
 -- by `ExactlyMade` of desk a makeable board is one that calls make from the empty board
-pub record Shows (t : List ℕ) (b : Board) : Type 0 where
-  pub room : Room t
+pub record ShowsBoard (t : List ℕ) (b : Board) : Type 0 where
+  pub room : BoardRoom t
   pub makeable : Makeable b
   pub trains : (k : ℕ) → k < 64 → wordAt t (k * 2) ≡ trainWord (lineAt b k)
   pub cells : (k : ℕ) → k < 64 → wordAt t (k * 2 + 1) ≡ cellWord (lineAt b k)
 
 -- ---- what bytes mean
 
-abbrev pub recOf : Line → Option Rec
+abbrev pub recOf : Line → Option Handover
 recOf l = if eqb (l .kind) 0 then none else some (record { train = l .train; cell = l .cell; kind = l .kind; sequence = l .sequence })
 
-abbrev pub lineOf : ℕ → ℕ → Option Rec
+abbrev pub lineOf : ℕ → ℕ → Option Handover
 lineOf a c =
     if eqb (c / 65536 % 256) 0 then none
     else some (record { train = a % 4294967296; cell = c % 65536; kind = c / 65536 % 256; sequence = a / 4294967296 })
@@ -91,21 +91,21 @@ wellFormed a c =
     else false
 
 abbrev pub NoBoard : List ℕ → Type 0
-NoBoard t = (b : Board) → Shows t b → ⊥
+NoBoard t = (b : Board) → ShowsBoard t b → ⊥
 
 abbrev pub Tells : Bool → List ℕ → Type 0
-Tells true t = Shows t (boardOf t)
+Tells true t = ShowsBoard t (boardOf t)
 Tells false t = NoBoard t
 
 abbrev pub Decided : Type 0
-Decided = (t : List ℕ) → Shows t (boardOf t) ⊎ NoBoard t
+Decided = (t : List ℕ) → ShowsBoard t (boardOf t) ⊎ NoBoard t
 
 -- the train of line k, where it has one, is on no line below; or it is
 abbrev pub Parted : Bool → Board → ℕ → Type 0
 Parted true b k = (j u : ℕ) → j < k → isOf u (lineAt b j) ≡ true → isOf u (lineAt b k) ≡ true → ⊥
 Parted false b k = (j : ℕ) × (u : ℕ) × (j < k) × (isOf u (lineAt b j) ≡ true) × (isOf u (lineAt b k) ≡ true)
 
-pub record Found (p : Option Rec → Bool) (b : Board) (n r : ℕ) : Type 0 where
+pub record Found (p : Option Handover → Bool) (b : Board) (n r : ℕ) : Type 0 where
   pub within : r ≤ n
   pub missed : (j : ℕ) → j < r → p (lineAt b j) ≡ false
   pub hit : r < n → p (lineAt b r) ≡ true

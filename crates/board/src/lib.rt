@@ -9,7 +9,7 @@ ghost use Prim.Native.Nat.{_+_, _*_, _/_, _%_, _^_, _<_, _≤_};
 ghost use lib.ListN.{length};
 ghost use Rattle.desk.specs.Board.{lineAt, isOf, isFree};
 ghost use Rattle.words.specs.Words.{wordAt, putWord};
-ghost use Rattle.board.specs.Layout.{Room, boardOf, recOf, wellFormed, Tells, Parted, Found, Marked, TrainOf, SeenHere};
+ghost use Rattle.board.specs.Layout.{BoardRoom, boardOf, recOf, wellFormed, Tells, Parted, Found, Marked, TrainOf, SeenHere};
 ghost use Rattle.words.specs.Bits.{bit};
 ghost use lib.Dec.{eqb};
 use desk_line::Line;
@@ -38,7 +38,7 @@ const SEEN: usize = 16;
 
 // Line `k`.
 pub fn line_at(t: &[u8], k: usize) -> Line
-    requires { ⌜ Room (now t) × (k < 64) ⌝ }
+    requires { ⌜ BoardRoom (now t) × (k < 64) ⌝ }
     ensures { λ r. ⌜ recOf r ≡ lineAt (boardOf (now (t .entry))) k ⌝ }
 {
     let a = word(t, k * 2);
@@ -53,7 +53,7 @@ pub fn line_at(t: &[u8], k: usize) -> Line
 
 // Stores line `k`: its two words, and no other byte.
 pub fn set_line(t: &mut [u8], k: usize, l: Line)
-    requires { ⌜ Room (now t) × (k < 64) ⌝ }
+    requires { ⌜ BoardRoom (now t) × (k < 64) ⌝ }
     ensures { λ _. ⌜ now (t .exit) ≡ putWord (putWord (now (t .entry)) (k * 2) (l .train + 4294967296 * l .sequence)) (k * 2 + 1) (l .cell + 65536 * l .kind) ⌝ }
 {
     set_word(
@@ -66,7 +66,7 @@ pub fn set_line(t: &mut [u8], k: usize, l: Line)
 
 // Whether line `k` is of a train.
 fn is_of(t: &[u8], k: usize, train: u32) -> bool
-    requires { ⌜ Room (now t) × (k < 64) ⌝ }
+    requires { ⌜ BoardRoom (now t) × (k < 64) ⌝ }
     ensures { λ r. ⌜ r ≡ isOf train (lineAt (boardOf (now (t .entry))) k) ⌝ }
 {
     let l = line_at(t, k);
@@ -81,7 +81,7 @@ fn is_of(t: &[u8], k: usize, train: u32) -> bool
 
 // Whether line `k` is free.
 fn is_free(t: &[u8], k: usize) -> bool
-    requires { ⌜ Room (now t) × (k < 64) ⌝ }
+    requires { ⌜ BoardRoom (now t) × (k < 64) ⌝ }
     ensures { λ r. ⌜ r ≡ isFree (lineAt (boardOf (now (t .entry))) k) ⌝ }
 {
     let l = line_at(t, k);
@@ -90,7 +90,7 @@ fn is_free(t: &[u8], k: usize) -> bool
 
 // The first line below `n` that is of a train; `n` where there is none.
 pub fn find(t: &[u8], train: u32, n: usize) -> usize
-    requires { ⌜ Room (now t) × (n ≤ 64) ⌝ }
+    requires { ⌜ BoardRoom (now t) × (n ≤ 64) ⌝ }
     ensures { λ r. ⌜ Found (isOf train) (boardOf (now (t .entry))) n r ⌝ }
 {
     let mut k = 0;
@@ -105,7 +105,7 @@ pub fn find(t: &[u8], train: u32, n: usize) -> usize
 
 // The lowest free line; 64 where there is none.
 pub fn lowest(t: &[u8]) -> usize
-    requires { ⌜ Room (now t) ⌝ }
+    requires { ⌜ BoardRoom (now t) ⌝ }
     ensures { λ r. ⌜ Found isFree (boardOf (now (t .entry))) 64 r ⌝ }
 {
     let mut k = 0;
@@ -138,7 +138,7 @@ fn formed(a: u64, c: u64) -> bool
 }
 
 fn formed_at(t: &[u8], k: usize) -> bool
-    requires { ⌜ Room (now t) × (k < 64) ⌝ }
+    requires { ⌜ BoardRoom (now t) × (k < 64) ⌝ }
     ensures { λ r. ⌜ (r ≡ wellFormed (wordAt (now (t .entry)) (k * 2)) (wordAt (now (t .entry)) (k * 2 + 1))) × (wordAt (now (t .entry)) (k * 2) < 2 ^ 64) ⌝ }
 {
     let a = word(t, k * 2);
@@ -148,7 +148,7 @@ fn formed_at(t: &[u8], k: usize) -> bool
 
 // The train of line `k`; of a free line 0.
 fn train_at(t: &[u8], k: usize) -> u32
-    requires { ⌜ Room (now t) × (k < 64) ⌝ }
+    requires { ⌜ BoardRoom (now t) × (k < 64) ⌝ }
     ensures { λ r. ⌜ TrainOf (boardOf (now (t .entry))) k r ⌝ }
 {
     let l = line_at(t, k);
@@ -181,7 +181,7 @@ fn mark(seen: u64, train: u32) -> u64
 
 // Whether line `k` is free or its train is on no line below. The lines below are looked at only where a train there has the same bit.
 fn parted(t: &[u8], k: usize, seen: u64) -> bool
-    requires { ⌜ Room (now t) × (k < 64) × SeenHere (boardOf (now t)) k seen ⌝ }
+    requires { ⌜ BoardRoom (now t) × (k < 64) × SeenHere (boardOf (now t)) k seen ⌝ }
     ensures { λ r. ⌜ Parted r (boardOf (now (t .entry))) k ⌝ }
 {
     let l = line_at(t, k);

@@ -1,9 +1,9 @@
 -- The promise of the converter, whole: for every old table and all new bytes.
 --
---   Reply      what converting answers: it is done, or a refusal's number and its place
---   reads      the code's answer as a `Reply`
---   unpaged    a unit that has taken no page, and with none that waits
---   Converts   the promise
+--   ConvertReply   what converting answers: it is done, or a refusal's number and its place
+--   convertReply   the code's answer as a `ConvertReply`
+--   unpaged        a unit that has taken no page, and with none that waits
+--   Converts       the promise
 --
 -- The old table is lent to be read alone, so it stays. Assumes nothing.
 use Prim.Native.Nat.{ℕ, _≤_, _<_}
@@ -20,13 +20,13 @@ use Rattle.old_table.specs.Old.{oldMeant, OldTable}
 use Rattle.convert.specs.declared.Converting.{Converting}
 use Rattle.convert.specs.declared.Converting.the-variants.{Converted, Refused}
 
-pub data Reply : Type 0 where
-  converted : Reply
-  notConverted : ℕ → Option ℕ → Reply
+pub data ConvertReply : Type 0 where
+  converted : ConvertReply
+  notConverted : ℕ → Option ℕ → ConvertReply
 
-abbrev pub reads : Converting → Reply
-reads Converted = converted
-reads (Refused x) = notConverted (number x) (placeOf x)
+abbrev pub convertReply : Converting → ConvertReply
+convertReply Converted = converted
+convertReply (Refused x) = notConverted (number x) (placeOf x)
 
 -- the unit of a state that has taken no page
 abbrev pub unpaged : State → Device
@@ -41,11 +41,11 @@ pub record TakenOver (old before after : List ℕ) : Type 0 where
 -- R7.1, R14.39
 pub record Converts (old before : List ℕ) (a : Converting) (after : List ℕ) : Type 0 where
   -- R7.4, R14.13: 7 for too little room, at place 0; it goes before 10
-  pub short : length before < tableSize → (reads a ≡ notConverted 7 (some 0)) × (after ≡ before)
+  pub short : length before < tableSize → (convertReply a ≡ notConverted 7 (some 0)) × (after ≡ before)
   -- R7.4, R14.22: 10 for an old table that is not good by the rule of its time
-  pub not-good : tableSize ≤ length before → (OldTable old → ⊥) → (reads a ≡ notConverted 10 none) × (after ≡ before)
+  pub not-good : tableSize ≤ length before → (OldTable old → ⊥) → (convertReply a ≡ notConverted 10 none) × (after ≡ before)
   -- R7.5
-  pub converts : tableSize ≤ length before → OldTable old → (reads a ≡ converted) × TakenOver old before after
+  pub converts : tableSize ≤ length before → OldTable old → (convertReply a ≡ converted) × TakenOver old before after
   -- and so an answer that it is done says that the old table was good
-  pub was-good : reads a ≡ converted → OldTable old
+  pub was-good : convertReply a ≡ converted → OldTable old
   pub size : length after ≡ length before

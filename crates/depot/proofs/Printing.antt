@@ -23,7 +23,7 @@ use Rattle.rules.specs.Reads.{number, placeOf}
 use Rattle.rules.specs.declared.Refusal.{Refusal}
 use Rattle.lines.specs.Line.{noLine, Line}
 use Rattle.plan.specs.Judge.{knownFormat}
-use Rattle.plan.specs.Read.{read, refused, readSetup, settings, came, reads}
+use Rattle.plan.specs.Read.{setupRead, setupRefused, readSetup, settings, setupCame, setupReply}
 use Rattle.plan.specs.declared.Reading.{Reading}
 use Rattle.plan.specs.declared.Outcome.the-variants as outcome
 use Rattle.plan.proofs.Accepted.{accepted-setup}
@@ -38,8 +38,7 @@ use Rattle.plan_writer.proofs.Writing.{stored-first}
 use Rattle.sheet.specs.Read.{readSheet}
 use Rattle.sheet.specs.Text.{sheetBytes}
 use Rattle.sheet.proofs.Back.{accepted-sheet}
-use Rattle.sheet_writer.specs.Write as sheet
-use Rattle.sheet_writer.specs.Write.{Bare}
+use Rattle.sheet_writer.specs.Write.{Bare, WritesSheet, sheetSize, sheetWriteReply}
 use Rattle.sheet_writer.specs.declared.Written as sheet-answer
 use Rattle.sheet_writer.specs.declared.Written.the-variants as sheet-told
 use Rattle.sheet_writer.specs.declared.Unwritten as sheet-unwritten
@@ -62,7 +61,7 @@ front text a a′ n f e =
     let g : a′ ≡ text ++ drop (length text) a = e ∙ ap (λ (k : ℕ). text ++ drop k a) f in
     record { is = g; size = f; within = omega (arith, ap length g, length-append text (drop (length text) a), f) }
 
-size-refused : {A : Type 0} {k n : ℕ} → setup.size k ≡ setup.refused n → A
+size-refused : {A : Type 0} {k n : ℕ} → setup.writtenSize k ≡ setup.notWritten n → A
 size-refused h = absurd (let z : _≡_ {A = ℕ} 0 1 = cc in omega arith)
 
 module _ (s a a′ : List ℕ) (n : ℕ) where
@@ -78,55 +77,55 @@ module _ (s a : List ℕ) (few : length s ≤ 32768) (room : 1024 ≤ length a) 
   p = record { format = r .plan .format; lanes = settings (r .plan); count = r .plan .count }
 
   -- ---- a sheet as a setup
-  module _ (e : reads r ≡ readSheet s) where
+  module _ (e : setupReply r ≡ readSheet s) where
     short-setup : asSetup s ≡ setupText (readSheet s)
     short-setup = rw (le-ltb 32768 (length s) few)
 
     pub setup-refused : (x : Refusal) → r .outcome ≡ outcome.Refused x → (a′ : List ℕ) (n : ℕ) → Line a a′ 0 (noLine (number x) (placeOf x)) n → Prints (asSetup s) a a′ n
     setup-refused x o a′ n l =
-        as-text (asSetup s) (noLine (number x) (placeOf x)) a a′ n (short-setup ∙ ap setupText (sym (sym (ap (came (r .plan)) o) ∙ e))) (prints-line (noLine (number x) (placeOf x)) a a′ n l (omega (arith, room)))
+        as-text (asSetup s) (noLine (number x) (placeOf x)) a a′ n (short-setup ∙ ap setupText (sym (sym (ap (setupCame (r .plan)) o) ∙ e))) (prints-line (noLine (number x) (placeOf x)) a a′ n l (omega (arith, room)))
 
     module _ (k : ℕ) (o : r .outcome ≡ outcome.Read k) (answer : setup-answer.Written) (a′ : List ℕ) (w : setup.Writes (planned (r .plan)) a answer a′) where
-      is : readSheet s ≡ read (p .format) (p .lanes) (p .count) k
-      is = sym e ∙ ap (came (r .plan)) o
+      is : readSheet s ≡ setupRead (p .format) (p .lanes) (p .count) k
+      is = sym e ∙ ap (setupCame (r .plan)) o
 
       within : Within p
       within = let x = accepted-sheet s (p .format) (p .lanes) (p .count) k is in record { format = ap knownFormat (x .format); setup = x .setup; count = x .are-there }
 
-      done : (setup.wrote answer ≡ setup.size (setup.sizeOf p)) × (a′ ≡ setupBytes p ++ drop (setup.sizeOf p) a)
+      done : (setup.writeReply answer ≡ setup.writtenSize (setup.setupSize p)) × (a′ ≡ setupBytes p ++ drop (setup.setupSize p) a)
       done =
           let w₁ : setup.Writes p a answer a′ = subst (λ (y : List Setting). setup.Writes (record { format = r .plan .format; lanes = y; count = r .plan .count }) a answer a′) (numbered-all (settings (r .plan)) (within .setup .size)) w in
           w₁ .written within (omega (arith, size-most p within, room))
 
       pub setup-written : (n : ℕ) → answer ≡ setup-told.Size n → Prints (asSetup s) a a′ n
       setup-written n t =
-          let q : setup.size n ≡ setup.size (setup.sizeOf p) = sym (ap setup.wrote t) ∙ done .0 in
-          let n-is : n ≡ setup.sizeOf p = cc in
+          let q : setup.writtenSize n ≡ setup.writtenSize (setup.setupSize p) = sym (ap setup.writeReply t) ∙ done .0 in
+          let n-is : n ≡ setup.setupSize p = cc in
           as-text (asSetup s) (setupBytes p) a a′ n (short-setup ∙ ap setupText is) (front (setupBytes p) a a′ n (n-is ∙ sym (size-is p within)) (done .1 ∙ ap (λ (i : ℕ). setupBytes p ++ drop i a) (sym n-is)))
 
       pub setup-never : {A : Type 0} (x : setup-unwritten.Unwritten) → answer ≡ setup-told.Refused x → A
-      setup-never x t = size-refused (sym (done .0) ∙ ap setup.wrote t)
+      setup-never x t = size-refused (sym (done .0) ∙ ap setup.writeReply t)
 
   -- ---- a setup as a sheet
-  module _ (e : reads r ≡ readSetup s) where
+  module _ (e : setupReply r ≡ readSetup s) where
     short-sheet : asSheet s ≡ sheetText (readSetup s)
     short-sheet = rw (le-ltb 32768 (length s) few)
 
     pub sheet-refused : (x : Refusal) → r .outcome ≡ outcome.Refused x → (a′ : List ℕ) (n : ℕ) → Line a a′ 0 (noLine (number x) (placeOf x)) n → Prints (asSheet s) a a′ n
     sheet-refused x o a′ n l =
-        as-text (asSheet s) (noLine (number x) (placeOf x)) a a′ n (short-sheet ∙ ap sheetText (sym (sym (ap (came (r .plan)) o) ∙ e))) (prints-line (noLine (number x) (placeOf x)) a a′ n l (omega (arith, room)))
+        as-text (asSheet s) (noLine (number x) (placeOf x)) a a′ n (short-sheet ∙ ap sheetText (sym (sym (ap (setupCame (r .plan)) o) ∙ e))) (prints-line (noLine (number x) (placeOf x)) a a′ n l (omega (arith, room)))
 
-    module _ (k : ℕ) (o : r .outcome ≡ outcome.Read k) (answer : sheet-answer.Written) (a′ : List ℕ) (w : sheet.Writes (planned (r .plan)) a answer a′) where
-      setup-is : readSetup s ≡ read (p .format) (p .lanes) (p .count) k
-      setup-is = sym e ∙ ap (came (r .plan)) o
+    module _ (k : ℕ) (o : r .outcome ≡ outcome.Read k) (answer : sheet-answer.Written) (a′ : List ℕ) (w : WritesSheet (planned (r .plan)) a answer a′) where
+      setup-is : readSetup s ≡ setupRead (p .format) (p .lanes) (p .count) k
+      setup-is = sym e ∙ ap (setupCame (r .plan)) o
 
       setup-within : Within p
       setup-within = let x = accepted-setup r s k e o .0 in record { format = x .rule .format; setup = x .setup; count = x .are-there }
 
-      writes : sheet.Writes p a answer a′
-      writes = subst (λ (y : List Setting). sheet.Writes (record { format = r .plan .format; lanes = y; count = r .plan .count }) a answer a′) (numbered-all (settings (r .plan)) (setup-within .setup .size)) w
+      writes : WritesSheet p a answer a′
+      writes = subst (λ (y : List Setting). WritesSheet (record { format = r .plan .format; lanes = y; count = r .plan .count }) a answer a′) (numbered-all (settings (r .plan)) (setup-within .setup .size)) w
 
-      fits : sheet.sizeOf p ≤ length a
+      fits : sheetSize p ≤ length a
       fits = omega (arith, sheet-most (p .lanes) (setup-within .setup), room)
 
       text-bare : Bare p → asSheet s ≡ sheetBytes (p .lanes)
@@ -140,16 +139,16 @@ module _ (s a : List ℕ) (few : length s ≤ 32768) (room : 1024 ≤ length a) 
           ⊎-elim
           (λ (b : Bare p).
           let d = writes .written setup-within b fits in
-          let q : setup.size n ≡ setup.size (sheet.sizeOf p) = sym (ap sheet.wrote t) ∙ d .0 in
-          let n-is : n ≡ sheet.sizeOf p = cc in
+          let q : setup.writtenSize n ≡ setup.writtenSize (sheetSize p) = sym (ap sheetWriteReply t) ∙ d .0 in
+          let n-is : n ≡ sheetSize p = cc in
           as-text (asSheet s) (sheetBytes (p .lanes)) a a′ n (text-bare b) (front (sheetBytes (p .lanes)) a a′ n n-is (d .1 ∙ ap (λ (i : ℕ). sheetBytes (p .lanes) ++ drop i a) (sym n-is))))
-          (λ (b : Bare p → ⊥). size-refused (sym (ap sheet.wrote t) ∙ writes .no-sheet setup-within b .0))
+          (λ (b : Bare p → ⊥). size-refused (sym (ap sheetWriteReply t) ∙ writes .no-sheet setup-within b .0))
           (bare-or-not p)
 
       pub sheet-framed : (x : sheet-unwritten.Unwritten) → answer ≡ sheet-told.Refused x → (a″ : List ℕ) (n : ℕ) → Line a′ a″ 0 (noLine 82 none) n → Prints (asSheet s) a a″ n
       sheet-framed x t a″ n l =
           ⊎-elim
-          (λ (b : Bare p). size-refused (sym (writes .written setup-within b fits .0) ∙ ap sheet.wrote t))
+          (λ (b : Bare p). size-refused (sym (writes .written setup-within b fits .0) ∙ ap sheetWriteReply t))
           (λ (b : Bare p → ⊥).
           let same : a′ ≡ a = writes .no-sheet setup-within b .1 in
           as-text (asSheet s) (noLine 82 none) a a″ n (text-framed b) (prints-line (noLine 82 none) a a″ n (subst (λ (y : List ℕ). Line y a″ 0 (noLine 82 none) n) same l) (omega (arith, room))))

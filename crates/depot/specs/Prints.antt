@@ -14,19 +14,19 @@ use lib.ListN.{length, drop}
 use Rattle.units.specs.Plain.{if_then_else_}
 use Rattle.rules.specs.Setup.{framingOf}
 use Rattle.lines.specs.Line.{noLine}
-use Rattle.plan.specs.Read.{Reply, read, refused, readSetup}
+use Rattle.plan.specs.Read.{SetupReply, setupRead, setupRefused, readSetup}
 use Rattle.plan_writer.specs.Write.{setupBytes, shareds}
 use Rattle.sheet.specs.Read.{readSheet}
 use Rattle.sheet.specs.Text.{sheetBytes}
 
-abbrev pub setupText : Reply → List ℕ
-setupText (refused n q) = noLine n q
-setupText (read v gs n at) = setupBytes (record { format = v; lanes = gs; count = n })
+abbrev pub setupText : SetupReply → List ℕ
+setupText (setupRefused n q) = noLine n q
+setupText (setupRead v gs n at) = setupBytes (record { format = v; lanes = gs; count = n })
 
 -- 82 for a plan that a sheet cannot say: with framing bytes, or with a shared lane.
-abbrev pub sheetText : Reply → List ℕ
-sheetText (refused n q) = noLine n q
-sheetText (read v gs n at) = if eqb (framingOf gs + shareds gs) 0 then sheetBytes gs else noLine 82 none
+abbrev pub sheetText : SetupReply → List ℕ
+sheetText (setupRefused n q) = noLine n q
+sheetText (setupRead v gs n at) = if eqb (framingOf gs + shareds gs) 0 then sheetBytes gs else noLine 82 none
 
 -- R14.15: 18 for an input over 32,768 bytes.
 abbrev pub asSetup : List ℕ → List ℕ

@@ -9,8 +9,8 @@ use lib.Dec.{ltb}
 use lib.ListN.{length, set, length-set}
 use borrow.Author.Tests.{ne-eqb}
 use Rattle.units.specs.Plain.{if_then_else_}
-use Rattle.desk.specs.Board.{Rec, Board, lineAt, isOf, isFree, place, lowest}
-use Rattle.desk.specs.Calls.{enter, told, known, judged, refusal, target, entered, step}
+use Rattle.desk.specs.Board.{Handover, Board, lineAt, isOf, isFree, trainLine, lowest}
+use Rattle.desk.specs.Calls.{enter, told, knownKind, recordJudged, recordRefusal, target, recordEntered, boardStep}
 use Rattle.desk.specs.Claims.{InEitherOrder, Commutes}
 use Rattle.words.proofs.Runs.{le-or-lt}
 use Rattle.desk.proofs.Shows.{one-line}
@@ -21,57 +21,57 @@ use Rattle.desk.proofs.BothOn.{verdict, on-refusal, reply-same, swap, b
 -- ---- one of the two trains is new
 
 -- two records that leave each other's judgement and line alone
-either : (b : Board) (q r : Rec)
-    → refusal ((step b (enter r)) .board) q ≡ refusal b q → target ((step b (enter r)) .board) q ≡ target b q
-    → refusal ((step b (enter q)) .board) r ≡ refusal b r → target ((step b (enter q)) .board) r ≡ target b r
+either : (b : Board) (q r : Handover)
+    → recordRefusal ((boardStep b (enter r)) .board) q ≡ recordRefusal b q → target ((boardStep b (enter r)) .board) q ≡ target b q
+    → recordRefusal ((boardStep b (enter q)) .board) r ≡ recordRefusal b r → target ((boardStep b (enter q)) .board) r ≡ target b r
     → (target b q ≡ target b r → ⊥) → InEitherOrder b q r
-unfolding step
+unfolding boardStep
 either b q r e₁ t₁ e₂ t₂ n =
-    let v = refusal b q in
-    let w = refusal b r in
+    let v = recordRefusal b q in
+    let w = recordRefusal b r in
     let i = target b q in
     let j = target b r in
-    let x = (entered w b j r) .board in
-    let y = (entered v b i q) .board in
+    let x = (recordEntered w b j r) .board in
+    let y = (recordEntered v b i q) .board in
     record {
-      reply-q = ap (λ z. (entered z x (target x q) q) .reply) e₁ ∙ ap (λ z. (entered v x z q) .reply) t₁ ∙ reply-same v x b i q;
-      reply-r = ap (λ z. (entered z y (target y r) r) .reply) e₂ ∙ ap (λ z. (entered w y z r) .reply) t₂ ∙ reply-same w y b j r;
+      reply-q = ap (λ z. (recordEntered z x (target x q) q) .reply) e₁ ∙ ap (λ z. (recordEntered v x z q) .reply) t₁ ∙ reply-same v x b i q;
+      reply-r = ap (λ z. (recordEntered z y (target y r) r) .reply) e₂ ∙ ap (λ z. (recordEntered w y z r) .reply) t₂ ∙ reply-same w y b j r;
       board =
-          ap (λ z. (entered z y (target y r) r) .board) e₂ ∙ ap (λ z. (entered w y z r) .board) t₂ ∙ swap v w b i j q r n
-          ∙ sym (ap (λ z. (entered z x (target x q) q) .board) e₁ ∙ ap (λ z. (entered v x z q) .board) t₁);
+          ap (λ z. (recordEntered z y (target y r) r) .board) e₂ ∙ ap (λ z. (recordEntered w y z r) .board) t₂ ∙ swap v w b i j q r n
+          ∙ sym (ap (λ z. (recordEntered z x (target x q) q) .board) e₁ ∙ ap (λ z. (recordEntered v x z q) .board) t₁);
     }
 
 -- a record of a train that is on the board is judged by its line, and goes there
-kept-on : (b c : Board) (q : Rec) → place (q .train) b < length b → length c ≡ length b → place (q .train) c ≡ place (q .train) b → lineAt c (place (q .train) b) ≡ lineAt b (place (q .train) b)
-    → (refusal c q ≡ refusal b q) × (target c q ≡ target b q)
+kept-on : (b c : Board) (q : Handover) → trainLine (q .train) b < length b → length c ≡ length b → trainLine (q .train) c ≡ trainLine (q .train) b → lineAt c (trainLine (q .train) b) ≡ lineAt b (trainLine (q .train) b)
+    → (recordRefusal c q ≡ recordRefusal b q) × (target c q ≡ target b q)
 kept-on b c q h z p l =
-    let hc : place (q .train) c < length c = rw (p, z) h in
+    let hc : trainLine (q .train) c < length c = rw (p, z) h in
     (on-refusal c q hc ∙ ap (λ x. verdict x q) (ap (lineAt c) p ∙ l) ∙ sym (on-refusal b q h), target-old c q hc ∙ p ∙ sym (target-old b q h))
 
 -- one of a new train by whether a line is free, and goes to the lowest
-kept-new : (b c : Board) (r : Rec) → ((j : ℕ) → isOf (r .train) (lineAt b j) ≡ false) → length c ≡ length b → place (r .train) c ≡ place (r .train) b → lowest c ≡ lowest b
-    → (refusal c r ≡ refusal b r) × (target c r ≡ target b r)
-unfolding refusal
+kept-new : (b c : Board) (r : Handover) → ((j : ℕ) → isOf (r .train) (lineAt b j) ≡ false) → length c ≡ length b → trainLine (r .train) c ≡ trainLine (r .train) b → lowest c ≡ lowest b
+    → (recordRefusal c r ≡ recordRefusal b r) × (target c r ≡ target b r)
+unfolding recordRefusal
 kept-new b c r off z p l =
-    let e : place (r .train) b ≡ length b = first-none (isOf (r .train)) b none off in
-    let x : lineAt b (place (r .train) b) ≡ none = beyond b (place (r .train) b) (omega arith) in
-    let y : lineAt c (place (r .train) c) ≡ none = beyond c (place (r .train) c) (omega arith) in (
-      ap (λ f. if not (known (r .kind)) then some 30 else judged f (ltb (lowest c) (length c)) r) y
-          ∙ ap (λ k. if not (known (r .kind)) then some 30 else judged none (ltb k (length c)) r) l
-          ∙ ap (λ k. if not (known (r .kind)) then some 30 else judged none (ltb (lowest b) k) r) z
-          ∙ sym (ap (λ f. if not (known (r .kind)) then some 30 else judged f (ltb (lowest b) (length b)) r) x),
+    let e : trainLine (r .train) b ≡ length b = first-none (isOf (r .train)) b none off in
+    let x : lineAt b (trainLine (r .train) b) ≡ none = beyond b (trainLine (r .train) b) (omega arith) in
+    let y : lineAt c (trainLine (r .train) c) ≡ none = beyond c (trainLine (r .train) c) (omega arith) in (
+      ap (λ f. if not (knownKind (r .kind)) then some 30 else recordJudged f (ltb (lowest c) (length c)) r) y
+          ∙ ap (λ k. if not (knownKind (r .kind)) then some 30 else recordJudged none (ltb k (length c)) r) l
+          ∙ ap (λ k. if not (knownKind (r .kind)) then some 30 else recordJudged none (ltb (lowest b) k) r) z
+          ∙ sym (ap (λ f. if not (knownKind (r .kind)) then some 30 else recordJudged f (ltb (lowest b) (length b)) r) x),
       target-new c r (omega arith) ∙ l ∙ sym (target-new b r (omega arith)),
     )
 
-module _ (b : Board) (q r : Rec) (n : q .train ≡ r .train → ⊥) (hq : place (q .train) b < length b) (off : (j : ℕ) → isOf (r .train) (lineAt b j) ≡ false) where
+module _ (b : Board) (q r : Handover) (n : q .train ≡ r .train → ⊥) (hq : trainLine (q .train) b < length b) (off : (j : ℕ) → isOf (r .train) (lineAt b j) ≡ false) where
   new-target : target b r ≡ lowest b
   new-target = let e = first-none (isOf (r .train)) b none off in target-new b r (omega arith)
 
-  used-q : isFree (lineAt b (place (q .train) b)) ≡ false
-  used-q = let u = of-used (lineAt b (place (q .train) b)) (q .train) (stands b (q .train) hq) in rw (u .1)
+  used-q : isFree (lineAt b (trainLine (q .train) b)) ≡ false
+  used-q = let u = of-used (lineAt b (trainLine (q .train) b)) (q .train) (stands b (q .train) hq) in rw (u .1)
 
   -- q after r
-  q-stays : (v : Option ℕ) → refusal b r ≡ v → (refusal ((entered v b (target b r) r) .board) q ≡ refusal b q) × (target ((entered v b (target b r) r) .board) q ≡ target b q)
+  q-stays : (v : Option ℕ) → recordRefusal b r ≡ v → (recordRefusal ((recordEntered v b (target b r) r) .board) q ≡ recordRefusal b q) × (target ((recordEntered v b (target b r) r) .board) q ≡ target b q)
   q-stays (some m) e = (refl, refl)
   q-stays none e =
       let a = accepts b r e in
@@ -82,7 +82,7 @@ module _ (b : Board) (q r : Rec) (n : q .train ≡ r .train → ⊥) (hq : place
       kept-on b (set b (target b r) (some r)) q hq (length-set b (target b r) (some r)) (place-stays b (target b r) (some r) (q .train) k new old) (line-stays b (target b r) (some r) (q .train) k new old)
 
   -- r after q
-  r-stays : (v : Option ℕ) → (refusal ((entered v b (target b q) q) .board) r ≡ refusal b r) × (target ((entered v b (target b q) q) .board) r ≡ target b r)
+  r-stays : (v : Option ℕ) → (recordRefusal ((recordEntered v b (target b q) q) .board) r ≡ recordRefusal b r) × (target ((recordEntered v b (target b q) q) .board) r ≡ target b r)
   r-stays (some m) = (refl, refl)
   r-stays none =
       let t = target-old b q hq in
@@ -93,26 +93,26 @@ module _ (b : Board) (q r : Rec) (n : q .train ≡ r .train → ⊥) (hq : place
 
   lines-apart : target b q ≡ target b r → ⊥
   lines-apart e =
-      let p : place (q .train) b ≡ lowest b = sym (target-old b q hq) ∙ e ∙ new-target in
+      let p : trainLine (q .train) b ≡ lowest b = sym (target-old b q hq) ∙ e ∙ new-target in
       false≢true (sym used-q ∙ ap (λ i. isFree (lineAt b i)) p ∙ first-hit isFree b none (rw p at hq))
 
-one-new : (b : Board) (q r : Rec) → (q .train ≡ r .train → ⊥) → place (q .train) b < length b → ((j : ℕ) → isOf (r .train) (lineAt b j) ≡ false) → InEitherOrder b q r
-unfolding step
+one-new : (b : Board) (q r : Handover) → (q .train ≡ r .train → ⊥) → trainLine (q .train) b < length b → ((j : ℕ) → isOf (r .train) (lineAt b j) ≡ false) → InEitherOrder b q r
+unfolding boardStep
 one-new b q r n hq off =
-    let x = q-stays b q r n hq off (refusal b r) refl in
-    let y = r-stays b q r n hq off (refusal b q) in
+    let x = q-stays b q r n hq off (recordRefusal b r) refl in
+    let y = r-stays b q r n hq off (recordRefusal b q) in
     either b q r (x .0) (x .1) (y .0) (y .1) (lines-apart b q r n hq off)
 
 pub commutes : Commutes
 commutes b q r n hq =
     ⊎-elim
-    (λ (h : length b ≤ place (r .train) b). one-new b q r n hq (absent b (r .train) h))
-    (λ (h : place (r .train) b < length b). both-on b q r n hq h)
-    (le-or-lt (length b) (place (r .train) b))
+    (λ (h : length b ≤ trainLine (r .train) b). one-new b q r n hq (absent b (r .train) h))
+    (λ (h : trainLine (r .train) b < length b). both-on b q r n hq h)
+    (le-or-lt (length b) (trainLine (r .train) b))
 
 -- the lines that the two change are different
-pub lines-differ : (b : Board) (q r : Rec) (j k : ℕ) → (q .train ≡ r .train → ⊥) → place (q .train) b < length b
-    → (step b (enter q)) .reply ≡ told j → (step b (enter r)) .reply ≡ told k → j ≡ k → ⊥
+pub lines-differ : (b : Board) (q r : Handover) (j k : ℕ) → (q .train ≡ r .train → ⊥) → trainLine (q .train) b < length b
+    → (boardStep b (enter q)) .reply ≡ told j → (boardStep b (enter r)) .reply ≡ told k → j ≡ k → ⊥
 lines-differ b q r j k n hq x y e =
     ⊎-elim
     (λ (f : isOf (q .train) (lineAt b j) ≡ true). ⊎-elim
@@ -123,5 +123,5 @@ lines-differ b q r j k n hq x y e =
     false≢true (sym u ∙ ap (λ i. isFree (lineAt b i)) e ∙ g .1))
     (one-line b r k y .was))
     (λ (f : ((i : ℕ) → isOf (q .train) (lineAt b i) ≡ false) × (isFree (lineAt b j) ≡ true) × ((i : ℕ) → i < j → isFree (lineAt b i) ≡ false)).
-    false≢true (sym (f .0 (place (q .train) b)) ∙ stands b (q .train) hq))
+    false≢true (sym (f .0 (trainLine (q .train) b)) ∙ stands b (q .train) hq))
     (one-line b q j x .was)

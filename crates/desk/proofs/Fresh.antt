@@ -10,7 +10,7 @@ use lib.ListN.{length}
 use borrow.Author.Tests.{eq-eqb, ne-eqb}
 use Rattle.units.specs.Plain.{count}
 use Rattle.words.proofs.Runs.{le-or-lt, eq-or-ne}
-use Rattle.desk.specs.Board.{Rec, Board, lineAt, isOf}
+use Rattle.desk.specs.Board.{Handover, Board, lineAt, isOf}
 
 -- the lines of train t, and the lines of the trains below m
 abbrev linesOf : ℕ → Board → ℕ
@@ -21,11 +21,11 @@ abbrev below : ℕ → Board → ℕ
 below zero b = 0
 below (suc m) b = linesOf m b + below m b
 
-abbrev one : ℕ → Option Rec → ℕ
+abbrev one : ℕ → Option Handover → ℕ
 one zero x = 0
 one (suc m) x = count (isOf m x) + one m x
 
-one-some : (m : ℕ) (r : Rec) → (one m (some r) ≤ 1) × (m ≤ r .train → one m (some r) ≡ 0)
+one-some : (m : ℕ) (r : Handover) → (one m (some r) ≤ 1) × (m ≤ r .train → one m (some r) ≡ 0)
 one-some zero r = (omega arith, λ h. refl)
 one-some (suc m) r =
     let i = one-some m r in
@@ -34,7 +34,7 @@ one-some (suc m) r =
     (λ (n : r .train ≡ m → ⊥). rw (ne-eqb (r .train) m n) (omega (arith, i .0), λ h. omega (arith, i .1 (omega arith))))
     (eq-or-ne (r .train) m)
 
-one-le : (m : ℕ) (x : Option Rec) → one m x ≤ 1
+one-le : (m : ℕ) (x : Option Handover) → one m x ≤ 1
 one-le m (some r) = (one-some m r) .0
 one-le zero none = omega arith
 one-le (suc m) none = omega (arith, one-le m none)
@@ -43,7 +43,7 @@ below-nil : (m : ℕ) → below m [] ≡ 0
 below-nil zero = refl
 below-nil (suc m) = omega (arith, below-nil m)
 
-below-cons : (m : ℕ) (x : Option Rec) (xs : Board) → below m (x ∷ xs) ≡ one m x + below m xs
+below-cons : (m : ℕ) (x : Option Handover) (xs : Board) → below m (x ∷ xs) ≡ one m x + below m xs
 below-cons zero x xs = refl
 below-cons (suc m) x xs = omega (arith, below-cons m x xs)
 

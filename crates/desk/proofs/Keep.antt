@@ -10,20 +10,20 @@ use lib.Dec.{eqb, ltb}
 use lib.ListN.{length, set, length-set, getD-replicate}
 use borrow.Author.Tests.{eqb-true}
 use Rattle.words.proofs.Runs.{le-or-lt, eq-or-ne}
-use Rattle.desk.specs.Board.{Rec, Board, emptyBoard, lineAt, isOf, place, Carried, Fine, Makeable}
-use Rattle.desk.specs.Calls.{Call, enter, clear, refusal, target, entered, left, cleared, step, after, Sayable, AllSayable}
+use Rattle.desk.specs.Board.{Handover, Board, emptyBoard, lineAt, isOf, trainLine, InField, Fine, Makeable}
+use Rattle.desk.specs.Calls.{BoardCall, enter, clear, recordRefusal, target, recordEntered, left, cleared, boardStep, boardAfter, Sayable, AllSayable}
 use Rattle.desk.specs.Claims.{KeepsMakeable}
 use Rattle.desk.proofs.Lines.{both, known-cases, beyond, used-below, line-same, line-other, place-is, Accepts, later, newly, refusal-known, accepts, target-below}
 
 -- what is said of the old line where it stays, and of the new one where it is changed, is said of the changed board
-cases : (P : Option Rec → Type 0) (b : Board) (k j : ℕ) (y : Option Rec) → k < length b → (j ≡ k → P y) → ((j ≡ k → ⊥) → P (lineAt b j)) → P (lineAt (set b k y) j)
+cases : (P : Option Handover → Type 0) (b : Board) (k j : ℕ) (y : Option Handover) → k < length b → (j ≡ k → P y) → ((j ≡ k → ⊥) → P (lineAt b j)) → P (lineAt (set b k y) j)
 cases P b k j y h f g =
     ⊎-elim
     (λ (e : j ≡ k). subst (λ (i : ℕ). P (lineAt (set b k y) i)) (sym e) (rw (line-same b k y h) (f e)))
     (λ (n : j ≡ k → ⊥). rw (line-other b k j y n) (g n))
     (eq-or-ne j k)
 
-pub keep-set : (b : Board) (k : ℕ) (r : Rec) → Makeable b → k < length b → Fine r → ((j : ℕ) → isOf (r .train) (lineAt b j) ≡ true → j ≡ k) → Makeable (set b k (some r))
+pub keep-set : (b : Board) (k : ℕ) (r : Handover) → Makeable b → k < length b → Fine r → ((j : ℕ) → isOf (r .train) (lineAt b j) ≡ true → j ≡ k) → Makeable (set b k (some r))
 keep-set b k r m h f u = record {
   size = rw length-set (m .size);
   fine = λ j s. cases (λ x. x ≡ some s → Fine s) b k j (some r) h (λ e q. let z : r ≡ s = cc in subst Fine z f) (λ n q. m .fine j s q);
@@ -42,7 +42,7 @@ keep-free b k m h = record {
 }
 
 -- the line of an accepted record
-pub fine-accepted : (b : Board) (r : Rec) → Carried r → refusal b r ≡ none → Fine r
+pub fine-accepted : (b : Board) (r : Handover) → InField r → recordRefusal b r ≡ none → Fine r
 fine-accepted b r c e = record { carried = c; kind = go (accepts b r e) (known-cases (r .kind) (refusal-known b r e)) }
   where
     go : Accepts b r → (r .kind ≡ 1) ⊎ (r .kind ≡ 2) → (r .kind ≡ 1) ⊎ ((r .kind ≡ 2) × (1 ≤ r .sequence))
@@ -52,11 +52,11 @@ fine-accepted b r c e = record { carried = c; kind = go (accepts b r e) (known-c
         inr (k, omega (arith, eqb-true (r .sequence) (o .sequence + 1) (s .1)))
     go (newly a l t k) x = inl k
 
-only : (b : Board) (r : Rec) → Makeable b → Accepts b r → (j : ℕ) → isOf (r .train) (lineAt b j) ≡ true → j ≡ target b r
+only : (b : Board) (r : Handover) → Makeable b → Accepts b r → (j : ℕ) → isOf (r .train) (lineAt b j) ≡ true → j ≡ target b r
 only b r m (later o q p t i f) j e = rw t (sym (place-is b (r .train) j m e))
 only b r m (newly a l t k) j e = absurd (false≢true (sym (a j) ∙ e))
 
-left-used : (x : Option Rec) → left x ≡ true → (r : Rec) × (x ≡ some r) × (r .kind ≡ 2)
+left-used : (x : Option Handover) → left x ≡ true → (r : Handover) × (x ≡ some r) × (r .kind ≡ 2)
 left-used none e = absurd (false≢true e)
 left-used (some r) e = (r, refl, eqb-true (r .kind) 2 e)
 
@@ -64,16 +64,16 @@ pub left-below : (b : Board) (k : ℕ) → left (lineAt b k) ≡ true → k < le
 left-below b k e = let u = left-used (lineAt b k) e in used-below b k (u .0) (u .1)
 
 pub keeps : KeepsMakeable
-unfolding step Sayable
-keeps b (enter r) m c = go (refusal b r) refl
+unfolding boardStep Sayable
+keeps b (enter r) m c = go (recordRefusal b r) refl
   where
-    go : (x : Option ℕ) → refusal b r ≡ x → Makeable ((entered x b (target b r) r) .board)
+    go : (x : Option ℕ) → recordRefusal b r ≡ x → Makeable ((recordEntered x b (target b r) r) .board)
     go none e = let a = accepts b r e in keep-set b (target b r) r m (target-below b r a) (fine-accepted b r c e) (only b r m a)
     go (some n) e = m
-keeps b (clear t) m c = go (left (lineAt b (place t b))) refl
+keeps b (clear t) m c = go (left (lineAt b (trainLine t b))) refl
   where
-    go : (x : Bool) → left (lineAt b (place t b)) ≡ x → Makeable ((cleared x b (place t b)) .board)
-    go true e = keep-free b (place t b) m (left-below b (place t b) e)
+    go : (x : Bool) → left (lineAt b (trainLine t b)) ≡ x → Makeable ((cleared x b (trainLine t b)) .board)
+    go true e = keep-free b (trainLine t b) m (left-below b (trainLine t b) e)
     go false e = m
 
 -- ---- lists of calls
@@ -88,7 +88,7 @@ empty-makeable = record {
   once = λ j k t p q. absurd (false≢true (rw (empty-line j) at p));
 }
 
-pub after-keeps : (cs : List Call) (b : Board) → Makeable b → AllSayable cs → Makeable (after b cs)
-unfolding after AllSayable
+pub after-keeps : (cs : List BoardCall) (b : Board) → Makeable b → AllSayable cs → Makeable (boardAfter b cs)
+unfolding boardAfter AllSayable
 after-keeps [] b m s = m
-after-keeps (c ∷ cs) b m s = after-keeps cs ((step b c) .board) (keeps b c m (s .0)) (s .1)
+after-keeps (c ∷ cs) b m s = after-keeps cs ((boardStep b c) .board) (keeps b c m (s .0)) (s .1)

@@ -16,57 +16,57 @@ use mathlib.Core.List.{List, [], _∷_}
 use mathlib.Core.Option.{none, some}
 use lib.ListN.{length}
 use Rattle.units.specs.Plain.{if_then_else_}
-use Rattle.desk.specs.Board.{Rec, Board, emptyBoard, lineAt, isOf, isFree, place, shown, Makeable}
-use Rattle.desk.specs.Calls.{Call, enter, clear, told, refused, known, step, after, trace, Sayable, AllSayable, Made, lastOf}
+use Rattle.desk.specs.Board.{Handover, Board, emptyBoard, lineAt, isOf, isFree, trainLine, trainShown, Makeable}
+use Rattle.desk.specs.Calls.{BoardCall, enter, clear, told, boardRefused, knownKind, boardStep, boardAfter, boardTrace, Sayable, AllSayable, MadeBoard, lastOf}
 
 abbrev pub KeepsMakeable : Type 0
-KeepsMakeable = (b : Board) (c : Call) → Makeable b → Sayable c → Makeable ((step b c) .board)
+KeepsMakeable = (b : Board) (c : BoardCall) → Makeable b → Sayable c → Makeable ((boardStep b c) .board)
 
 abbrev pub ExactlyMade : Type 0
-ExactlyMade = (b : Board) → (Made b → Makeable b) × (Makeable b → Made b)
+ExactlyMade = (b : Board) → (MadeBoard b → Makeable b) × (Makeable b → MadeBoard b)
 
 -- q and then r, or r and then q
-pub record InEitherOrder (b : Board) (q r : Rec) : Type 0 where
-  pub reply-q : (step ((step b (enter r)) .board) (enter q)) .reply ≡ (step b (enter q)) .reply
-  pub reply-r : (step ((step b (enter q)) .board) (enter r)) .reply ≡ (step b (enter r)) .reply
-  pub board : (step ((step b (enter q)) .board) (enter r)) .board ≡ (step ((step b (enter r)) .board) (enter q)) .board
+pub record InEitherOrder (b : Board) (q r : Handover) : Type 0 where
+  pub reply-q : (boardStep ((boardStep b (enter r)) .board) (enter q)) .reply ≡ (boardStep b (enter q)) .reply
+  pub reply-r : (boardStep ((boardStep b (enter q)) .board) (enter r)) .reply ≡ (boardStep b (enter r)) .reply
+  pub board : (boardStep ((boardStep b (enter q)) .board) (enter r)) .board ≡ (boardStep ((boardStep b (enter r)) .board) (enter q)) .board
 
 -- R11.15: r's train may be on the board or new. (Two new trains do not commute: the first takes the lower line.)
 abbrev pub Commutes : Type 0
-Commutes = (b : Board) (q r : Rec) → (q .train ≡ r .train → ⊥) → place (q .train) b < length b → InEitherOrder b q r
+Commutes = (b : Board) (q r : Handover) → (q .train ≡ r .train → ⊥) → trainLine (q .train) b < length b → InEitherOrder b q r
 
 -- what an accepted record leaves of a board: line k is the record, and the rest is as it was
-pub record Changes (b : Board) (r : Rec) (k : ℕ) (after : Board) : Type 0 where
-  pub new : lineAt after k ≡ some r
-  pub others : (j : ℕ) → (j ≡ k → ⊥) → lineAt after j ≡ lineAt b j
-  pub size : length after ≡ length b
+pub record Changes (b : Board) (r : Handover) (k : ℕ) (b′ : Board) : Type 0 where
+  pub new : lineAt b′ k ≡ some r
+  pub others : (j : ℕ) → (j ≡ k → ⊥) → lineAt b′ j ≡ lineAt b j
+  pub size : length b′ ≡ length b
   -- the line was this train's, or the train was on no line and this was the lowest free one
   pub was : (isOf (r .train) (lineAt b k) ≡ true) ⊎ (((j : ℕ) → isOf (r .train) (lineAt b j) ≡ false) × (isFree (lineAt b k) ≡ true) × ((j : ℕ) → j < k → isFree (lineAt b j) ≡ false))
 
 abbrev pub OneLine : Type 0
-OneLine = (b : Board) (r : Rec) (k : ℕ) → (step b (enter r)) .reply ≡ told k → Changes b r k ((step b (enter r)) .board)
+OneLine = (b : Board) (r : Handover) (k : ℕ) → (boardStep b (enter r)) .reply ≡ told k → Changes b r k ((boardStep b (enter r)) .board)
 
 abbrev pub ShowsLast : Type 0
 ShowsLast =
-    (cs : List Call) (t : ℕ) → AllSayable cs
-    → (shown t (after emptyBoard cs) ≡ lastOf t none (trace emptyBoard cs))
-    × ((j k : ℕ) → isOf t (lineAt (after emptyBoard cs) j) ≡ true → isOf t (lineAt (after emptyBoard cs) k) ≡ true → j ≡ k)
+    (cs : List BoardCall) (t : ℕ) → AllSayable cs
+    → (trainShown t (boardAfter emptyBoard cs) ≡ lastOf t none (boardTrace emptyBoard cs))
+    × ((j k : ℕ) → isOf t (lineAt (boardAfter emptyBoard cs) j) ≡ true → isOf t (lineAt (boardAfter emptyBoard cs) k) ≡ true → j ≡ k)
 
 -- no call of the list clears train t
-unfoldable pub NotCleared : ℕ → List Call → Type 0
+unfoldable pub NotCleared : ℕ → List BoardCall → Type 0
 NotCleared t [] = Unit {0}
 NotCleared t (c ∷ cs) = (c ≡ clear t → ⊥) × NotCleared t cs
 
 -- R11.17: the board b shows o, which has the greatest sequence
-pub record Ended (b : Board) (o : Rec) : Type 0 where
+pub record Ended (b : Board) (o : Handover) : Type 0 where
   -- every record of the train is refused by 32, or by 30 which goes before it
-  pub refuses : (r : Rec) → r .train ≡ o .train → step b (enter r) ≡ record { reply = refused (if known (r .kind) then 32 else 30); board = b }
+  pub refuses : (r : Handover) → r .train ≡ o .train → boardStep b (enter r) ≡ record { reply = boardRefused (if knownKind (r .kind) then 32 else 30); board = b }
   -- its line stays, whatever the calls are, until it is cleared
-  pub stays : (cs : List Call) → AllSayable cs → NotCleared (o .train) cs → shown (o .train) (after b cs) ≡ some o
+  pub stays : (cs : List BoardCall) → AllSayable cs → NotCleared (o .train) cs → trainShown (o .train) (boardAfter b cs) ≡ some o
   -- a leave is cleared: then the train is on no line, and begins anew (R11.9)
-  pub left : o .kind ≡ 2 → shown (o .train) ((step b (clear (o .train))) .board) ≡ none
+  pub left : o .kind ≡ 2 → trainShown (o .train) ((boardStep b (clear (o .train))) .board) ≡ none
   -- a join is not: its line stays for good
-  pub joined : o .kind ≡ 1 → (cs : List Call) → AllSayable cs → shown (o .train) (after b cs) ≡ some o
+  pub joined : o .kind ≡ 1 → (cs : List BoardCall) → AllSayable cs → trainShown (o .train) (boardAfter b cs) ≡ some o
 
 abbrev pub EndsAtLast : Type 0
-EndsAtLast = (b : Board) (o : Rec) → Makeable b → shown (o .train) b ≡ some o → o .sequence ≡ 4294967295 → Ended b o
+EndsAtLast = (b : Board) (o : Handover) → Makeable b → trainShown (o .train) b ≡ some o → o .sequence ≡ 4294967295 → Ended b o

@@ -9,7 +9,7 @@ use lib.Arith.{digits-lt}
 use lib.ListN.{length, drop, getD}
 use lib.Pow.{pow-add, high, low, shr-shr}
 use lib.Seq.{sets, length-sets}
-use Rattle.words.specs.Runs.{reads}
+use Rattle.words.specs.Runs.{elementsFrom}
 use Rattle.words.specs.Words.{leVal, leBytes, wordAt, putWord}
 use Rattle.words.proofs.Runs.{length-reads, le-or-lt, getD-sets-below, getD-sets-above, reads-below, reads-above, reads-same, drop-sets-lt}
 use Rattle.words.proofs.Laws.{leVal-leBytes, wordAt-putWord-same, wordAt-putWord-other, length-putWord, drop-putWord}
@@ -17,7 +17,7 @@ use Rattle.digits.specs.Digits.{digit, putDigit, Stored}
 
 -- ---- runs, cut in two
 
-reads-append : (l : List ℕ) (a m n : ℕ) → reads l a (m + n) ≡ reads l a m ++ reads l (a + m) n
+reads-append : (l : List ℕ) (a m n : ℕ) → elementsFrom l a (m + n) ≡ elementsFrom l a m ++ elementsFrom l (a + m) n
 reads-append l a zero n = rw (zero-add n, add-zero a)
 reads-append l a (suc m) n = rw (suc-add m n, reads-append l (suc a) m n, suc-add a m, add-suc a m)
 
@@ -37,7 +37,7 @@ unfolding leVal
 leVal-append [] ys = omega arith
 leVal-append (x ∷ xs) ys = rw (leVal-append xs ys, full-suc (length xs)) (omega (arith, mul-assoc (leVal ys) (full (length xs)) 256))
 
-leVal-small : (t : List ℕ) (a n : ℕ) → ((i : ℕ) → getD t i 0 < 256) → leVal (reads t a n) < full n
+leVal-small : (t : List ℕ) (a n : ℕ) → ((i : ℕ) → getD t i 0 < 256) → leVal (elementsFrom t a n) < full n
 unfolding leVal
 leVal-small t a zero small = omega arith
 leVal-small t a (suc n) small = omega (arith, small a, full-suc n, leVal-small t (suc a) n small)
@@ -60,49 +60,49 @@ module _ (t : List ℕ) (small : (n : ℕ) → getD t n 0 < 256) (i j m v : ℕ)
   after = sets t at (leBytes m v)
 
   -- a word by what stands below the digit, the digit, and what stands above it
-  cut : (l : List ℕ) → wordAt l i ≡ (leVal (reads l (at + m) left) * full m + leVal (reads l at m)) * full (m * j) + leVal (reads l (i * 8) (m * j))
+  cut : (l : List ℕ) → wordAt l i ≡ (leVal (elementsFrom l (at + m) left) * full m + leVal (elementsFrom l at m)) * full (m * j) + leVal (elementsFrom l (i * 8) (m * j))
   unfolding wordAt
   cut l =
-      let whole : reads l (i * 8) 8 ≡ reads l (i * 8) (m * j) ++ (reads l at m ++ reads l (at + m) left) =
-      ap (reads l (i * 8)) (count) ∙ reads-append l (i * 8) (m * j) (m + left) ∙ ap (λ (r : List ℕ). reads l (i * 8) (m * j) ++ r) (reads-append l at m left) in
+      let whole : elementsFrom l (i * 8) 8 ≡ elementsFrom l (i * 8) (m * j) ++ (elementsFrom l at m ++ elementsFrom l (at + m) left) =
+      ap (elementsFrom l (i * 8)) (count) ∙ reads-append l (i * 8) (m * j) (m + left) ∙ ap (λ (r : List ℕ). elementsFrom l (i * 8) (m * j) ++ r) (reads-append l at m left) in
       ap leVal whole
-      ∙ leVal-append (reads l (i * 8) (m * j)) (reads l at m ++ reads l (at + m) left)
-      ∙ rw (length-reads l (i * 8) (m * j), leVal-append (reads l at m) (reads l (at + m) left), length-reads l at m)
+      ∙ leVal-append (elementsFrom l (i * 8) (m * j)) (elementsFrom l at m ++ elementsFrom l (at + m) left)
+      ∙ rw (length-reads l (i * 8) (m * j), leVal-append (elementsFrom l at m) (elementsFrom l (at + m) left), length-reads l at m)
     where
       count : 8 ≡ m * j + (m + left)
       count = omega arith
 
-  upper-stays : reads after (at + m) left ≡ reads t (at + m) left
+  upper-stays : elementsFrom after (at + m) left ≡ elementsFrom t (at + m) left
   upper-stays = reads-above (leBytes m v) t at (at + m) left (omega (arith, length-leBytes m v))
 
-  lower-stays : reads after (i * 8) (m * j) ≡ reads t (i * 8) (m * j)
+  lower-stays : elementsFrom after (i * 8) (m * j) ≡ elementsFrom t (i * 8) (m * j)
   lower-stays = reads-below (leBytes m v) t at (i * 8) (m * j) (omega arith)
 
-  stored : reads after at m ≡ leBytes m v
-  stored = ap (reads after at) (sym (length-leBytes m v)) ∙ reads-same (leBytes m v) t at (omega (arith, length-leBytes m v))
+  stored : elementsFrom after at m ≡ leBytes m v
+  stored = ap (elementsFrom after at) (sym (length-leBytes m v)) ∙ reads-same (leBytes m v) t at (omega (arith, length-leBytes m v))
 
-  value : leVal (reads after at m) ≡ v
+  value : leVal (elementsFrom after at m) ≡ v
   value = ap leVal stored ∙ leVal-leBytes m v (rw full-bytes at narrow)
 
-  below : wordAt t i % full (m * j) ≡ leVal (reads t (i * 8) (m * j))
-  below = ap (λ (x : ℕ). x % full (m * j)) (cut t) ∙ low (leVal (reads t (at + m) left) * full m + leVal (reads t at m)) (8 * (m * j)) (leVal-small t (i * 8) (m * j) small)
+  below : wordAt t i % full (m * j) ≡ leVal (elementsFrom t (i * 8) (m * j))
+  below = ap (λ (x : ℕ). x % full (m * j)) (cut t) ∙ low (leVal (elementsFrom t (at + m) left) * full m + leVal (elementsFrom t at m)) (8 * (m * j)) (leVal-small t (i * 8) (m * j) small)
 
-  above : wordAt t i / 2 ^ (8 * (m * j) + 8 * m) ≡ leVal (reads t (at + m) left)
+  above : wordAt t i / 2 ^ (8 * (m * j) + 8 * m) ≡ leVal (elementsFrom t (at + m) left)
   above =
       sym (shr-shr (wordAt t i) (8 * (m * j)) (8 * m))
       ∙ ap (λ (x : ℕ). x / full (m * j) / full m) (cut t)
-      ∙ ap (λ (x : ℕ). x / full m) (high (leVal (reads t (at + m) left) * full m + leVal (reads t at m)) (8 * (m * j)) (leVal-small t (i * 8) (m * j) small))
-      ∙ high (leVal (reads t (at + m) left)) (8 * m) (leVal-small t at m small)
+      ∙ ap (λ (x : ℕ). x / full m) (high (leVal (elementsFrom t (at + m) left) * full m + leVal (elementsFrom t at m)) (8 * (m * j)) (leVal-small t (i * 8) (m * j) small))
+      ∙ high (leVal (elementsFrom t (at + m) left)) (8 * m) (leVal-small t at m small)
 
   -- m bytes read there are the digit
-  pub digit-read : leVal (reads t at m) ≡ digit (8 * m) j (wordAt t i)
+  pub digit-read : leVal (elementsFrom t at m) ≡ digit (8 * m) j (wordAt t i)
   unfolding digit
   digit-read =
       sym
       (rw (mul-assoc 8 m j)
       (ap (λ (x : ℕ). x / full (m * j) % full m) (cut t)
-      ∙ ap (λ (x : ℕ). x % full m) (high (leVal (reads t (at + m) left) * full m + leVal (reads t at m)) (8 * (m * j)) (leVal-small t (i * 8) (m * j) small))
-      ∙ low (leVal (reads t (at + m) left)) (8 * m) (leVal-small t at m small)))
+      ∙ ap (λ (x : ℕ). x % full m) (high (leVal (elementsFrom t (at + m) left) * full m + leVal (elementsFrom t at m)) (8 * (m * j)) (leVal-small t (i * 8) (m * j) small))
+      ∙ low (leVal (elementsFrom t (at + m) left)) (8 * m) (leVal-small t at m small)))
 
   changed : wordAt after i ≡ putDigit (8 * m) j v (wordAt t i)
   unfolding putDigit

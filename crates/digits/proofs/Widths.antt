@@ -7,16 +7,16 @@ use native.Mathlib.Numerals.{towards-suc}
 use native.Mathlib.Omega.{arith}
 use lib.ListN.{length, getD, set}
 use lib.Seq.{sets}
-use Rattle.words.specs.Runs.{reads}
+use Rattle.words.specs.Runs.{elementsFrom}
 use Rattle.words.specs.Words.{leVal, leBytes, wordAt}
 use Rattle.digits.specs.Digits.{digit, putDigit, Stored}
 use Rattle.digits.proofs.Bytes.{digit-read, digit-stored}
 
-quarter-sum : (t : List ℕ) (a : ℕ) → getD t a 0 + getD t (a + 1) 0 * 256 ≡ leVal (reads t a 2)
+quarter-sum : (t : List ℕ) (a : ℕ) → getD t a 0 + getD t (a + 1) 0 * 256 ≡ leVal (elementsFrom t a 2)
 unfolding leVal
 quarter-sum t a = simp towards-suc (omega arith)
 
-half-sum : (t : List ℕ) (a : ℕ) → getD t a 0 + getD t (a + 1) 0 * 256 + (getD t (a + 2) 0 + getD t (a + 3) 0 * 256) * 65536 ≡ leVal (reads t a 4)
+half-sum : (t : List ℕ) (a : ℕ) → getD t a 0 + getD t (a + 1) 0 * 256 + (getD t (a + 2) 0 + getD t (a + 3) 0 * 256) * 65536 ≡ leVal (elementsFrom t a 4)
 unfolding leVal
 half-sum t a = simp towards-suc (omega arith)
 
@@ -32,12 +32,12 @@ module _ (t : List ℕ) (small : (n : ℕ) → getD t n 0 < 256) (i : ℕ) where
   pub quarter-read : i / 4 * 8 + 8 ≤ length t → getD t (i * 2) 0 + getD t (i * 2 + 1) 0 * 256 ≡ digit 16 (i % 4) (wordAt t (i / 4))
   quarter-read within =
       let at : i * 2 ≡ i / 4 * 8 + 2 * (i % 4) = omega arith in
-      quarter-sum t (i * 2) ∙ ap (λ (a : ℕ). leVal (reads t a 2)) at ∙ digit-read t small (i / 4) (i % 4) 2 0 (omega arith) within (omega arith)
+      quarter-sum t (i * 2) ∙ ap (λ (a : ℕ). leVal (elementsFrom t a 2)) at ∙ digit-read t small (i / 4) (i % 4) 2 0 (omega arith) within (omega arith)
 
   pub half-read : i / 2 * 8 + 8 ≤ length t → getD t (i * 4) 0 + getD t (i * 4 + 1) 0 * 256 + (getD t (i * 4 + 2) 0 + getD t (i * 4 + 3) 0 * 256) * 65536 ≡ digit 32 (i % 2) (wordAt t (i / 2))
   half-read within =
       let at : i * 4 ≡ i / 2 * 8 + 4 * (i % 2) = omega arith in
-      half-sum t (i * 4) ∙ ap (λ (a : ℕ). leVal (reads t a 4)) at ∙ digit-read t small (i / 2) (i % 2) 4 0 (omega arith) within (omega arith)
+      half-sum t (i * 4) ∙ ap (λ (a : ℕ). leVal (elementsFrom t a 4)) at ∙ digit-read t small (i / 2) (i % 2) 4 0 (omega arith) within (omega arith)
 
   pub quarter-stored : (v : ℕ) → i / 4 * 8 + 8 ≤ length t → v < 2 ^ 16 → Stored t (set (set t (i * 2) (v % 256)) (i * 2 + 1) (v / 256 % 256)) (i / 4) (putDigit 16 (i % 4) v (wordAt t (i / 4)))
   quarter-stored v within narrow =

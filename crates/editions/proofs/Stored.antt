@@ -19,9 +19,9 @@ use Rattle.pages.specs.Device.{Page}
 use Rattle.plan.specs.Judge.{knownFormat}
 use Rattle.plan.specs.Accepted.{present}
 use Rattle.plan_writer.specs.Write.{Planned, Within}
-use Rattle.plan_area.specs.Area.{planIn, Shows}
+use Rattle.plan_area.specs.Area.{planIn, ShowsPlan}
 use Rattle.plan_area.proofs.Shown.{shows-plan}
-use Rattle.editions.specs.Part.{Room, partBytes, lastIn, newIn, planOf, waitingIn, Fits, Stores}
+use Rattle.editions.specs.Part.{PartRoom, partBytes, lastIn, newIn, planOf, waitingIn, Fits, Stores}
 use Rattle.editions.proofs.Lent.{lent-tail, lent-front, word-before}
 
 -- ---- the page that waits
@@ -36,7 +36,7 @@ waits-some p ne = rw (ne-eqb (newIn p) 0 ne)
 
 -- ---- a page came into force
 
-pub taken-stored : (p q r : List ℕ) (n : ℕ) → Room p → n < 65536 → q ≡ putWord p 0 n → r ≡ putWord q 1 0 → Stores p r n none × Fits r
+pub taken-stored : (p q r : List ℕ) (n : ℕ) → PartRoom p → n < 65536 → q ≡ putWord p 0 n → r ≡ putWord q 1 0 → Stores p r n none × Fits r
 taken-stored p q r n room small e f =
     let last : lastIn r ≡ n = ap (λ (l : List ℕ). wordAt l 0) f ∙ wordAt-putWord-other q 1 0 0 (λ z. omega (arith, z)) ∙ ap (λ (l : List ℕ). wordAt l 0) e ∙ wordAt-putWord-same p 0 n (omega arith) (omega arith) in
     let new : newIn r ≡ 0 = ap (λ (l : List ℕ). wordAt l 1) f ∙ wordAt-putWord-same q 1 0 (omega (arith, ap length e, length-putWord p 0 n)) (omega arith) in
@@ -52,7 +52,7 @@ taken-stored p q r n room small e f =
 
 -- ---- a page waits
 
-module _ (p q a : List ℕ) (n : ℕ) (room : Room p) (e : q ≡ putWord p 1 n) where
+module _ (p q a : List ℕ) (n : ℕ) (room : PartRoom p) (e : q ≡ putWord p 1 n) where
   abbrev r : List ℕ
   r = putMid 16 (length q - 16) q a
 
@@ -60,7 +60,7 @@ module _ (p q a : List ℕ) (n : ℕ) (room : Room p) (e : q ≡ putWord p 1 n) 
   long = ap length e ∙ length-putWord p 1 n
 
   module _ (low : 0 < n) (small : n < 65536) (v : ℕ) (gs : List Setting) (m : ℕ) (known : knownFormat v ≡ true) (setup : Setup gs)
-      (shows : Shows (record { format = v; lanes = gs; count = m }) a) (rest : drop (65 * 8) a ≡ drop (65 * 8) (drop 16 q)) where
+      (shows : ShowsPlan (record { format = v; lanes = gs; count = m }) a) (rest : drop (65 * 8) a ≡ drop (65 * 8) (drop 16 q)) where
     tail : drop 16 r ≡ a
     tail = lent-tail 16 q a (omega (arith, long))
 

@@ -1,6 +1,6 @@
 -- The page's part of a table, which lies behind its core (crate table, `SIZE`): the edition last taken, and perhaps a settings page that waits.
 --
---   Room                 long enough: 67 words
+--   PartRoom             long enough: 67 words
 --   lastIn, newIn        its first two words: the edition last taken, and the waiting page's, 0 where none waits
 --   planOf               the plan of its other words, an area as a host's (crate plan_area)
 --   waitingIn            the page that waits
@@ -28,8 +28,8 @@ use Rattle.plan_area.specs.Area.{areaSize, planIn}
 abbrev pub partBytes : ℕ
 partBytes = 2 * 8 + areaSize
 
-abbrev pub Room : List ℕ → Type 0
-Room p = partBytes ≤ length p
+abbrev pub PartRoom : List ℕ → Type 0
+PartRoom p = partBytes ≤ length p
 
 -- R19.7, R19.12: 0 before any page was taken
 abbrev pub lastIn : List ℕ → ℕ

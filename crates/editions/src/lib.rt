@@ -15,7 +15,7 @@ ghost use Rattle.plan.specs.Judge.{knownFormat};
 ghost use Rattle.plan.specs.Read.{settings};
 ghost use Rattle.plan_writer.specs.Write.{planned, Within};
 ghost use Rattle.plan_area.specs.Area.{Gives};
-ghost use Rattle.editions.specs.Part.{Room, lastIn, newIn, planOf, Fits, Stores};
+ghost use Rattle.editions.specs.Part.{PartRoom, lastIn, newIn, planOf, Fits, Stores};
 use plan::Plan;
 use plan_area::plan_in;
 use plan_area::store;
@@ -31,7 +31,7 @@ const PLAN: usize = 16;
 
 // The edition last taken.
 pub fn last(p: &[u8]) -> u64
-    requires { ⌜ Room (now p) ⌝ }
+    requires { ⌜ PartRoom (now p) ⌝ }
     ensures { λ r. ⌜ r ≡ lastIn (now (p .entry)) ⌝ }
 {
     word(p, LAST)
@@ -39,7 +39,7 @@ pub fn last(p: &[u8]) -> u64
 
 // The edition of the page that waits; 0 where none does.
 pub fn new(p: &[u8]) -> u64
-    requires { ⌜ Room (now p) ⌝ }
+    requires { ⌜ PartRoom (now p) ⌝ }
     ensures { λ r. ⌜ r ≡ newIn (now (p .entry)) ⌝ }
 {
     word(p, NEW)
@@ -47,7 +47,7 @@ pub fn new(p: &[u8]) -> u64
 
 // The plan of the page that waits; any plan, in or out of the numbers, where none does.
 pub fn plan(p: &[u8]) -> Plan
-    requires { ⌜ Room (now p) ⌝ }
+    requires { ⌜ PartRoom (now p) ⌝ }
     ensures { λ r. ⌜ Gives (planOf (now (p .entry))) (planned r) × (Within (planOf (now (p .entry))) → settings r ≡ planOf (now (p .entry)) .lanes) ⌝ }
 {
     plan_in(&p[PLAN..])
@@ -55,7 +55,7 @@ pub fn plan(p: &[u8]) -> Plan
 
 // A page came into force: its edition is the last one taken, and none waits.
 pub fn set_taken(p: &mut [u8], edition: u64)
-    requires { ⌜ Room (now p) × (edition < 65536) ⌝ }
+    requires { ⌜ PartRoom (now p) × (edition < 65536) ⌝ }
     ensures { λ _. ⌜ Stores (now (p .entry)) (now (p .exit)) edition none × Fits (now (p .exit)) ⌝ }
 {
     set_word(p, LAST, edition);
@@ -64,7 +64,7 @@ pub fn set_taken(p: &mut [u8], edition: u64)
 
 // A page waits, in place of one that may have waited.
 pub fn set_waiting(p: &mut [u8], edition: u16, plan: Plan)
-    requires { ⌜ Room (now p) × (0 < edition) × Setup (settings plan) × (knownFormat (plan .format) ≡ true) ⌝ }
+    requires { ⌜ PartRoom (now p) × (0 < edition) × Setup (settings plan) × (knownFormat (plan .format) ≡ true) ⌝ }
     ensures { λ _. ⌜ Stores (now (p .entry)) (now (p .exit)) (lastIn (now (p .entry))) (some (record { edition = edition; settings = settings plan })) ⌝ }
 {
     set_word(p, NEW, edition as u64);

@@ -14,16 +14,14 @@ use Rattle.rules.specs.declared.Answer.{Answer}
 use Rattle.rules.proofs.SameSetup.{same-setup, fresh-setup}
 use Rattle.pages.specs.Device.{Page, Device, ruled, answered, freshDevice, inForceOf, settledDevice, deviceStepBy}
 use Rattle.pages.specs.Offers.{DeviceEvent}
-use Rattle.plan.specs.Read as plan
-use Rattle.plan.specs.Read.{readSetup}
+use Rattle.plan.specs.Read.{readSetup, SetupReply, setupRefused, setupRead}
 use Rattle.editions.specs.Part.{lastIn, waitingIn}
 use Rattle.table.specs.Layout.{tableSize}
 use Rattle.table.specs.Means.{meant}
 use Rattle.paged.specs.Paged.{partOf, deviceOf, EncodesDevice, GoodUnit}
 use Rattle.paged.proofs.Units.{device-encoded}
 use Rattle.scheduler.specs.Step.{Step}
-use Rattle.scheduler.specs.Make as scheduler
-use Rattle.scheduler.specs.Make.{MakeStep, Follows, made, notMade}
+use Rattle.scheduler.specs.Make.{MakeStep, TableBySetup, made, notMade, makeReply}
 use Rattle.scheduler.specs.Chain.{Chain, done, then, Begins, Led}
 use Rattle.scheduler.specs.declared.Making as scheduler-making
 use Rattle.scheduler.proofs.Chains.{led-on, led-good}
@@ -38,7 +36,7 @@ made-not : (n m : ℕ) (p : Option ℕ) → made n ≡ notMade m p → ⊥
 made-not n m p e = let z : _≡_ {A = ℕ} 0 1 = cc in absurd (omega arith)
 
 module _ (t : List ℕ) (b : HaltBegins t) where
-  by-it : (m : scheduler-making.Making) × MakeStep (b .setup) (b .before) m t × (scheduler.reads m ≡ made (b .lanes))
+  by-it : (m : scheduler-making.Making) × MakeStep (b .setup) (b .before) m t × (makeReply m ≡ made (b .lanes))
   by-it =
       let s = b .makes .same (λ room o. made-not (b .lanes) 90 none (sym (b .accepted) ∙ b .makes .other room o .0)) in
       (s .0, s .1, sym (s .2) ∙ b .accepted)
@@ -53,16 +51,16 @@ module _ (t : List ℕ) (b : HaltBegins t) where
   pub begins : Begins haltSetup t
   begins = go (readSetup (b .setup)) refl (by-it .1 .follows room) (b .makes .own (b .lanes) (b .accepted))
     where
-      go : (r : plan.Reply) → readSetup (b .setup) ≡ r → Follows r (b .before) (by-it .0) t → OwnPlan r → Begins haltSetup t
-      go (plan.refused n p) e f o = absurd (made-not (b .lanes) n p (sym (by-it .2) ∙ f .0))
-      go (plan.read v gs n at) e f o = record {
+      go : (r : SetupReply) → readSetup (b .setup) ≡ r → TableBySetup r (b .before) (by-it .0) t → OwnPlan r → Begins haltSetup t
+      go (setupRefused n p) e f o = absurd (made-not (b .lanes) n p (sym (by-it .2) ∙ f .0))
+      go (setupRead v gs n at) e f o = record {
         setup = b .setup;
         before = b .before;
         answer = by-it .0;
         format = v;
         lanes = n;
         at = at;
-        reads-it = e ∙ ap (λ (x : List Setting). plan.read v x n at) o;
+        reads-it = e ∙ ap (λ (x : List Setting). setupRead v x n at) o;
         room = room;
         makes = by-it .1;
       }
@@ -97,7 +95,7 @@ pub goes-first : (t : List ℕ) → HaltBegins t → Goes [] t
 unfolding inForceOf
 goes-first t b =
     let s = begins t b in
-    let e = subst (λ (y : plan.Reply). Follows y (s .before) (s .answer) t) (s .reads-it) (s .makes .follows (s .room)) .1 in
+    let e = subst (λ (y : SetupReply). TableBySetup y (s .before) (s .answer) t) (s .reads-it) (s .makes .follows (s .room)) .1 in
     record { led = by-make haltSetup t s; setup = encodes-setup t (freshDevice haltSetup) e ∙ fresh-setup haltSetup; free = e .waiting }
 
 pub goes-on : (past : List DeviceEvent) (c : Call) (t : List ℕ) (a : Answer) (u : List ℕ) → Goes past t → Step c t a u

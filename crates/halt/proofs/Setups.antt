@@ -21,8 +21,7 @@ use Rattle.rules.specs.State.{Setting, noSetting, settingAt}
 use Rattle.rules.specs.Setup.{Setup, InNumbers, weights}
 use Rattle.lane_test.specs.Says.{Says}
 use Rattle.good.proofs.Whole.{says-iff}
-use Rattle.plan.specs.Read as plan
-use Rattle.plan.specs.Read.{settingOf, settings, readSetup, came}
+use Rattle.plan.specs.Read.{settingOf, settings, readSetup, setupCame, setupReply}
 use Rattle.plan.specs.declared.Lane.{Lane}
 use Rattle.plan.specs.declared.Reading.{Reading}
 use Rattle.plan.specs.declared.Outcome.the-variants as outcome
@@ -145,12 +144,12 @@ module _ (lanes : List Lane) where
       let at : settingAt (map settingOf lanes) k ≡ settingOf (getD lanes k none) = List·getD-map settingOf lanes k none in
       says-iff b (λ e. at ∙ e) (λ e. sym at ∙ e) h
 
-module _ (setup : List ℕ) (r : Reading) (e : plan.reads r ≡ readSetup setup) where
+module _ (setup : List ℕ) (r : Reading) (e : setupReply r ≡ readSetup setup) where
   pub judged-refused : (x : Refusal) → r .outcome ≡ outcome.Refused x → Judged false (readSetup setup)
-  judged-refused x o = subst OwnPlan (sym (ap (came (r .plan)) o) ∙ e) tt
+  judged-refused x o = subst OwnPlan (sym (ap (setupCame (r .plan)) o) ∙ e) tt
 
   pub judged-own : (p : ℕ) → r .outcome ≡ outcome.Read p → settings (r .plan) ≡ haltSetup → Judged false (readSetup setup)
-  judged-own p o h = subst OwnPlan (sym (ap (came (r .plan)) o) ∙ e) h
+  judged-own p o h = subst OwnPlan (sym (ap (setupCame (r .plan)) o) ∙ e) h
 
   pub judged-other : (p : ℕ) → r .outcome ≡ outcome.Read p → (settings (r .plan) ≡ haltSetup → ⊥) → Judged true (readSetup setup)
-  judged-other p o h = subst OtherPlan (sym (ap (came (r .plan)) o) ∙ e) h
+  judged-other p o h = subst OtherPlan (sym (ap (setupCame (r .plan)) o) ∙ e) h

@@ -12,7 +12,7 @@ use Rattle.rules.specs.declared.Answer.{Answer}
 use Rattle.rules.specs.declared.Answer.the-variants.{Refused}
 use Rattle.rules.specs.declared.Refusal.{Refusal}
 use Rattle.rules.specs.declared.Refusal.the-variants.{NotGood, TableShort}
-use Rattle.plan.specs.Read.{readSetup}
+use Rattle.plan.specs.Read.{readSetup, SetupReply, setupRefused, setupRead}
 use Rattle.table.specs.Layout.{tableSize}
 use Rattle.pages.specs.Device.{answered}
 use Rattle.lane_test.specs.Says.{Says}
@@ -20,14 +20,12 @@ use Rattle.engine.specs.Does.{Unchanged}
 use Rattle.paged.specs.Paged.{GoodUnit}
 use Rattle.paged.proofs.Tested.{found-good, found-bad}
 use Rattle.scheduler.specs.Step.{Step}
-use Rattle.scheduler.specs.Make as scheduler
-use Rattle.scheduler.specs.Make.{MakeStep}
+use Rattle.scheduler.specs.Make.{MakeStep, makeReply}
 use Rattle.scheduler.specs.declared.Making as scheduler-making
 use Rattle.scheduler.specs.declared.Making.the-variants as its
 use Rattle.scheduler.proofs.Made as its-proofs
 use Rattle.halt.specs.Halt.{HaltTable, HaltStep, OtherPlan, OwnPlan, Judged, HaltMake}
 use Rattle.halt.specs.declared.Making.the-variants as making
-use Rattle.plan.specs.Read as plan
 
 -- what a test found
 pub found : {P : Type 0} (b : Bool) → Says b P → b ≡ true → P
@@ -51,18 +49,18 @@ module _ (c : Call) (t : List ℕ) where
 
 -- ---- making
 
-judged-own : (r : plan.Reply) (b : Bool) → Judged b r → b ≡ false → OwnPlan r
+judged-own : (r : SetupReply) (b : Bool) → Judged b r → b ≡ false → OwnPlan r
 judged-own r true h e = absurd (false≢true (sym e))
 judged-own r false h e = h
 
-judged-other : (r : plan.Reply) (b : Bool) → Judged b r → b ≡ true → OtherPlan r
+judged-other : (r : SetupReply) (b : Bool) → Judged b r → b ≡ true → OtherPlan r
 judged-other r true h e = h
 judged-other r false h e = absurd (false≢true e)
 
 -- the two exclude each other
-not-both : (r : plan.Reply) → OwnPlan r → OtherPlan r → ⊥
-not-both (plan.refused n p) own other = other
-not-both (plan.read format gs lanes at) own other = other own
+not-both : (r : SetupReply) → OwnPlan r → OtherPlan r → ⊥
+not-both (setupRefused n p) own other = other
+not-both (setupRead format gs lanes at) own other = other own
 
 module _ (setup t : List ℕ) where
   pub make-short : length t < tableSize → HaltMake setup t (making.Refused TableShort) t
@@ -84,13 +82,13 @@ module _ (setup t : List ℕ) where
       pub make-made : (n : ℕ) → m ≡ its.Made n → HaltMake setup t (making.Made n) u
       make-made n q = record {
         other = λ _ o. absurd (not-both (readSetup setup) (judged-own (readSetup setup) b j e) o);
-        same = λ _. (m, p, sym (ap scheduler.reads q));
+        same = λ _. (m, p, sym (ap makeReply q));
         own = λ _ _. judged-own (readSetup setup) b j e;
       }
 
       pub make-refused : (x : Refusal) → m ≡ its.Refused x → HaltMake setup t (making.Refused x) u
       make-refused x q = record {
         other = λ _ o. absurd (not-both (readSetup setup) (judged-own (readSetup setup) b j e) o);
-        same = λ _. (m, p, sym (ap scheduler.reads q));
+        same = λ _. (m, p, sym (ap makeReply q));
         own = λ n r. let z : _≡_ {A = ℕ} 0 1 = cc in absurd (omega arith);
       }

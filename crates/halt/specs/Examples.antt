@@ -9,7 +9,7 @@
 use Prim.Native.Nat.{ℕ}
 use mathlib.Core.Path.{_≡_}
 use mathlib.Core.List.{List, [], _∷_, _++_}
-use Rattle.plan.specs.Read.{read, readSetup}
+use Rattle.plan.specs.Read.{setupRead, readSetup}
 use Rattle.plan.specs.Examples.{endField}
 use Rattle.halt.specs.Halt.{haltSetup, OtherPlan}
 
@@ -37,10 +37,10 @@ framingField h = 17 ∷ 0 ∷ 1 ∷ h ∷ []
 
 -- R20.7
 pub record Shown : Type 0 where
-  pub format-1 : readSetup (haltBytes 1 [] 3) ≡ read 1 haltSetup 4 40
-  pub format-2 : readSetup (haltBytes 2 [] 3) ≡ read 2 haltSetup 4 40
+  pub format-1 : readSetup (haltBytes 1 [] 3) ≡ setupRead 1 haltSetup 4 40
+  pub format-2 : readSetup (haltBytes 2 [] 3) ≡ setupRead 2 haltSetup 4 40
   -- no framing bytes, written out
-  pub no-framing : readSetup (haltBytes 2 (framingField 0) 3) ≡ read 2 haltSetup 4 44
+  pub no-framing : readSetup (haltBytes 2 (framingField 0) 3) ≡ setupRead 2 haltSetup 4 44
   pub one-framing : OtherPlan (readSetup (haltBytes 2 (framingField 1) 3))
   -- the same weights in other lanes
   pub other-lanes : OtherPlan (readSetup (haltBytes 2 [] 4))

@@ -20,14 +20,12 @@ use Rattle.rules.specs.Reads as rules
 use Rattle.rules.specs.Reads.{number, placeOf}
 use Rattle.rules.specs.declared.Answer.{Answer}
 use Rattle.editions.specs.Part.{waitingIn}
-use Rattle.plan.specs.Read as plan
-use Rattle.plan.specs.Read.{readSetup}
+use Rattle.plan.specs.Read.{readSetup, SetupReply, setupRefused, setupRead}
 use Rattle.table.specs.Layout.{tableSize}
 use Rattle.table.specs.Means.{meant}
 use Rattle.paged.specs.Paged.{partOf, GoodUnit}
 use Rattle.scheduler.specs.Step.{Step}
-use Rattle.scheduler.specs.Make as scheduler
-use Rattle.scheduler.specs.Make.{MakeStep, made, notMade}
+use Rattle.scheduler.specs.Make.{MakeStep, made, notMade, MakeReply, makeReply}
 use Rattle.scheduler.specs.declared.Making as scheduler-making
 use Rattle.halt.specs.declared.Making.{Making}
 use Rattle.halt.specs.declared.Making.the-variants.{Made, NotAHalt, Refused}
@@ -54,30 +52,30 @@ pub record HaltStep (c : Call) (before : List ℕ) (a : Answer) (after : List �
   pub same : HaltTable before → Step c before a after
 
 -- R20.2: the settings decide, whatever bytes or format they were given in
-abbrev pub OtherPlan : plan.Reply → Type 0
-OtherPlan (plan.refused n p) = ⊥
-OtherPlan (plan.read format gs lanes at) = gs ≡ haltSetup → ⊥
+abbrev pub OtherPlan : SetupReply → Type 0
+OtherPlan (setupRefused n p) = ⊥
+OtherPlan (setupRead format gs lanes at) = gs ≡ haltSetup → ⊥
 
 -- R20.2
-abbrev pub OwnPlan : plan.Reply → Type 0
-OwnPlan (plan.refused n p) = Unit {0}
-OwnPlan (plan.read format gs lanes at) = gs ≡ haltSetup
+abbrev pub OwnPlan : SetupReply → Type 0
+OwnPlan (setupRefused n p) = Unit {0}
+OwnPlan (setupRead format gs lanes at) = gs ≡ haltSetup
 
 -- R20.2: the test of a setup's bytes says which of the two it is
-abbrev pub Judged : Bool → plan.Reply → Type 0
+abbrev pub Judged : Bool → SetupReply → Type 0
 Judged true r = OtherPlan r
 Judged false r = OwnPlan r
 
 -- R20.2: 90 has no place
-abbrev pub reads : Making → scheduler.Reply
-reads (Made n) = made n
-reads NotAHalt = notMade 90 none
-reads (Refused x) = notMade (number x) (placeOf x)
+abbrev pub haltReply : Making → MakeReply
+haltReply (Made n) = made n
+haltReply NotAHalt = notMade 90 none
+haltReply (Refused x) = notMade (number x) (placeOf x)
 
 -- R20.2: 90 where there is room and the setup reads and is another one; else making is the scheduler's, so 7 and what is wrong with the setup come first.
 pub record HaltMake (setup before : List ℕ) (a : Making) (after : List ℕ) : Type 0 where
-  pub other : tableSize ≤ length before → OtherPlan (readSetup setup) → (reads a ≡ notMade 90 none) × (after ≡ before)
+  pub other : tableSize ≤ length before → OtherPlan (readSetup setup) → (haltReply a ≡ notMade 90 none) × (after ≡ before)
   pub same : (tableSize ≤ length before → OtherPlan (readSetup setup) → ⊥)
-      → (m : scheduler-making.Making) × MakeStep setup before m after × (reads a ≡ scheduler.reads m)
+      → (m : scheduler-making.Making) × MakeStep setup before m after × (haltReply a ≡ makeReply m)
   -- so a table that was made is the halt's
-  pub own : (n : ℕ) → reads a ≡ made n → OwnPlan (readSetup setup)
+  pub own : (n : ℕ) → haltReply a ≡ made n → OwnPlan (readSetup setup)

@@ -24,7 +24,7 @@ use Rattle.pages.specs.Claims.{HeldThroughout}
 use Rattle.scheduler.specs.Make.{made}
 use Rattle.scheduler.specs.Compared.{tightest}
 use Rattle.scheduler.specs.Demands.{Demands}
-use Rattle.halt.specs.Halt.{haltSetup, HaltTable, HaltStep, reads, HaltMake}
+use Rattle.halt.specs.Halt.{haltSetup, HaltTable, HaltStep, haltReply, HaltMake}
 use Rattle.halt.specs.declared.Making.{Making}
 
 pub data HaltChain : List ℕ → List DeviceEvent → List ℕ → Type 0 where
@@ -38,7 +38,7 @@ pub record HaltBegins (t : List ℕ) : Type 0 where
   pub answer : Making
   pub lanes : ℕ
   pub makes : HaltMake setup before answer t
-  pub accepted : reads answer ≡ made lanes
+  pub accepted : haltReply answer ≡ made lanes
 
 -- R20.5
 abbrev pub haltMargin : ℕ

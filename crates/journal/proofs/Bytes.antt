@@ -9,27 +9,27 @@ use lib.ListN.{length, drop}
 use Rattle.words.specs.Words.{wordAt, putWord}
 use Rattle.words.proofs.Runs.{le-or-lt, eq-or-ne}
 use Rattle.words.proofs.Laws.{length-putWord, wordAt-putWord-same, wordAt-putWord-other}
-use Rattle.desk.specs.Board.{Rec, Board, lineAt, Makeable}
+use Rattle.desk.specs.Board.{Handover, Board, lineAt, Makeable}
 use Rattle.desk.specs.Calls as Calls
-use Rattle.desk.specs.Calls.{Call, Reply, enter, step}
+use Rattle.desk.specs.Calls.{BoardCall, BoardReply, enter, boardStep}
 use Rattle.desk.proofs.Made.{exactly-made}
 use Rattle.desk.proofs.Commute.{commutes, lines-differ}
-use Rattle.board.specs.Layout.{Room, trainWord, cellWord, putLine, Written, Shows, boardOf, NoBoard}
+use Rattle.board.specs.Layout.{BoardRoom, trainWord, cellWord, putLine, Written, ShowsBoard, boardOf, NoBoard}
 use Rattle.board.proofs.Means.{shows-is}
 use Rattle.board.proofs.Stores.{words-fit, put-size, put-rest, put-other}
 use Rattle.board.proofs.Order.{lines-either}
 use Rattle.board.proofs.Decided.{decided}
-use Rattle.journal.specs.Reads.{Plain, refused, told, shown, fromRules}
+use Rattle.journal.specs.Reads.{Plain, plainRefused, told, shown, fromRules}
 use Rattle.journal.specs.Record.{Reading, says, faulty, readRecord}
 use Rattle.journal.specs.declared.Told.{Told}
-use Rattle.journal.specs.Step.{stored, Stays, Kept, Step, RecordSays}
+use Rattle.journal.specs.Step.{stored, Stays, Kept, BoardStep, RecordSays}
 use Rattle.journal.specs.Bytes.{Exactly29, Exact29, EachMade, OneBoard, OneAnswer, OneClear, AnyOrder}
 use Rattle.journal.proofs.Numbers.{rules-not-29, stands-not-29, field-not-29}
 
 -- ---- one encoding
 
 -- word i of a board
-word-of : (u v : List ℕ) (b : Board) → Shows u b → Shows v b → (i : ℕ) → i < 128 → (i ≡ i / 2 * 2) ⊎ (i ≡ i / 2 * 2 + 1) → wordAt u i ≡ wordAt v i
+word-of : (u v : List ℕ) (b : Board) → ShowsBoard u b → ShowsBoard v b → (i : ℕ) → i < 128 → (i ≡ i / 2 * 2) ⊎ (i ≡ i / 2 * 2 + 1) → wordAt u i ≡ wordAt v i
 word-of u v b s w i h (inl e) = ap (wordAt u) e ∙ s .trains (i / 2) (omega arith) ∙ sym (w .trains (i / 2) (omega arith)) ∙ ap (wordAt v) (sym e)
 word-of u v b s w i h (inr e) = ap (wordAt u) e ∙ s .cells (i / 2) (omega arith) ∙ sym (w .cells (i / 2) (omega arith)) ∙ ap (wordAt v) (sym e)
 
@@ -53,7 +53,7 @@ written-rest : (n : ℕ) (b : Board) (t : List ℕ) → n ≤ 64 → drop 1024 (
 written-rest zero b t h = refl
 written-rest (suc n) b t h = put-rest (written n b t) n (lineAt b n) (omega arith) ∙ written-rest n b t (omega arith)
 
-written-words : (n : ℕ) (b : Board) (t : List ℕ) → n ≤ 64 → Room t → Makeable b → (k : ℕ) → k < n
+written-words : (n : ℕ) (b : Board) (t : List ℕ) → n ≤ 64 → BoardRoom t → Makeable b → (k : ℕ) → k < n
     → (wordAt (written n b t) (k * 2) ≡ trainWord (lineAt b k)) × (wordAt (written n b t) (k * 2 + 1) ≡ cellWord (lineAt b k))
 written-words zero b t h room m k q = absurd (omega arith)
 written-words (suc n) b t h room m k q =
@@ -71,25 +71,25 @@ written-words (suc n) b t h room m k q =
 pub each-made : EachMade
 each-made b made t room =
     let m = (exactly-made b) .0 made in
-    let s : Shows (written 64 b t) b = record { room = rw (written-size 64 b t (omega arith)) room; makeable = m; trains = λ k h. (written-words 64 b t (omega arith) room m k h) .0; cells = λ k h. (written-words 64 b t (omega arith) room m k h) .1 } in
+    let s : ShowsBoard (written 64 b t) b = record { room = rw (written-size 64 b t (omega arith)) room; makeable = m; trains = λ k h. (written-words 64 b t (omega arith) room m k h) .0; cells = λ k h. (written-words 64 b t (omega arith) room m k h) .1 } in
     (written 64 b t, s, written-rest 64 b t (omega arith), written-size 64 b t (omega arith))
 
 -- ---- 29
 
-written-shows : (t : List ℕ) (b : Board) → Written t b → Makeable b → Shows t b
+written-shows : (t : List ℕ) (b : Board) → Written t b → Makeable b → ShowsBoard t b
 written-shows t b w m = record { room = w .room; makeable = m; trains = w .trains; cells = w .cells }
 
-shows-written : (t : List ℕ) (b : Board) → Shows t b → Written t b
+shows-written : (t : List ℕ) (b : Board) → ShowsBoard t b → Written t b
 shows-written t b s = record { room = s .room; size = s .makeable .size; trains = s .trains; cells = s .cells }
 
 -- an answer that is 29 on no board, and never on a board
-exactly : (a : Plain) (t : List ℕ) → (NoBoard t → a ≡ refused 29 none) → ((b : Board) → Shows t b → a ≡ refused 29 none → ⊥) → Exactly29 a t
+exactly : (a : Plain) (t : List ℕ) → (NoBoard t → a ≡ plainRefused 29 none) → ((b : Board) → ShowsBoard t b → a ≡ plainRefused 29 none → ⊥) → Exactly29 a t
 exactly a t always never = record {
   only = λ e b w m. never b (written-shows t b w ((exactly-made b) .0 m)) e;
   always = λ n. always (λ b s. n b (shows-written t b s) ((exactly-made b) .1 (s .makeable)));
 }
 
-step-29 : (c : Call) (t : List ℕ) (a : Told) (u : List ℕ) → Step c t a u → Exactly29 (told a) t
+step-29 : (c : BoardCall) (t : List ℕ) (a : Told) (u : List ℕ) → BoardStep c t a u → Exactly29 (told a) t
 step-29 c t a u x = exactly (told a) t (x .not-board) (λ b s e. rules-not-29 b c (sym (x .reply b s) ∙ e))
 
 says-29 : (s : List ℕ) (g : Reading) → readRecord s ≡ g → (t : List ℕ) (a : Told) (u : List ℕ) → RecordSays g t a u → Exactly29 (told a) t
@@ -106,13 +106,13 @@ exact-29 = record {
 -- ---- nothing is left open
 
 -- a refused call leaves the bytes
-pub stayed : (a : Told) (t u : List ℕ) (n : ℕ) (p : Option ℕ) → told a ≡ refused n p → Kept (told a) t u → u ≡ t
+pub stayed : (a : Told) (t u : List ℕ) (n : ℕ) (p : Option ℕ) → told a ≡ plainRefused n p → Kept (told a) t u → u ≡ t
 stayed a t u n p e k = subst (λ x. Stays x t u) e (k .stays)
 
 pub one-clear : OneClear
 one-clear c t a a′ u u′ x y =
     ⊎-elim
-    (λ (s : Shows t (boardOf t)). (x .reply (boardOf t) s ∙ sym (y .reply (boardOf t) s), x .bytes (boardOf t) s ∙ sym (y .bytes (boardOf t) s)))
+    (λ (s : ShowsBoard t (boardOf t)). (x .reply (boardOf t) s ∙ sym (y .reply (boardOf t) s), x .bytes (boardOf t) s ∙ sym (y .bytes (boardOf t) s)))
     (λ (n : NoBoard t). (x .not-board n ∙ sym (y .not-board n), stayed a t u 29 none (x .not-board n) (x .kept) ∙ sym (stayed a′ t u′ 29 none (y .not-board n) (y .kept))))
     (decided t)
 
@@ -120,7 +120,7 @@ says-one : (g : Reading) (t : List ℕ) (a a′ : Told) (u u′ : List ℕ) → 
 says-one (says r) t a a′ u u′ x y = one-clear (enter r) t a a′ u u′ x y
 says-one (faulty n p) t a a′ u u′ x y =
     ⊎-elim
-    (λ (s : Shows t (boardOf t)). let e = x .1 (boardOf t) s in let f = y .1 (boardOf t) s in (e ∙ sym f, stayed a t u n p e (x .2) ∙ sym (stayed a′ t u′ n p f (y .2))))
+    (λ (s : ShowsBoard t (boardOf t)). let e = x .1 (boardOf t) s in let f = y .1 (boardOf t) s in (e ∙ sym f, stayed a t u n p e (x .2) ∙ sym (stayed a′ t u′ n p f (y .2))))
     (λ (m : NoBoard t). let e = x .0 m in let f = y .0 m in (e ∙ sym f, stayed a t u 29 none e (x .2) ∙ sym (stayed a′ t u′ 29 none f (y .2))))
     (decided t)
 
@@ -129,22 +129,22 @@ one-answer s t a a′ u u′ x y = says-one (readRecord s) t a a′ u u′ x y
 
 -- ---- in either order
 
-stores-either : (q r : Rec) (x y : Reply) (t : List ℕ) → ((j k : ℕ) → x ≡ Calls.told j → y ≡ Calls.told k → j ≡ k → ⊥)
+stores-either : (q r : Handover) (x y : BoardReply) (t : List ℕ) → ((j k : ℕ) → x ≡ Calls.told j → y ≡ Calls.told k → j ≡ k → ⊥)
     → stored (enter r) y (stored (enter q) x t) ≡ stored (enter q) x (stored (enter r) y t)
 stores-either q r (Calls.told j) (Calls.told k) t n = lines-either t j k (some q) (some r) (n j k refl refl)
-stores-either q r (Calls.told j) (Calls.refused m) t n = refl
-stores-either q r (Calls.refused m) (Calls.told k) t n = refl
-stores-either q r (Calls.refused m) (Calls.refused l) t n = refl
+stores-either q r (Calls.told j) (Calls.boardRefused m) t n = refl
+stores-either q r (Calls.boardRefused m) (Calls.told k) t n = refl
+stores-either q r (Calls.boardRefused m) (Calls.boardRefused l) t n = refl
 
 pub any-order : AnyOrder
 any-order t b q r s n hq a₁ a₂ c₁ c₂ t₁ t₂ u₁ u₂ x₁ x₂ y₁ y₂ =
     let e = commutes b q r n hq in
-    let bq = (step b (enter q)) .board in
-    let br = (step b (enter r)) .board in
+    let bq = (boardStep b (enter q)) .board in
+    let br = (boardStep b (enter r)) .board in
     let s₁ = x₁ .board b s in
     let w₁ = y₁ .board b s in
-    let ρ = (step b (enter q)) .reply in
-    let π = (step b (enter r)) .reply in (
+    let ρ = (boardStep b (enter q)) .reply in
+    let π = (boardStep b (enter r)) .reply in (
       x₁ .reply b s ∙ ap fromRules (sym (e .reply-q)) ∙ sym (y₂ .reply br w₁),
       x₂ .reply bq s₁ ∙ ap fromRules (e .reply-r) ∙ sym (y₁ .reply b s),
       x₂ .bytes bq s₁ ∙ ap (λ z. stored (enter r) z t₁) (e .reply-r) ∙ ap (stored (enter r) π) (x₁ .bytes b s)

@@ -8,8 +8,8 @@ use mathlib.Core.List.{List}
 use lib.Dec.{eqb}
 use borrow.Author.Tests.{eq-eqb, ne-eqb, lt-ltb, le-ltb}
 use Rattle.fields.specs.Bytes.{byteAt, big}
-use Rattle.desk.specs.Board.{Rec}
-use Rattle.desk.specs.Calls.{known, inTurn, follows}
+use Rattle.desk.specs.Board.{Handover}
+use Rattle.desk.specs.Calls.{knownKind, inSequence, follows}
 
 pub big-one : (s : List ℕ) (at : ℕ) → byteAt s at ≡ big s at 1
 unfolding big
@@ -19,17 +19,17 @@ pub big-four : (s : List ℕ) (at : ℕ) → big s at 2 * 65536 + big s (at + 2)
 unfolding big
 big-four s at = simp towards-suc (omega arith)
 
-pub known-joined : (n : ℕ) → n ≡ 1 → true ≡ known n
+pub known-joined : (n : ℕ) → n ≡ 1 → true ≡ knownKind n
 known-joined n e = rw e
 
-pub known-left : (n : ℕ) → (n ≡ 1 → ⊥) → eqb n 2 ≡ known n
+pub known-left : (n : ℕ) → (n ≡ 1 → ⊥) → eqb n 2 ≡ knownKind n
 known-left n e = rw (ne-eqb n 1 e)
 
-module _ (o r : Rec) where
-  pub turn-spent : 4294967295 ≤ o .sequence → false ≡ inTurn o r
+module _ (o r : Handover) where
+  pub turn-spent : 4294967295 ≤ o .sequence → false ≡ inSequence o r
   turn-spent h = rw (le-ltb (o .sequence) 4294967295 h)
 
-  pub turn-next : o .sequence < 4294967295 → eqb (r .sequence) (o .sequence + 1) ≡ inTurn o r
+  pub turn-next : o .sequence < 4294967295 → eqb (r .sequence) (o .sequence + 1) ≡ inSequence o r
   turn-next h = rw (lt-ltb (o .sequence) 4294967295 h)
 
   pub leave-joined : r .kind ≡ 2 → o .kind ≡ 1 → eqb (r .cell) (o .cell) ≡ follows o r

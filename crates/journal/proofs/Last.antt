@@ -8,15 +8,15 @@ use mathlib.Core.Option.{Option, none, some}
 use borrow.Author.Tests.{ne-eqb}
 use Rattle.units.specs.Plain.{if_then_else_}
 use Rattle.words.proofs.Runs.{eq-or-ne}
-use Rattle.desk.specs.Board.{Rec, Board}
+use Rattle.desk.specs.Board.{Handover, Board}
 use Rattle.desk.specs.Board as Board
-use Rattle.desk.specs.Calls.{enter, known, step}
+use Rattle.desk.specs.Calls.{enter, knownKind, boardStep}
 use Rattle.desk.proofs.Last.{ends-at-last}
-use Rattle.board.specs.Layout.{Shows}
-use Rattle.journal.specs.Reads.{refused, told, fromRules}
+use Rattle.board.specs.Layout.{ShowsBoard}
+use Rattle.journal.specs.Reads.{plainRefused, told, fromRules}
 use Rattle.journal.specs.Record.{Reading, says, faulty, readRecord}
-use Rattle.journal.specs.Step.{Step, RecordSays, RecordStep}
-use Rattle.journal.specs.Lists.{Asked, recorded, cleared, Event, Does, Chain, done, next, accepted, noteRead, note, lastSaid, NotCleared, EndsAtLast}
+use Rattle.journal.specs.Step.{BoardStep, RecordSays, RecordStep}
+use Rattle.journal.specs.Lists.{Asked, recorded, cleared, JournalEvent, Does, JournalChain, done, next, lineAccepted, noteRead, note, lastSaid, NotCleared, EndsAtLast}
 use Rattle.journal.specs.declared.Told.{Told}
 use Rattle.journal.proofs.Bytes.{stayed}
 use Rattle.journal.proofs.Lists.{after-one, from-begin, said}
@@ -26,36 +26,36 @@ same true x = refl
 same false x = refl
 
 -- the bytes u are the board b, which shows o
-module _ (b : Board) (u : List ℕ) (o : Rec) (h : Shows u b) (on : Board.shown (o .train) b ≡ some o) (last : o .sequence ≡ 4294967295) where
-  refuses : (s : List ℕ) (r : Rec) (a : Told) (v : List ℕ) → readRecord s ≡ says r → r .train ≡ o .train → RecordStep s u a v
-      → (told a ≡ refused (if known (r .kind) then 32 else 30) none) × (v ≡ u)
+module _ (b : Board) (u : List ℕ) (o : Handover) (h : ShowsBoard u b) (on : Board.trainShown (o .train) b ≡ some o) (last : o .sequence ≡ 4294967295) where
+  refuses : (s : List ℕ) (r : Handover) (a : Told) (v : List ℕ) → readRecord s ≡ says r → r .train ≡ o .train → RecordStep s u a v
+      → (told a ≡ plainRefused (if knownKind (r .kind) then 32 else 30) none) × (v ≡ u)
   refuses s r a v q e x =
-      let y : Step (enter r) u a v = subst (λ g. RecordSays g u a v) q x in
+      let y : BoardStep (enter r) u a v = subst (λ g. RecordSays g u a v) q x in
       let z = y .reply b h ∙ ap (λ w. fromRules (w .reply)) (ends-at-last b o (h .makeable) on last .refuses r e) in
-      (z, stayed a u v (if known (r .kind) then 32 else 30) none z (y .kept))
+      (z, stayed a u v (if knownKind (r .kind) then 32 else 30) none z (y .kept))
 
   -- what a call's answer makes of the train's last record
-  noted-on : (c : Asked) (a : Told) (v : List ℕ) → Does c u a v → (c ≡ cleared (o .train) → ⊥) → (if accepted (told a) then note (o .train) (some o) c else some o) ≡ some o
+  noted-on : (c : Asked) (a : Told) (v : List ℕ) → Does c u a v → (c ≡ cleared (o .train) → ⊥) → (if lineAccepted (told a) then note (o .train) (some o) c else some o) ≡ some o
   noted-on (cleared n) a v x k =
-      rw (ne-eqb n (o .train) (λ e. k (ap cleared e))) (same (accepted (told a)) (some o))
+      rw (ne-eqb n (o .train) (λ e. k (ap cleared e))) (same (lineAccepted (told a)) (some o))
   noted-on (recorded s) a v x k = go (readRecord s) refl
     where
-      go : (g : Reading) → readRecord s ≡ g → (if accepted (told a) then noteRead (o .train) (some o) g else some o) ≡ some o
-      go (faulty n p) q = same (accepted (told a)) (some o)
+      go : (g : Reading) → readRecord s ≡ g → (if lineAccepted (told a) then noteRead (o .train) (some o) g else some o) ≡ some o
+      go (faulty n p) q = same (lineAccepted (told a)) (some o)
       go (says r) q =
           ⊎-elim
           (λ (e : r .train ≡ o .train). rw (refuses s r a v q e x .0))
-          (λ (n : r .train ≡ o .train → ⊥). rw (ne-eqb (r .train) (o .train) n) (same (accepted (told a)) (some o)))
+          (λ (n : r .train ≡ o .train → ⊥). rw (ne-eqb (r .train) (o .train) n) (same (lineAccepted (told a)) (some o)))
           (eq-or-ne (r .train) (o .train))
 
-stays : (b : Board) {u v : List ℕ} {es : List Event} (o : Rec) → Shows u b → Board.shown (o .train) b ≡ some o → o .sequence ≡ 4294967295
-    → Chain u es v → NotCleared (o .train) es → lastSaid (o .train) (some o) es ≡ some o
+stays : (b : Board) {u v : List ℕ} {es : List JournalEvent} (o : Handover) → ShowsBoard u b → Board.trainShown (o .train) b ≡ some o → o .sequence ≡ 4294967295
+    → JournalChain u es v → NotCleared (o .train) es → lastSaid (o .train) (some o) es ≡ some o
 unfolding lastSaid NotCleared
 stays b o h on last done k = refl
 stays b o h on last (next {es = rest} t u c a x ch) k =
     let f = after-one b c t a u h x in
     let n = noted-on b t o h on last c a u x (k .0) in
-    let on′ = f .shown-of (o .train) ∙ ap (λ z. if accepted (told a) then note (o .train) z c else z) on ∙ n in
+    let on′ = f .shown-of (o .train) ∙ ap (λ z. if lineAccepted (told a) then note (o .train) z c else z) on ∙ n in
     ap (λ z. lastSaid (o .train) z rest) n ∙ stays (f .board) o (f .shows) on′ last ch (k .1)
 
 pub ends-at-last-of-calls : EndsAtLast

@@ -11,10 +11,9 @@ use Rattle.units.specs.Plain.{if_then_else_}
 use Rattle.fields.specs.Header.{headerAt}
 use Rattle.fields.specs.declared.Field.{Field}
 use Rattle.fields.specs.declared.Field.the-variants.{Nothing, Cut, Header}
-use Rattle.desk.specs.Board.{Rec, Board, lineAt, place, lowest}
-use Rattle.desk.specs.Calls as Calls
-use Rattle.desk.specs.Calls.{Call, enter, clear, known, inTurn, follows, judged, refusal, target, entered, left, step}
-use Rattle.journal.specs.Reads.{Plain, line, stands, begun, refused, fromRules}
+use Rattle.desk.specs.Board.{Handover, Board, lineAt, trainLine, lowest}
+use Rattle.desk.specs.Calls.{BoardCall, enter, clear, knownKind, inSequence, follows, recordJudged, recordRefusal, target, recordEntered, left, boardStep, cleared}
+use Rattle.journal.specs.Reads.{Plain, line, stands, begun, plainRefused, fromRules}
 use Rattle.journal.specs.Record.{Reading, says, faulty, valuesOf, readHeader, readRecord}
 
 -- the number of an answer, 0 where it is none
@@ -22,9 +21,9 @@ numberOf : Plain → ℕ
 numberOf (line k) = 0
 numberOf (stands x) = 0
 numberOf begun = 0
-numberOf (refused n p) = n
+numberOf (plainRefused n p) = n
 
-pub stands-not-29 : (x : Option Rec) → stands x ≡ refused 29 none → ⊥
+pub stands-not-29 : (x : Option Handover) → stands x ≡ plainRefused 29 none → ⊥
 unfolding numberOf
 stands-not-29 x e = let z : _≡_ {A = ℕ} 0 29 = ap numberOf e in omega arith
 
@@ -34,7 +33,7 @@ Above : Option ℕ → Type 0
 Above none = Unit {0}
 Above (some n) = 29 < n
 
-judged-above : (x : Option Rec) (f : Bool) (r : Rec) → Above (judged x f r)
+judged-above : (x : Option Handover) (f : Bool) (r : Handover) → Above (recordJudged x f r)
 unfolding Above
 judged-above none f r = go f (eqb (r .kind) 1)
   where
@@ -42,31 +41,31 @@ judged-above none f r = go f (eqb (r .kind) 1)
     go false w = omega arith
     go true true = tt
     go true false = omega arith
-judged-above (some o) f r = go (inTurn o r) (follows o r)
+judged-above (some o) f r = go (inSequence o r) (follows o r)
   where
     go : (v w : Bool) → Above (if not v then some 32 else if w then none else some 33)
     go false w = omega arith
     go true true = tt
     go true false = omega arith
 
-refusal-above : (b : Board) (r : Rec) → Above (refusal b r)
-unfolding refusal Above
-refusal-above b r = go (known (r .kind)) (judged (lineAt b (place (r .train) b)) (ltb (lowest b) (length b)) r) (judged-above (lineAt b (place (r .train) b)) (ltb (lowest b) (length b)) r)
+refusal-above : (b : Board) (r : Handover) → Above (recordRefusal b r)
+unfolding recordRefusal Above
+refusal-above b r = go (knownKind (r .kind)) (recordJudged (lineAt b (trainLine (r .train) b)) (ltb (lowest b) (length b)) r) (judged-above (lineAt b (trainLine (r .train) b)) (ltb (lowest b) (length b)) r)
   where
     go : (v : Bool) (x : Option ℕ) → Above x → Above (if not v then some 30 else x)
     go true x h = h
     go false x h = omega arith
 
-pub rules-not-29 : (b : Board) (c : Call) → fromRules ((step b c) .reply) ≡ refused 29 none → ⊥
-unfolding step numberOf Above
-rules-not-29 b (enter r) e = go (refusal b r) (refusal-above b r) e
+pub rules-not-29 : (b : Board) (c : BoardCall) → fromRules ((boardStep b c) .reply) ≡ plainRefused 29 none → ⊥
+unfolding boardStep numberOf Above
+rules-not-29 b (enter r) e = go (recordRefusal b r) (refusal-above b r) e
   where
-    go : (x : Option ℕ) → Above x → fromRules ((entered x b (target b r) r) .reply) ≡ refused 29 none → ⊥
+    go : (x : Option ℕ) → Above x → fromRules ((recordEntered x b (target b r) r) .reply) ≡ plainRefused 29 none → ⊥
     go none h e = let z : _≡_ {A = ℕ} 0 29 = ap numberOf e in omega arith
     go (some n) h e = let z : n ≡ 29 = ap numberOf e in omega arith
-rules-not-29 b (clear u) e = go (left (lineAt b (place u b))) e
+rules-not-29 b (clear u) e = go (left (lineAt b (trainLine u b))) e
   where
-    go : (x : Bool) → fromRules ((Calls.cleared x b (place u b)) .reply) ≡ refused 29 none → ⊥
+    go : (x : Bool) → fromRules ((cleared x b (trainLine u b)) .reply) ≡ plainRefused 29 none → ⊥
     go true e = let z : _≡_ {A = ℕ} 0 29 = ap numberOf e in omega arith
     go false e = let z : _≡_ {A = ℕ} 34 29 = ap numberOf e in omega arith
 
@@ -88,7 +87,7 @@ low s (Header tag value n) = go (eqb tag 48) (eqb n 11) (leb 14 (length s))
     go true true false = omega arith
     go true true true = omega arith
 
-pub field-not-29 : (s : List ℕ) (n : ℕ) (p : Option ℕ) → readRecord s ≡ faulty n p → refused n p ≡ refused 29 none → ⊥
+pub field-not-29 : (s : List ℕ) (n : ℕ) (p : Option ℕ) → readRecord s ≡ faulty n p → plainRefused n p ≡ plainRefused 29 none → ⊥
 unfolding readRecord faultOf numberOf
 field-not-29 s n p q e =
     let z : faultOf (readHeader s (headerAt s 0)) ≡ n = ap faultOf q in

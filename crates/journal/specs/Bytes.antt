@@ -14,45 +14,45 @@ use mathlib.Core.List.{List}
 use mathlib.Core.Option.{none}
 use lib.ListN.{length, drop}
 use Rattle.words.specs.Words.{wordAt}
-use Rattle.desk.specs.Board.{Rec, Board, place}
-use Rattle.desk.specs.Calls.{Call, enter, Made}
-use Rattle.board.specs.Layout.{boardSize, Room, Written, Shows}
-use Rattle.journal.specs.Reads.{Plain, refused, told, shown}
-use Rattle.journal.specs.Step.{Step, RecordStep, LineStep}
+use Rattle.desk.specs.Board.{Handover, Board, trainLine}
+use Rattle.desk.specs.Calls.{BoardCall, enter, MadeBoard}
+use Rattle.board.specs.Layout.{boardSize, BoardRoom, Written, ShowsBoard}
+use Rattle.journal.specs.Reads.{Plain, plainRefused, told, shown}
+use Rattle.journal.specs.Step.{BoardStep, RecordStep, LineStep}
 use Rattle.journal.specs.declared.Told.{Told}
 use Rattle.journal.specs.declared.Shown.{Shown}
 
 -- no list of calls from the empty board makes a board that is written there
 abbrev pub NotMade : List ℕ → Type 0
-NotMade t = (b : Board) → Written t b → Made b → ⊥
+NotMade t = (b : Board) → Written t b → MadeBoard b → ⊥
 
 pub record Exactly29 (a : Plain) (t : List ℕ) : Type 0 where
-  pub only : a ≡ refused 29 none → NotMade t
-  pub always : NotMade t → a ≡ refused 29 none
+  pub only : a ≡ plainRefused 29 none → NotMade t
+  pub always : NotMade t → a ≡ plainRefused 29 none
 
 pub record Exact29 : Type 0 where
   pub record-call : (s t : List ℕ) (a : Told) (u : List ℕ) → RecordStep s t a u → Exactly29 (told a) t
-  pub clear-call : (c : Call) (t : List ℕ) (a : Told) (u : List ℕ) → Step c t a u → Exactly29 (told a) t
+  pub clear-call : (c : BoardCall) (t : List ℕ) (a : Told) (u : List ℕ) → BoardStep c t a u → Exactly29 (told a) t
   pub line-call : (k : ℕ) (t : List ℕ) (a : Shown) → LineStep k t a → Exactly29 (shown a) t
 
 abbrev pub EachMade : Type 0
-EachMade = (b : Board) → Made b → (t : List ℕ) → Room t → (u : List ℕ) × Shows u b × (drop boardSize u ≡ drop boardSize t) × (length u ≡ length t)
+EachMade = (b : Board) → MadeBoard b → (t : List ℕ) → BoardRoom t → (u : List ℕ) × ShowsBoard u b × (drop boardSize u ≡ drop boardSize t) × (length u ≡ length t)
 
 abbrev pub OneBoard : Type 0
 OneBoard =
-    ((t : List ℕ) (b c : Board) → Shows t b → Shows t c → b ≡ c)
-    × ((u v : List ℕ) (b : Board) → Shows u b → Shows v b → (i : ℕ) → i < 128 → wordAt u i ≡ wordAt v i)
+    ((t : List ℕ) (b c : Board) → ShowsBoard t b → ShowsBoard t c → b ≡ c)
+    × ((u v : List ℕ) (b : Board) → ShowsBoard u b → ShowsBoard v b → (i : ℕ) → i < 128 → wordAt u i ≡ wordAt v i)
 
 abbrev pub OneAnswer : Type 0
 OneAnswer = (s t : List ℕ) (a a′ : Told) (u u′ : List ℕ) → RecordStep s t a u → RecordStep s t a′ u′ → (told a ≡ told a′) × (u ≡ u′)
 
 abbrev pub OneClear : Type 0
-OneClear = (c : Call) (t : List ℕ) (a a′ : Told) (u u′ : List ℕ) → Step c t a u → Step c t a′ u′ → (told a ≡ told a′) × (u ≡ u′)
+OneClear = (c : BoardCall) (t : List ℕ) (a a′ : Told) (u u′ : List ℕ) → BoardStep c t a u → BoardStep c t a′ u′ → (told a ≡ told a′) × (u ≡ u′)
 
 -- R11.15: the bytes t, then the record q and the record r; and r and then q
 abbrev pub AnyOrder : Type 0
 AnyOrder =
-    (t : List ℕ) (b : Board) (q r : Rec) → Shows t b → (q .train ≡ r .train → ⊥) → place (q .train) b < length b
+    (t : List ℕ) (b : Board) (q r : Handover) → ShowsBoard t b → (q .train ≡ r .train → ⊥) → trainLine (q .train) b < length b
     → (a₁ a₂ c₁ c₂ : Told) (t₁ t₂ u₁ u₂ : List ℕ)
-    → Step (enter q) t a₁ t₁ → Step (enter r) t₁ a₂ t₂ → Step (enter r) t c₁ u₁ → Step (enter q) u₁ c₂ u₂
+    → BoardStep (enter q) t a₁ t₁ → BoardStep (enter r) t₁ a₂ t₂ → BoardStep (enter r) t c₁ u₁ → BoardStep (enter q) u₁ c₂ u₂
     → (told a₁ ≡ told c₂) × (told a₂ ≡ told c₁) × (t₂ ≡ u₂)

@@ -7,9 +7,9 @@
 -- Assumes nothing.
 use Prim.Native.Nat.{ℕ}
 use mathlib.Core.Option.{Option, none, some}
-use Rattle.desk.specs.Board.{Rec}
+use Rattle.desk.specs.Board.{Handover}
 use Rattle.desk.specs.Calls as Calls
-use Rattle.desk.specs.Calls.{Reply}
+use Rattle.desk.specs.Calls.{BoardReply}
 use Rattle.desk_line.specs.declared.Line.{Line}
 use Rattle.journal.specs.declared.Refusal.{Refusal}
 use Rattle.journal.specs.declared.Refusal.the-variants.{Cut, UnknownTag, WrongLength, BoardShort, NotABoard, KindUnknown, NoFreeLine, OutOfTurn, DoesNotFollow, NotCleared}
@@ -34,16 +34,16 @@ listed NotCleared = (34, none)
 
 pub data Plain : Type 0 where
   line : ℕ → Plain
-  stands : Option Rec → Plain
+  stands : Option Handover → Plain
   begun : Plain
-  refused : ℕ → Option ℕ → Plain
+  plainRefused : ℕ → Option ℕ → Plain
 
 abbrev pub refusedBy : Refusal → Plain
-refusedBy x = refused ((listed x) .0) ((listed x) .1)
+refusedBy x = plainRefused ((listed x) .0) ((listed x) .1)
 
-abbrev pub fromRules : Reply → Plain
+abbrev pub fromRules : BoardReply → Plain
 fromRules (Calls.told k) = line k
-fromRules (Calls.refused n) = refused n none
+fromRules (Calls.boardRefused n) = plainRefused n none
 
 abbrev pub told : Told → Plain
 told (Told.Line k) = line k

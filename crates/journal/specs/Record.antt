@@ -18,22 +18,22 @@ use Rattle.fields.specs.Bytes.{big}
 use Rattle.fields.specs.Header.{headerAt}
 use Rattle.fields.specs.declared.Field.{Field}
 use Rattle.fields.specs.declared.Field.the-variants.{Nothing, Cut, Header}
-use Rattle.desk.specs.Board.{Rec, Carried}
+use Rattle.desk.specs.Board.{Handover, InField}
 use Rattle.desk_line.specs.declared.Line.{Line}
 
-abbrev pub recLine : Line → Rec
+abbrev pub recLine : Line → Handover
 recLine l = record { train = l .train; cell = l .cell; kind = l .kind; sequence = l .sequence }
 
 -- R11.6: the eleven bytes of the value, behind the three of the header, each number high byte first
-abbrev pub valuesOf : List ℕ → Rec
+abbrev pub valuesOf : List ℕ → Handover
 valuesOf s = record { train = big s 3 4; cell = big s 7 2; kind = big s 9 1; sequence = big s 10 4 }
 
 pub record Read (s : List ℕ) (l : Line) : Type 0 where
   pub is : recLine l ≡ valuesOf s
-  pub carried : Carried (recLine l)
+  pub carried : InField (recLine l)
 
 pub data Reading : Type 0 where
-  says : Rec → Reading
+  says : Handover → Reading
   faulty : ℕ → Option ℕ → Reading
 
 -- R11.7, R14.29: 1 (header), 2, 3, 1 (value), as in every field. It stands first, so every place is 0; bytes behind it are not looked at.

@@ -6,13 +6,13 @@ ghost use mathlib.Core.Path.{_≡_};
 ghost use Prim.Native.Nat.{_+_, _^_, _<_, _≤_};
 ghost use lib.ListN.{length};
 ghost use mathlib.Core.Bool.{true};
-ghost use Rattle.desk.specs.Board.{isOf, Carried};
+ghost use Rattle.desk.specs.Board.{isOf, InField};
 ghost use Rattle.desk.specs.Calls as Calls;
-ghost use Rattle.board.specs.Layout.{boardOf, Shows, Found};
+ghost use Rattle.board.specs.Layout.{boardOf, ShowsBoard, Found};
 ghost use Rattle.fields.specs.Bytes.{big};
 ghost use Rattle.journal.specs.Record.{recLine, Read};
 ghost use Rattle.journal.specs.Field.{ReadingIs};
-ghost use Rattle.journal.specs.Step.{Step, RecordStep, LineStep, BeginStep};
+ghost use Rattle.journal.specs.Step.{BoardStep, RecordStep, LineStep, BeginStep};
 use board::find;
 use board::line_at;
 use board::lowest;
@@ -146,7 +146,7 @@ fn values(s: &[u8]) -> Line
 
 // Whether a kind is known.
 fn known(kind: u8) -> bool
-    ensures { λ r. ⌜ r ≡ Calls.known kind ⌝ }
+    ensures { λ r. ⌜ r ≡ Calls.knownKind kind ⌝ }
 {
     if kind == JOINED {
         return true;
@@ -156,7 +156,7 @@ fn known(kind: u8) -> bool
 
 // Whether a record's sequence is the next one.
 fn in_turn(old: Line, r: Line) -> bool
-    ensures { λ v. ⌜ v ≡ Calls.inTurn (recLine old) (recLine r) ⌝ }
+    ensures { λ v. ⌜ v ≡ Calls.inSequence (recLine old) (recLine r) ⌝ }
 {
     if old.sequence >= LAST {
         return false; // nothing follows the last one, so it never wraps
@@ -205,8 +205,8 @@ fn read(s: &[u8]) -> Reading
 
 // A train's first record: refusals 31 and 33.
 fn enter_first(t: &mut [u8], r: Line) -> Told
-    requires { ⌜ Shows (now t) (boardOf (now t)) × Carried (recLine r) × (Calls.known (r .kind) ≡ true) × Found (isOf (r .train)) (boardOf (now t)) 64 64 ⌝ }
-    ensures { λ a. ⌜ Step (Calls.enter (recLine r)) (now (t .entry)) a (now (t .exit)) ⌝ }
+    requires { ⌜ ShowsBoard (now t) (boardOf (now t)) × InField (recLine r) × (Calls.knownKind (r .kind) ≡ true) × Found (isOf (r .train)) (boardOf (now t)) 64 64 ⌝ }
+    ensures { λ a. ⌜ BoardStep (Calls.enter (recLine r)) (now (t .entry)) a (now (t .exit)) ⌝ }
 {
     let k = lowest(t);
     if k == LINES {
@@ -221,8 +221,8 @@ fn enter_first(t: &mut [u8], r: Line) -> Told
 
 // A record of a train that stands on line `k`: refusals 32 and 33.
 fn enter_later(t: &mut [u8], r: Line, k: usize) -> Told
-    requires { ⌜ Shows (now t) (boardOf (now t)) × Carried (recLine r) × (Calls.known (r .kind) ≡ true) × Found (isOf (r .train)) (boardOf (now t)) 64 k × (k < 64) ⌝ }
-    ensures { λ a. ⌜ Step (Calls.enter (recLine r)) (now (t .entry)) a (now (t .exit)) ⌝ }
+    requires { ⌜ ShowsBoard (now t) (boardOf (now t)) × InField (recLine r) × (Calls.knownKind (r .kind) ≡ true) × Found (isOf (r .train)) (boardOf (now t)) 64 k × (k < 64) ⌝ }
+    ensures { λ a. ⌜ BoardStep (Calls.enter (recLine r)) (now (t .entry)) a (now (t .exit)) ⌝ }
 {
     let old = line_at(t, k);
     if !in_turn(old, r) {
@@ -238,8 +238,8 @@ fn enter_later(t: &mut [u8], r: Line, k: usize) -> Told
 
 // A record, on a board: refusals 30 to 33.
 fn enter(t: &mut [u8], r: Line) -> Told
-    requires { ⌜ Shows (now t) (boardOf (now t)) × Carried (recLine r) ⌝ }
-    ensures { λ a. ⌜ Step (Calls.enter (recLine r)) (now (t .entry)) a (now (t .exit)) ⌝ }
+    requires { ⌜ ShowsBoard (now t) (boardOf (now t)) × InField (recLine r) ⌝ }
+    ensures { λ a. ⌜ BoardStep (Calls.enter (recLine r)) (now (t .entry)) a (now (t .exit)) ⌝ }
 {
     if !known(r.kind) {
         return Told::Refused(Refusal::KindUnknown);
@@ -266,7 +266,7 @@ pub fn record(t: &mut [u8], field: &[u8]) -> Told
 
 // R11.12: frees the line of a train that has left.
 pub fn clear(t: &mut [u8], train: u32) -> Told
-    ensures { λ r. ⌜ Step (Calls.clear train) (now (t .entry)) r (now (t .exit)) ⌝ }
+    ensures { λ r. ⌜ BoardStep (Calls.clear train) (now (t .entry)) r (now (t .exit)) ⌝ }
 {
     if !sound(t) {
         return Told::Refused(Refusal::NotABoard);

@@ -24,8 +24,7 @@ use Rattle.rules.specs.Calls.{Call, put, take, sets, lag, Reply, accepted, take
 use Rattle.rules.specs.Runs.{Event}
 use Rattle.pages.specs.Device.{ruled}
 use Rattle.pages.specs.Offers.{DeviceEvent, ofRules}
-use Rattle.plan.specs.Read.{noLanes, readSetup}
-use Rattle.plan.specs.Read as plan
+use Rattle.plan.specs.Read.{noLanes, readSetup, setupRead, setupRefused}
 use Rattle.plan.specs.Examples.{formatField, endField, sessionSetup, twoWeights, twoLanes}
 use Rattle.table.specs.Means.{meant}
 use Rattle.scheduler.specs.Chain.{Chain, Begins}
@@ -71,7 +70,7 @@ acceptedTo (suc n) = acceptedTo n ++ (accepted n ∷ [])
 
 pub record Marked : Type 0 where
   -- R16.1: the setup of that session, read from its bytes
-  pub session : readSetup sessionSetup ≡ plan.read 1 (twoLanes 512 256 1500) 2 24
+  pub session : readSetup sessionSetup ≡ setupRead 1 (twoLanes 512 256 1500) 2 24
   -- R16.2
   pub lane0 : (rate (setting 512 1500) ≡ 2048) × (group (setting 512 1500) ≡ 22)
   -- R16.2
@@ -88,7 +87,7 @@ pub record Marked : Type 0 where
   -- R16.7: the least weight, on both sides of an edge between two groups
   pub m3 : (rate (setting 1 64) ≡ 1048576) × (group (setting 1 64) ≡ 26) × (group (setting 1 65) ≡ 27)
   -- R16.7: the first of these lanes alone: 01 0002 0001, 10 0005 00 0001 0040, 7F 0000
-  pub light : readSetup (formatField ++ (16 ∷ 0 ∷ 5 ∷ 0 ∷ 0 ∷ 1 ∷ 0 ∷ 64 ∷ []) ++ endField) ≡ plan.read 1 (alone (setting 1 64)) 1 16
+  pub light : readSetup (formatField ++ (16 ∷ 0 ∷ 5 ∷ 0 ∷ 0 ∷ 1 ∷ 0 ∷ 64 ∷ []) ++ endField) ≡ setupRead 1 (alone (setting 1 64)) 1 16
   -- R16.7: V after a put and a take there, and after a second put, which moves it to R
   pub m4 : Given (alone (setting 1 64)) (put 0 0 1 64 ∷ take ∷ []) (λ rs s. s .clock ≡ 65536)
       × Given (alone (setting 1 64)) (put 0 0 1 64 ∷ take ∷ put 0 0 2 64 ∷ []) (λ rs s. s .clock ≡ 67108864)
@@ -97,12 +96,12 @@ pub record Marked : Type 0 where
   -- R16.8: c is rounded up
   pub m6 : rate (setting 3 1500) ≡ 349526
   -- the setup for R16.9: 01 0002 0001, 10 0005 00 0200 05DC, 7F 0000
-  pub lone : readSetup (formatField ++ (16 ∷ 0 ∷ 5 ∷ 0 ∷ 2 ∷ 0 ∷ 5 ∷ 220 ∷ []) ++ endField) ≡ plan.read 1 (alone (setting 512 1500)) 1 16
+  pub lone : readSetup (formatField ++ (16 ∷ 0 ∷ 5 ∷ 0 ∷ 2 ∷ 0 ∷ 5 ∷ 220 ∷ []) ++ endField) ≡ setupRead 1 (alone (setting 512 1500)) 1 16
   -- R16.9: one lane takes 64 records and not one more, and has room again after a take
   pub m7 : Given (alone (setting 512 1500)) full (λ rs s. rs ≡ acceptedTo 64 ++ (refused 13 none ∷ taken 0 0 7 1000 ∷ accepted 63 ∷ []))
   -- R16.10: the greatest sum of weights, and one more, which gives 6 at the weight that goes over
-  pub m8 : (readSetup (twoWeights 24) ≡ plan.read 1 (twoLanes 1000 24 1500) 2 22) × (readSetup (twoWeights 25) ≡ plan.refused 6 (some 17))
+  pub m8 : (readSetup (twoWeights 24) ≡ setupRead 1 (twoLanes 1000 24 1500) 2 22) × (readSetup (twoWeights 25) ≡ setupRefused 6 (some 17))
   -- the setup for R18.10, of its shared lane alone: 01 0002 0001, 10 0005 00 0200 0064, 12 0001 00, 7F 0000
-  pub junction : readSetup (formatField ++ (16 ∷ 0 ∷ 5 ∷ 0 ∷ 2 ∷ 0 ∷ 0 ∷ 100 ∷ 18 ∷ 0 ∷ 1 ∷ 0 ∷ []) ++ endField) ≡ plan.read 1 (alone (sharedSetting 512 100)) 1 20
+  pub junction : readSetup (formatField ++ (16 ∷ 0 ∷ 5 ∷ 0 ∷ 2 ∷ 0 ∷ 0 ∷ 100 ∷ 18 ∷ 0 ∷ 1 ∷ 0 ∷ []) ++ endField) ≡ setupRead 1 (alone (sharedSetting 512 100)) 1 20
   -- R18.10: its trains take turns, each answer with its train
   pub trains : Given (alone (sharedSetting 512 100)) turns (λ rs s. rs ≡ turnsReplies)

@@ -20,10 +20,9 @@ use lib.Seq.{length-take-le}
 use Rattle.fields.specs.Bytes.{byteAt, big}
 use Rattle.units.specs.Plain.{if_then_else_}
 use Rattle.rules.specs.State.{Setting}
-use Rattle.plan.specs.Read as plan
-use Rattle.plan.specs.Read.{readSetup}
-use Rattle.page.specs.Fields.{whole, bad, fieldOf, itemAt}
-use Rattle.page.specs.Read.{Reply, read, refused, pastSkipped, ended, endAt, valueAt, moved, inside, settled, settingsAt, begun, readPage}
+use Rattle.plan.specs.Read.{readSetup, setupRefused, setupRead}
+use Rattle.page.specs.Fields.{wholePageField, badPageField, pageFieldOf, pageItemAt}
+use Rattle.page.specs.Read.{PageReply, pageRead, pageRefused, pastSkipped, ended, endAt, valueAt, moved, inside, pageSettled, settingsAt, pageBegun, readPage}
 use Rattle.page.specs.declared.parse.PageField.{PageField}
 use Rattle.page.specs.declared.parse.PageField.the-variants.{Edition, Settings, Skipped, End}
 use Rattle.page.proofs.parse.PageField as field
@@ -42,23 +41,23 @@ not-edition f o n e = miss (1 ∷ 2 ∷ 3 ∷ []) 0 tt (subst (λ (g : PageField
 
 -- ---- 0x7F
 
-module _ (s : List ℕ) (at : ℕ) (r : Reply) where
-  pub end-bad : (n : ℕ) (p : Option ℕ) → itemAt s at ≡ bad n p → endAt s at r ≡ refused n p
+module _ (s : List ℕ) (at : ℕ) (r : PageReply) where
+  pub end-bad : (n : ℕ) (p : Option ℕ) → pageItemAt s at ≡ badPageField n p → endAt s at r ≡ pageRefused n p
   unfolding endAt
   end-bad n p h = ap (ended s at r) h
 
-  other-end : (f : PageField) (m : ℕ) → (f ≡ End → ⊥) → ended s at r (whole f m) ≡ refused 4 (some at)
+  other-end : (f : PageField) (m : ℕ) → (f ≡ End → ⊥) → ended s at r (wholePageField f m) ≡ pageRefused 4 (some at)
   other-end (Edition e) m isnt = refl
   other-end (Settings v n) m isnt = refl
   other-end Skipped m isnt = refl
   other-end End m isnt = absurd (isnt refl)
 
-  pub end-other : (f : PageField) (m : ℕ) → itemAt s at ≡ whole f m → (f ≡ End → ⊥) → endAt s at r ≡ refused 4 (some at)
+  pub end-other : (f : PageField) (m : ℕ) → pageItemAt s at ≡ wholePageField f m → (f ≡ End → ⊥) → endAt s at r ≡ pageRefused 4 (some at)
   unfolding endAt
   end-other f m h isnt = ap (ended s at r) h ∙ other-end f m isnt
 
-  module _ (m : ℕ) (h : itemAt s at ≡ whole End m) where
-    pub end-more : m < length s → endAt s at r ≡ refused 4 (some m)
+  module _ (m : ℕ) (h : pageItemAt s at ≡ wholePageField End m) where
+    pub end-more : m < length s → endAt s at r ≡ pageRefused 4 (some m)
     unfolding endAt
     end-more l = ap (ended s at r) h ∙ simp (lt-ltb m (length s) l)
 
@@ -81,8 +80,8 @@ module _ (s : List ℕ) (at : ℕ) where
   by-tag x k v n false false true h = absurd (let z : _≡_ {A = ℕ} 0 1 = cc in omega arith)
   by-tag x k v n false false false h = absurd (let z : _≡_ {A = ℕ} 0 1 = cc in omega arith)
 
-  pub value-fits : (v n m : ℕ) → itemAt s at ≡ whole (Settings v n) m → Value s at v n m
-  unfolding fieldOf
+  pub value-fits : (v n m : ℕ) → pageItemAt s at ≡ wholePageField (Settings v n) m → Value s at v n m
+  unfolding pageFieldOf
   value-fits v n m h =
       let k = stands s at (Settings v n) m h in
       let t = byteAt s at in
@@ -94,48 +93,48 @@ unfolding valueAt
 value-length {s} {at} {v} {n} w = length-take-le n (drop v s) (omega (arith, w .end, w .fits, length-drop v s))
 
 module _ (s : List ℕ) (e at : ℕ) where
-  pub settings-bad : (n : ℕ) (p : Option ℕ) → itemAt s at ≡ bad n p → settingsAt s e at ≡ refused n p
+  pub settings-bad : (n : ℕ) (p : Option ℕ) → pageItemAt s at ≡ badPageField n p → settingsAt s e at ≡ pageRefused n p
   unfolding settingsAt
-  settings-bad n p h = ap (settled s e at) h
+  settings-bad n p h = ap (pageSettled s e at) h
 
-  other-settings : (f : PageField) (m : ℕ) → ((v n : ℕ) → f ≡ Settings v n → ⊥) → settled s e at (whole f m) ≡ refused 4 (some at)
+  other-settings : (f : PageField) (m : ℕ) → ((v n : ℕ) → f ≡ Settings v n → ⊥) → pageSettled s e at (wholePageField f m) ≡ pageRefused 4 (some at)
   other-settings (Edition x) m isnt = refl
   other-settings (Settings v n) m isnt = absurd (isnt v n refl)
   other-settings Skipped m isnt = refl
   other-settings End m isnt = refl
 
-  pub settings-other : (f : PageField) (m : ℕ) → itemAt s at ≡ whole f m → ((v n : ℕ) → f ≡ Settings v n → ⊥) → settingsAt s e at ≡ refused 4 (some at)
+  pub settings-other : (f : PageField) (m : ℕ) → pageItemAt s at ≡ wholePageField f m → ((v n : ℕ) → f ≡ Settings v n → ⊥) → settingsAt s e at ≡ pageRefused 4 (some at)
   unfolding settingsAt
-  settings-other f m h isnt = ap (settled s e at) h ∙ other-settings f m isnt
+  settings-other f m h isnt = ap (pageSettled s e at) h ∙ other-settings f m isnt
 
-  module _ (v n m : ℕ) (h : itemAt s at ≡ whole (Settings v n) m) where
+  module _ (v n m : ℕ) (h : pageItemAt s at ≡ wholePageField (Settings v n) m) where
     pub settings-whole : settingsAt s e at ≡ inside s e v m (readSetup (valueAt s v n))
     unfolding settingsAt
-    settings-whole = ap (settled s e at) h
+    settings-whole = ap (pageSettled s e at) h
 
-    pub settings-refused : (k : ℕ) (q : Option ℕ) → readSetup (valueAt s v n) ≡ plan.refused k q → settingsAt s e at ≡ refused k (moved v q)
+    pub settings-refused : (k : ℕ) (q : Option ℕ) → readSetup (valueAt s v n) ≡ setupRefused k q → settingsAt s e at ≡ pageRefused k (moved v q)
     settings-refused k q r = settings-whole ∙ ap (inside s e v m) r
 
-    pub settings-read : (w : ℕ) (gs : List Setting) (k p : ℕ) → readSetup (valueAt s v n) ≡ plan.read w gs k p → settingsAt s e at ≡ endAt s (pastSkipped s m) (read e w gs k)
+    pub settings-read : (w : ℕ) (gs : List Setting) (k p : ℕ) → readSetup (valueAt s v n) ≡ setupRead w gs k p → settingsAt s e at ≡ endAt s (pastSkipped s m) (pageRead e w gs k)
     settings-read w gs k p r = settings-whole ∙ ap (inside s e v m) r
 
 -- ---- the page
 
 module _ (s : List ℕ) where
-  pub page-bad : (n : ℕ) (p : Option ℕ) → itemAt s 0 ≡ bad n p → readPage s ≡ refused n p
+  pub page-bad : (n : ℕ) (p : Option ℕ) → pageItemAt s 0 ≡ badPageField n p → readPage s ≡ pageRefused n p
   unfolding readPage
-  page-bad n p h = ap (begun s) h
+  page-bad n p h = ap (pageBegun s) h
 
-  other-first : (f : PageField) (m : ℕ) → ((e : ℕ) → f ≡ Edition e → ⊥) → begun s (whole f m) ≡ refused 4 (some 0)
+  other-first : (f : PageField) (m : ℕ) → ((e : ℕ) → f ≡ Edition e → ⊥) → pageBegun s (wholePageField f m) ≡ pageRefused 4 (some 0)
   other-first (Edition e) m isnt = absurd (isnt e refl)
   other-first (Settings v n) m isnt = refl
   other-first Skipped m isnt = refl
   other-first End m isnt = refl
 
-  pub page-other : (f : PageField) (m : ℕ) → itemAt s 0 ≡ whole f m → ((e : ℕ) → f ≡ Edition e → ⊥) → readPage s ≡ refused 4 (some 0)
+  pub page-other : (f : PageField) (m : ℕ) → pageItemAt s 0 ≡ wholePageField f m → ((e : ℕ) → f ≡ Edition e → ⊥) → readPage s ≡ pageRefused 4 (some 0)
   unfolding readPage
-  page-other f m h isnt = ap (begun s) h ∙ other-first f m isnt
+  page-other f m h isnt = ap (pageBegun s) h ∙ other-first f m isnt
 
-  pub page-begun : (e m : ℕ) → itemAt s 0 ≡ whole (Edition e) m → readPage s ≡ settingsAt s e (pastSkipped s m)
+  pub page-begun : (e m : ℕ) → pageItemAt s 0 ≡ wholePageField (Edition e) m → readPage s ≡ settingsAt s e (pastSkipped s m)
   unfolding readPage
-  page-begun e m h = ap (begun s) h
+  page-begun e m h = ap (pageBegun s) h

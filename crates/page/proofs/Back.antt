@@ -17,11 +17,12 @@ use Rattle.fields.specs.Bytes.{byteAt, big}
 use Rattle.fields.proofs.Numbers.{big-two}
 use Rattle.units.specs.Plain.{if_then_else_}
 use Rattle.plan.proofs.Inside.{true-false}
-use Rattle.page.specs.Fields.{Item, whole, bad, fieldOf, itemAt}
-use Rattle.page.specs.Read.{onward, skipping, pastSkipped, valueAt}
-use Rattle.page.specs.Form.{Bytes, two, fieldBytes, Extra, AllSkippable, extraBytes}
+use Rattle.page.specs.Fields.{PageItem, wholePageField, badPageField, pageFieldOf, pageItemAt}
+use Rattle.page.specs.Read.{skipWalk, pastSkipped, valueAt}
+use Rattle.page.specs.Form.{Bytes, two, pageFieldBytes, Extra, AllSkippable, extraBytes}
 use Rattle.page.specs.declared.parse.PageField.{PageField}
 use Rattle.page.specs.declared.parse.PageField.the-variants.{Edition, Settings, Skipped, End}
+use Rattle.page.proofs.Skips.{passed}
 use Rattle.page.proofs.Stands.{Stands, stands}
 
 differ : {A : Type 0} → _≡_ {A = ℕ} 0 1 → A
@@ -68,7 +69,7 @@ by-tests s t n x f false false false true p q r u k h = record {
 by-tests s t n x f false false false false p q r u k h = true-false (sym k)
 
 pub tag-is : (s : List ℕ) (at : ℕ) (f : PageField) (m : ℕ) → Stands s at f m → Tag (byteAt s at) (big s (at + 1) 2) (at + 3) f
-unfolding fieldOf
+unfolding pageFieldOf
 tag-is s at f m st =
     let t = byteAt s at in
     by-tests s t (big s (at + 1) 2) (at + 3) f (eqb t 64) (eqb t 65) (eqb t 127) (leb 128 t) refl refl refl refl (st .tag) (st .field)
@@ -117,7 +118,7 @@ module _ (s : List ℕ) (bytes : Bytes s) (at : ℕ) where
         sym (take-append-drop n (drop (at + 3) s))
         ∙ ap (λ (l : List ℕ). take n (drop (at + 3) s) ++ l) (drop-drop n (at + 3) s ∙ ap (λ (k : ℕ). drop k s) (st .after))
 
-    pub field-bytes : drop at s ≡ fieldBytes (byteAt s at) value ++ drop m s
+    pub field-bytes : drop at s ≡ pageFieldBytes (byteAt s at) value ++ drop m s
     field-bytes =
         let e : suc at ≡ at + 1 = omega arith in
         let g : at + 1 + 2 ≡ at + 3 = omega arith in
@@ -137,7 +138,7 @@ none-passed : (s : List ℕ) (at : ℕ) → Passed s at at
 unfolding AllSkippable extraBytes
 none-passed s at = record { extras = []; all = tt; bytes = refl }
 
-one-passed : (s : List ℕ) → Bytes s → (at m p : ℕ) → itemAt s at ≡ whole Skipped m → Passed s m p → Passed s at p
+one-passed : (s : List ℕ) → Bytes s → (at m p : ℕ) → pageItemAt s at ≡ wholePageField Skipped m → Passed s m p → Passed s at p
 unfolding AllSkippable extraBytes
 one-passed s b at m p i q =
     let st = stands s at Skipped m i in
@@ -147,22 +148,22 @@ one-passed s b at m p i q =
       all = (record { high = tag-is s at Skipped m st .skipped refl; short = value-short s b at Skipped m st }, q .all);
       bytes =
           field-bytes s b at Skipped m st
-          ∙ ap (λ (l : List ℕ). fieldBytes (x .tag) (x .value) ++ l) (q .bytes)
-          ∙ sym (append-assoc (fieldBytes (x .tag) (x .value)) (extraBytes (q .extras)) (drop p s));
+          ∙ ap (λ (l : List ℕ). pageFieldBytes (x .tag) (x .value) ++ l) (q .bytes)
+          ∙ sym (append-assoc (pageFieldBytes (x .tag) (x .value)) (extraBytes (q .extras)) (drop p s));
     }
 
 module _ (s : List ℕ) (b : Bytes s) where
-  passing : (turns at : ℕ) (more : (m : ℕ) → Passed s m (skipping turns s m)) (i : Item) → itemAt s at ≡ i → Passed s at (onward at i (skipping turns s))
-  passing turns at more (bad n p) i = none-passed s at
-  passing turns at more (whole (Edition e) m) i = none-passed s at
-  passing turns at more (whole (Settings v n) m) i = none-passed s at
-  passing turns at more (whole Skipped m) i = one-passed s b at m (skipping turns s m) i (more m)
-  passing turns at more (whole End m) i = none-passed s at
+  passing : (turns at : ℕ) (more : (m : ℕ) → Passed s m (skipWalk turns s m)) (i : PageItem) → pageItemAt s at ≡ i → Passed s at (passed turns s at i)
+  passing turns at more (badPageField n p) i = none-passed s at
+  passing turns at more (wholePageField (Edition e) m) i = none-passed s at
+  passing turns at more (wholePageField (Settings v n) m) i = none-passed s at
+  passing turns at more (wholePageField Skipped m) i = one-passed s b at m (skipWalk turns s m) i (more m)
+  passing turns at more (wholePageField End m) i = none-passed s at
 
-  skip-turns : (turns at : ℕ) → Passed s at (skipping turns s at)
-  unfolding skipping
+  skip-turns : (turns at : ℕ) → Passed s at (skipWalk turns s at)
+  unfolding skipWalk
   skip-turns zero at = none-passed s at
-  skip-turns (suc turns) at = passing turns at (λ m. skip-turns turns m) (itemAt s at) refl
+  skip-turns (suc turns) at = passing turns at (λ m. skip-turns turns m) (pageItemAt s at) refl
 
   pub skip-back : (at : ℕ) → Passed s at (pastSkipped s at)
   unfolding pastSkipped

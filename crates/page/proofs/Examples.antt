@@ -1,15 +1,15 @@
 -- The pages of specs/Examples.antt, computed. Assumes nothing.
 use mathlib.Core.Path.{refl}
 use Rattle.fields.specs.Bytes.{big}
-use Rattle.plan.specs.Fields as inner
+use Rattle.plan.specs.Fields.{setupFieldOf, setupItemAt}
 use Rattle.plan.specs.Judge.{laneOutside, judgedAt}
-use Rattle.plan.specs.Read.{walk, readPlan, readSetup}
-use Rattle.page.specs.Fields.{fieldOf, itemAt}
-use Rattle.page.specs.Read.{skipping, pastSkipped, endAt, valueAt, settingsAt, readPage}
+use Rattle.plan.specs.Read.{setupWalk, readPlan, readSetup}
+use Rattle.page.specs.Fields.{pageFieldOf, pageItemAt}
+use Rattle.page.specs.Read.{skipWalk, pastSkipped, endAt, valueAt, settingsAt, readPage}
 use Rattle.page.specs.Examples.{Shown}
 
 pub examples : Shown
-unfolding big inner.fieldOf inner.itemAt laneOutside judgedAt walk readPlan readSetup fieldOf itemAt skipping pastSkipped endAt valueAt settingsAt readPage
+unfolding big setupFieldOf setupItemAt laneOutside judgedAt setupWalk readPlan readSetup pageFieldOf pageItemAt skipWalk pastSkipped endAt valueAt settingsAt readPage
 examples = record {
   plain = refl;
   with-skipped = refl;

@@ -13,12 +13,11 @@ use lib.Seq.{take-at}
 use Rattle.fields.specs.Bytes.{byteAt, big}
 use Rattle.fields.proofs.Numbers.{big-two}
 use Rattle.rules.specs.State.{Setting}
-use Rattle.plan.specs.Read as plan
-use Rattle.plan.specs.Read.{readSetup}
+use Rattle.plan.specs.Read.{readSetup, setupRead}
 use Rattle.plan.proofs.Accepted.{accepted-whole}
-use Rattle.page.specs.Fields.{fitting, fieldOf}
-use Rattle.page.specs.Read.{read, pastSkipped, valueAt, readPage}
-use Rattle.page.specs.Form.{Bytes, two, fieldBytes, extraBytes, uptoSetup, pageBytes, Accepted}
+use Rattle.page.specs.Fields.{pageFits, pageFieldOf}
+use Rattle.page.specs.Read.{pageRead, pastSkipped, valueAt, readPage}
+use Rattle.page.specs.Form.{Bytes, two, pageFieldBytes, extraBytes, uptoSetup, pageBytes, AcceptedPage}
 use Rattle.page.specs.declared.parse.PageField.the-variants.{Edition, Settings, End}
 use Rattle.page.proofs.Tags.{fitting-edition, fitting-end, field-edition}
 use Rattle.page.proofs.Stands.{Stands, stands}
@@ -50,11 +49,11 @@ module _ (s : List ℕ) (b : Bytes s) (at e m : ℕ) (st : Stands s at (Edition 
       ∙ take-at (two (big s (at + 3) 2)) (drop (at + 3 + 2) s) 2 refl
       ∙ ap two number
 
-  pub edition-bytes : drop at s ≡ fieldBytes 64 (two e) ++ drop m s
+  pub edition-bytes : drop at s ≡ pageFieldBytes 64 (two e) ++ drop m s
   edition-bytes =
       field-bytes s b at (Edition e) m st
-      ∙ ap (λ (t : ℕ). fieldBytes t (valueAt s (at + 3) (big s (at + 1) 2)) ++ drop m s) tag
-      ∙ ap (λ (l : List ℕ). fieldBytes 64 l ++ drop m s) value
+      ∙ ap (λ (t : ℕ). pageFieldBytes t (valueAt s (at + 3) (big s (at + 1) 2)) ++ drop m s) tag
+      ∙ ap (λ (l : List ℕ). pageFieldBytes 64 l ++ drop m s) value
 
 -- 0x41
 module _ (s : List ℕ) (b : Bytes s) (at v n m : ℕ) (st : Stands s at (Settings v n) m) (start : at + 3 ≡ v) (end : v + n ≡ m) where
@@ -64,12 +63,12 @@ module _ (s : List ℕ) (b : Bytes s) (at v n m : ℕ) (st : Stands s at (Settin
   pub settings-high : n < 65536
   settings-high = omega (arith, long, size-high s b at)
 
-  pub settings-bytes : drop at s ≡ fieldBytes 65 (valueAt s v n) ++ drop m s
+  pub settings-bytes : drop at s ≡ pageFieldBytes 65 (valueAt s v n) ++ drop m s
   settings-bytes =
       field-bytes s b at (Settings v n) m st
-      ∙ ap (λ (t : ℕ). fieldBytes t (valueAt s (at + 3) (big s (at + 1) 2)) ++ drop m s) (tag-is s at (Settings v n) m st .settings v n refl)
-      ∙ ap (λ (k : ℕ). fieldBytes 65 (valueAt s k (big s (at + 1) 2)) ++ drop m s) start
-      ∙ ap (λ (k : ℕ). fieldBytes 65 (valueAt s v k) ++ drop m s) long
+      ∙ ap (λ (t : ℕ). pageFieldBytes t (valueAt s (at + 3) (big s (at + 1) 2)) ++ drop m s) (tag-is s at (Settings v n) m st .settings v n refl)
+      ∙ ap (λ (k : ℕ). pageFieldBytes 65 (valueAt s k (big s (at + 1) 2)) ++ drop m s) start
+      ∙ ap (λ (k : ℕ). pageFieldBytes 65 (valueAt s v k) ++ drop m s) long
 
 -- 0x7F
 module _ (s : List ℕ) (b : Bytes s) (at m : ℕ) (st : Stands s at End m) where
@@ -83,17 +82,17 @@ module _ (s : List ℕ) (b : Bytes s) (at m : ℕ) (st : Stands s at End m) wher
   unfolding valueAt
   nothing = ap (λ (k : ℕ). take k (drop (at + 3) s)) empty
 
-  pub end-bytes : drop at s ≡ fieldBytes 127 [] ++ drop m s
+  pub end-bytes : drop at s ≡ pageFieldBytes 127 [] ++ drop m s
   end-bytes =
       field-bytes s b at End m st
-      ∙ ap (λ (t : ℕ). fieldBytes t (valueAt s (at + 3) (big s (at + 1) 2)) ++ drop m s) end-tag
-      ∙ ap (λ (l : List ℕ). fieldBytes 127 l ++ drop m s) nothing
+      ∙ ap (λ (t : ℕ). pageFieldBytes t (valueAt s (at + 3) (big s (at + 1) 2)) ++ drop m s) end-tag
+      ∙ ap (λ (l : List ℕ). pageFieldBytes 127 l ++ drop m s) nothing
 
 module _ (s : List ℕ) (b : Bytes s) (e v : ℕ) (gs : List Setting) (n : ℕ) (p : Parts s e v gs n) where
   abbrev setup : List ℕ
   setup = valueAt s (p .value) (p .size)
 
-  of-parts : Accepted s e v gs n
+  of-parts : AcceptedPage s e v gs n
   unfolding uptoSetup
   of-parts =
       let xs = skip-back s b (p .next₁) in
@@ -104,25 +103,25 @@ module _ (s : List ℕ) (b : Bytes s) (e v : ℕ) (gs : List Setting) (n : ℕ) 
       let st₂ = stands s at₂ (Settings (p .value) (p .size)) (p .next₂) (p .second) in
       let st₃ = stands s at₃ End (p .next₃) (p .third) in
       let w = value-fits s at₂ (p .value) (p .size) (p .next₂) (p .second) in
-      let last : drop at₃ s ≡ fieldBytes 127 [] = end-bytes s b at₃ (p .next₃) st₃ ∙ ap (λ (l : List ℕ). fieldBytes 127 [] ++ l) (drop-of-length-le s (p .closes)) in
-      let third : drop (p .next₂) s ≡ extraBytes (ys .extras) ++ fieldBytes 127 [] = ys .bytes ∙ ap (λ (l : List ℕ). extraBytes (ys .extras) ++ l) last in
-      let second : drop at₂ s ≡ fieldBytes 65 setup ++ (extraBytes (ys .extras) ++ fieldBytes 127 []) =
-      settings-bytes s b at₂ (p .value) (p .size) (p .next₂) st₂ (w .start) (w .end) ∙ ap (λ (l : List ℕ). fieldBytes 65 setup ++ l) third
+      let last : drop at₃ s ≡ pageFieldBytes 127 [] = end-bytes s b at₃ (p .next₃) st₃ ∙ ap (λ (l : List ℕ). pageFieldBytes 127 [] ++ l) (drop-of-length-le s (p .closes)) in
+      let third : drop (p .next₂) s ≡ extraBytes (ys .extras) ++ pageFieldBytes 127 [] = ys .bytes ∙ ap (λ (l : List ℕ). extraBytes (ys .extras) ++ l) last in
+      let second : drop at₂ s ≡ pageFieldBytes 65 setup ++ (extraBytes (ys .extras) ++ pageFieldBytes 127 []) =
+      settings-bytes s b at₂ (p .value) (p .size) (p .next₂) st₂ (w .start) (w .end) ∙ ap (λ (l : List ℕ). pageFieldBytes 65 setup ++ l) third
       in
-      let first : drop (p .next₁) s ≡ extraBytes (xs .extras) ++ (fieldBytes 65 setup ++ (extraBytes (ys .extras) ++ fieldBytes 127 [])) =
+      let first : drop (p .next₁) s ≡ extraBytes (xs .extras) ++ (pageFieldBytes 65 setup ++ (extraBytes (ys .extras) ++ pageFieldBytes 127 [])) =
       xs .bytes ∙ ap (λ (l : List ℕ). extraBytes (xs .extras) ++ l) second
       in
       record {
         between = xs .extras;
         setup = setup;
         after = ys .extras;
-        is = edition-bytes s b 0 e (p .next₁) st₁ ∙ ap (λ (l : List ℕ). fieldBytes 64 (two e) ++ l) first;
+        is = edition-bytes s b 0 e (p .next₁) st₁ ∙ ap (λ (l : List ℕ). pageFieldBytes 64 (two e) ++ l) first;
         edition-high = edition-high s b 0 e (p .next₁) st₁;
         skips-between = xs .all;
         short = omega (arith, value-length w, settings-high s b at₂ (p .value) (p .size) (p .next₂) st₂ (w .start) (w .end));
         skips-after = ys .all;
-        reads = p .setup ∙ ap (plan.read v gs n) (accepted-whole setup v gs n (p .stop) (p .setup) .1);
+        reads = p .setup ∙ ap (setupRead v gs n) (accepted-whole setup v gs n (p .stop) (p .setup) .1);
       }
 
-pub accepted : (s : List ℕ) → Bytes s → (e v : ℕ) (gs : List Setting) (n : ℕ) → readPage s ≡ read e v gs n → Accepted s e v gs n
+pub accepted : (s : List ℕ) → Bytes s → (e v : ℕ) (gs : List Setting) (n : ℕ) → readPage s ≡ pageRead e v gs n → AcceptedPage s e v gs n
 accepted s b e v gs n h = of-parts s b e v gs n (parts s e v gs n h)

@@ -15,57 +15,56 @@ use lib.Dec.{ltb}
 use lib.ListN.{length}
 use Rattle.units.specs.Plain.{if_then_else_}
 use Rattle.rules.specs.State.{Setting}
-use Rattle.plan.specs.Read as plan
-use Rattle.plan.specs.Read.{readSetup}
-use Rattle.page.specs.Fields.{Item, whole, bad, itemAt}
-use Rattle.page.specs.Read.{Reply, read, refused, pastSkipped, ended, endAt, valueAt, inside, settled, settingsAt, begun, readPage}
+use Rattle.plan.specs.Read.{readSetup, setupRead, SetupReply, setupRefused}
+use Rattle.page.specs.Fields.{PageItem, wholePageField, badPageField, pageItemAt}
+use Rattle.page.specs.Read.{PageReply, pageRead, pageRefused, pastSkipped, ended, endAt, valueAt, inside, pageSettled, settingsAt, pageBegun, readPage}
 use Rattle.page.specs.declared.parse.PageField.the-variants.{Edition, Settings, Skipped, End}
 
 pub record Parts (s : List ℕ) (e v : ℕ) (gs : List Setting) (n : ℕ) : Type 0 where
   pub next₁ : ℕ
-  pub first : itemAt s 0 ≡ whole (Edition e) next₁
+  pub first : pageItemAt s 0 ≡ wholePageField (Edition e) next₁
   pub value : ℕ
   pub size : ℕ
   pub next₂ : ℕ
-  pub second : itemAt s (pastSkipped s next₁) ≡ whole (Settings value size) next₂
+  pub second : pageItemAt s (pastSkipped s next₁) ≡ wholePageField (Settings value size) next₂
   pub stop : ℕ
-  pub setup : readSetup (valueAt s value size) ≡ plan.read v gs n stop
+  pub setup : readSetup (valueAt s value size) ≡ setupRead v gs n stop
   pub next₃ : ℕ
-  pub third : itemAt s (pastSkipped s next₂) ≡ whole End next₃
+  pub third : pageItemAt s (pastSkipped s next₂) ≡ wholePageField End next₃
   pub closes : length s ≤ next₃
 
 -- 0x7F stands, with no byte behind it, and the reply is the one that waited for it
-pub record Ended (s : List ℕ) (at : ℕ) (r q : Reply) : Type 0 where
+pub record Ended (s : List ℕ) (at : ℕ) (r q : PageReply) : Type 0 where
   pub next : ℕ
-  pub item : itemAt s at ≡ whole End next
+  pub item : pageItemAt s at ≡ wholePageField End next
   pub closes : length s ≤ next
   pub same : r ≡ q
 
-pub refused-read : {A : Type 0} {n : ℕ} {p : Option ℕ} {e v : ℕ} {gs : List Setting} {k : ℕ} → refused n p ≡ read e v gs k → A
+pub refused-read : {A : Type 0} {n : ℕ} {p : Option ℕ} {e v : ℕ} {gs : List Setting} {k : ℕ} → pageRefused n p ≡ pageRead e v gs k → A
 refused-read h = absurd (let z : _≡_ {A = ℕ} 0 1 = cc in omega arith)
 
 module _ (s : List ℕ) (e v : ℕ) (gs : List Setting) (n : ℕ) where
-  module _ (at : ℕ) (r : Reply) where
-    by-test : (m : ℕ) (b : Bool) → itemAt s at ≡ whole End m → ltb m (length s) ≡ b → (if b then refused 4 (some m) else r) ≡ read e v gs n → Ended s at r (read e v gs n)
+  module _ (at : ℕ) (r : PageReply) where
+    by-test : (m : ℕ) (b : Bool) → pageItemAt s at ≡ wholePageField End m → ltb m (length s) ≡ b → (if b then pageRefused 4 (some m) else r) ≡ pageRead e v gs n → Ended s at r (pageRead e v gs n)
     by-test m true i t h = refused-read h
     by-test m false i t h = record { next = m; item = i; closes = ltb-false m (length s) t; same = h }
 
-    by-end : (i : Item) → itemAt s at ≡ i → ended s at r i ≡ read e v gs n → Ended s at r (read e v gs n)
-    by-end (bad a p) i h = refused-read h
-    by-end (whole (Edition x) m) i h = refused-read h
-    by-end (whole (Settings x k) m) i h = refused-read h
-    by-end (whole Skipped m) i h = refused-read h
-    by-end (whole End m) i h = by-test m (ltb m (length s)) i refl h
+    by-end : (i : PageItem) → pageItemAt s at ≡ i → ended s at r i ≡ pageRead e v gs n → Ended s at r (pageRead e v gs n)
+    by-end (badPageField a p) i h = refused-read h
+    by-end (wholePageField (Edition x) m) i h = refused-read h
+    by-end (wholePageField (Settings x k) m) i h = refused-read h
+    by-end (wholePageField Skipped m) i h = refused-read h
+    by-end (wholePageField End m) i h = by-test m (ltb m (length s)) i refl h
 
-    end-read : endAt s at r ≡ read e v gs n → Ended s at r (read e v gs n)
+    end-read : endAt s at r ≡ pageRead e v gs n → Ended s at r (pageRead e v gs n)
     unfolding endAt
-    end-read h = by-end (itemAt s at) refl h
+    end-read h = by-end (pageItemAt s at) refl h
 
-  module _ (d m : ℕ) (first : itemAt s 0 ≡ whole (Edition d) m) where
-    by-setup : (x k m₂ : ℕ) (r : plan.Reply) → itemAt s (pastSkipped s m) ≡ whole (Settings x k) m₂ → readSetup (valueAt s x k) ≡ r → inside s d x m₂ r ≡ read e v gs n → Parts s e v gs n
-    by-setup x k m₂ (plan.refused a p) i j h = refused-read h
-    by-setup x k m₂ (plan.read w fs c stop) i j h =
-        let t = end-read (pastSkipped s m₂) (read d w fs c) h in
+  module _ (d m : ℕ) (first : pageItemAt s 0 ≡ wholePageField (Edition d) m) where
+    by-setup : (x k m₂ : ℕ) (r : SetupReply) → pageItemAt s (pastSkipped s m) ≡ wholePageField (Settings x k) m₂ → readSetup (valueAt s x k) ≡ r → inside s d x m₂ r ≡ pageRead e v gs n → Parts s e v gs n
+    by-setup x k m₂ (setupRefused a p) i j h = refused-read h
+    by-setup x k m₂ (setupRead w fs c stop) i j h =
+        let t = end-read (pastSkipped s m₂) (pageRead d w fs c) h in
         let same = t .same in
         let d-is : d ≡ e = cc in
         let w-is : w ≡ v = cc in
@@ -85,24 +84,24 @@ module _ (s : List ℕ) (e v : ℕ) (gs : List Setting) (n : ℕ) where
           closes = t .closes;
         }
 
-    by-settings : (i : Item) → itemAt s (pastSkipped s m) ≡ i → settled s d (pastSkipped s m) i ≡ read e v gs n → Parts s e v gs n
-    by-settings (bad a p) i h = refused-read h
-    by-settings (whole (Edition x) m₂) i h = refused-read h
-    by-settings (whole (Settings x k) m₂) i h = by-setup x k m₂ (readSetup (valueAt s x k)) i refl h
-    by-settings (whole Skipped m₂) i h = refused-read h
-    by-settings (whole End m₂) i h = refused-read h
+    by-settings : (i : PageItem) → pageItemAt s (pastSkipped s m) ≡ i → pageSettled s d (pastSkipped s m) i ≡ pageRead e v gs n → Parts s e v gs n
+    by-settings (badPageField a p) i h = refused-read h
+    by-settings (wholePageField (Edition x) m₂) i h = refused-read h
+    by-settings (wholePageField (Settings x k) m₂) i h = by-setup x k m₂ (readSetup (valueAt s x k)) i refl h
+    by-settings (wholePageField Skipped m₂) i h = refused-read h
+    by-settings (wholePageField End m₂) i h = refused-read h
 
-    settings-read : settingsAt s d (pastSkipped s m) ≡ read e v gs n → Parts s e v gs n
+    settings-read : settingsAt s d (pastSkipped s m) ≡ pageRead e v gs n → Parts s e v gs n
     unfolding settingsAt
-    settings-read h = by-settings (itemAt s (pastSkipped s m)) refl h
+    settings-read h = by-settings (pageItemAt s (pastSkipped s m)) refl h
 
-  by-first : (i : Item) → itemAt s 0 ≡ i → begun s i ≡ read e v gs n → Parts s e v gs n
-  by-first (bad a p) i h = refused-read h
-  by-first (whole (Edition d) m) i h = settings-read d m i h
-  by-first (whole (Settings x k) m) i h = refused-read h
-  by-first (whole Skipped m) i h = refused-read h
-  by-first (whole End m) i h = refused-read h
+  by-first : (i : PageItem) → pageItemAt s 0 ≡ i → pageBegun s i ≡ pageRead e v gs n → Parts s e v gs n
+  by-first (badPageField a p) i h = refused-read h
+  by-first (wholePageField (Edition d) m) i h = settings-read d m i h
+  by-first (wholePageField (Settings x k) m) i h = refused-read h
+  by-first (wholePageField Skipped m) i h = refused-read h
+  by-first (wholePageField End m) i h = refused-read h
 
-  pub parts : readPage s ≡ read e v gs n → Parts s e v gs n
+  pub parts : readPage s ≡ pageRead e v gs n → Parts s e v gs n
   unfolding readPage
-  parts h = by-first (itemAt s 0) refl h
+  parts h = by-first (pageItemAt s 0) refl h

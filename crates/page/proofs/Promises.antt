@@ -4,11 +4,10 @@ use mathlib.Core.Path.{_≡_, refl, sym, ap, _∙_}
 use mathlib.Core.List.{List, [], _++_}
 use lib.ListN.{length}
 use Rattle.rules.specs.State.{Setting}
-use Rattle.plan.specs.Read as plan
-use Rattle.plan.specs.Read.{readSetup, settings}
+use Rattle.plan.specs.Read.{readSetup, settings, SetupReply, setupRefused, setupRead}
 use Rattle.plan.proofs.Accepted.{accepted-whole}
-use Rattle.page.specs.Read.{read, readPage, came, reads}
-use Rattle.page.specs.Form.{Extra, AllSkippable, extraBytes, fieldBytes, pageBytes, PageWithin}
+use Rattle.page.specs.Read.{pageRead, readPage, pageCame, pageReply}
+use Rattle.page.specs.Form.{Extra, AllSkippable, extraBytes, pageFieldBytes, pageBytes, PageWithin}
 use Rattle.page.specs.declared.Reading.{Reading}
 use Rattle.page.specs.declared.Outcome.the-variants.{Read}
 use Rattle.page.specs.Promises.{ReadsExactly, WithoutSkipped, PagesWithin, SetupDecides, RefusesInside}
@@ -24,12 +23,12 @@ reads-exactly s e v gs n = (λ b h. accepted s b e v gs n h, λ a. complete s e 
 -- what is read of a page does not turn on what is skipped in it
 module _ (d : ℕ) (setup : List ℕ) (high : d < 65536) (short : length setup < 65536) (xs ys xs′ ys′ : List Extra)
     (a : AllSkippable xs) (b : AllSkippable ys) (a′ : AllSkippable xs′) (b′ : AllSkippable ys′) (e v : ℕ) (gs : List Setting) (n : ℕ) where
-  by-setup : (r : plan.Reply) → readSetup setup ≡ r → readPage (pageBytes d xs setup ys) ≡ read e v gs n → readPage (pageBytes d xs′ setup ys′) ≡ read e v gs n
-  by-setup (plan.refused k p) j h =
-      refused-read (sym (upto-refused d xs setup (extraBytes ys ++ fieldBytes 127 []) high a short k p j) ∙ h)
-  by-setup (plan.read w fs k p) j h = page-reads d xs′ setup ys′ high a′ short b′ w fs k p j ∙ sym (page-reads d xs setup ys high a short b w fs k p j) ∙ h
+  by-setup : (r : SetupReply) → readSetup setup ≡ r → readPage (pageBytes d xs setup ys) ≡ pageRead e v gs n → readPage (pageBytes d xs′ setup ys′) ≡ pageRead e v gs n
+  by-setup (setupRefused k p) j h =
+      refused-read (sym (upto-refused d xs setup (extraBytes ys ++ pageFieldBytes 127 []) high a short k p j) ∙ h)
+  by-setup (setupRead w fs k p) j h = page-reads d xs′ setup ys′ high a′ short b′ w fs k p j ∙ sym (page-reads d xs setup ys high a short b w fs k p j) ∙ h
 
-  same-read : readPage (pageBytes d xs setup ys) ≡ read e v gs n → readPage (pageBytes d xs′ setup ys′) ≡ read e v gs n
+  same-read : readPage (pageBytes d xs setup ys) ≡ pageRead e v gs n → readPage (pageBytes d xs′ setup ys′) ≡ pageRead e v gs n
   same-read h = by-setup (readSetup setup) refl h
 
 pub without-skipped : WithoutSkipped
@@ -53,6 +52,6 @@ unfolding RefusesInside
 refuses-inside s n q h = refuses s n q h
 
 -- what a caller of `read_page` has: the contract's equation, and the outcome that it found
-pub read-within : (r : Reading) (s : List ℕ) (e : ℕ) → reads r ≡ readPage s → r .outcome ≡ Read e → PageWithin (r .plan .format) (settings (r .plan)) (r .plan .count)
+pub read-within : (r : Reading) (s : List ℕ) (e : ℕ) → pageReply r ≡ readPage s → r .outcome ≡ Read e → PageWithin (r .plan .format) (settings (r .plan)) (r .plan .count)
 unfolding PagesWithin
-read-within r s e h o = pages-within s e (r .plan .format) (settings (r .plan)) (r .plan .count) (sym h ∙ ap (came (r .plan)) o)
+read-within r s e h o = pages-within s e (r .plan .format) (settings (r .plan)) (r .plan .count) (sym h ∙ ap (pageCame (r .plan)) o)

@@ -1,6 +1,6 @@
 -- The refusals of a setup: which they are, and where.
 --
---   setup-refused   whatever `readSetup` refuses has a number of `refusals` and a place in the setup
+--   setup-refused   whatever `readSetup` refuses has a number of `setupRefusals` and a place in the setup
 --   other-refusal   a refusal that `moved` leaves alone is none of these
 --
 -- Assumes nothing.
@@ -21,24 +21,24 @@ use Rattle.rules.specs.Reads.{number}
 use Rattle.rules.specs.declared.Refusal.{Refusal}
 use Rattle.rules.specs.declared.Refusal.the-variants.{Cut, UnknownTag, WrongLength, OutOfOrder, WeightsOver, TableShort, NotGood, NoLane, BadLength, LaneFull, StillHolds, NothingHeld, RunBounds, InputLong, FormatOutside, LaneOutside, WeightOutside, LongestOutside, FramingOutside, WrongByte, SheetCut, NoSheet, NoTrain, TrainFull}
 use Rattle.rules.proofs.Refusal as refusal
-use Rattle.plan.specs.Read.{Reply, read, refused, readPlan, closed, readSetup}
-use Rattle.plan.specs.Accepted.{refusals, among, Refused}
+use Rattle.plan.specs.Read.{SetupReply, setupRead, setupRefused, readPlan, setupClosed, readSetup}
+use Rattle.plan.specs.Accepted.{setupRefusals, among, RefusedSetup}
 use Rattle.plan.proofs.Inside.{true-false}
 use Rattle.plan.proofs.Refusals.{refused-place}
 
-read-refused : {A : Type 0} {v : ℕ} {gs : List Setting} {k m n : ℕ} {p : Option ℕ} → read v gs k m ≡ refused n p → A
+read-refused : {A : Type 0} {v : ℕ} {gs : List Setting} {k m n : ℕ} {p : Option ℕ} → setupRead v gs k m ≡ setupRefused n p → A
 read-refused h = absurd (let z : _≡_ {A = ℕ} 0 1 = cc in omega arith)
 
 module _ (s : List ℕ) (n : ℕ) (q : Option ℕ) where
   -- a byte behind the setup's 0x7F
-  by-test : (v : ℕ) (gs : List Setting) (k p : ℕ) (b : Bool) → ltb p (length s) ≡ b → (if b then refused 4 (some p) else read v gs k p) ≡ refused n q → Refused s 0 n q
+  by-test : (v : ℕ) (gs : List Setting) (k p : ℕ) (b : Bool) → ltb p (length s) ≡ b → (if b then setupRefused 4 (some p) else setupRead v gs k p) ≡ setupRefused n q → RefusedSetup s 0 n q
   by-test v gs k p false t h = read-refused h
   by-test v gs k p true t h =
       let e : 4 ≡ n = cc in
       let f : some p ≡ q = cc in
       let inside = ltb-true p (length s) t in
       record {
-        listed = sym (ap (among refusals) e);
+        listed = sym (ap (among setupRefusals) e);
         place = p;
         is = sym f;
         from = λ l. omega arith;
@@ -47,11 +47,11 @@ module _ (s : List ℕ) (n : ℕ) (q : Option ℕ) where
         shows = rw (← e);
       }
 
-  by-reply : (r : Reply) → readPlan s 0 ≡ r → closed s r ≡ refused n q → Refused s 0 n q
-  by-reply (refused a b) e h = refused-place s n q 0 (e ∙ h)
-  by-reply (read v gs k p) e h = by-test v gs k p (ltb p (length s)) refl h
+  by-reply : (r : SetupReply) → readPlan s 0 ≡ r → setupClosed s r ≡ setupRefused n q → RefusedSetup s 0 n q
+  by-reply (setupRefused a b) e h = refused-place s n q 0 (e ∙ h)
+  by-reply (setupRead v gs k p) e h = by-test v gs k p (ltb p (length s)) refl h
 
-  pub setup-refused : readSetup s ≡ refused n q → Refused s 0 n q
+  pub setup-refused : readSetup s ≡ setupRefused n q → RefusedSetup s 0 n q
   unfolding readSetup
   setup-refused h = by-reply (readPlan s 0) refl h
 
@@ -59,7 +59,7 @@ module _ (s : List ℕ) (n : ℕ) (q : Option ℕ) where
 abbrev pub others : List ℕ
 others = 5 ∷ 6 ∷ 7 ∷ 8 ∷ 9 ∷ 10 ∷ 11 ∷ 12 ∷ 13 ∷ 19 ∷ 20 ∷ 21 ∷ 22 ∷ 23 ∷ []
 
-pub other-refusal : {A : Type 0} (x : Refusal) → OneOf others (tagOf refusal.the-type x) → among refusals (number x) ≡ true → A
+pub other-refusal : {A : Type 0} (x : Refusal) → OneOf others (tagOf refusal.the-type x) → among setupRefusals (number x) ≡ true → A
 other-refusal (Cut p) o h = absurd (miss others 0 tt o)
 other-refusal (UnknownTag p) o h = absurd (miss others 1 tt o)
 other-refusal (WrongLength p) o h = absurd (miss others 2 tt o)

@@ -9,42 +9,50 @@ use mathlib.Core.Path.{_≡_, refl, sym, ap, _∙_}
 use mathlib.Core.List.{List}
 use native.Mathlib.Omega.{arith}
 use lib.ListN.{length}
-use Rattle.page.specs.Fields.{Item, whole, itemAt}
-use Rattle.page.specs.Read.{onward, skipping, pastSkipped}
+use Rattle.units.specs.Plain.{if_then_else_}
+use Rattle.page.specs.Fields.{PageItem, wholePageField, badPageField, pageItemAt}
+use Rattle.page.specs.Read.{isSkipped, skipWalk, pastSkipped}
 use Rattle.page.specs.declared.parse.PageField.the-variants.{Skipped}
 use Rattle.page.proofs.Stands.{stands}
 
 pub record Standing (s : List ℕ) (at p : ℕ) : Type 0 where
   pub turns : ℕ
   pub enough : length s - p ≤ turns
-  pub same : skipping turns s p ≡ pastSkipped s at
+  pub same : skipWalk turns s p ≡ pastSkipped s at
 
--- a field at which the walk stops, whatever the rest would do
-abbrev pub Stops : ℕ → Item → Type 0
-Stops p i = (go : ℕ → ℕ) → onward p i go ≡ p
+-- one turn of `skipWalk`, as a function of what stands at its place
+abbrev pub passed : ℕ → List ℕ → ℕ → PageItem → ℕ
+passed turns s at i = elim i [
+  | badPageField n p ↦ at
+  | wholePageField f next ↦ if isSkipped f then skipWalk turns s next else at
+]
 
-pub stopped : (turns : ℕ) (s : List ℕ) (p : ℕ) (i : Item) → itemAt s p ≡ i → Stops p i → skipping turns s p ≡ p
-unfolding skipping
+-- a field at which the walk stops, whatever follows
+abbrev pub Stops : List ℕ → ℕ → PageItem → Type 0
+Stops s p i = (turns : ℕ) → passed turns s p i ≡ p
+
+pub stopped : (turns : ℕ) (s : List ℕ) (p : ℕ) (i : PageItem) → pageItemAt s p ≡ i → Stops s p i → skipWalk turns s p ≡ p
+unfolding skipWalk
 stopped zero s p i e stop = refl
-stopped (suc turns) s p i e stop = ap (λ (j : Item). onward p j (skipping turns s)) e ∙ stop (skipping turns s)
+stopped (suc turns) s p i e stop = ap (passed turns s p) e ∙ stop turns
 
 -- one turn over a skipped field
-pub turn : (turns : ℕ) (s : List ℕ) (p m : ℕ) → 0 < turns → itemAt s p ≡ whole Skipped m → skipping turns s p ≡ skipping (turns - 1) s m
-unfolding skipping
+pub turn : (turns : ℕ) (s : List ℕ) (p m : ℕ) → 0 < turns → pageItemAt s p ≡ wholePageField Skipped m → skipWalk turns s p ≡ skipWalk (turns - 1) s m
+unfolding skipWalk
 turn zero s p m h e = absurd (omega (arith, h))
 turn (suc turns) s p m h e =
     let less : suc turns - 1 ≡ turns = omega arith in
-    rw less (ap (λ (j : Item). onward p j (skipping turns s)) e)
+    rw less (ap (passed turns s p) e)
 
 pub stand-first : (s : List ℕ) (at : ℕ) → Standing s at at
 unfolding pastSkipped
 stand-first s at = record { turns = length s - at; enough = omega arith; same = refl }
 
 module _ (s : List ℕ) (at p : ℕ) (st : Standing s at p) where
-  pub stand-stop : (i : Item) → itemAt s p ≡ i → Stops p i → p ≡ pastSkipped s at
+  pub stand-stop : (i : PageItem) → pageItemAt s p ≡ i → Stops s p i → p ≡ pastSkipped s at
   stand-stop i e stop = sym (stopped (st .turns) s p i e stop) ∙ st .same
 
-  module _ (m : ℕ) (e : itemAt s p ≡ whole Skipped m) where
+  module _ (m : ℕ) (e : pageItemAt s p ≡ wholePageField Skipped m) where
     pub moves : (p < m) × (m ≤ length s)
     moves = let k = stands s p Skipped m e in omega (arith, k .after, k .fits)
 

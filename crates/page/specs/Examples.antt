@@ -12,7 +12,7 @@ use mathlib.Core.Path.{_≡_}
 use mathlib.Core.List.{List, [], _∷_, _++_}
 use mathlib.Core.Option.{some}
 use Rattle.plan.specs.Examples.{sessionSetup, twoWeights, twoLanes}
-use Rattle.page.specs.Read.{read, refused, readPage}
+use Rattle.page.specs.Read.{pageRead, pageRefused, readPage}
 
 -- 40 0002 0007
 abbrev pub edition : List ℕ
@@ -32,15 +32,15 @@ end = 127 ∷ 0 ∷ 0 ∷ []
 
 -- R19.18: the setup of the first session (R16.1) has 24 bytes. That with weights 1,000 and w has 22, and the second weight stands at its byte 17.
 pub record Shown : Type 0 where
-  pub plain : readPage (edition ++ (settings 24 sessionSetup ++ end)) ≡ read 7 1 (twoLanes 512 256 1500) 2
-  pub with-skipped : readPage (edition ++ (skipped ++ (settings 24 sessionSetup ++ (skipped ++ (skipped ++ end))))) ≡ read 7 1 (twoLanes 512 256 1500) 2
-  pub weight-right : readPage (edition ++ (settings 22 (twoWeights 24) ++ end)) ≡ read 7 1 (twoLanes 1000 24 1500) 2
-  pub weight-over : readPage (edition ++ (settings 22 (twoWeights 25) ++ end)) ≡ refused 6 (some 25)
-  pub weight-moved : readPage (edition ++ (skipped ++ (settings 22 (twoWeights 25) ++ end))) ≡ refused 6 (some 30)
-  pub value-short : readPage (edition ++ (settings 23 sessionSetup ++ end)) ≡ refused 1 (some 29)
-  pub value-long : readPage (edition ++ (settings 25 sessionSetup ++ end)) ≡ refused 4 (some 32)
-  pub skipped-first : readPage (skipped ++ (edition ++ (settings 24 sessionSetup ++ end))) ≡ refused 4 (some 0)
-  pub skipped-last : readPage (edition ++ (settings 24 sessionSetup ++ (end ++ skipped))) ≡ refused 4 (some 35)
-  pub twice : readPage (edition ++ (edition ++ (settings 24 sessionSetup ++ end))) ≡ refused 4 (some 5)
-  pub missing : readPage (edition ++ (skipped ++ end)) ≡ refused 4 (some 10)
-  pub stops : readPage edition ≡ refused 1 (some 5)
+  pub plain : readPage (edition ++ (settings 24 sessionSetup ++ end)) ≡ pageRead 7 1 (twoLanes 512 256 1500) 2
+  pub with-skipped : readPage (edition ++ (skipped ++ (settings 24 sessionSetup ++ (skipped ++ (skipped ++ end))))) ≡ pageRead 7 1 (twoLanes 512 256 1500) 2
+  pub weight-right : readPage (edition ++ (settings 22 (twoWeights 24) ++ end)) ≡ pageRead 7 1 (twoLanes 1000 24 1500) 2
+  pub weight-over : readPage (edition ++ (settings 22 (twoWeights 25) ++ end)) ≡ pageRefused 6 (some 25)
+  pub weight-moved : readPage (edition ++ (skipped ++ (settings 22 (twoWeights 25) ++ end))) ≡ pageRefused 6 (some 30)
+  pub value-short : readPage (edition ++ (settings 23 sessionSetup ++ end)) ≡ pageRefused 1 (some 29)
+  pub value-long : readPage (edition ++ (settings 25 sessionSetup ++ end)) ≡ pageRefused 4 (some 32)
+  pub skipped-first : readPage (skipped ++ (edition ++ (settings 24 sessionSetup ++ end))) ≡ pageRefused 4 (some 0)
+  pub skipped-last : readPage (edition ++ (settings 24 sessionSetup ++ (end ++ skipped))) ≡ pageRefused 4 (some 35)
+  pub twice : readPage (edition ++ (edition ++ (settings 24 sessionSetup ++ end))) ≡ pageRefused 4 (some 5)
+  pub missing : readPage (edition ++ (skipped ++ end)) ≡ pageRefused 4 (some 10)
+  pub stops : readPage edition ≡ pageRefused 1 (some 5)

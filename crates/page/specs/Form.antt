@@ -1,12 +1,12 @@
 -- The form of a page, byte for byte, and what a page that is read is. specs/Promises.antt says that exactly these pages are read.
 --
---   Bytes        the elements of an input are bytes
---   fieldBytes   a field: tag, length, value
---   Extra        a field that is skipped; Skippable: it may be; extraBytes: some of them, one after another
---   uptoSetup    a page as far as its 0x41, that among it; pageBytes: a whole page
---   Accepted     the rule for a page that is read
---   PageWithin   what follows of its settings
---   Refused      the rule for a refusal
+--   Bytes            the elements of an input are bytes
+--   pageFieldBytes   a field: tag, length, value
+--   Extra            a field that is skipped; Skippable: it may be; extraBytes: some of them, one after another
+--   uptoSetup        a page as far as its 0x41, that among it; pageBytes: a whole page
+--   AcceptedPage     the rule for a page that is read
+--   PageWithin       what follows of its settings
+--   RefusedPage      the rule for a refusal
 --
 -- Assumes nothing.
 use Prim.Native.Nat.{ℕ, _/_, _%_, _≤_, _<_}
@@ -19,9 +19,8 @@ use Rattle.fields.specs.Bytes.{byteAt}
 use Rattle.rules.specs.State.{Setting}
 use Rattle.rules.specs.Setup.{Setup}
 use Rattle.plan.specs.Judge.{knownFormat}
-use Rattle.plan.specs.Read as plan
-use Rattle.plan.specs.Read.{readSetup}
-use Rattle.plan.specs.Accepted.{present, refusals, among}
+use Rattle.plan.specs.Read.{readSetup, setupRead}
+use Rattle.plan.specs.Accepted.{present, setupRefusals, among}
 
 -- As those of any lent slice are.
 abbrev pub Bytes : List ℕ → Type 0
@@ -33,8 +32,8 @@ Bytes s = (i : ℕ) → byteAt s i < 256
 abbrev pub two : ℕ → List ℕ
 two n = n / 256 ∷ n % 256 ∷ []
 
-abbrev pub fieldBytes : ℕ → List ℕ → List ℕ
-fieldBytes tag value = tag ∷ (two (length value) ++ value)
+abbrev pub pageFieldBytes : ℕ → List ℕ → List ℕ
+pageFieldBytes tag value = tag ∷ (two (length value) ++ value)
 
 -- R19.2
 pub record Extra : Type 0 where
@@ -53,20 +52,20 @@ AllSkippable (x ∷ xs) = Skippable x × AllSkippable xs
 -- R19.2
 unfoldable pub extraBytes : List Extra → List ℕ
 extraBytes [] = []
-extraBytes (x ∷ xs) = fieldBytes (x .tag) (x .value) ++ extraBytes xs
+extraBytes (x ∷ xs) = pageFieldBytes (x .tag) (x .value) ++ extraBytes xs
 
 -- 0x40 with the edition, fields that are skipped, 0x41 with a setup, and whatever follows ..
 unfoldable pub uptoSetup : ℕ → List Extra → List ℕ → List ℕ → List ℕ
-uptoSetup edition xs setup rest = fieldBytes 64 (two edition) ++ (extraBytes xs ++ (fieldBytes 65 setup ++ rest))
+uptoSetup edition xs setup rest = pageFieldBytes 64 (two edition) ++ (extraBytes xs ++ (pageFieldBytes 65 setup ++ rest))
 
 -- R19.1: .. which in a page is fields that are skipped, and 0x7F.
 abbrev pub pageBytes : ℕ → List Extra → List ℕ → List Extra → List ℕ
-pageBytes edition xs setup ys = uptoSetup edition xs setup (extraBytes ys ++ fieldBytes 127 [])
+pageBytes edition xs setup ys = uptoSetup edition xs setup (extraBytes ys ++ pageFieldBytes 127 [])
 
 -- ---- what is read, and what is refused
 
 -- R19.1: the page's bytes are of the form, its edition is 0 to 65,535, and the one setup reader reads the setup inside, as if it were the whole input.
-pub record Accepted (s : List ℕ) (edition format : ℕ) (gs : List Setting) (n : ℕ) : Type 0 where
+pub record AcceptedPage (s : List ℕ) (edition format : ℕ) (gs : List Setting) (n : ℕ) : Type 0 where
   pub between : List Extra
   pub setup : List ℕ
   pub after : List Extra
@@ -75,7 +74,7 @@ pub record Accepted (s : List ℕ) (edition format : ℕ) (gs : List Setting) (n
   pub skips-between : AllSkippable between
   pub short : length setup < 65536
   pub skips-after : AllSkippable after
-  pub reads : readSetup setup ≡ plan.read format gs n (length setup)
+  pub reads : readSetup setup ≡ setupRead format gs n (length setup)
 
 -- The settings are a setup of the rules, of a known format, and n of its lanes are there.
 pub record PageWithin (format : ℕ) (gs : List Setting) (n : ℕ) : Type 0 where
@@ -86,8 +85,8 @@ pub record PageWithin (format : ℕ) (gs : List Setting) (n : ℕ) : Type 0 wher
   pub few : n ≤ 64
 
 -- A refusal has one of the setup's numbers and a place in the page, at its length only for 1.
-pub record Refused (s : List ℕ) (n : ℕ) (q : Option ℕ) : Type 0 where
-  pub listed : among refusals n ≡ true
+pub record RefusedPage (s : List ℕ) (n : ℕ) (q : Option ℕ) : Type 0 where
+  pub listed : among setupRefusals n ≡ true
   pub place : ℕ
   pub is : q ≡ some place
   pub within : place ≤ length s

@@ -12,8 +12,8 @@ ghost use mathlib.Core.Bool.{true};
 ghost use Prim.Native.Nat.{_+_, _^_, _<_};
 ghost use Rattle.rules.specs.Reads.{number, placeOf};
 ghost use Rattle.plan.specs.Read.{settings};
-ghost use Rattle.plan.specs.Accepted.{refusals, among};
-ghost use Rattle.page.specs.Read.{read, refused, pastSkipped, endAt, distance, moved, settingsAt, readPage, reads};
+ghost use Rattle.plan.specs.Accepted.{setupRefusals, among};
+ghost use Rattle.page.specs.Read.{pageRead, pageRefused, pastSkipped, endAt, distance, moved, settingsAt, readPage, pageReply};
 
 pub mod parse;
 
@@ -35,7 +35,7 @@ pub struct Reading {
 }
 
 fn refused(x: Refusal) -> Reading
-    ensures { λ r. ⌜ reads r ≡ refused (number x) (placeOf x) ⌝ }
+    ensures { λ r. ⌜ pageReply r ≡ pageRefused (number x) (placeOf x) ⌝ }
 {
     let lanes = plan::no_lanes();
     Reading {
@@ -70,7 +70,7 @@ fn past_skipped(s: &[u8], at: usize) -> usize
 
 // A refusal of a value's bytes, its place counted from where the value's own are.
 fn moved(by: usize, x: Refusal) -> Refusal
-    requires { ⌜ (among refusals (number x) ≡ true) × (by + distance (placeOf x) < 2 ^ 64) ⌝ }
+    requires { ⌜ (among setupRefusals (number x) ≡ true) × (by + distance (placeOf x) < 2 ^ 64) ⌝ }
     ensures { λ r. ⌜ (number r ≡ number x) × (placeOf r ≡ moved by (placeOf x)) ⌝ }
 {
     match x {
@@ -91,7 +91,7 @@ fn moved(by: usize, x: Refusal) -> Refusal
 
 // The page's 0x7F, which is to stand here as its last bytes.
 fn end_at(s: &[u8], at: usize, edition: u16, plan: Plan) -> Reading
-    ensures { λ r. ⌜ reads r ≡ endAt (now (s .entry)) at (read edition (plan .format) (settings plan) (plan .count)) ⌝ }
+    ensures { λ r. ⌜ pageReply r ≡ endAt (now (s .entry)) at (pageRead edition (plan .format) (settings plan) (plan .count)) ⌝ }
 {
     match parse::parsed_field(s, at) {
         Parsed::Refused(x) => refused(x),
@@ -112,7 +112,7 @@ fn end_at(s: &[u8], at: usize, edition: u16, plan: Plan) -> Reading
 
 // The page from its 0x41 on, which is to stand here. The setup inside ends where its value does.
 fn settings_at(s: &[u8], edition: u16, at: usize) -> Reading
-    ensures { λ r. ⌜ reads r ≡ settingsAt (now (s .entry)) edition at ⌝ }
+    ensures { λ r. ⌜ pageReply r ≡ settingsAt (now (s .entry)) edition at ⌝ }
 {
     match parse::parsed_field(s, at) {
         Parsed::Refused(x) => refused(x),
@@ -136,7 +136,7 @@ fn settings_at(s: &[u8], edition: u16, at: usize) -> Reading
 
 // A page that is the whole input.
 pub fn read_page(s: &[u8]) -> Reading
-    ensures { λ r. ⌜ reads r ≡ readPage (now (s .entry)) ⌝ }
+    ensures { λ r. ⌜ pageReply r ≡ readPage (now (s .entry)) ⌝ }
 {
     match parse::parsed_field(s, 0) {
         Parsed::Refused(x) => refused(x),

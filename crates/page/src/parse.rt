@@ -3,7 +3,7 @@ ghost use mathlib.Core.Path.{_≡_};
 ghost use mathlib.Core.Bool.{true};
 ghost use Prim.Native.Nat.{_+_, _≤_};
 ghost use lib.ListN.{length};
-ghost use Rattle.page.specs.Fields.{known, fitting, fieldOf, itemAt, itemOf};
+ghost use Rattle.page.specs.Fields.{pageTag, pageFits, pageFieldOf, pageItemAt, pageItemOf};
 use fields::Field;
 use rules::Refusal;
 
@@ -31,7 +31,7 @@ pub enum Parsed {
 }
 
 pub fn known(tag: u8) -> bool
-    ensures { λ r. ⌜ r ≡ known tag ⌝ }
+    ensures { λ r. ⌜ r ≡ pageTag tag ⌝ }
 {
     if tag >= SKIPPED {
         return true;
@@ -45,7 +45,7 @@ pub fn known(tag: u8) -> bool
 
 // Whether a length is right for a tag that is known.
 pub fn fitting(tag: u8, n: usize) -> bool
-    ensures { λ r. ⌜ r ≡ fitting tag n ⌝ }
+    ensures { λ r. ⌜ r ≡ pageFits tag n ⌝ }
 {
     match tag {
         EDITION => n == 2,
@@ -55,8 +55,8 @@ pub fn fitting(tag: u8, n: usize) -> bool
 }
 
 fn field_of(s: &[u8], tag: u8, at: usize, n: usize) -> PageField
-    requires { ⌜ (fitting tag n ≡ true) × (at + n ≤ length (now s)) ⌝ }
-    ensures { λ r. ⌜ r ≡ fieldOf (now (s .entry)) tag at n ⌝ }
+    requires { ⌜ (pageFits tag n ≡ true) × (at + n ≤ length (now s)) ⌝ }
+    ensures { λ r. ⌜ r ≡ pageFieldOf (now (s .entry)) tag at n ⌝ }
 {
     match tag {
         EDITION => PageField::Edition(fields::u16_at(s, at)),
@@ -68,7 +68,7 @@ fn field_of(s: &[u8], tag: u8, at: usize, n: usize) -> PageField
 
 // The field of a page at a place.
 pub fn parsed_field(s: &[u8], at: usize) -> Parsed
-    ensures { λ r. ⌜ itemOf r ≡ itemAt (now (s .entry)) at ⌝ }
+    ensures { λ r. ⌜ pageItemOf r ≡ pageItemAt (now (s .entry)) at ⌝ }
 {
     match fields::field_at(s, at) {
         Field::Nothing => Parsed::Refused(Refusal::Cut(s.len())),

@@ -7,7 +7,7 @@ use mathlib.Core.List.{List}
 use mathlib.Core.Option.{Option, some}
 use borrow.Author.Tests.{le-leb, lt-leb}
 use lib.Dec.{leb}
-use Rattle.plan.specs.Fields.{whole, bad, itemAt}
+use Rattle.plan.specs.Fields.{wholeField, badField, setupItemAt}
 use Rattle.plan.specs.Judge.{longestRight, lastLane, within, misplaced, laneOutside, outside, Inside, over, faulted, judged, judgedAt}
 use Rattle.plan.specs.declared.judge.Fault.{Fault}
 use Rattle.plan.specs.declared.judge.Fault.the-variants.{NoFault, BadLane, BadWeight, BadLongest}
@@ -41,21 +41,21 @@ module _ (l : LaneField) where
     outside-none w g = simp (le-leb (l .lane) lastLane h, w, g)
 
 module _ (seen : Seen) (s : List ℕ) (at : ℕ) where
-  pub judged-no : (n : ℕ) (p : Option ℕ) → itemAt s at ≡ bad n p → judgedAt seen s at ≡ bad n p
+  pub judged-no : (n : ℕ) (p : Option ℕ) → setupItemAt s at ≡ badField n p → judgedAt seen s at ≡ badField n p
   unfolding judgedAt
   judged-no n p h = ap (judged seen at) h
 
-  module _ (f : SetupField) (next : ℕ) (h : itemAt s at ≡ whole f next) where
-    pub judged-misplaced : misplaced seen f ≡ true → judgedAt seen s at ≡ bad 4 (some at)
+  module _ (f : SetupField) (next : ℕ) (h : setupItemAt s at ≡ wholeField f next) where
+    pub judged-misplaced : misplaced seen f ≡ true → judgedAt seen s at ≡ badField 4 (some at)
     unfolding judgedAt
     judged-misplaced m = ap (judged seen at) h ∙ simp m
 
-    pub judged-faults : misplaced seen f ≡ false → judgedAt seen s at ≡ faulted at (outside f) (faulted at (over seen f) (whole f next))
+    pub judged-faults : misplaced seen f ≡ false → judgedAt seen s at ≡ faulted at (outside f) (faulted at (over seen f) (wholeField f next))
     unfolding judgedAt
     judged-faults m = ap (judged seen at) h ∙ simp m
 
-    pub judged-whole : misplaced seen f ≡ false → Inside f → over seen f ≡ NoFault → judgedAt seen s at ≡ whole f next
+    pub judged-whole : misplaced seen f ≡ false → Inside f → over seen f ≡ NoFault → judgedAt seen s at ≡ wholeField f next
     judged-whole m o w =
         judged-faults m
-        ∙ ap (λ (x : Fault). faulted at x (faulted at (over seen f) (whole f next))) o
-        ∙ ap (λ (x : Fault). faulted at x (whole f next)) w
+        ∙ ap (λ (x : Fault). faulted at x (faulted at (over seen f) (wholeField f next))) o
+        ∙ ap (λ (x : Fault). faulted at x (wholeField f next)) w

@@ -7,6 +7,7 @@ pub mod Inside
 pub mod Offsets
 pub mod Shown
 pub mod Sound
+pub mod Turn
 pub mod Walks
 pub mod Closed
 pub mod Rest

@@ -15,7 +15,7 @@ use borrow.Author.Tests.{eqb-true}
 use lib.Dec.{leb, ltb, eqb}
 use Rattle.fields.specs.Bytes.{byteAt, big}
 use Rattle.units.specs.Plain.{if_then_else_}
-use Rattle.plan.specs.Fields.{laneAt, longestAt, fieldOf}
+use Rattle.plan.specs.Fields.{laneFieldAt, longestAt, setupFieldOf}
 use Rattle.plan.specs.Judge.{knownFormat, longestRight, lastLane, mostFraming, within, laneOutside, outside, over, offset}
 use Rattle.plan.specs.declared.judge.Fault.{Fault}
 use Rattle.plan.specs.declared.judge.Fault.the-variants.{NoFault, BadFormat, BadLane, BadWeight, BadLongest, BadFraming, TotalOver}
@@ -57,13 +57,13 @@ module _ (s : List ℕ) (v n : ℕ) where
   pub short-right : n ≡ 3 → longestRight (longestAt s v n) ≡ true
   short-right e = ap (λ (x : Longest). longestRight x) (longest-short s v n e)
 
-  short-in : n ≡ 3 → offset (laneOutside (laneAt s v n)) < 3 + n
+  short-in : n ≡ 3 → offset (laneOutside (laneFieldAt s v n)) < 3 + n
   unfolding laneOutside
   short-in e =
       let z = lane-in-three (leb (byteAt s v) lastLane) (within 1 1024 (big s (v + 1) 2)) (longestRight (longestAt s v n)) (short-right e) in
       omega (arith, e, z)
 
-  long-in : n ≡ 5 → offset (laneOutside (laneAt s v n)) < 3 + n
+  long-in : n ≡ 5 → offset (laneOutside (laneFieldAt s v n)) < 3 + n
   unfolding laneOutside
   long-in e =
       let z = lane-in (leb (byteAt s v) lastLane) (within 1 1024 (big s (v + 1) 2)) (longestRight (longestAt s v n)) in
@@ -73,7 +73,7 @@ module _ (s : List ℕ) (v n : ℕ) where
   sized a b c d = if a then eqb n 2 else (if b then eqb n 3 || eqb n 5 else (if c then eqb n 1 else (if d then eqb n 1 else eqb n 0)))
 
   abbrev valued : Bool → Bool → Bool → Bool → SetupField
-  valued a b c d = if a then Format (big s v 2) else (if b then Lane (laneAt s v n) else (if c then Framing (byteAt s v) else (if d then Shared (byteAt s v) else End)))
+  valued a b c d = if a then Format (big s v 2) else (if b then Lane (laneFieldAt s v n) else (if c then Framing (byteAt s v) else (if d then Shared (byteAt s v) else End)))
 
   own-in : (a b c d : Bool) → sized a b c d ≡ true → offset (outside (valued a b c d)) < 3 + n
   own-in true b c d h = omega (arith, eqb-true n 2 h, format-in (knownFormat (big s v 2)))
@@ -97,14 +97,14 @@ module _ (s : List ℕ) (at : ℕ) (f : SetupField) (m : ℕ) (k : Stands s at f
   n = big s (at + 1) 2
 
   pub outside-in : at + offset (outside f) < m
-  unfolding fieldOf
+  unfolding setupFieldOf
   outside-in =
       let z = own-in s (at + 3) n (eqb t 1) (eqb t 16) (eqb t 17) (eqb t 18) (k .size) in
       let e = ap (λ (g : SetupField). offset (outside g)) (k .field) in
       omega (arith, z, e, k .after)
 
   pub over-in : (seen : Seen) → at + offset (over seen f) < m
-  unfolding fieldOf
+  unfolding setupFieldOf
   over-in seen =
       let z = sum-in s (at + 3) n seen (eqb t 1) (eqb t 16) (eqb t 17) (eqb t 18) (k .size) in
       let e = ap (λ (g : SetupField). offset (over seen g)) (k .field) in

@@ -17,14 +17,15 @@ use Rattle.fields.proofs.Numbers.{big-same}
 use Rattle.fields.proofs.Header.{header-whole}
 use Rattle.units.specs.Plain.{if_then_else_}
 use Rattle.rules.specs.State.{Setting}
-use Rattle.plan.specs.Fields.{Item, whole, bad, known, fitting, longestAt, laneAt, fieldOf, itemAt}
-use Rattle.plan.specs.Judge.{judgedAt, after}
-use Rattle.plan.specs.Read.{read, nothingSeen, noLanes, placed, next, walk, readPlan}
+use Rattle.plan.specs.Fields.{SetupItem, wholeField, badField, ends, setupTag, setupFits, longestAt, laneFieldAt, setupFieldOf, setupItemAt}
+use Rattle.plan.specs.Judge.{judgedAt, seenAfter}
+use Rattle.plan.specs.Read.{setupRead, nothingSeen, noLanes, placed, setupWalk, readPlan}
 use Rattle.plan.specs.declared.judge.Seen.{Seen}
 use Rattle.plan.specs.declared.parse.Longest.{Longest}
 use Rattle.plan.specs.declared.parse.Longest.the-variants.{Given, Default}
 use Rattle.plan.specs.declared.parse.SetupField.{SetupField}
 use Rattle.plan.specs.declared.parse.SetupField.the-variants.{Format, Lane, Framing, Shared, End}
+use Rattle.plan.proofs.Turn.{turned}
 use Rattle.plan.proofs.Tags.{lane-long, lane-three}
 use Rattle.plan.proofs.Items.{item-whole}
 use Rattle.plan.proofs.Judged.{judged-whole}
@@ -42,11 +43,11 @@ module _ (s t : List ℕ) (v n : ℕ) (same : Same s t v (v + n)) where
   number-same : (k w : ℕ) → v ≤ w → w + k ≤ v + n → big s w k ≡ big t w k
   number-same k w low high = big-same s t k w (λ i a b. same i (omega arith) (omega arith))
 
-  longest-same : (b : Bool) → eqb n 3 ≡ b → fitting 16 n ≡ true → _≡_ {A = Longest} (if b then Default else Given (big s (v + 3) 2)) (if b then Default else Given (big t (v + 3) 2))
+  longest-same : (b : Bool) → eqb n 3 ≡ b → setupFits 16 n ≡ true → _≡_ {A = Longest} (if b then Default else Given (big s (v + 3) 2)) (if b then Default else Given (big t (v + 3) 2))
   longest-same true e f = refl
   longest-same false e f = ap Given (number-same 2 (v + 3) (omega arith) (omega (arith, lane-long n f (eqb-false n 3 e))))
 
-  lane-same : fitting 16 n ≡ true → laneAt s v n ≡ laneAt t v n
+  lane-same : setupFits 16 n ≡ true → laneFieldAt s v n ≡ laneFieldAt t v n
   lane-same f =
       let three = lane-three n f in
       let a : byteAt s v ≡ byteAt t v = same v (omega arith) (omega arith) in
@@ -54,105 +55,90 @@ module _ (s t : List ℕ) (v n : ℕ) (same : Same s t v (v + n)) where
       let c : longestAt s v n ≡ longestAt t v n = longest-same (eqb n 3) refl f in
       cc
 
-  field-same : (tag : ℕ) (a b c d : Bool) → eqb tag 1 ≡ a → eqb tag 16 ≡ b → eqb tag 17 ≡ c → eqb tag 18 ≡ d → fitting tag n ≡ true
-      → _≡_ {A = SetupField} (if a then Format (big s v 2) else (if b then Lane (laneAt s v n) else (if c then Framing (byteAt s v) else (if d then Shared (byteAt s v) else End)))) (if a then Format (big t v 2) else (if b then Lane (laneAt t v n) else (if c then Framing (byteAt t v) else (if d then Shared (byteAt t v) else End))))
+  field-same : (tag : ℕ) (a b c d : Bool) → eqb tag 1 ≡ a → eqb tag 16 ≡ b → eqb tag 17 ≡ c → eqb tag 18 ≡ d → setupFits tag n ≡ true
+      → _≡_ {A = SetupField} (if a then Format (big s v 2) else (if b then Lane (laneFieldAt s v n) else (if c then Framing (byteAt s v) else (if d then Shared (byteAt s v) else End)))) (if a then Format (big t v 2) else (if b then Lane (laneFieldAt t v n) else (if c then Framing (byteAt t v) else (if d then Shared (byteAt t v) else End))))
   field-same tag true b c d p q r z f =
-      let two : n ≡ 2 = eqb-true n 2 (subst (λ (k : ℕ). fitting k n ≡ true) (eqb-true tag 1 p) f) in
+      let two : n ≡ 2 = eqb-true n 2 (subst (λ (k : ℕ). setupFits k n ≡ true) (eqb-true tag 1 p) f) in
       ap Format (number-same 2 v (omega arith) (omega arith))
-  field-same tag false true c d p q r z f = ap Lane (lane-same (subst (λ (k : ℕ). fitting k n ≡ true) (eqb-true tag 16 q) f))
+  field-same tag false true c d p q r z f = ap Lane (lane-same (subst (λ (k : ℕ). setupFits k n ≡ true) (eqb-true tag 16 q) f))
   field-same tag false false true d p q r z f =
-      let one : n ≡ 1 = eqb-true n 1 (subst (λ (k : ℕ). fitting k n ≡ true) (eqb-true tag 17 r) f) in
+      let one : n ≡ 1 = eqb-true n 1 (subst (λ (k : ℕ). setupFits k n ≡ true) (eqb-true tag 17 r) f) in
       ap Framing (same v (omega arith) (omega arith))
   field-same tag false false false true p q r z f =
-      let one : n ≡ 1 = eqb-true n 1 (subst (λ (k : ℕ). fitting k n ≡ true) (eqb-true tag 18 z) f) in
+      let one : n ≡ 1 = eqb-true n 1 (subst (λ (k : ℕ). setupFits k n ≡ true) (eqb-true tag 18 z) f) in
       ap Shared (same v (omega arith) (omega arith))
   field-same tag false false false false p q r z f = refl
 
-  pub value-same : (tag : ℕ) → fitting tag n ≡ true → fieldOf s tag v n ≡ fieldOf t tag v n
-  unfolding fieldOf
+  pub value-same : (tag : ℕ) → setupFits tag n ≡ true → setupFieldOf s tag v n ≡ setupFieldOf t tag v n
+  unfolding setupFieldOf
   value-same tag f = field-same tag (eqb tag 1) (eqb tag 16) (eqb tag 17) (eqb tag 18) refl refl refl refl f
 
 -- ---- a field
 
-pub item-same : (s t : List ℕ) (at : ℕ) (f : SetupField) (m : ℕ) → Stands s at f m → Same s t at m → m ≤ length t → itemAt t at ≡ whole f m
+pub item-same : (s t : List ℕ) (at : ℕ) (f : SetupField) (m : ℕ) → Stands s at f m → Same s t at m → m ≤ length t → setupItemAt t at ≡ wholeField f m
 item-same s t at f m h same fits =
     let tag : byteAt s at ≡ byteAt t at = same at (omega arith) (omega (arith, h .after)) in
     let size : big s (at + 1) 2 ≡ big t (at + 1) 2 = big-same s t 2 (at + 1) (λ i a b. same i (omega arith) (omega (arith, h .after))) in
-    let known-t : known (byteAt t at) ≡ true = sym (ap known tag) ∙ h .tag in
-    let fit-s : fitting (byteAt t at) (big s (at + 1) 2) ≡ true = subst (λ (k : ℕ). fitting k (big s (at + 1) 2) ≡ true) tag (h .size) in
-    let fit-t : fitting (byteAt t at) (big t (at + 1) 2) ≡ true = subst (λ (k : ℕ). fitting (byteAt t at) k ≡ true) size fit-s in
+    let known-t : setupTag (byteAt t at) ≡ true = sym (ap setupTag tag) ∙ h .tag in
+    let fit-s : setupFits (byteAt t at) (big s (at + 1) 2) ≡ true = subst (λ (k : ℕ). setupFits k (big s (at + 1) 2) ≡ true) tag (h .size) in
+    let fit-t : setupFits (byteAt t at) (big t (at + 1) 2) ≡ true = subst (λ (k : ℕ). setupFits (byteAt t at) k ≡ true) size fit-s in
     let n = big s (at + 1) 2 in
-    let value : fieldOf s (byteAt t at) (at + 3) n ≡ fieldOf t (byteAt t at) (at + 3) n =
+    let value : setupFieldOf s (byteAt t at) (at + 3) n ≡ setupFieldOf t (byteAt t at) (at + 3) n =
     value-same s t (at + 3) n (λ i a b. same i (omega arith) (omega (arith, h .after))) (byteAt t at) fit-s
     in
     item-whole t at (byteAt t at) (at + 3) (big t (at + 1) 2) (header-whole t at (omega (arith, h .after))) known-t fit-t
     (le-leb (at + 3 + big t (at + 1) 2) (length t) (omega (arith, h .after)))
-    ∙ ap (λ (k : ℕ). whole (fieldOf t (byteAt t at) (at + 3) k) (at + 3 + k)) (sym size)
-    ∙ ap (λ (g : SetupField). whole g (at + 3 + n)) (sym value ∙ ap (λ (k : ℕ). fieldOf s k (at + 3) n) (sym tag) ∙ h .field)
-    ∙ ap (whole f) (h .after)
+    ∙ ap (λ (k : ℕ). wholeField (setupFieldOf t (byteAt t at) (at + 3) k) (at + 3 + k)) (sym size)
+    ∙ ap (λ (g : SetupField). wholeField g (at + 3 + n)) (sym value ∙ ap (λ (k : ℕ). setupFieldOf s k (at + 3) n) (sym tag) ∙ h .field)
+    ∙ ap (wholeField f) (h .after)
 
 -- ---- the walk
 
 module _ (s : List ℕ) (v : ℕ) (gs′ : List Setting) (n p : ℕ) where
   -- a setup that is read ends further on
-  past-item : (turns : ℕ) (seen : Seen) (gs : List Setting) (at : ℕ) (more : (seen₁ : Seen) (gs₁ : List Setting) (m : ℕ) → walk turns s seen₁ gs₁ m ≡ read v gs′ n p → m < p)
-      → (i : Item) → judgedAt seen s at ≡ i → next seen gs i (walk turns s) ≡ read v gs′ n p → at < p
-  past-item turns seen gs at more (bad a b) e h = refused-read h
-  past-item turns seen gs at more (whole (Format v) m) e h =
-      omega (arith, is-taken seen s at (Format v) m e .stand .after, more (after seen (Format v)) (placed (seen .format) (seen .framing) gs (Format v)) m h)
-  past-item turns seen gs at more (whole (Lane l) m) e h =
-      omega (arith, is-taken seen s at (Lane l) m e .stand .after, more (after seen (Lane l)) (placed (seen .format) (seen .framing) gs (Lane l)) m h)
-  past-item turns seen gs at more (whole (Framing l) m) e h =
-      omega (arith, is-taken seen s at (Framing l) m e .stand .after, more (after seen (Framing l)) (placed (seen .format) (seen .framing) gs (Framing l)) m h)
-  past-item turns seen gs at more (whole (Shared l) m) e h =
-      omega (arith, is-taken seen s at (Shared l) m e .stand .after, more (after seen (Shared l)) (placed (seen .format) (seen .framing) gs (Shared l)) m h)
-  past-item turns seen gs at more (whole End m) e h =
-      let q : m ≡ p = cc in
-      omega (arith, is-taken seen s at End m e .stand .after)
+  past-item : (turns : ℕ) (seen : Seen) (gs : List Setting) (at : ℕ) (more : (seen₁ : Seen) (gs₁ : List Setting) (m : ℕ) → setupWalk turns s seen₁ gs₁ m ≡ setupRead v gs′ n p → m < p)
+      → (i : SetupItem) → judgedAt seen s at ≡ i → turned turns s seen gs i ≡ setupRead v gs′ n p → at < p
+  past-item turns seen gs at more (badField a b) e h = refused-read h
+  past-item turns seen gs at more (wholeField f m) e h = past-field (ends f) h
+    where
+      past-field : (b : Bool) → (if b then setupRead (seen .format) gs (seen .count) m else setupWalk turns s (seenAfter seen f) (placed (seen .format) (seen .framing) gs f) m) ≡ setupRead v gs′ n p → at < p
+      past-field true h =
+          let q : m ≡ p = cc in
+          omega (arith, is-taken seen s at f m e .stand .after)
+      past-field false h = omega (arith, is-taken seen s at f m e .stand .after, more (seenAfter seen f) (placed (seen .format) (seen .framing) gs f) m h)
 
-  past : (turns : ℕ) (seen : Seen) (gs : List Setting) (at : ℕ) → walk turns s seen gs at ≡ read v gs′ n p → at < p
-  unfolding walk
+  past : (turns : ℕ) (seen : Seen) (gs : List Setting) (at : ℕ) → setupWalk turns s seen gs at ≡ setupRead v gs′ n p → at < p
+  unfolding setupWalk
   past zero seen gs at h = refused-read h
   past (suc turns) seen gs at h = past-item turns seen gs at (λ seen₁ gs₁ m h₁. past turns seen₁ gs₁ m h₁) (judgedAt seen s at) refl h
 
   module _ (t : List ℕ) (same : Same s t 0 p) (fits : p ≤ length t) where
-    judged-same : (seen : Seen) (at : ℕ) (f : SetupField) (m : ℕ) → judgedAt seen s at ≡ whole f m → m ≤ p → judgedAt seen t at ≡ whole f m
+    judged-same : (seen : Seen) (at : ℕ) (f : SetupField) (m : ℕ) → judgedAt seen s at ≡ wholeField f m → m ≤ p → judgedAt seen t at ≡ wholeField f m
     judged-same seen at f m e q =
         let k = is-taken seen s at f m e in
         judged-whole seen t at f m (item-same s t at f m (k .stand) (λ i a b. same i (omega arith) (omega arith)) (omega arith)) (k .in-place) (k .inside) (k .under)
 
     -- one turn, and the rest as `more` has it
     same-turn : (turns turns₁ : ℕ) (seen : Seen) (gs : List Setting) (at : ℕ) → length t - at ≤ suc turns₁
-        → (more : (seen₁ : Seen) (gs₁ : List Setting) (m : ℕ) → length t - m ≤ turns₁ → walk turns s seen₁ gs₁ m ≡ read v gs′ n p → walk turns₁ t seen₁ gs₁ m ≡ read v gs′ n p)
-        → (i : Item) → judgedAt seen s at ≡ i → next seen gs i (walk turns s) ≡ read v gs′ n p → next seen gs (judgedAt seen t at) (walk turns₁ t) ≡ read v gs′ n p
-    same-turn turns turns₁ seen gs at low more (bad a b) e h = refused-read h
-    same-turn turns turns₁ seen gs at low more (whole (Format v) m) e h =
-        let q = past turns (after seen (Format v)) (placed (seen .format) (seen .framing) gs (Format v)) m h in
-        let k = is-taken seen s at (Format v) m e in
-        ap (λ (i : Item). next seen gs i (walk turns₁ t)) (judged-same seen at (Format v) m e (omega arith))
-        ∙ more (after seen (Format v)) (placed (seen .format) (seen .framing) gs (Format v)) m (omega (arith, k .stand .after)) h
-    same-turn turns turns₁ seen gs at low more (whole (Lane l) m) e h =
-        let q = past turns (after seen (Lane l)) (placed (seen .format) (seen .framing) gs (Lane l)) m h in
-        let k = is-taken seen s at (Lane l) m e in
-        ap (λ (i : Item). next seen gs i (walk turns₁ t)) (judged-same seen at (Lane l) m e (omega arith))
-        ∙ more (after seen (Lane l)) (placed (seen .format) (seen .framing) gs (Lane l)) m (omega (arith, k .stand .after)) h
-    same-turn turns turns₁ seen gs at low more (whole (Framing l) m) e h =
-        let q = past turns (after seen (Framing l)) (placed (seen .format) (seen .framing) gs (Framing l)) m h in
-        let k = is-taken seen s at (Framing l) m e in
-        ap (λ (i : Item). next seen gs i (walk turns₁ t)) (judged-same seen at (Framing l) m e (omega arith))
-        ∙ more (after seen (Framing l)) (placed (seen .format) (seen .framing) gs (Framing l)) m (omega (arith, k .stand .after)) h
-    same-turn turns turns₁ seen gs at low more (whole (Shared l) m) e h =
-        let q = past turns (after seen (Shared l)) (placed (seen .format) (seen .framing) gs (Shared l)) m h in
-        let k = is-taken seen s at (Shared l) m e in
-        ap (λ (i : Item). next seen gs i (walk turns₁ t)) (judged-same seen at (Shared l) m e (omega arith))
-        ∙ more (after seen (Shared l)) (placed (seen .format) (seen .framing) gs (Shared l)) m (omega (arith, k .stand .after)) h
-    same-turn turns turns₁ seen gs at low more (whole End m) e h =
-        let q : m ≡ p = cc in
-        ap (λ (i : Item). next seen gs i (walk turns₁ t)) (judged-same seen at End m e (omega arith)) ∙ h
+        → (more : (seen₁ : Seen) (gs₁ : List Setting) (m : ℕ) → length t - m ≤ turns₁ → setupWalk turns s seen₁ gs₁ m ≡ setupRead v gs′ n p → setupWalk turns₁ t seen₁ gs₁ m ≡ setupRead v gs′ n p)
+        → (i : SetupItem) → judgedAt seen s at ≡ i → turned turns s seen gs i ≡ setupRead v gs′ n p → turned turns₁ t seen gs (judgedAt seen t at) ≡ setupRead v gs′ n p
+    same-turn turns turns₁ seen gs at low more (badField a b) e h = refused-read h
+    same-turn turns turns₁ seen gs at low more (wholeField f m) e h = same-field (ends f) refl h
+      where
+        same-field : (b : Bool) → ends f ≡ b → (if b then setupRead (seen .format) gs (seen .count) m else setupWalk turns s (seenAfter seen f) (placed (seen .format) (seen .framing) gs f) m) ≡ setupRead v gs′ n p
+            → turned turns₁ t seen gs (judgedAt seen t at) ≡ setupRead v gs′ n p
+        same-field true b h =
+            let q : m ≡ p = cc in
+            ap (turned turns₁ t seen gs) (judged-same seen at f m e (omega arith)) ∙ simp b h
+        same-field false b h =
+            let q = past turns (seenAfter seen f) (placed (seen .format) (seen .framing) gs f) m h in
+            let k = is-taken seen s at f m e in
+            ap (turned turns₁ t seen gs) (judged-same seen at f m e (omega arith))
+            ∙ simp b (more (seenAfter seen f) (placed (seen .format) (seen .framing) gs f) m (omega (arith, k .stand .after)) h)
 
-    walk-same : (turns turns₁ : ℕ) (seen : Seen) (gs : List Setting) (at : ℕ) → length t - at ≤ turns₁ → walk turns s seen gs at ≡ read v gs′ n p
-        → walk turns₁ t seen gs at ≡ read v gs′ n p
-    unfolding walk
+    walk-same : (turns turns₁ : ℕ) (seen : Seen) (gs : List Setting) (at : ℕ) → length t - at ≤ turns₁ → setupWalk turns s seen gs at ≡ setupRead v gs′ n p
+        → setupWalk turns₁ t seen gs at ≡ setupRead v gs′ n p
+    unfolding setupWalk
     walk-same zero turns₁ seen gs at low h = refused-read h
     walk-same (suc turns) zero seen gs at low h = absurd (omega (arith, past (suc turns) seen gs at h))
     walk-same (suc turns) (suc turns₁) seen gs at low h =
@@ -160,13 +146,13 @@ module _ (s : List ℕ) (v : ℕ) (gs′ : List Setting) (n p : ℕ) where
 
 -- ---- the theorem
 
-module _ (s t : List ℕ) (at v : ℕ) (gs : List Setting) (n p : ℕ) (h : readPlan s at ≡ read v gs n p) (same : take p s ≡ take p t) where
+module _ (s t : List ℕ) (at v : ℕ) (gs : List Setting) (n p : ℕ) (h : readPlan s at ≡ setupRead v gs n p) (same : take p s ≡ take p t) where
   bytes : Same s t 0 p
   bytes i a b = sym (getD-take p s i 0 b) ∙ ap (λ (l : List ℕ). getD l i 0) same ∙ getD-take p t i 0 b
 
   long : p ≤ length t
   long = omega (arith, accepted s at v gs n p h .within, length-take p s, length-take p t, ap length same)
 
-  pub prefix : readPlan t at ≡ read v gs n p
+  pub prefix : readPlan t at ≡ setupRead v gs n p
   unfolding readPlan
   prefix = walk-same s v gs n p t bytes long (length s - at) (length t - at) nothingSeen noLanes at (omega arith) h

@@ -14,19 +14,20 @@ use borrow.Author.Tests.{eqb-false}
 use lib.ListN.{length, set}
 use lib.Seq.{getD-set-same, set-set}
 use Rattle.rules.specs.State.{Setting, noSetting, settingAt}
-use Rattle.plan.specs.Fields.{Item, whole, bad}
-use Rattle.plan.specs.Judge.{given, judgedAt, after}
-use Rattle.plan.specs.Read.{read, refused, asShared, placed, next, walk}
-use Rattle.plan.specs.Accepted.{Laid, LaneFields, Rising, LanesWithin, weighed, givenBy, placedAll, behind, fieldsOf}
+use Rattle.plan.specs.Fields.{SetupItem, wholeField, badField}
+use Rattle.plan.specs.Judge.{given, judgedAt, seenAfter}
+use Rattle.plan.specs.Read.{setupRead, setupRefused, asShared, placed, setupWalk}
+use Rattle.plan.specs.Accepted.{Laid, LaneFields, Rising, LanesWithin, weighed, givenBy, placedAll, sharedBehind, fieldsOf}
 use Rattle.plan.specs.declared.judge.Seen.{Seen}
 use Rattle.plan.specs.declared.parse.LaneField.{LaneField}
 use Rattle.plan.specs.declared.parse.SetupField.{SetupField}
 use Rattle.plan.specs.declared.parse.SetupField.the-variants.{Format, Lane, Framing, Shared, End}
+use Rattle.plan.proofs.Turn.{turned}
 use Rattle.plan.proofs.Inside.{true-false, lane-number, in-numbers, is-rising, is-laned, is-last}
 use Rattle.plan.proofs.Stands.{Taken, is-taken}
 use Rattle.plan.proofs.Sound.{Sound, sound-after}
 
-pub refused-read : {A : Type 0} {n : ℕ} {p : Option ℕ} {v : ℕ} {gs : List Setting} {k m : ℕ} → refused n p ≡ read v gs k m → A
+pub refused-read : {A : Type 0} {n : ℕ} {p : Option ℕ} {v : ℕ} {gs : List Setting} {k m : ℕ} → setupRefused n p ≡ setupRead v gs k m → A
 refused-read h = absurd (let z : _≡_ {A = ℕ} 0 1 = cc in omega arith)
 
 -- the lanes so far, with lane k made shared or not
@@ -40,7 +41,7 @@ pub record Rest (s : List ℕ) (seen : Seen) (gs : List Setting) (at v : ℕ) (g
   pub lane : ℕ
   pub shared : share ≡ true → (seen .laned ≡ true) × (lane + 1 ≡ seen .floor)
   pub lanes : List LaneFields
-  pub laid : Laid s at (behind share lane ++ (fieldsOf lanes ++ (End ∷ []))) p
+  pub laid : Laid s at (sharedBehind share lane ++ (fieldsOf lanes ++ (End ∷ []))) p
   pub rising : Rising (seen .floor) lanes
   pub each : LanesWithin lanes
   pub format : seen .format ≡ v
@@ -55,7 +56,7 @@ pub record Rest (s : List ℕ) (seen : Seen) (gs : List Setting) (at v : ℕ) (g
   pub within : p ≤ length s
 
 module _ (turns : ℕ) (s : List ℕ) (seen : Seen) (gs : List Setting) (at v : ℕ) (gs′ : List Setting) (n p : ℕ) (begun : seen .begun ≡ true) (ok : Sound seen gs) where
-  pub rest-end : (m : ℕ) → Taken seen s at End m → read (seen .format) gs (seen .count) m ≡ read v gs′ n p → Rest s seen gs at v gs′ n p
+  pub rest-end : (m : ℕ) → Taken seen s at End m → setupRead (seen .format) gs (seen .count) m ≡ setupRead v gs′ n p → Rest s seen gs at v gs′ n p
   unfolding Laid Rising LanesWithin placedAll
   rest-end m k h =
       let g : gs ≡ gs′ = cc in
@@ -81,7 +82,7 @@ module _ (turns : ℕ) (s : List ℕ) (seen : Seen) (gs : List Setting) (at v : 
         within = omega (arith, k .stand .after, k .stand .fits);
       }
 
-  pub rest-lane : (l : LaneField) (m : ℕ) → Taken seen s at (Lane l) m → Rest s (after seen (Lane l)) (placed (seen .format) (seen .framing) gs (Lane l)) m v gs′ n p
+  pub rest-lane : (l : LaneField) (m : ℕ) → Taken seen s at (Lane l) m → Rest s (seenAfter seen (Lane l)) (placed (seen .format) (seen .framing) gs (Lane l)) m v gs′ n p
       → Rest s seen gs at v gs′ n p
   unfolding Laid Rising LanesWithin placedAll
   rest-lane l m k r = record {
@@ -105,8 +106,8 @@ module _ (turns : ℕ) (s : List ℕ) (seen : Seen) (gs : List Setting) (at v : 
   }
     where
       -- 0x12 is of this lane
-      laid-on : (b : Bool) → (b ≡ true → r .lane + 1 ≡ l .lane + 1) → Laid s m (behind b (r .lane) ++ (fieldsOf (r .lanes) ++ (End ∷ []))) p
-          → Laid s m ((behind b (l .lane) ++ fieldsOf (r .lanes)) ++ (End ∷ [])) p
+      laid-on : (b : Bool) → (b ≡ true → r .lane + 1 ≡ l .lane + 1) → Laid s m (sharedBehind b (r .lane) ++ (fieldsOf (r .lanes) ++ (End ∷ []))) p
+          → Laid s m ((sharedBehind b (l .lane) ++ fieldsOf (r .lanes)) ++ (End ∷ [])) p
       laid-on false e h = h
       laid-on true e h =
           let q : r .lane ≡ l .lane = let z = e refl in omega arith in
@@ -122,7 +123,7 @@ module _ (turns : ℕ) (s : List ℕ) (seen : Seen) (gs : List Setting) (at v : 
           ∙ set-set gs (l .lane) (given (seen .format) (seen .framing) l) (asShared (given (seen .format) (seen .framing) l))
 
   -- 0x12, of the last lane
-  pub rest-shared : (j m : ℕ) → Taken seen s at (Shared j) m → Rest s (after seen (Shared j)) (placed (seen .format) (seen .framing) gs (Shared j)) m v gs′ n p
+  pub rest-shared : (j m : ℕ) → Taken seen s at (Shared j) m → Rest s (seenAfter seen (Shared j)) (placed (seen .format) (seen .framing) gs (Shared j)) m v gs′ n p
       → Rest s seen gs at v gs′ n p
   unfolding Laid
   rest-shared j m k r = go (r .share) refl
@@ -134,7 +135,7 @@ module _ (turns : ℕ) (s : List ℕ) (seen : Seen) (gs : List Setting) (at v : 
         lane = j;
         shared = λ q. (is-laned seen j (k .in-place), is-last seen j (k .in-place));
         lanes = r .lanes;
-        laid = (m, k .item, subst (λ (b : Bool). Laid s m (behind b (r .lane) ++ (fieldsOf (r .lanes) ++ (End ∷ []))) p) e (r .laid));
+        laid = (m, k .item, subst (λ (b : Bool). Laid s m (sharedBehind b (r .lane) ++ (fieldsOf (r .lanes) ++ (End ∷ []))) p) e (r .laid));
         rising = r .rising;
         each = r .each;
         format = r .format;
@@ -149,23 +150,23 @@ module _ (turns : ℕ) (s : List ℕ) (seen : Seen) (gs : List Setting) (at v : 
         within = r .within;
       }
 
-  module _ (shut : seen .opening ≡ false) (more : (seen₁ : Seen) (gs₁ : List Setting) (m : ℕ) → seen₁ .begun ≡ true → seen₁ .opening ≡ false → Sound seen₁ gs₁ → walk turns s seen₁ gs₁ m ≡ read v gs′ n p → Rest s seen₁ gs₁ m v gs′ n p) where
-    rest-field : (f : SetupField) (m : ℕ) → Taken seen s at f m → next seen gs (whole f m) (walk turns s) ≡ read v gs′ n p → Rest s seen gs at v gs′ n p
+  module _ (shut : seen .opening ≡ false) (more : (seen₁ : Seen) (gs₁ : List Setting) (m : ℕ) → seen₁ .begun ≡ true → seen₁ .opening ≡ false → Sound seen₁ gs₁ → setupWalk turns s seen₁ gs₁ m ≡ setupRead v gs′ n p → Rest s seen₁ gs₁ m v gs′ n p) where
+    rest-field : (f : SetupField) (m : ℕ) → Taken seen s at f m → turned turns s seen gs (wholeField f m) ≡ setupRead v gs′ n p → Rest s seen gs at v gs′ n p
     rest-field (Format w) m k h = true-false (sym begun ∙ k .in-place)
     rest-field (Lane l) m k h =
-        rest-lane l m k (more (after seen (Lane l)) (placed (seen .format) (seen .framing) gs (Lane l)) m refl refl (sound-after seen gs (Lane l) ok (k .in-place) (k .inside) (k .under)) h)
+        rest-lane l m k (more (seenAfter seen (Lane l)) (placed (seen .format) (seen .framing) gs (Lane l)) m refl refl (sound-after seen gs (Lane l) ok (k .in-place) (k .inside) (k .under)) h)
     rest-field (Framing w) m k h = true-false (sym (ap not shut) ∙ k .in-place)
     rest-field (Shared j) m k h =
-        rest-shared j m k (more (after seen (Shared j)) (placed (seen .format) (seen .framing) gs (Shared j)) m refl refl (sound-after seen gs (Shared j) ok (k .in-place) (k .inside) (k .under)) h)
+        rest-shared j m k (more (seenAfter seen (Shared j)) (placed (seen .format) (seen .framing) gs (Shared j)) m refl refl (sound-after seen gs (Shared j) ok (k .in-place) (k .inside) (k .under)) h)
     rest-field End m k h = rest-end m k h
 
-    rest-item : (i : Item) → judgedAt seen s at ≡ i → next seen gs i (walk turns s) ≡ read v gs′ n p → Rest s seen gs at v gs′ n p
-    rest-item (bad a b) e h = refused-read h
-    rest-item (whole f m) e h = rest-field f m (is-taken seen s at f m e) h
+    rest-item : (i : SetupItem) → judgedAt seen s at ≡ i → turned turns s seen gs i ≡ setupRead v gs′ n p → Rest s seen gs at v gs′ n p
+    rest-item (badField a b) e h = refused-read h
+    rest-item (wholeField f m) e h = rest-field f m (is-taken seen s at f m e) h
 
 pub rest : (turns : ℕ) (s : List ℕ) (seen : Seen) (gs : List Setting) (at v : ℕ) (gs′ : List Setting) (n p : ℕ) → seen .begun ≡ true → seen .opening ≡ false → Sound seen gs
-    → walk turns s seen gs at ≡ read v gs′ n p → Rest s seen gs at v gs′ n p
-unfolding walk
+    → setupWalk turns s seen gs at ≡ setupRead v gs′ n p → Rest s seen gs at v gs′ n p
+unfolding setupWalk
 rest zero s seen gs at v gs′ n p b c ok h = refused-read h
 rest (suc turns) s seen gs at v gs′ n p b c ok h =
     rest-item turns s seen gs at v gs′ n p b ok c (λ seen₁ gs₁ m b₁ c₁ ok₁ h₁. rest turns s seen₁ gs₁ m v gs′ n p b₁ c₁ ok₁ h₁) (judgedAt seen s at) refl h

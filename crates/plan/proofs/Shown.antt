@@ -14,7 +14,7 @@ use native.Mathlib.Omega.{arith}
 use lib.Dec.{leb, ltb, eqb}
 use Rattle.fields.specs.Bytes.{byteAt, big}
 use Rattle.units.specs.Plain.{if_then_else_}
-use Rattle.plan.specs.Fields.{laneAt, longestAt, fieldOf}
+use Rattle.plan.specs.Fields.{laneFieldAt, longestAt, setupFieldOf}
 use Rattle.plan.specs.Judge.{knownFormat, longestRight, lastLane, mostFraming, within, laneOutside, outside, over, faults, offset}
 use Rattle.plan.specs.Accepted.{wrongAt}
 use Rattle.plan.specs.declared.judge.Fault.{Fault}
@@ -67,13 +67,13 @@ module _ (s : List ℕ) (at n : ℕ) where
   lane-shows fits true true false x y z = longest-shows fits z
   lane-shows fits true true true x y z = refl
 
-  lanes-shows : (eqb n 3 || eqb n 5) ≡ true → Shows s at (laneOutside (laneAt s v n))
+  lanes-shows : (eqb n 3 || eqb n 5) ≡ true → Shows s at (laneOutside (laneFieldAt s v n))
   unfolding laneOutside
   lanes-shows fits =
       lane-shows fits (leb (byteAt s v) lastLane) (within 1 1024 (big s (v + 1) 2)) (longestRight (longestAt s v n)) refl refl refl
 
   own-shows : (a b c d : Bool) → (if a then eqb n 2 else (if b then eqb n 3 || eqb n 5 else (if c then eqb n 1 else (if d then eqb n 1 else eqb n 0)))) ≡ true
-      → Shows s at (outside (if a then Format (big s v 2) else (if b then Lane (laneAt s v n) else (if c then Framing (byteAt s v) else (if d then Shared (byteAt s v) else End)))))
+      → Shows s at (outside (if a then Format (big s v 2) else (if b then Lane (laneFieldAt s v n) else (if c then Framing (byteAt s v) else (if d then Shared (byteAt s v) else End)))))
   own-shows true b c d h = format-shows (knownFormat (big s v 2)) refl
   own-shows false true c d h = lanes-shows h
   own-shows false false true d h = framing-shows (ltb mostFraming (byteAt s v)) refl
@@ -85,7 +85,7 @@ module _ (s : List ℕ) (at : ℕ) (f : SetupField) (m : ℕ) (k : Stands s at f
   t = byteAt s at
 
   pub shows : Shows s at (outside f)
-  unfolding fieldOf
+  unfolding setupFieldOf
   shows = subst (λ (g : SetupField). Shows s at (outside g)) (k .field) (own-shows s at (big s (at + 1) 2) (eqb t 1) (eqb t 16) (eqb t 17) (eqb t 18) (k .size))
 
 -- 6 is of all the weights

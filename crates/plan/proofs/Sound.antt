@@ -12,7 +12,7 @@ use lib.Seq.{getD-set-same}
 use Rattle.units.specs.Plain.{sum}
 use Rattle.rules.specs.State.{Setting, noSetting, settingAt}
 use Rattle.rules.specs.Setup.{InNumbers, weights}
-use Rattle.plan.specs.Judge.{given, misplaced, Inside, Numbered, over, after}
+use Rattle.plan.specs.Judge.{given, misplaced, Inside, Numbered, over, seenAfter}
 use Rattle.plan.specs.Read.{nothingSeen, noLanes, asShared, placed}
 use Rattle.plan.specs.Accepted.{there, present}
 use Rattle.plan.specs.declared.judge.Fault.the-variants.{NoFault}
@@ -79,7 +79,7 @@ module _ (seen : Seen) (gs : List Setting) (ok : Sound seen gs) (l : LaneField) 
   one : there (given v h l) ≡ 1
   one = rw (lt-ltb 0 (l .weight) (in-numbers l o v h .weight-low))
 
-  lane-kept : Sound (after seen (Lane l)) (placed v h gs (Lane l))
+  lane-kept : Sound (seenAfter seen (Lane l)) (placed v h gs (Lane l))
   lane-kept = record {
     size = length-set gs (l .lane) (given v h l) ∙ ok .size;
     each = λ k. set-cases (λ (g : Setting). InNumbers g ⊎ (g ≡ noSetting)) gs (l .lane) k (given v h l) noSetting (λ e. inl (in-numbers l o v h)) (λ e. ok .each k) (inr refl);
@@ -115,7 +115,7 @@ module _ (seen : Seen) (gs : List Setting) (ok : Sound seen gs) (k : ℕ) (m : m
   stays : (f : Setting → ℕ) → f (asShared was) ≡ f was → sum f (set gs k (asShared was)) ≡ sum f gs
   stays f e = omega (arith, sum-set f gs k (asShared was) noSetting (omega (arith, is-last seen k m, ok .floor, ok .size)), e)
 
-  shared-kept : Sound (after seen (Shared k)) (placed (seen .format) (seen .framing) gs (Shared k))
+  shared-kept : Sound (seenAfter seen (Shared k)) (placed (seen .format) (seen .framing) gs (Shared k))
   shared-kept = record {
     size = length-set gs k (asShared was) ∙ ok .size;
     each = λ i. set-cases (λ (g : Setting). InNumbers g ⊎ (g ≡ noSetting)) gs k i (asShared was) noSetting (λ e. inl numbers-shared) (λ e. ok .each i) (inr refl);
@@ -135,7 +135,7 @@ module _ (seen : Seen) (gs : List Setting) (ok : Sound seen gs) (k : ℕ) (m : m
   }
 
 pub sound-after : (seen : Seen) (gs : List Setting) (f : SetupField) → Sound seen gs → misplaced seen f ≡ false → Inside f → over seen f ≡ NoFault
-    → Sound (after seen f) (placed (seen .format) (seen .framing) gs f)
+    → Sound (seenAfter seen f) (placed (seen .format) (seen .framing) gs f)
 sound-after seen gs (Format v) ok m o w = record {
   size = ok .size;
   each = ok .each;

@@ -1,21 +1,21 @@
 -- What an accepted setup is, and what a refusal of one is, said without the walk. specs/Promises.antt says that exactly these are read and refused.
 --
---   Laid          fields that stand one after another, from a place to a place
---   LaneFields    the fields of one lane: 0x10, and whether 0x12 stands behind it
---   Rising        lane numbers rise, from a least one on
---   LaneWithin    a lane field within the numbers; LanesWithin: each of some
---   weighed       the weights of lane fields together
---   placedAll     the lanes, with those that some fields describe
---   givenBy       the setting that the fields of a lane give it
---   framed        field 0x11, where there is one; framedBy: the line's framing bytes
---   fieldsOf      the fields of some lanes, in order
---   setupFields   the fields of a setup, in order: what is read, and what is written
---   Accepted      the rule for a setup that is read
---   present       how many lanes are there
---   PlanWithin    what follows of the plan of an accepted setup
---   refusals      the numbers that a setup can be refused with; among: whether a number is one of some
---   wrongAt       what 50 to 54 say of the bytes at their place
---   Refused       the rule for a refusal
+--   Laid            fields that stand one after another, from a place to a place
+--   LaneFields      the fields of one lane: 0x10, and whether 0x12 stands behind it
+--   Rising          lane numbers rise, from a least one on
+--   LaneWithin      a lane field within the numbers; LanesWithin: each of some
+--   weighed         the weights of lane fields together
+--   placedAll       the lanes, with those that some fields describe
+--   givenBy         the setting that the fields of a lane give it
+--   framed          field 0x11, where there is one; framedBy: the line's framing bytes
+--   fieldsOf        the fields of some lanes, in order
+--   setupFields     the fields of a setup, in order: what is read, and what is written
+--   AcceptedSetup   the rule for a setup that is read
+--   present         how many lanes are there
+--   PlanWithin      what follows of the plan of an accepted setup
+--   setupRefusals   the numbers that a setup can be refused with; among: whether a number is one of some
+--   wrongAt         what 50 to 54 say of the bytes at their place
+--   RefusedSetup    the rule for a refusal
 --
 -- Assumes nothing.
 use Prim.Native.Nat.{ℕ, _+_, _≤_, _<_}
@@ -29,7 +29,7 @@ use Rattle.fields.specs.Bytes.{byteAt, big}
 use Rattle.units.specs.Plain.{if_then_else_, sum}
 use Rattle.rules.specs.State.{Setting}
 use Rattle.rules.specs.Setup.{Setup, InNumbers, weights}
-use Rattle.plan.specs.Fields.{whole, itemAt}
+use Rattle.plan.specs.Fields.{wholeField, setupItemAt}
 use Rattle.plan.specs.Judge.{knownFormat, longestOf, given, lastLane, mostFraming, within}
 use Rattle.plan.specs.Read.{noLanes}
 use Rattle.plan.specs.declared.parse.LaneField.{LaneField}
@@ -39,7 +39,7 @@ use Rattle.plan.specs.declared.parse.SetupField.the-variants.{Format, La
 -- Each field stands whole where the one before it ends, the first at `at`, and the last ends at `next`.
 unfoldable pub Laid : List ℕ → ℕ → List SetupField → ℕ → Type 0
 Laid s at [] next = at ≡ next
-Laid s at (f ∷ fs) next = (m : ℕ) × (itemAt s at ≡ whole f m) × Laid s m fs next
+Laid s at (f ∷ fs) next = (m : ℕ) × (setupItemAt s at ≡ wholeField f m) × Laid s m fs next
 
 -- A lane's 0x10, and whether 0x12 with the same lane number stands directly behind it.
 pub record LaneFields : Type 0 where
@@ -82,13 +82,13 @@ framedBy none = 0
 framedBy (some h) = h
 
 -- 0x12 behind the 0x10 of lane k, or none
-abbrev pub behind : Bool → ℕ → List SetupField
-behind true k = Shared k ∷ []
-behind false k = []
+abbrev pub sharedBehind : Bool → ℕ → List SetupField
+sharedBehind true k = Shared k ∷ []
+sharedBehind false k = []
 
 abbrev pub fieldsOf : List LaneFields → List SetupField
 fieldsOf [] = []
-fieldsOf (x ∷ xs) = Lane (x .lane) ∷ (behind (x .shared) (x .lane .lane) ++ fieldsOf xs)
+fieldsOf (x ∷ xs) = Lane (x .lane) ∷ (sharedBehind (x .shared) (x .lane .lane) ++ fieldsOf xs)
 
 -- R8.15. The fields of a setup, in order: 0x01 with the format, 0x11 or none, the lanes' fields, 0x7F.
 abbrev pub setupFields : ℕ → Option ℕ → List LaneFields → List SetupField
@@ -97,7 +97,7 @@ setupFields v framing lanes = Format v ∷ (framed framing ++ (fieldsOf lanes ++
 -- R8.15. The fields from `at` to `next` are 0x01 with format 1 or 2, 0x11 with at most 64 or none, one or more lane fields with rising numbers, each with its
 -- 0x12 behind it or not, and 0x7F; each lane field is within the numbers, and the weights sum to at most 1,024. The plan's lanes are those of the fields, each
 -- with its field's setting, and n is how many they are.
-pub record Accepted (s : List ℕ) (at v : ℕ) (gs : List Setting) (n next : ℕ) : Type 0 where
+pub record AcceptedSetup (s : List ℕ) (at v : ℕ) (gs : List Setting) (n next : ℕ) : Type 0 where
   pub format : knownFormat v ≡ true
   pub framing : Option ℕ
   pub lanes : List LaneFields
@@ -121,7 +121,7 @@ present gs = sum there gs
 -- R8.15. What follows of the plan: it is a setup of the rules; n is the number of its lanes, 1 to 64; its weights are those of the fields; and the setup has
 -- bytes, all of them in the input.
 pub record PlanWithin (s : List ℕ) (at v : ℕ) (gs : List Setting) (n next : ℕ) : Type 0 where
-  pub rule : Accepted s at v gs n next
+  pub rule : AcceptedSetup s at v gs n next
   pub setup : Setup gs
   pub are-there : present gs ≡ n
   pub some-lane : 1 ≤ n
@@ -130,8 +130,8 @@ pub record PlanWithin (s : List ℕ) (at v : ℕ) (gs : List Setting) (n next : 
   pub past : at < next
   pub within : next ≤ length s
 
-abbrev pub refusals : List ℕ
-refusals = 1 ∷ 2 ∷ 3 ∷ 4 ∷ 6 ∷ 50 ∷ 51 ∷ 52 ∷ 53 ∷ 54 ∷ []
+abbrev pub setupRefusals : List ℕ
+setupRefusals = 1 ∷ 2 ∷ 3 ∷ 4 ∷ 6 ∷ 50 ∷ 51 ∷ 52 ∷ 53 ∷ 54 ∷ []
 
 abbrev pub among : List ℕ → ℕ → Bool
 among [] n = false
@@ -149,8 +149,8 @@ wrongAt s n p =
 
 -- A refusal of reading has one of these numbers and a place: from where reading began to the input's length, and that only for 1. What begins there is the
 -- number that is wrong.
-pub record Refused (s : List ℕ) (at n : ℕ) (q : Option ℕ) : Type 0 where
-  pub listed : among refusals n ≡ true
+pub record RefusedSetup (s : List ℕ) (at n : ℕ) (q : Option ℕ) : Type 0 where
+  pub listed : among setupRefusals n ≡ true
   pub place : ℕ
   pub is : q ≡ some place
   pub from : at ≤ length s → at ≤ place

@@ -1,12 +1,12 @@
 -- One field of a setup (docs/RULES.md, R8), and the refusals 1 to 3.
 --
---   Item      a field, taken apart, with the place after it; or a refusal's number and place
---   known     the tags of a setup
---   fitting   the lengths that are right for a tag
---   fieldOf   a value, taken apart by its tag
---   ends      whether a field is 0x7F
---   itemAt    what stands at a place of a setup
---   itemOf    the code's answer as an `Item`
+--   SetupItem      a field, taken apart, with the place after it; or a refusal's number and place
+--   setupTag       the tags of a setup
+--   setupFits      the lengths that are right for a tag
+--   setupFieldOf   a value, taken apart by its tag
+--   ends           whether a field is 0x7F
+--   setupItemAt    what stands at a place of a setup
+--   setupItemOf    the code's answer as a `SetupItem`
 --
 -- Assumes nothing.
 use Prim.Native.Nat.{ℕ, _+_}
@@ -30,32 +30,32 @@ use Rattle.plan.specs.declared.parse.Parsed.{Parsed}
 use Rattle.plan.specs.declared.parse.Parsed.the-variants.{Whole, Refused}
 
 -- What stands at a place: a whole field, taken apart, with the place after it; or a refusal's number and its place.
-pub data Item : Type 0 where
-  whole : SetupField → ℕ → Item
-  bad : ℕ → Option ℕ → Item
+pub data SetupItem : Type 0 where
+  wholeField : SetupField → ℕ → SetupItem
+  badField : ℕ → Option ℕ → SetupItem
 
 -- R8.5, R14.3. The tags that this part knows: 0x01, 0x10, 0x11, 0x12 and 0x7F.
-abbrev pub known : ℕ → Bool
-known tag = eqb tag 1 || (eqb tag 16 || (eqb tag 17 || (eqb tag 18 || eqb tag 127)))
+abbrev pub setupTag : ℕ → Bool
+setupTag tag = eqb tag 1 || (eqb tag 16 || (eqb tag 17 || (eqb tag 18 || eqb tag 127)))
 
 -- R8.5, R14.4: a format has two bytes; a lane has five, or three with no longest; the line's framing bytes, and 0x12, a shared lane, are one byte each; 0x7F
 -- has none.
-abbrev pub fitting : ℕ → ℕ → Bool
-fitting tag n = if eqb tag 1 then eqb n 2 else (if eqb tag 16 then eqb n 3 || eqb n 5 else (if eqb tag 17 then eqb n 1 else (if eqb tag 18 then eqb n 1 else eqb n 0)))
+abbrev pub setupFits : ℕ → ℕ → Bool
+setupFits tag n = if eqb tag 1 then eqb n 2 else (if eqb tag 16 then eqb n 3 || eqb n 5 else (if eqb tag 17 then eqb n 1 else (if eqb tag 18 then eqb n 1 else eqb n 0)))
 
 -- R8.9: three bytes leave the longest to the format. Else it stands after the lane and the weight.
 abbrev pub longestAt : List ℕ → ℕ → ℕ → Longest
 longestAt s at n = if eqb n 3 then Default else Given (big s (at + 3) 2)
 
 -- R8.9: the value of n bytes at a place.
-abbrev pub laneAt : List ℕ → ℕ → ℕ → LaneField
-laneAt s at n = record { lane = byteAt s at; weight = big s (at + 1) 2; longest = longestAt s at n }
+abbrev pub laneFieldAt : List ℕ → ℕ → ℕ → LaneField
+laneFieldAt s at n = record { lane = byteAt s at; weight = big s (at + 1) 2; longest = longestAt s at n }
 
 -- The value of n bytes at a place, by the tag before it: a format, a lane, the framing bytes, a shared lane, or nothing.
-unfoldable pub fieldOf : List ℕ → ℕ → ℕ → ℕ → SetupField
-fieldOf s tag at n =
+unfoldable pub setupFieldOf : List ℕ → ℕ → ℕ → ℕ → SetupField
+setupFieldOf s tag at n =
     if eqb tag 1 then Format (big s at 2)
-    else (if eqb tag 16 then Lane (laneAt s at n)
+    else (if eqb tag 16 then Lane (laneFieldAt s at n)
     else (if eqb tag 17 then Framing (byteAt s at)
     else (if eqb tag 18 then Shared (byteAt s at) else End)))
 
@@ -68,19 +68,19 @@ ends (Shared k) = false
 ends End = true
 
 -- R8.3, R8.4, R8.6, R14.2: what was read of the header decides first, then the tag, its length, and whether the value is whole.
-abbrev pub taken : List ℕ → ℕ → Field → Item
-taken s at Nothing = bad 1 (some (length s))
-taken s at Cut = bad 1 (some at)
-taken s at (Header tag value n) =
-    if not (known tag) then bad 2 (some at)
-    else (if not (fitting tag n) then bad 3 (some at)
-    else (if not (leb (value + n) (length s)) then bad 1 (some at) else whole (fieldOf s tag value n) (value + n)))
+abbrev pub setupItemByHeader : List ℕ → ℕ → Field → SetupItem
+setupItemByHeader s at Nothing = badField 1 (some (length s))
+setupItemByHeader s at Cut = badField 1 (some at)
+setupItemByHeader s at (Header tag value n) =
+    if not (setupTag tag) then badField 2 (some at)
+    else (if not (setupFits tag n) then badField 3 (some at)
+    else (if not (leb (value + n) (length s)) then badField 1 (some at) else wholeField (setupFieldOf s tag value n) (value + n)))
 
 -- R8.4
-unfoldable pub itemAt : List ℕ → ℕ → Item
-itemAt s at = taken s at (headerAt s at)
+unfoldable pub setupItemAt : List ℕ → ℕ → SetupItem
+setupItemAt s at = setupItemByHeader s at (headerAt s at)
 
 -- The code's answer, its refusal by number.
-abbrev pub itemOf : Parsed → Item
-itemOf (Whole f next) = whole f next
-itemOf (Refused x) = bad (number x) (placeOf x)
+abbrev pub setupItemOf : Parsed → SetupItem
+setupItemOf (Whole f next) = wholeField f next
+setupItemOf (Refused x) = badField (number x) (placeOf x)

@@ -11,7 +11,7 @@
 --   faults      the table: fault, number, place from the field's tag; offset: that place alone
 --   faulted     a fault's refusal, or what the rest decides
 --   judgedAt    the field at a place, or its first refusal in the order 1, 2, 3, 1, 4, 50 to 54, 6
---   after       what the fields so far fix for the next one, after one more
+--   seenAfter   what the fields so far fix for the next one, after one more
 --
 -- Assumes nothing.
 use Prim.Native.Nat.{ℕ, _+_, _≤_}
@@ -22,7 +22,7 @@ use mathlib.Core.Option.{Option, none, some}
 use lib.Dec.{ltb, leb, eqb}
 use Rattle.units.specs.Plain.{if_then_else_}
 use Rattle.rules.specs.State.{Setting}
-use Rattle.plan.specs.Fields.{Item, whole, bad, itemAt}
+use Rattle.plan.specs.Fields.{SetupItem, wholeField, badField, setupItemAt}
 use Rattle.plan.specs.declared.judge.Fault.{Fault}
 use Rattle.plan.specs.declared.judge.Fault.the-variants.{NoFault, BadFormat, BadLane, BadWeight, BadLongest, BadFraming, TotalOver}
 use Rattle.plan.specs.declared.judge.Seen.{Seen}
@@ -120,37 +120,37 @@ faults BadFraming = some (54, 3)
 faults TotalOver = some (6, 4)
 
 -- A fault's place from the tag; where there is none, 0.
-abbrev pub placeIn : Option (ℕ × ℕ) → ℕ
-placeIn none = 0
-placeIn (some row) = row .1
+abbrev pub faultPlace : Option (ℕ × ℕ) → ℕ
+faultPlace none = 0
+faultPlace (some row) = row .1
 
 -- R8.13
 abbrev pub offset : Fault → ℕ
-offset x = placeIn (faults x)
+offset x = faultPlace (faults x)
 
 -- A fault of the field at a place refuses it; else the rest decides.
-abbrev pub tabled : ℕ → Option (ℕ × ℕ) → Item → Item
+abbrev pub tabled : ℕ → Option (ℕ × ℕ) → SetupItem → SetupItem
 tabled at none rest = rest
-tabled at (some row) rest = bad (row .0) (some (at + row .1))
+tabled at (some row) rest = badField (row .0) (some (at + row .1))
 
-abbrev pub faulted : ℕ → Fault → Item → Item
+abbrev pub faulted : ℕ → Fault → SetupItem → SetupItem
 faulted at x rest = tabled at (faults x) rest
 
 -- R8.3, R14.36. In a field 1 (header), 2, 3, 1 (value), 4, then its own numbers, then 6.
-abbrev pub judged : Seen → ℕ → Item → Item
-judged seen at (bad n p) = bad n p
-judged seen at (whole f next) =
-    if misplaced seen f then bad 4 (some at) else faulted at (outside f) (faulted at (over seen f) (whole f next))
+abbrev pub judged : Seen → ℕ → SetupItem → SetupItem
+judged seen at (badField n p) = badField n p
+judged seen at (wholeField f next) =
+    if misplaced seen f then badField 4 (some at) else faulted at (outside f) (faulted at (over seen f) (wholeField f next))
 
 -- R8.3. The field at a place, judged by the fields before it.
-unfoldable pub judgedAt : Seen → List ℕ → ℕ → Item
-judgedAt seen s at = judged seen at (itemAt s at)
+unfoldable pub judgedAt : Seen → List ℕ → ℕ → SetupItem
+judgedAt seen s at = judged seen at (setupItemAt s at)
 
 -- A field that is taken: the format begins the setup, and 0x11 may follow; 0x11 gives the line's framing bytes; 0x12 closes its lane; a lane field raises the
 -- least number that may follow, and adds its weight and itself.
-abbrev pub after : Seen → SetupField → Seen
-after seen (Format v) = record { begun = true; opening = true; laned = false; format = v; framing = seen .framing; floor = seen .floor; total = seen .total; count = seen .count }
-after seen (Lane l) = record { begun = true; opening = false; laned = true; format = seen .format; framing = seen .framing; floor = l .lane + 1; total = seen .total + l .weight; count = seen .count + 1 }
-after seen (Framing h) = record { begun = true; opening = false; laned = false; format = seen .format; framing = h; floor = seen .floor; total = seen .total; count = seen .count }
-after seen (Shared k) = record { begun = true; opening = false; laned = false; format = seen .format; framing = seen .framing; floor = seen .floor; total = seen .total; count = seen .count }
-after seen End = seen
+abbrev pub seenAfter : Seen → SetupField → Seen
+seenAfter seen (Format v) = record { begun = true; opening = true; laned = false; format = v; framing = seen .framing; floor = seen .floor; total = seen .total; count = seen .count }
+seenAfter seen (Lane l) = record { begun = true; opening = false; laned = true; format = seen .format; framing = seen .framing; floor = l .lane + 1; total = seen .total + l .weight; count = seen .count + 1 }
+seenAfter seen (Framing h) = record { begun = true; opening = false; laned = false; format = seen .format; framing = h; floor = seen .floor; total = seen .total; count = seen .count }
+seenAfter seen (Shared k) = record { begun = true; opening = false; laned = false; format = seen .format; framing = seen .framing; floor = seen .floor; total = seen .total; count = seen .count }
+seenAfter seen End = seen

@@ -13,25 +13,25 @@ use mathlib.Core.List.{List}
 use mathlib.Core.Option.{Option}
 use lib.ListN.{length, take}
 use Rattle.rules.specs.State.{Setting}
-use Rattle.plan.specs.Read.{read, refused, readPlan, readSetup}
-use Rattle.plan.specs.Accepted.{Accepted, PlanWithin, Refused}
+use Rattle.plan.specs.Read.{setupRead, setupRefused, readPlan, readSetup}
+use Rattle.plan.specs.Accepted.{AcceptedSetup, PlanWithin, RefusedSetup}
 
 unfoldable pub ReadsExactly : Type 0
 ReadsExactly =
     (s : List ℕ) (at v : ℕ) (gs : List Setting) (n next : ℕ)
-    → (readPlan s at ≡ read v gs n next → Accepted s at v gs n next) × (Accepted s at v gs n next → readPlan s at ≡ read v gs n next)
+    → (readPlan s at ≡ setupRead v gs n next → AcceptedSetup s at v gs n next) × (AcceptedSetup s at v gs n next → readPlan s at ≡ setupRead v gs n next)
 
 unfoldable pub ReadsWhole : Type 0
 ReadsWhole =
     (s : List ℕ) (v : ℕ) (gs : List Setting) (n next : ℕ)
-    → (readSetup s ≡ read v gs n next → Accepted s 0 v gs n next × (next ≡ length s)) × (Accepted s 0 v gs n next → next ≡ length s → readSetup s ≡ read v gs n next)
+    → (readSetup s ≡ setupRead v gs n next → AcceptedSetup s 0 v gs n next × (next ≡ length s)) × (AcceptedSetup s 0 v gs n next → next ≡ length s → readSetup s ≡ setupRead v gs n next)
 
 unfoldable pub PlansWithin : Type 0
-PlansWithin = (s : List ℕ) (at v : ℕ) (gs : List Setting) (n next : ℕ) → Accepted s at v gs n next → PlanWithin s at v gs n next
+PlansWithin = (s : List ℕ) (at v : ℕ) (gs : List Setting) (n next : ℕ) → AcceptedSetup s at v gs n next → PlanWithin s at v gs n next
 
 -- R8.14. An input t that has the bytes of s as far as the place behind the setup's 0x7F is read alike, whatever stands behind it.
 unfoldable pub LooksNoFurther : Type 0
-LooksNoFurther = (s t : List ℕ) (at v : ℕ) (gs : List Setting) (n next : ℕ) → readPlan s at ≡ read v gs n next → take next s ≡ take next t → readPlan t at ≡ read v gs n next
+LooksNoFurther = (s t : List ℕ) (at v : ℕ) (gs : List Setting) (n next : ℕ) → readPlan s at ≡ setupRead v gs n next → take next s ≡ take next t → readPlan t at ≡ setupRead v gs n next
 
 unfoldable pub RefusesInside : Type 0
-RefusesInside = (s : List ℕ) (at n : ℕ) (place : Option ℕ) → readPlan s at ≡ refused n place → Refused s at n place
+RefusesInside = (s : List ℕ) (at n : ℕ) (place : Option ℕ) → readPlan s at ≡ setupRefused n place → RefusedSetup s at n place

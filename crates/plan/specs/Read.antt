@@ -1,9 +1,10 @@
 -- What reading a setup answers: the promise of `read_plan` and of `read_setup`.
 --
---   Reply       what reading answers
+--   SetupReply  what reading answers
+--   setupWalk   the fields of a setup, from a place on
 --   readPlan    the reply at a place of an input
 --   readSetup   the reply where the setup is the whole input, as for making a table
---   reads       the code's answer as a `Reply`
+--   setupReply  the code's answer as a `SetupReply`
 --
 -- Assumes nothing.
 use Prim.Native.Nat.{ℕ, zero, suc, _-_}
@@ -15,8 +16,8 @@ use lib.ListN.{length, set, replicate}
 use Rattle.units.specs.Plain.{if_then_else_}
 use Rattle.rules.specs.State.{Setting, noSetting, settingAt}
 use Rattle.rules.specs.Reads.{number, placeOf}
-use Rattle.plan.specs.Fields.{Item, whole, bad, ends}
-use Rattle.plan.specs.Judge.{given, judgedAt, after}
+use Rattle.plan.specs.Fields.{SetupItem, wholeField, badField, ends}
+use Rattle.plan.specs.Judge.{given, judgedAt, seenAfter}
 use Rattle.plan.specs.declared.Lane as lane
 use Rattle.plan.specs.declared.Plan.{Plan}
 use Rattle.plan.specs.declared.Reading.{Reading}
@@ -27,9 +28,9 @@ use Rattle.plan.specs.declared.parse.SetupField.{SetupField}
 use Rattle.plan.specs.declared.parse.SetupField.the-variants.{Format, Lane, Framing, Shared, End}
 
 -- A setup that was read: its format, its settings by lane number, how many lanes it has, and the place after its 0x7F. Or a refusal: its number and its place.
-pub data Reply : Type 0 where
-  read : ℕ → List Setting → ℕ → ℕ → Reply
-  refused : ℕ → Option ℕ → Reply
+pub data SetupReply : Type 0 where
+  setupRead : ℕ → List Setting → ℕ → ℕ → SetupReply
+  setupRefused : ℕ → Option ℕ → SetupReply
 
 -- Before the first field nothing is fixed ..
 abbrev pub nothingSeen : Seen
@@ -51,28 +52,29 @@ placed v h gs (Framing w) = gs
 placed v h gs (Shared k) = set gs k (asShared (settingAt gs k))
 placed v h gs End = gs
 
--- R8.2. A field that was taken: 0x7F ends the setup, and after any other one the walk goes on.
-abbrev pub next : Seen → List Setting → Item → (Seen → List Setting → ℕ → Reply) → Reply
-next seen gs (bad n p) go = refused n p
-next seen gs (whole f at) go = if ends f then read (seen .format) gs (seen .count) at else go (after seen f) (placed (seen .format) (seen .framing) gs f) at
-
--- R8.2. Fields in order, from a place on. A field has three bytes or more, so there is a turn for each byte left, and after them no byte is left.
-unfoldable pub walk : ℕ → List ℕ → Seen → List Setting → ℕ → Reply
-walk zero s seen gs at = refused 1 (some (length s))
-walk (suc turns) s seen gs at = next seen gs (judgedAt seen s at) (walk turns s)
+-- R8.2. Fields in order, from a place on, each judged by those before it. The walk stops at a field that is refused, and at 0x7F, which ends the setup; behind
+-- any other field it goes on. A field has three bytes or more, so there is a turn for each byte left, and after them no byte is left.
+unfoldable pub setupWalk : ℕ → List ℕ → Seen → List Setting → ℕ → SetupReply
+setupWalk zero s seen gs at = setupRefused 1 (some (length s))
+setupWalk (suc turns) s seen gs at = elim (judgedAt seen s at) [
+  | badField n p ↦ setupRefused n p
+  | wholeField f next ↦
+      if ends f then setupRead (seen .format) gs (seen .count) next
+      else setupWalk turns s (seenAfter seen f) (placed (seen .format) (seen .framing) gs f) next
+]
 
 -- R8.2, R10.6: a setup from a place on, to its own 0x7F. A place past the end is one with no byte left.
-unfoldable pub readPlan : List ℕ → ℕ → Reply
-readPlan s at = walk (length s - at) s nothingSeen noLanes at
+unfoldable pub readPlan : List ℕ → ℕ → SetupReply
+readPlan s at = setupWalk (length s - at) s nothingSeen noLanes at
 
 -- R8.14, R14.6: 4 at a byte behind the 0x7F
-abbrev pub closed : List ℕ → Reply → Reply
-closed s (read v gs n at) = if ltb at (length s) then refused 4 (some at) else read v gs n at
-closed s (refused n p) = refused n p
+abbrev pub setupClosed : List ℕ → SetupReply → SetupReply
+setupClosed s (setupRead v gs n at) = if ltb at (length s) then setupRefused 4 (some at) else setupRead v gs n at
+setupClosed s (setupRefused n p) = setupRefused n p
 
 -- R8.14: the setup is the whole input, and its 0x7F is the last.
-unfoldable pub readSetup : List ℕ → Reply
-readSetup s = closed s (readPlan s 0)
+unfoldable pub readSetup : List ℕ → SetupReply
+readSetup s = setupClosed s (readPlan s 0)
 
 -- ---- the code's answer
 
@@ -85,10 +87,10 @@ abbrev pub settings : Plan → List Setting
 settings p = map settingOf (p .lanes)
 
 -- What came of reading, a refusal by its number. Beside a refusal the plan means nothing.
-abbrev pub came : Plan → Outcome → Reply
-came p (Read at) = read (p .format) (settings p) (p .count) at
-came p (Refused x) = refused (number x) (placeOf x)
+abbrev pub setupCame : Plan → Outcome → SetupReply
+setupCame p (Read at) = setupRead (p .format) (settings p) (p .count) at
+setupCame p (Refused x) = setupRefused (number x) (placeOf x)
 
 -- The code's answer.
-abbrev pub reads : Reading → Reply
-reads r = came (r .plan) (r .outcome)
+abbrev pub setupReply : Reading → SetupReply
+setupReply r = setupCame (r .plan) (r .outcome)

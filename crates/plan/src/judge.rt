@@ -1,8 +1,8 @@
 // A field of a setup judged by the fields before it: refusals 4, 50 to 54, and 6.
 ghost use mathlib.Core.Path.{_≡_};
 ghost use Prim.Native.Nat.{_+_, _≤_};
-ghost use Rattle.plan.specs.Fields.{itemOf};
-ghost use Rattle.plan.specs.Judge.{knownFormat, defaultOf, longestOf, longestRight, within, misplaced, laneOutside, outside, over, offset, faulted, after, judgedAt};
+ghost use Rattle.plan.specs.Fields.{setupItemOf};
+ghost use Rattle.plan.specs.Judge.{knownFormat, defaultOf, longestOf, longestRight, within, misplaced, laneOutside, outside, over, offset, faulted, seenAfter, judgedAt};
 use crate::parse::LaneField;
 use crate::parse::Longest;
 use crate::parse::Parsed;
@@ -213,7 +213,7 @@ fn over(seen: Seen, field: SetupField) -> Fault
 // What a fault makes of the field from a place to the next: its refusal; where there is none, the rest decides.
 fn faulted(at: usize, next: usize, fault: Fault, rest: Parsed) -> Parsed
     requires { ⌜ at + offset fault ≤ next ⌝ }
-    ensures { λ r. ⌜ itemOf r ≡ faulted at fault (itemOf rest) ⌝ }
+    ensures { λ r. ⌜ setupItemOf r ≡ faulted at fault (setupItemOf rest) ⌝ }
 {
     match fault {
         Fault::NoFault => rest,
@@ -229,7 +229,7 @@ fn faulted(at: usize, next: usize, fault: Fault, rest: Parsed) -> Parsed
 // The field at a place, judged: refusals 1 to 4, 50 to 54 and 6, in the order in a field.
 pub fn judged_field(s: &[u8], at: usize, seen: Seen) -> Parsed
     requires { ⌜ seen .total ≤ 1024 ⌝ }
-    ensures { λ r. ⌜ itemOf r ≡ judgedAt seen (now (s .entry)) at ⌝ }
+    ensures { λ r. ⌜ setupItemOf r ≡ judgedAt seen (now (s .entry)) at ⌝ }
 {
     let parsed = crate::reader::field_at(s, at);
     let Parsed::Whole(field, next) = parsed else {
@@ -245,7 +245,7 @@ pub fn judged_field(s: &[u8], at: usize, seen: Seen) -> Parsed
 // What a field that was taken adds.
 pub fn after(seen: Seen, field: SetupField) -> Seen
     requires { ⌜ (seen .total ≤ 1024) × (seen .count ≤ 64) ⌝ }
-    ensures { λ r. ⌜ r ≡ after seen field ⌝ }
+    ensures { λ r. ⌜ r ≡ seenAfter seen field ⌝ }
 {
     match field {
         SetupField::Format(v) => Seen {

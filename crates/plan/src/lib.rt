@@ -12,7 +12,7 @@
 ghost use mathlib.Core.Path.{_≡_};
 ghost use mathlib.Core.List.{map};
 ghost use Rattle.plan.specs.Judge.{given, Inside, Numbered};
-ghost use Rattle.plan.specs.Read.{noLanes, placed, settingOf, came, reads, readPlan, readSetup};
+ghost use Rattle.plan.specs.Read.{noLanes, placed, settingOf, setupCame, setupReply, readPlan, readSetup};
 
 pub mod judge;
 pub mod parse;
@@ -105,7 +105,7 @@ fn placed(mut lanes: [Lane; LANES], format: u16, framing: u8, field: SetupField)
 }
 
 fn answered(format: u16, lanes: [Lane; LANES], count: usize, outcome: Outcome) -> Reading
-    ensures { λ r. ⌜ reads r ≡ came (record { format = format; lanes = lanes; count = count }) outcome ⌝ }
+    ensures { λ r. ⌜ setupReply r ≡ setupCame (record { format = format; lanes = lanes; count = count }) outcome ⌝ }
 {
     Reading {
         plan: Plan {
@@ -119,7 +119,7 @@ fn answered(format: u16, lanes: [Lane; LANES], count: usize, outcome: Outcome) -
 
 // The setup that stands at a place of an input, up to its 0x7F. What follows that is not looked at.
 pub fn read_plan(s: &[u8], at: usize) -> Reading
-    ensures { λ r. ⌜ reads r ≡ readPlan (now (s .entry)) at ⌝ }
+    ensures { λ r. ⌜ setupReply r ≡ readPlan (now (s .entry)) at ⌝ }
 {
     let mut lanes = no_lanes();
     let mut seen = Seen {
@@ -154,7 +154,7 @@ pub fn read_plan(s: &[u8], at: usize) -> Reading
 
 // A setup that is the whole input, as for making a table: a byte after its 0x7F is out of order.
 pub fn read_setup(s: &[u8]) -> Reading
-    ensures { λ r. ⌜ reads r ≡ readSetup (now (s .entry)) ⌝ }
+    ensures { λ r. ⌜ setupReply r ≡ readSetup (now (s .entry)) ⌝ }
 {
     let r = read_plan(s, 0);
     let outcome = r.outcome;

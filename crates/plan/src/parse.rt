@@ -3,7 +3,7 @@ ghost use mathlib.Core.Path.{_≡_};
 ghost use mathlib.Core.Bool.{true, false};
 ghost use Prim.Native.Nat.{_+_, _≤_};
 ghost use lib.ListN.{length};
-ghost use Rattle.plan.specs.Fields.{known, fitting, laneAt, longestAt, fieldOf, ends, itemAt, itemOf};
+ghost use Rattle.plan.specs.Fields.{setupTag, setupFits, laneFieldAt, longestAt, setupFieldOf, ends, setupItemAt, setupItemOf};
 use fields::Field;
 use rules::Refusal;
 
@@ -47,7 +47,7 @@ pub enum Parsed {
 
 // R8.5: a setup knows five tags.
 pub fn known(tag: u8) -> bool
-    ensures { λ r. ⌜ r ≡ known tag ⌝ }
+    ensures { λ r. ⌜ r ≡ setupTag tag ⌝ }
 {
     match tag {
         FORMAT | LANE | FRAMING | SHARED | END => true,
@@ -57,7 +57,7 @@ pub fn known(tag: u8) -> bool
 
 // Whether a length is right for a tag that is known.
 pub fn fitting(tag: u8, n: usize) -> bool
-    ensures { λ r. ⌜ r ≡ fitting tag n ⌝ }
+    ensures { λ r. ⌜ r ≡ setupFits tag n ⌝ }
 {
     match tag {
         FORMAT => n == 2,
@@ -69,7 +69,7 @@ pub fn fitting(tag: u8, n: usize) -> bool
 }
 
 fn longest_at(s: &[u8], at: usize, n: usize) -> Longest
-    requires { ⌜ (fitting 16 n ≡ true) × (at + n ≤ length (now s)) ⌝ }
+    requires { ⌜ (setupFits 16 n ≡ true) × (at + n ≤ length (now s)) ⌝ }
     ensures { λ r. ⌜ r ≡ longestAt (now (s .entry)) at n ⌝ }
 {
     if n == 3 {
@@ -80,8 +80,8 @@ fn longest_at(s: &[u8], at: usize, n: usize) -> Longest
 
 // R8.9: a lane field's value, a byte of lane, two of weight and two of longest.
 fn lane_at(s: &[u8], at: usize, n: usize) -> LaneField
-    requires { ⌜ (fitting 16 n ≡ true) × (at + n ≤ length (now s)) ⌝ }
-    ensures { λ r. ⌜ r ≡ laneAt (now (s .entry)) at n ⌝ }
+    requires { ⌜ (setupFits 16 n ≡ true) × (at + n ≤ length (now s)) ⌝ }
+    ensures { λ r. ⌜ r ≡ laneFieldAt (now (s .entry)) at n ⌝ }
 {
     LaneField {
         lane: s[at],
@@ -91,8 +91,8 @@ fn lane_at(s: &[u8], at: usize, n: usize) -> LaneField
 }
 
 fn field_of(s: &[u8], tag: u8, at: usize, n: usize) -> SetupField
-    requires { ⌜ (fitting tag n ≡ true) × (at + n ≤ length (now s)) ⌝ }
-    ensures { λ r. ⌜ r ≡ fieldOf (now (s .entry)) tag at n ⌝ }
+    requires { ⌜ (setupFits tag n ≡ true) × (at + n ≤ length (now s)) ⌝ }
+    ensures { λ r. ⌜ r ≡ setupFieldOf (now (s .entry)) tag at n ⌝ }
 {
     match tag {
         FORMAT => SetupField::Format(fields::u16_at(s, at)),
@@ -117,7 +117,7 @@ pub fn ends(field: SetupField) -> bool
 
 // The field of a setup at a place.
 pub fn parsed_field(s: &[u8], at: usize) -> Parsed
-    ensures { λ r. ⌜ itemOf r ≡ itemAt (now (s .entry)) at ⌝ }
+    ensures { λ r. ⌜ setupItemOf r ≡ setupItemAt (now (s .entry)) at ⌝ }
 {
     match fields::field_at(s, at) {
         Field::Nothing => Parsed::Refused(Refusal::Cut(s.len())),

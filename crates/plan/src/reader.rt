@@ -5,7 +5,7 @@
 // reader.
 ghost use mathlib.Core.Path.{_≡_};
 ghost use Rattle.fields.specs.Header.{behindAt};
-ghost use Rattle.plan.specs.Fields.{itemAt, itemOf};
+ghost use Rattle.plan.specs.Fields.{setupItemAt, setupItemOf};
 use crate::parse::Parsed;
 
 pub struct Reader<'a> {
@@ -29,7 +29,7 @@ pub fn moved<'a>(r: Reader<'a>, at: usize) -> Reader<'a>
 
 // The field where the reader stands.
 pub fn field<'a>(r: Reader<'a>) -> Parsed
-    ensures { λ p. ⌜ itemOf p ≡ itemAt (now (r .entry .src)) (r .entry .at) ⌝ }
+    ensures { λ p. ⌜ setupItemOf p ≡ setupItemAt (now (r .entry .src)) (r .entry .at) ⌝ }
 {
     crate::parse::parsed_field(r.src, r.at)
 }
@@ -44,7 +44,7 @@ pub fn next<'a>(r: Reader<'a>) -> Reader<'a>
 
 // The field of a setup at a place of its bytes, through a reader that stands there.
 pub fn field_at(s: &[u8], at: usize) -> Parsed
-    ensures { λ p. ⌜ itemOf p ≡ itemAt (now (s .entry)) at ⌝ }
+    ensures { λ p. ⌜ setupItemOf p ≡ setupItemAt (now (s .entry)) at ⌝ }
 {
     field(moved(new(s), at))
 }

@@ -21,11 +21,11 @@ use Rattle.words.proofs.Runs.{length-tab, getD-tab}
 use Rattle.rules.specs.State.{Setting, noSetting, settingAt}
 use Rattle.rules.specs.Setup.{InNumbers, weights, framingOf}
 use Rattle.plan.specs.Accepted.{present}
-use Rattle.plan_writer.specs.Write.{Planned, Within, Fitting, size}
+use Rattle.plan_writer.specs.Write.{Planned, Within, Fitting, writtenSize}
 use Rattle.plan_writer.proofs.Framing.{fitting-line}
 use Rattle.plan_writer.proofs.Parts.{format-small}
-use Rattle.plan_area.specs.Area.{Room, formatIn, framingIn, sharedIn, longestIn, settingIn, laneIn, lanesIn, planIn, sharedPart, laneWord, Shows, AreaWithin}
-use Rattle.plan_area.specs.Step.{lanes}
+use Rattle.plan_area.specs.Area.{AreaRoom, formatIn, framingIn, sharedIn, longestIn, settingIn, laneIn, lanesIn, planIn, sharedPart, planLaneWord, ShowsPlan, AreaWithin}
+use Rattle.plan_area.specs.Step.{areaLanes}
 
 -- ---- an area that shows a plan
 
@@ -39,14 +39,14 @@ parts w x y false p q e =
     (omega arith, rw no-one (omega arith), no-one)
 
 -- any word is made of its parts
-word-is : (h w : ℕ) → laneWord (settingIn h w) ≡ w
+word-is : (h w : ℕ) → planLaneWord (settingIn h w) ≡ w
 word-is h w = go (eqb (w / 4294967296) 1) refl
   where
     go : (b : Bool) → eqb (w / 4294967296) 1 ≡ b → w % 65536 + 65536 * (if b then w / 65536 - 65536 else w / 65536) + sharedPart b ≡ w
     go true e = omega (arith, eqb-true (w / 4294967296) 1 e)
     go false e = omega arith
 
-word-back : (h w : ℕ) (g : Setting) → Fitting h g → w ≡ laneWord g → settingIn h w ≡ g
+word-back : (h w : ℕ) (g : Setting) → Fitting h g → w ≡ planLaneWord g → settingIn h w ≡ g
 word-back h w g f e = ⊎-elim there absent f
   where
     there : InNumbers g × (g .framing ≡ h) → settingIn h w ≡ g
@@ -59,9 +59,9 @@ word-back h w g f e = ⊎-elim there absent f
         ∙ ap (λ (x : Bool). record { weight = g .weight; longest = g .longest; framing = g .framing; shared = x }) (p .2)
 
     absent : g ≡ noSetting → settingIn h w ≡ g
-    absent q = ap (settingIn h) (e ∙ ap laneWord q) ∙ sym q
+    absent q = ap (settingIn h) (e ∙ ap planLaneWord q) ∙ sym q
 
-module _ (p : Planned) (a : List ℕ) (w : Within p) (s : Shows p a) where
+module _ (p : Planned) (a : List ℕ) (w : Within p) (s : ShowsPlan p a) where
   framing-back : framingIn a ≡ framingOf (p .lanes)
   framing-back = omega (arith, s .head, format-small (p .format) (w .format))
 
@@ -83,7 +83,7 @@ module _ (p : Planned) (a : List ℕ) (w : Within p) (s : Shows p a) where
       ∙ ap (λ (x : List Setting). record { format = p .format; lanes = x; count = present x }) lanes-back
       ∙ ap (λ (n : ℕ). record { format = p .format; lanes = p .lanes; count = n }) (w .count)
 
-  pub shows-within : Room a → AreaWithin a
+  pub shows-within : AreaRoom a → AreaWithin a
   shows-within room = record { room = room; plan = subst Within (sym shows-plan) w }
 
 -- ---- an area that is a plan
@@ -130,10 +130,10 @@ module _ (a : List ℕ) (w : AreaWithin a) where
         | no b ↦ absurd (omega (arith, found .1, ap (λ (g : Setting). g .weight) (past k (omega (arith, b)))))
       ]
 
-  pub area-shows : Shows (planIn a) a
+  pub area-shows : ShowsPlan (planIn a) a
   area-shows = record {
     head = omega (arith, line);
     lane = λ k b.
         let is : settingAt gs k ≡ laneIn a k = getD-tab 64 k (laneIn a) noSetting b in
-        sym (ap laneWord is ∙ word-is (framingIn a) (wordAt a (k + 1)));
+        sym (ap planLaneWord is ∙ word-is (framingIn a) (wordAt a (k + 1)));
   }

@@ -13,7 +13,7 @@ use Rattle.rules.specs.Setup.{Setup}
 use Rattle.rules.specs.declared.Refusal.{Refusal}
 use Rattle.rules.specs.declared.Refusal.the-variants.{TableShort}
 use Rattle.plan.specs.Read as plan
-use Rattle.plan.specs.Read.{readSetup, settings, came, reads}
+use Rattle.plan.specs.Read.{readSetup, settings, setupCame, setupReply}
 use Rattle.plan.specs.declared.Reading.{Reading}
 use Rattle.plan.specs.declared.Outcome.the-variants.{Read}
 use Rattle.plan.specs.declared.Outcome.the-variants as outcome
@@ -23,33 +23,33 @@ use Rattle.plan_writer.specs.Write.{Planned, Writes}
 use Rattle.plan_writer.specs.declared.Written.{Written}
 use Rattle.plan_writer.specs.declared.Written.the-variants as written
 use Rattle.plan_writer.specs.declared.Unwritten.the-variants.{Outside}
-use Rattle.plan_area.specs.Area.{areaSize, Room, planIn, Gives, Shows, AreaWithin}
-use Rattle.plan_area.specs.Step.{Follows, AreaRead, WriteStep}
+use Rattle.plan_area.specs.Area.{areaSize, AreaRoom, planIn, Gives, ShowsPlan, AreaWithin}
+use Rattle.plan_area.specs.Step.{AreaBySetup, AreaRead, WriteStep}
 use Rattle.plan_area.specs.declared.Got.the-variants.{Lanes, Refused}
 
 -- what is read, whatever reader it is
-module _ {said : plan.Reply} {a : List ℕ} where
+module _ {said : plan.SetupReply} {a : List ℕ} where
   pub read-short : length a < areaSize → AreaRead said a (Refused TableShort) a
   read-short h = record { short = λ _. (refl, refl); follows = λ room. absurd (omega (arith, room, h)); size = refl }
 
-  module _ (room : Room a) (r : Reading) (e : reads r ≡ said) where
+  module _ (room : AreaRoom a) (r : Reading) (e : setupReply r ≡ said) where
     pub read-refused : (x : Refusal) → r .outcome ≡ outcome.Refused x → AreaRead said a (Refused x) a
     read-refused x o = record {
       short = λ h. absurd (omega (arith, room, h));
-      follows = λ _. subst (λ (y : plan.Reply). Follows y a (Refused x) a) (sym (ap (came (r .plan)) o) ∙ e) (refl, refl);
+      follows = λ _. subst (λ (y : plan.SetupReply). AreaBySetup y a (Refused x) a) (sym (ap (setupCame (r .plan)) o) ∙ e) (refl, refl);
       size = refl;
     }
 
     pub read-stored : (next : ℕ) → r .outcome ≡ Read next → (b : List ℕ) → length b ≡ length a
-        → Shows (record { format = r .plan .format; lanes = settings (r .plan); count = r .plan .count }) b × (drop areaSize b ≡ drop areaSize a)
+        → ShowsPlan (record { format = r .plan .format; lanes = settings (r .plan); count = r .plan .count }) b × (drop areaSize b ≡ drop areaSize a)
         → AreaRead said a (Lanes (r .plan .count)) b
     read-stored next o b size w = record {
       short = λ h. absurd (omega (arith, room, h));
-      follows = λ _. subst (λ (y : plan.Reply). Follows y a (Lanes (r .plan .count)) b) (sym (ap (came (r .plan)) o) ∙ e) (refl, w .0, w .1);
+      follows = λ _. subst (λ (y : plan.SetupReply). AreaBySetup y a (Lanes (r .plan .count)) b) (sym (ap (setupCame (r .plan)) o) ∙ e) (refl, w .0, w .1);
       size = size;
     }
 
-pub setup-good : (s : List ℕ) (r : Reading) → reads r ≡ readSetup s → (next : ℕ) → r .outcome ≡ Read next → Setup (settings (r .plan)) × (r .plan .format ≤ 2)
+pub setup-good : (s : List ℕ) (r : Reading) → setupReply r ≡ readSetup s → (next : ℕ) → r .outcome ≡ Read next → Setup (settings (r .plan)) × (r .plan .format ≤ 2)
 setup-good s r e next o = let a = accepted-setup r s next e o .0 in (a .setup, format-small (r .plan .format) (a .rule .format))
 
 module _ (area before : List ℕ) where
@@ -59,7 +59,7 @@ module _ (area before : List ℕ) where
   pub write-short : length area < areaSize → WriteStep area before (written.Refused Outside) before
   write-short h = not-within (λ w. omega (arith, w .room, h))
 
-  pub write-plan : Room area → (p : Planned) → Gives (planIn area) p → (a : Written) (after : List ℕ) → Writes p before a after → WriteStep area before a after
+  pub write-plan : AreaRoom area → (p : Planned) → Gives (planIn area) p → (a : Written) (after : List ℕ) → Writes p before a after → WriteStep area before a after
   write-plan room p g a after h =
       let own : AreaWithin area → Writes (planIn area) before a after = λ v. subst (λ (x : Planned). Writes x before a after) (g .same (v .plan)) h in
       record {

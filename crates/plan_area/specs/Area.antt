@@ -1,12 +1,12 @@
 -- A plan in lent bytes (R9.7): 65 words, low byte first.
 --
---   areaSize    the fixed size of a plan area, in bytes
---   Room        long enough
+--   areaSize                      the fixed size of a plan area, in bytes
+--   AreaRoom                      long enough
 --   formatIn, framingIn, laneIn   the numbers of an area; settingIn: those of a lane's word
---   planIn      the plan that an area is, in or out of the numbers
---   narrowed    what a plan of the code has of a lane; Gives: what it has of the whole plan
---   Shows       the words of an area that shows a plan
---   AreaWithin  an area that is a plan within the numbers
+--   planIn                        the plan that an area is, in or out of the numbers
+--   narrowed                      what a plan of the code has of a lane; Gives: what it has of the whole plan
+--   ShowsPlan                     the words of an area that shows a plan
+--   AreaWithin                    an area that is a plan within the numbers
 --
 -- Assumes nothing.
 use Prim.Native.Nat.{ℕ, _+_, _-_, _*_, _/_, _%_, _≤_, _<_}
@@ -27,8 +27,8 @@ use Rattle.plan_writer.specs.Write.{Planned, Within}
 abbrev pub areaSize : ℕ
 areaSize = (1 + 64) * 8
 
-abbrev pub Room : List ℕ → Type 0
-Room a = areaSize ≤ length a
+abbrev pub AreaRoom : List ℕ → Type 0
+AreaRoom a = areaSize ≤ length a
 
 -- ---- what the words are
 
@@ -79,14 +79,14 @@ pub record Gives (whole had : Planned) : Type 0 where
 abbrev pub sharedPart : Bool → ℕ
 sharedPart b = if b then 4294967296 else 0
 
-abbrev pub laneWord : Setting → ℕ
-laneWord g = g .weight + 65536 * g .longest + sharedPart (g .shared)
+abbrev pub planLaneWord : Setting → ℕ
+planLaneWord g = g .weight + 65536 * g .longest + sharedPart (g .shared)
 
-pub record Shows (p : Planned) (a : List ℕ) : Type 0 where
+pub record ShowsPlan (p : Planned) (a : List ℕ) : Type 0 where
   pub head : wordAt a 0 ≡ p .format + 65536 * framingOf (p .lanes)
-  pub lane : (k : ℕ) → k < 64 → wordAt a (k + 1) ≡ laneWord (settingAt (p .lanes) k)
+  pub lane : (k : ℕ) → k < 64 → wordAt a (k + 1) ≡ planLaneWord (settingAt (p .lanes) k)
 
 -- R9.9. Long enough, and within the numbers.
 pub record AreaWithin (a : List ℕ) : Type 0 where
-  pub room : Room a
+  pub room : AreaRoom a
   pub plan : Within (planIn a)

@@ -15,7 +15,7 @@ ghost use lib.ListN.{length, drop};
 ghost use Rattle.rules.specs.Setup.{Setup};
 ghost use Rattle.plan.specs.Read.{settingOf, settings};
 ghost use Rattle.plan_writer.specs.Write.{planned};
-ghost use Rattle.plan_area.specs.Area.{Room, formatIn, longestIn, settingIn, planIn, fitted, narrowed, Gives, sharedPart, laneWord, Shows};
+ghost use Rattle.plan_area.specs.Area.{AreaRoom, formatIn, longestIn, settingIn, planIn, fitted, narrowed, Gives, sharedPart, planLaneWord, ShowsPlan};
 ghost use Rattle.plan_area.specs.Step.{ReadStep, WriteStep};
 use plan::LANES;
 use plan::Lane;
@@ -88,7 +88,7 @@ fn lane_in(w: u64, h: u64) -> Lane
 }
 
 fn format_in(area: &[u8]) -> u16
-    requires { ⌜ Room (now area) ⌝ }
+    requires { ⌜ AreaRoom (now area) ⌝ }
     ensures { λ r. ⌜ r ≡ formatIn (now (area .entry)) ⌝ }
 {
     (word(area, 0) % UNIT) as u16
@@ -96,7 +96,7 @@ fn format_in(area: &[u8]) -> u16
 
 // The plan of an area, in or out of the numbers: whole where it is within them, and outside them where it is not.
 pub fn plan_in(area: &[u8]) -> Plan
-    requires { ⌜ Room (now area) ⌝ }
+    requires { ⌜ AreaRoom (now area) ⌝ }
     ensures { λ r. ⌜ Gives (planIn (now (area .entry))) (planned r) × (length (settings r) ≡ 64) ⌝ }
 {
     let format = format_in(area);
@@ -126,15 +126,15 @@ fn shared_part(shared: bool) -> u64
 }
 
 fn lane_word(l: Lane) -> u64
-    ensures { λ r. ⌜ r ≡ laneWord (settingOf l) ⌝ }
+    ensures { λ r. ⌜ r ≡ planLaneWord (settingOf l) ⌝ }
 {
     l.weight as u64 + UNIT * (l.longest as u64) + shared_part(l.shared)
 }
 
 // Stores a plan that was read.
 pub fn store(area: &mut [u8], plan: Plan)
-    requires { ⌜ Room (now area) × Setup (settings plan) × (plan .format ≤ 2) ⌝ }
-    ensures { λ _. ⌜ Shows (record { format = plan .format; lanes = settings plan; count = plan .count }) (now (area .exit)) × (drop (65 * 8) (now (area .exit)) ≡ drop (65 * 8) (now (area .entry))) ⌝ }
+    requires { ⌜ AreaRoom (now area) × Setup (settings plan) × (plan .format ≤ 2) ⌝ }
+    ensures { λ _. ⌜ ShowsPlan (record { format = plan .format; lanes = settings plan; count = plan .count }) (now (area .exit)) × (drop (65 * 8) (now (area .exit)) ≡ drop (65 * 8) (now (area .entry))) ⌝ }
 {
     let format = plan.format as u64;
     let lanes = plan.lanes;

@@ -16,7 +16,7 @@ use lib.Seq.{getD-drop}
 use Rattle.fields.specs.Bytes.{byteAt, big}
 use Rattle.fields.proofs.Numbers.{big-two}
 use Rattle.fields.proofs.Header.{header-whole}
-use Rattle.plan.specs.Fields.{whole, known, fitting, laneAt, fieldOf, itemAt}
+use Rattle.plan.specs.Fields.{wholeField, setupTag, setupFits, laneFieldAt, setupFieldOf, setupItemAt}
 use Rattle.plan.specs.declared.parse.Longest.{Longest}
 use Rattle.plan.specs.declared.parse.Longest.the-variants.{Given, Default}
 use Rattle.plan.specs.declared.parse.LaneField.{LaneField}
@@ -48,19 +48,19 @@ module _ (s xs : List ℕ) (at : ℕ) (h : drop at s ≡ xs) where
   two-from i j e = omega (arith, big-two s j, byte-from i j e, byte-from (i + 1) (j + 1) (omega arith))
 
 module _ (s : List ℕ) (at t n m : ℕ) (f : SetupField) (m-is : at + 3 + n ≡ m) where
-  item-from : byteAt s at ≡ t → big s (at + 1) 2 ≡ n → known t ≡ true → fitting t n ≡ true → at + 3 + n ≤ length s → fieldOf s t (at + 3) n ≡ f
-      → itemAt s at ≡ whole f m
+  item-from : byteAt s at ≡ t → big s (at + 1) 2 ≡ n → setupTag t ≡ true → setupFits t n ≡ true → at + 3 + n ≤ length s → setupFieldOf s t (at + 3) n ≡ f
+      → setupItemAt s at ≡ wholeField f m
   item-from a b k g l e =
-      let known-t : known (byteAt s at) ≡ true = ap known a ∙ k in
-      let fit-t : fitting (byteAt s at) (big s (at + 1) 2) ≡ true = ap (λ (x : ℕ). fitting x (big s (at + 1) 2)) a ∙ ap (fitting t) b ∙ g in
+      let known-t : setupTag (byteAt s at) ≡ true = ap setupTag a ∙ k in
+      let fit-t : setupFits (byteAt s at) (big s (at + 1) 2) ≡ true = ap (λ (x : ℕ). setupFits x (big s (at + 1) 2)) a ∙ ap (setupFits t) b ∙ g in
       item-whole s at (byteAt s at) (at + 3) (big s (at + 1) 2) (header-whole s at (omega arith)) known-t fit-t (le-leb (at + 3 + big s (at + 1) 2) (length s) (omega (arith, b)))
-      ∙ ap (λ (x : ℕ). whole (fieldOf s x (at + 3) (big s (at + 1) 2)) (at + 3 + big s (at + 1) 2)) a
-      ∙ ap (λ (x : ℕ). whole (fieldOf s t (at + 3) x) (at + 3 + x)) b
-      ∙ ap (λ (x : SetupField). whole x (at + 3 + n)) e
-      ∙ ap (whole f) m-is
+      ∙ ap (λ (x : ℕ). wholeField (setupFieldOf s x (at + 3) (big s (at + 1) 2)) (at + 3 + big s (at + 1) 2)) a
+      ∙ ap (λ (x : ℕ). wholeField (setupFieldOf s t (at + 3) x) (at + 3 + x)) b
+      ∙ ap (λ (x : SetupField). wholeField x (at + 3 + n)) e
+      ∙ ap (wholeField f) m-is
 
 module _ (s : List ℕ) (at : ℕ) (rest : List ℕ) where
-  format-item : (v : ℕ) → v < 65536 → drop at s ≡ fieldBytes (Format v) ++ rest → itemAt s at ≡ whole (Format v) (at + 5)
+  format-item : (v : ℕ) → v < 65536 → drop at s ≡ fieldBytes (Format v) ++ rest → setupItemAt s at ≡ wholeField (Format v) (at + 5)
   format-item v b h =
       let xs = fieldBytes (Format v) ++ rest in
       item-from s at 1 2 (at + 5) (Format v) (omega arith) (byte-from s xs at h 0 at (omega arith)) (two-from s xs at h 1 (at + 1) refl) (known-is 1 (inl refl)) refl
@@ -68,48 +68,48 @@ module _ (s : List ℕ) (at : ℕ) (rest : List ℕ) where
       (field-format s 1 (at + 3) 2 refl ∙ ap Format (omega (arith, two-from s xs at h 3 (at + 3) refl)))
 
   lane-item : (k w n : ℕ) → k < 256 → w < 65536 → n < 65536 → drop at s ≡ fieldBytes (Lane (record { lane = k; weight = w; longest = Given n })) ++ rest
-      → itemAt s at ≡ whole (Lane (record { lane = k; weight = w; longest = Given n })) (at + 8)
+      → setupItemAt s at ≡ wholeField (Lane (record { lane = k; weight = w; longest = Given n })) (at + 8)
   lane-item k w n a b c h =
       let xs = fieldBytes (Lane (record { lane = k; weight = w; longest = Given n })) ++ rest in
       let k-is : byteAt s (at + 3) ≡ k = byte-from s xs at h 3 (at + 3) refl in
       let w-is : big s (at + 3 + 1) 2 ≡ w = omega (arith, two-from s xs at h 4 (at + 3 + 1) (omega arith)) in
       let n-is : big s (at + 3 + 3) 2 ≡ n = omega (arith, two-from s xs at h 6 (at + 3 + 3) (omega arith)) in
-      let l-is : laneAt s (at + 3) 5 ≡ record { lane = k; weight = w; longest = Given n } = cc in
+      let l-is : laneFieldAt s (at + 3) 5 ≡ record { lane = k; weight = w; longest = Given n } = cc in
       item-from s at 16 5 (at + 8) (Lane (record { lane = k; weight = w; longest = Given n })) (omega arith) (byte-from s xs at h 0 at (omega arith)) (two-from s xs at h 1 (at + 1) refl) (known-is 16 (inr (inl refl))) refl
       (omega (arith, long-from s xs at h (omega arith)))
       (field-lane s 16 (at + 3) 5 refl ∙ ap Lane l-is)
 
-  framing-item : (h : ℕ) → drop at s ≡ fieldBytes (Framing h) ++ rest → itemAt s at ≡ whole (Framing h) (at + 4)
+  framing-item : (h : ℕ) → drop at s ≡ fieldBytes (Framing h) ++ rest → setupItemAt s at ≡ wholeField (Framing h) (at + 4)
   framing-item h e =
       let xs = fieldBytes (Framing h) ++ rest in
       item-from s at 17 1 (at + 4) (Framing h) (omega arith) (byte-from s xs at e 0 at (omega arith)) (two-from s xs at e 1 (at + 1) refl) (known-is 17 (inr (inr (inl refl)))) refl
       (omega (arith, long-from s xs at e (omega arith)))
       (field-framing s 17 (at + 3) 1 refl ∙ ap Framing (byte-from s xs at e 3 (at + 3) refl))
 
-  shared-item : (k : ℕ) → drop at s ≡ fieldBytes (Shared k) ++ rest → itemAt s at ≡ whole (Shared k) (at + 4)
+  shared-item : (k : ℕ) → drop at s ≡ fieldBytes (Shared k) ++ rest → setupItemAt s at ≡ wholeField (Shared k) (at + 4)
   shared-item k e =
       let xs = fieldBytes (Shared k) ++ rest in
       item-from s at 18 1 (at + 4) (Shared k) (omega arith) (byte-from s xs at e 0 at (omega arith)) (two-from s xs at e 1 (at + 1) refl) (known-is 18 (inr (inr (inr (inl refl))))) refl
       (omega (arith, long-from s xs at e (omega arith)))
       (field-shared s 18 (at + 3) 1 refl ∙ ap Shared (byte-from s xs at e 3 (at + 3) refl))
 
-  end-item : drop at s ≡ fieldBytes End ++ rest → itemAt s at ≡ whole End (at + 3)
+  end-item : drop at s ≡ fieldBytes End ++ rest → setupItemAt s at ≡ wholeField End (at + 3)
   end-item h =
       let xs = fieldBytes End ++ rest in
       item-from s at 127 0 (at + 3) End (omega arith) (byte-from s xs at h 0 at (omega arith)) (two-from s xs at h 1 (at + 1) refl) (known-is 127 (inr (inr (inr (inr refl))))) refl
       (omega (arith, long-from s xs at h (omega arith)))
       (field-end s 127 (at + 3) 0 (λ e. omega (arith, e)) (λ e. omega (arith, e)) (λ e. omega (arith, e)) (λ e. omega (arith, e)))
 
-pub item-bytes : (s : List ℕ) (at : ℕ) (rest : List ℕ) (f : SetupField) → Fits f → drop at s ≡ fieldBytes f ++ rest → itemAt s at ≡ whole f (at + length (fieldBytes f))
+pub item-bytes : (s : List ℕ) (at : ℕ) (rest : List ℕ) (f : SetupField) → Fits f → drop at s ≡ fieldBytes f ++ rest → setupItemAt s at ≡ wholeField f (at + length (fieldBytes f))
 item-bytes s at rest (Format v) b h = format-item s at rest v b h
 item-bytes s at rest (Lane l) b h = by-longest (l .longest) refl (b .2)
   where
-    by-longest : (x : Longest) → l .longest ≡ x → LongFits x → itemAt s at ≡ whole (Lane l) (at + length (fieldBytes (Lane l)))
+    by-longest : (x : Longest) → l .longest ≡ x → LongFits x → setupItemAt s at ≡ wholeField (Lane l) (at + length (fieldBytes (Lane l)))
     by-longest Default e q = absurd q
     by-longest (Given n) e q =
         let l-is : record { lane = l .lane; weight = l .weight; longest = Given n } ≡ l = ap (λ (y : Longest). record { lane = l .lane; weight = l .weight; longest = y }) (sym e) in
         let i = lane-item s at rest (l .lane) (l .weight) n (b .0) (b .1) q (subst (λ (y : LaneField). drop at s ≡ fieldBytes (Lane y) ++ rest) (sym l-is) h) in
-        subst (λ (y : LaneField). itemAt s at ≡ whole (Lane y) (at + length (fieldBytes (Lane y)))) l-is i
+        subst (λ (y : LaneField). setupItemAt s at ≡ wholeField (Lane y) (at + length (fieldBytes (Lane y)))) l-is i
 item-bytes s at rest (Framing n) b h = framing-item s at rest n h
 item-bytes s at rest (Shared n) b h = shared-item s at rest n h
 item-bytes s at rest End b h = end-item s at rest h

@@ -15,7 +15,7 @@ use Rattle.rules.specs.State.{Setting, settingAt}
 use Rattle.rules.specs.Setup.{weights, framingOf}
 use Rattle.plan.specs.Judge.{knownFormat}
 use Rattle.plan.specs.Accepted.{present}
-use Rattle.plan_writer.specs.Write.{Planned, Within, Fitting, Tells, size}
+use Rattle.plan_writer.specs.Write.{Planned, Within, Fitting, Tells}
 use Rattle.plan_writer.proofs.Lane.{absent-lane, last-test, is-there, is-absent}
 use Rattle.plan_writer.proofs.Framing.{fitting-each, fitting-framed, fitting-line}
 

@@ -7,13 +7,13 @@ use Rattle.rules.specs.Setup.{framingOf}
 use Rattle.plan.specs.Read.{noLanes}
 use Rattle.plan.specs.Examples.{formatField, endField, sessionSetup, twoLanes}
 use Rattle.plan_writer.specs.Format.{bytesOf}
-use Rattle.plan_writer.specs.Write.{laneFields, setupBytes, sizeOf}
+use Rattle.plan_writer.specs.Write.{laneFields, setupBytes, setupSize}
 
 pub session-written : setupBytes (record { format = 1; lanes = twoLanes 512 256 1500; count = 2 }) ≡ sessionSetup
 unfolding setupBytes bytesOf laneFields framingOf
 session-written = refl
 
-pub session-size : sizeOf (record { format = 1; lanes = twoLanes 512 256 1500; count = 2 }) ≡ 24
+pub session-size : setupSize (record { format = 1; lanes = twoLanes 512 256 1500; count = 2 }) ≡ 24
 unfolding framingOf
 session-size = refl
 

@@ -13,7 +13,7 @@ use native.Mathlib.Omega.{arith}
 use lib.ListN.{length, drop, length-append}
 use lib.Seq.{drop-drop, drop-append-seam}
 use Rattle.fields.specs.Bytes.{byteAt}
-use Rattle.plan.specs.Fields.{whole}
+use Rattle.plan.specs.Fields.{wholeField}
 use Rattle.plan.specs.Accepted.{Laid}
 use Rattle.plan.specs.declared.parse.SetupField.{SetupField}
 use Rattle.plan.proofs.Inside.{true-false}
@@ -35,7 +35,7 @@ one-layout s at [] [] p a b = refl
 one-layout s at [] (g ∷ gs) p a b = absurd (omega (arith, a, stands s at g (b .0) (b .1) .after, past s (b .0) gs p (b .2)))
 one-layout s at (f ∷ fs) [] p a b = absurd (omega (arith, b, stands s at f (a .0) (a .1) .after, past s (a .0) fs p (a .2)))
 one-layout s at (f ∷ fs) (g ∷ gs) p a b =
-    let w : whole f (a .0) ≡ whole g (b .0) = sym (a .1) ∙ b .1 in
+    let w : wholeField f (a .0) ≡ wholeField g (b .0) = sym (a .1) ∙ b .1 in
     let first : f ≡ g = cc in
     let place : a .0 ≡ b .0 = cc in
     let rest = one-layout s (b .0) fs gs p (subst (λ (m : ℕ). Laid s m fs p) place (a .2)) (b .2) in

@@ -17,15 +17,15 @@ use lib.ListN.{length}
 use Rattle.units.specs.Plain.{if_then_else_}
 use Rattle.rules.specs.State.{Setting, noSetting, settingAt}
 use Rattle.rules.specs.Setup.{InNumbers, weights}
-use Rattle.plan.specs.Accepted.{LaneFields, Rising, LanesWithin, weighed, behind, fieldsOf, there, present}
+use Rattle.plan.specs.Accepted.{LaneFields, Rising, LanesWithin, weighed, sharedBehind, fieldsOf, there, present}
 use Rattle.plan.specs.declared.parse.SetupField.{SetupField}
 use Rattle.plan_writer.specs.Format.{bytesOf, allFormed}
-use Rattle.plan_writer.specs.Write.{laneOf, laneFields, lanesBytes, shareds, Fitting}
+use Rattle.plan_writer.specs.Write.{laneFieldsOf, laneFields, lanesBytes, shareds, Fitting}
 use Rattle.plan_writer.proofs.Laid.{AllFit}
 
 -- ---- the first lane, there or not
 
-pub fields-there : (k : ℕ) (g : Setting) (gs : List Setting) → 0 < g .weight → laneFields k (g ∷ gs) ≡ laneOf k g ∷ laneFields (suc k) gs
+pub fields-there : (k : ℕ) (g : Setting) (gs : List Setting) → 0 < g .weight → laneFields k (g ∷ gs) ≡ laneFieldsOf k g ∷ laneFields (suc k) gs
 unfolding laneFields
 fields-there k g gs h = simp (lt-ltb 0 (g .weight) h)
 
@@ -35,7 +35,7 @@ fields-skip k g gs h = rw h
 
 -- a property of the fields, by the lanes that are there, on a line with h framing bytes
 module _ (h : ℕ) (P : ℕ → List Setting → List LaneFields → Type 0) (none : (k : ℕ) → P k [] [])
-    (more : (k : ℕ) (g : Setting) (gs : List Setting) → InNumbers g → g .framing ≡ h → P (suc k) gs (laneFields (suc k) gs) → P k (g ∷ gs) (laneOf k g ∷ laneFields (suc k) gs))
+    (more : (k : ℕ) (g : Setting) (gs : List Setting) → InNumbers g → g .framing ≡ h → P (suc k) gs (laneFields (suc k) gs) → P k (g ∷ gs) (laneFieldsOf k g ∷ laneFields (suc k) gs))
     (skip : (k : ℕ) (gs : List Setting) → P (suc k) gs (laneFields (suc k) gs) → P k (noSetting ∷ gs) (laneFields (suc k) gs)) where
   pub by-lanes : (k : ℕ) (gs : List Setting) → ((j : ℕ) → Fitting h (settingAt gs j)) → P k gs (laneFields k gs)
   unfolding laneFields
@@ -101,7 +101,7 @@ module _ (line : ℕ) (gs : List Setting) (f : (j : ℕ) → Fitting line (setti
       by-lanes line (λ k gs ls. k + length gs ≤ 64 → AllFit (fieldsOf ls ++ rest)) (λ k h. a)
       (λ k g gs n _ r h. ((omega arith, omega (arith, n .weight-high), omega (arith, n .longest-high)), behind-fit (g .shared) k (fieldsOf (laneFields (suc k) gs)) (omega arith) (r (omega arith)))) (λ k gs r h. r (omega arith)) k gs f h
     where
-      behind-fit : (b : Bool) (k : ℕ) (fs : List SetupField) → k < 256 → AllFit (fs ++ rest) → AllFit ((behind b k ++ fs) ++ rest)
+      behind-fit : (b : Bool) (k : ℕ) (fs : List SetupField) → k < 256 → AllFit (fs ++ rest) → AllFit ((sharedBehind b k ++ fs) ++ rest)
       behind-fit true k fs h a = (h, a)
       behind-fit false k fs h a = a
 
@@ -109,7 +109,7 @@ module _ (line : ℕ) (gs : List Setting) (f : (j : ℕ) → Fitting line (setti
   fields-formed rest a k =
       by-lanes line (λ k gs ls. allFormed (fieldsOf ls ++ rest) ≡ true) (λ k. a) (λ k g gs n _ r. behind-formed (g .shared) k (fieldsOf (laneFields (suc k) gs)) r) (λ k gs r. r) k gs f
     where
-      behind-formed : (b : Bool) (k : ℕ) (fs : List SetupField) → allFormed (fs ++ rest) ≡ true → allFormed ((behind b k ++ fs) ++ rest) ≡ true
+      behind-formed : (b : Bool) (k : ℕ) (fs : List SetupField) → allFormed (fs ++ rest) ≡ true → allFormed ((sharedBehind b k ++ fs) ++ rest) ≡ true
       behind-formed true k fs h = h
       behind-formed false k fs h = h
 
@@ -120,6 +120,6 @@ module _ (line : ℕ) (gs : List Setting) (f : (j : ℕ) → Fitting line (setti
       by-lanes line (λ k gs ls. length (bytesOf (fieldsOf ls)) ≡ 8 * present gs + 4 * shareds gs) (λ k. refl)
       (λ k g gs n _ h. omega (arith, one g n, h, behind-size (g .shared) k (fieldsOf (laneFields (suc k) gs)))) (λ k gs h. omega (arith, h)) k gs f
     where
-      behind-size : (b : Bool) (k : ℕ) (fs : List SetupField) → length (bytesOf (behind b k ++ fs)) ≡ 4 * (if b then 1 else 0) + length (bytesOf fs)
+      behind-size : (b : Bool) (k : ℕ) (fs : List SetupField) → length (bytesOf (sharedBehind b k ++ fs)) ≡ 4 * (if b then 1 else 0) + length (bytesOf fs)
       behind-size true k fs = omega arith
       behind-size false k fs = omega arith

@@ -16,14 +16,14 @@ use lib.Seq.{set-append-seam, append-snoc}
 use Rattle.units.specs.Plain.{if_then_else_}
 use Rattle.rules.specs.State.{Setting, noSetting, settingAt}
 use Rattle.plan.specs.Judge.{longestOf}
-use Rattle.plan.specs.Accepted.{LaneFields, Rising, LanesWithin, givenBy, placedAll, behind, fieldsOf}
+use Rattle.plan.specs.Accepted.{LaneFields, Rising, LanesWithin, givenBy, placedAll, sharedBehind, fieldsOf}
 use Rattle.plan.specs.declared.parse.Longest.{Longest}
 use Rattle.plan.specs.declared.parse.Longest.the-variants.{Given, Default}
 use Rattle.plan.specs.declared.parse.SetupField.{SetupField}
 use Rattle.plan.specs.declared.parse.SetupField.the-variants.{Lane, End}
 use Rattle.plan.proofs.Inside.{true-false}
 use Rattle.plan_writer.specs.Format.{written-out, formed, allFormed}
-use Rattle.plan_writer.specs.Write.{laneOf, laneFields, Fitting}
+use Rattle.plan_writer.specs.Write.{laneFieldsOf, laneFields, Fitting}
 use Rattle.plan_writer.proofs.Laid.{and-true}
 use Rattle.plan_writer.proofs.Lanes.{fields-there, by-lanes}
 
@@ -39,7 +39,7 @@ module _ (v h : ℕ) where
       ∙ append-snoc pre g gs
 
   -- a lane's fields give it its own setting
-  given-back : (k : ℕ) (g : Setting) → g .framing ≡ h → givenBy v h (laneOf k g) ≡ g
+  given-back : (k : ℕ) (g : Setting) → g .framing ≡ h → givenBy v h (laneFieldsOf k g) ≡ g
   given-back k g e = ap (λ (x : ℕ). record { weight = g .weight; longest = g .longest; framing = x; shared = g .shared }) (sym e)
 
   pub placed-back : (gs : List Setting) → ((j : ℕ) → Fitting h (settingAt gs j)) → (k : ℕ) (pre : List Setting) → length pre ≡ k
@@ -70,8 +70,8 @@ fields-append k (x ∷ xs) ys =
     go (ltb 0 (x .weight)) (fields-append (suc k) xs ys ∙ ap (λ (i : ℕ). laneFields (suc k) xs ++ laneFields i ys) (let e : suc k + length xs ≡ k + suc (length xs) = omega arith in e))
   where
     go : (b : Bool) → laneFields (suc k) (xs ++ ys) ≡ laneFields (suc k) xs ++ laneFields (k + suc (length xs)) ys
-        → (if b then laneOf k x ∷ laneFields (suc k) (xs ++ ys) else laneFields (suc k) (xs ++ ys)) ≡ (if b then laneOf k x ∷ laneFields (suc k) xs else laneFields (suc k) xs) ++ laneFields (k + suc (length xs)) ys
-    go true h = ap (λ (ls : List LaneFields). laneOf k x ∷ ls) h
+        → (if b then laneFieldsOf k x ∷ laneFields (suc k) (xs ++ ys) else laneFields (suc k) (xs ++ ys)) ≡ (if b then laneFieldsOf k x ∷ laneFields (suc k) xs else laneFields (suc k) xs) ++ laneFields (k + suc (length xs)) ys
+    go true h = ap (λ (ls : List LaneFields). laneFieldsOf k x ∷ ls) h
     go false h = h
 
 set-far : {A : Type 0} (xs ys : List A) (d : ℕ) (y : A) → set (xs ++ ys) (length xs + d) y ≡ xs ++ set ys d y
@@ -87,7 +87,7 @@ set-replicate {A} (suc d) m x y =
     ∙ ap (λ (zs : List A). x ∷ zs) (set-replicate d m x y)
 
 -- a lane field in the form is that of the setting that it gives
-formed-field : (v line : ℕ) (l : LaneFields) → formed (Lane (l .lane)) ≡ true → laneOf (l .lane .lane) (givenBy v line l) ≡ l
+formed-field : (v line : ℕ) (l : LaneFields) → formed (Lane (l .lane)) ≡ true → laneFieldsOf (l .lane .lane) (givenBy v line l) ≡ l
 formed-field v line l h = ap (λ (x : Longest). record { lane = record { lane = l .lane .lane; weight = l .lane .weight; longest = x }; shared = l .shared }) (go (l .lane .longest) h)
   where
     go : (x : Longest) → written-out x ≡ true → Given (longestOf v x) ≡ x
@@ -95,7 +95,7 @@ formed-field v line l h = ap (λ (x : Longest). record { lane = record { lane = 
     go Default h = true-false (sym h)
 
 -- the fields behind a lane's 0x12 are in the form
-formed-behind : (b : Bool) (k : ℕ) (fs gs : List SetupField) → allFormed ((behind b k ++ fs) ++ gs) ≡ true → allFormed (fs ++ gs) ≡ true
+formed-behind : (b : Bool) (k : ℕ) (fs gs : List SetupField) → allFormed ((sharedBehind b k ++ fs) ++ gs) ≡ true → allFormed (fs ++ gs) ≡ true
 formed-behind true k fs gs h = h
 formed-behind false k fs gs h = h
 
@@ -104,7 +104,7 @@ pub fields-back : (v h : ℕ) (lanes : List LaneFields) (pre : List Setting) (m 
 unfolding placedAll Rising LanesWithin
 fields-back v h [] pre m e r a o = fields-append 0 pre (replicate m noSetting) ∙ ap (λ (ls : List LaneFields). laneFields 0 pre ++ ls) (none-there (0 + length pre) m)
 fields-back v h (l ∷ ls) pre m e r a o =
-    let both = and-true (formed (Lane (l .lane))) (allFormed ((behind (l .shared) (l .lane .lane) ++ fieldsOf ls) ++ (End ∷ []))) o in
+    let both = and-true (formed (Lane (l .lane))) (allFormed ((sharedBehind (l .shared) (l .lane .lane) ++ fieldsOf ls) ++ (End ∷ []))) o in
     let d = l .lane .lane - length pre in
     let m₁ = m - suc d in
     let m-is : m ≡ d + suc m₁ = omega (arith, a .0 .number, r .0) in

@@ -1,6 +1,6 @@
 -- Writing and reading go back and forth.
 --
---   size-is       the bytes of a plan are as many as `sizeOf` says; size-most: at most 780
+--   size-is       the bytes of a plan are as many as `setupSize` says; size-most: at most 780
 --   reads-back    R9.5: a plan comes back from its bytes
 --   writes-back   R9.6: a setup that is read and in the form comes back as its own bytes; only-form: and no other does
 --   read-within   a plan that was read is within the numbers
@@ -19,9 +19,8 @@ use lib.Seq.{drop-length, take-at, take-all}
 use Rattle.units.specs.Plain.{if_then_else_}
 use Rattle.rules.specs.State.{Setting, noSetting, settingAt}
 use Rattle.rules.specs.Setup.{framingOf}
-use Rattle.plan.specs.Read as r
-use Rattle.plan.specs.Read.{read, noLanes, readPlan, closed, readSetup}
-use Rattle.plan.specs.Accepted.{Laid, LaneFields, fieldsOf, setupFields, framed, framedBy, placedAll, Accepted}
+use Rattle.plan.specs.Read.{setupRead, noLanes, readPlan, setupClosed, readSetup, SetupReply, setupRefused}
+use Rattle.plan.specs.Accepted.{Laid, LaneFields, fieldsOf, setupFields, framed, framedBy, placedAll, AcceptedSetup}
 use Rattle.plan.specs.declared.parse.SetupField.the-variants.{End}
 use Rattle.plan.proofs.Rest.{refused-read}
 use Rattle.plan.proofs.Closed.{setup-whole}
@@ -30,7 +29,7 @@ use Rattle.plan.proofs.Prefix.{prefix}
 use Rattle.plan.proofs.Complete.{complete}
 use Rattle.plan_writer.specs.Format.{fieldBytes, bytesOf, allFormed, InForm}
 use Rattle.plan_writer.specs.declared.Written.{Written}
-use Rattle.plan_writer.specs.Write.{Planned, Within, Fitting, laneFields, unlessZero, planFields, setupBytes, lanesBytes, framingBytes, sizeOf, Writes}
+use Rattle.plan_writer.specs.Write.{Planned, Within, Fitting, laneFields, unlessZero, planFields, setupBytes, lanesBytes, framingBytes, setupSize, Writes}
 use Rattle.plan_writer.specs.RoundTrip.{Bytes, readAs}
 use Rattle.plan_writer.proofs.Laid.{one-layout, AllFit, laid-bytes, bytes-laid}
 use Rattle.plan_writer.proofs.Lanes.{present-most, shareds-most, fields-number, fields-weigh, lanes-some, fields-rise, fields-within, fields-fit, fields-formed, fields-size}
@@ -53,13 +52,13 @@ module _ (p : Planned) (w : Within p) where
   abbrev s : List ℕ
   s = setupBytes p
 
-  pub size-is : length (setupBytes p) ≡ sizeOf p
+  pub size-is : length (setupBytes p) ≡ setupSize p
   unfolding setupBytes
   size-is =
       ap length (setup-parts (p .format) h gs)
       ∙ omega (arith, length-append (framingBytes h) (lanesBytes 0 gs ++ fieldBytes End), length-append (lanesBytes 0 gs) (fieldBytes End), fields-size h gs each 0, framing-size h)
 
-  pub size-most : sizeOf p ≤ 780
+  pub size-most : setupSize p ≤ 780
   size-most = omega (arith, present-most gs, shareds-most gs, w .setup .size, framing-few h)
 
   laid-plan : Laid s 0 (planFields p) (length s)
@@ -76,7 +75,7 @@ module _ (p : Planned) (w : Within p) where
       ∙ ap (λ (i : ℕ). placedAll (p .format) h (replicate i noSetting) (laneFields 0 gs)) (sym (w .setup .size))
       ∙ placed-back (p .format) h gs each 0 [] refl
 
-  accepted-plan : Accepted s 0 (p .format) gs (p .count) (length s)
+  accepted-plan : AcceptedSetup s 0 (p .format) gs (p .count) (length s)
   accepted-plan = record {
     format = w .format;
     framing = unlessZero h;
@@ -91,7 +90,7 @@ module _ (p : Planned) (w : Within p) where
     number = sym (w .count) ∙ sym (fields-number h gs each 0);
   }
 
-  pub reads-back : readSetup (setupBytes p) ≡ readAs p (sizeOf p)
+  pub reads-back : readSetup (setupBytes p) ≡ readAs p (setupSize p)
   reads-back =
       setup-whole s (p .format) gs (p .count) (length s) (complete s 0 (p .format) gs (p .count) (length s) accepted-plan) (omega arith)
       ∙ ap (readAs p) size-is
@@ -106,11 +105,11 @@ module _ (p : Planned) (w : Within p) where
 -- ---- a setup that was read
 
 module _ (s : List ℕ) (p : Planned) (q : ℕ) (e : readSetup s ≡ readAs p q) where
-  closed-read : (x : r.Reply) → closed s x ≡ readAs p q → x ≡ readAs p q
-  closed-read (r.refused a b) c = refused-read c
-  closed-read (read v₁ gs₁ n₁ p₁) c = go (ltb p₁ (length s)) c
+  closed-read : (x : SetupReply) → setupClosed s x ≡ readAs p q → x ≡ readAs p q
+  closed-read (setupRefused a b) c = refused-read c
+  closed-read (setupRead v₁ gs₁ n₁ p₁) c = go (ltb p₁ (length s)) c
     where
-      go : (b : Bool) → (if b then r.refused 4 (some p₁) else read v₁ gs₁ n₁ p₁) ≡ readAs p q → read v₁ gs₁ n₁ p₁ ≡ readAs p q
+      go : (b : Bool) → (if b then setupRefused 4 (some p₁) else setupRead v₁ gs₁ n₁ p₁) ≡ readAs p q → setupRead v₁ gs₁ n₁ p₁ ≡ readAs p q
       go true c = refused-read c
       go false c = c
 
@@ -147,15 +146,15 @@ module _ (s : List ℕ) (p : Planned) (q : ℕ) (e : readSetup s ≡ readAs p q)
 
 -- ---- of the call's own answers
 
-module _ (p : Planned) (before after : List ℕ) (a : Written) (h : Writes p before a after) (w : Within p) (l : sizeOf p ≤ length before) where
-  first-bytes : take (sizeOf p) after ≡ setupBytes p
-  first-bytes = ap (take (sizeOf p)) (h .written w l .1) ∙ take-at (setupBytes p) (drop (sizeOf p) before) (sizeOf p) (size-is p w)
+module _ (p : Planned) (before after : List ℕ) (a : Written) (h : Writes p before a after) (w : Within p) (l : setupSize p ≤ length before) where
+  first-bytes : take (setupSize p) after ≡ setupBytes p
+  first-bytes = ap (take (setupSize p)) (h .written w l .1) ∙ take-at (setupBytes p) (drop (setupSize p) before) (setupSize p) (size-is p w)
 
-  pub written-read : readSetup (take (sizeOf p) after) ≡ readAs p (sizeOf p)
+  pub written-read : readSetup (take (setupSize p) after) ≡ readAs p (setupSize p)
   written-read = ap readSetup first-bytes ∙ reads-back p w
 
   -- and where it stands, whatever is behind it
-  pub written-at : readPlan after 0 ≡ readAs p (sizeOf p)
+  pub written-at : readPlan after 0 ≡ readAs p (setupSize p)
   written-at =
-      prefix (setupBytes p) after 0 (p .format) (p .lanes) (p .count) (sizeOf p) (plan-read (setupBytes p) p (sizeOf p) (reads-back p w))
-      (take-all (sizeOf p) (setupBytes p) (omega (arith, size-is p w)) ∙ sym first-bytes)
+      prefix (setupBytes p) after 0 (p .format) (p .lanes) (p .count) (setupSize p) (plan-read (setupBytes p) p (setupSize p) (reads-back p w))
+      (take-all (setupSize p) (setupBytes p) (omega (arith, size-is p w)) ∙ sym first-bytes)

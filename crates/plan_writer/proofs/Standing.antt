@@ -16,7 +16,7 @@ use lib.ListN.{length, drop}
 use lib.Seq.{drop-cons}
 use Rattle.fields.specs.Bytes.{byteAt, big}
 use Rattle.fields.proofs.Numbers.{big-two}
-use Rattle.plan.specs.Fields.{known, fitting, laneAt, fieldOf}
+use Rattle.plan.specs.Fields.{setupTag, setupFits, laneFieldAt, setupFieldOf}
 use Rattle.plan.specs.declared.parse.SetupField.{SetupField}
 use Rattle.plan.specs.declared.parse.SetupField.the-variants.{Format, Lane, Framing, Shared, End}
 use Rattle.plan.proofs.Inside.{true-false}
@@ -68,7 +68,7 @@ module _ (s : List ℕ) (bytes : (i : ℕ) → byteAt s i < 256) (at : ℕ) wher
       let value = number 3 (at + 3) refl in
       cons (omega (arith, first)) (cons (omega (arith, size)) (cons (omega (arith, size)) (cons (omega (arith, value)) (cons (omega (arith, value)) refl))))
 
-  lane-run : byteAt s at ≡ 16 → big s (at + 1) 2 ≡ 5 → run s at 0 8 ≡ fieldBytes (Lane (laneAt s (at + 3) 5))
+  lane-run : byteAt s at ≡ 16 → big s (at + 1) 2 ≡ 5 → run s at 0 8 ≡ fieldBytes (Lane (laneFieldAt s (at + 3) 5))
   unfolding run
   lane-run t n =
       let size = number 1 (at + 1) refl in
@@ -96,7 +96,7 @@ module _ (s : List ℕ) (bytes : (i : ℕ) → byteAt s i < 256) (at : ℕ) wher
       let size = number 1 (at + 1) refl in
       cons (omega (arith, first)) (cons (omega (arith, size)) (cons (omega (arith, size)) refl))
 
-  tags : (t : ℕ) → known t ≡ true → (t ≡ 1) ⊎ ((t ≡ 16) ⊎ ((t ≡ 17) ⊎ ((t ≡ 18) ⊎ (t ≡ 127))))
+  tags : (t : ℕ) → setupTag t ≡ true → (t ≡ 1) ⊎ ((t ≡ 16) ⊎ ((t ≡ 17) ⊎ ((t ≡ 18) ⊎ (t ≡ 127))))
   tags t h = go (eqb t 1) (eqb t 16) (eqb t 17) (eqb t 18) (eqb t 127) refl refl refl refl refl h
     where
       go : (a b c e d : Bool) → eqb t 1 ≡ a → eqb t 16 ≡ b → eqb t 17 ≡ c → eqb t 18 ≡ e → eqb t 127 ≡ d → (a || (b || (c || (e || d)))) ≡ true → (t ≡ 1) ⊎ ((t ≡ 16) ⊎ ((t ≡ 17) ⊎ ((t ≡ 18) ⊎ (t ≡ 127))))
@@ -115,24 +115,24 @@ module _ (s : List ℕ) (bytes : (i : ℕ) → byteAt s i < 256) (at : ℕ) wher
     n = big s (at + 1) 2
 
     -- n bytes of value, which are the field g
-    whole-run : (k : ℕ) (g : SetupField) → n ≡ k → fieldOf s t (at + 3) k ≡ g → run s at 0 (3 + k) ≡ fieldBytes g → drop at s ≡ fieldBytes f ++ drop m s
+    whole-run : (k : ℕ) (g : SetupField) → n ≡ k → setupFieldOf s t (at + 3) k ≡ g → run s at 0 (3 + k) ≡ fieldBytes g → drop at s ≡ fieldBytes f ++ drop m s
     whole-run k g e h r =
-        let f-is : g ≡ f = sym h ∙ ap (fieldOf s t (at + 3)) (sym e) ∙ st .field in
+        let f-is : g ≡ f = sym h ∙ ap (setupFieldOf s t (at + 3)) (sym e) ∙ st .field in
         from-run (3 + k) (omega (arith, st .fits, e))
         ∙ ap (λ (l : List ℕ). l ++ drop (at + (3 + k)) s) (r ∙ ap fieldBytes f-is)
         ∙ ap (λ (j : ℕ). fieldBytes f ++ drop j s) (let q : at + (3 + k) ≡ m = omega (arith, st .after, e) in q)
 
     by-size : t ≡ 16 → (n ≡ 3) ⊎ (n ≡ 5) → drop at s ≡ fieldBytes f ++ drop m s
     by-size e (inl three) =
-        let f-is : Lane (laneAt s (at + 3) 3) ≡ f = sym (field-lane s t (at + 3) 3 e) ∙ ap (fieldOf s t (at + 3)) (sym three) ∙ st .field in
+        let f-is : Lane (laneFieldAt s (at + 3) 3) ≡ f = sym (field-lane s t (at + 3) 3 e) ∙ ap (setupFieldOf s t (at + 3)) (sym three) ∙ st .field in
         true-false (sym form ∙ sym (ap formed f-is))
-    by-size e (inr five) = whole-run 5 (Lane (laneAt s (at + 3) 5)) five (field-lane s t (at + 3) 5 e) (lane-run e five)
+    by-size e (inr five) = whole-run 5 (Lane (laneFieldAt s (at + 3) 5)) five (field-lane s t (at + 3) 5 e) (lane-run e five)
 
     by-tag : (t ≡ 1) ⊎ ((t ≡ 16) ⊎ ((t ≡ 17) ⊎ ((t ≡ 18) ⊎ (t ≡ 127)))) → drop at s ≡ fieldBytes f ++ drop m s
     by-tag (inl e) =
         let two : n ≡ 2 = eqb-true n 2 (sym (fitting-format t n e) ∙ st .size) in
         whole-run 2 (Format (big s (at + 3) 2)) two (field-format s t (at + 3) 2 e) (format-run e two)
-    by-tag (inr (inl e)) = by-size e (lane-size n (sym (ap (λ (x : ℕ). fitting x n) e) ∙ st .size))
+    by-tag (inr (inl e)) = by-size e (lane-size n (sym (ap (λ (x : ℕ). setupFits x n) e) ∙ st .size))
     by-tag (inr (inr (inl e))) =
         let one : n ≡ 1 = eqb-true n 1 (sym (fitting-framing t n e) ∙ st .size) in
         whole-run 1 (Framing (byteAt s (at + 3))) one (field-framing s t (at + 3) 1 e) (framing-run e one)

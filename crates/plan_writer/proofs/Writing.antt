@@ -20,10 +20,10 @@ use Rattle.rules.specs.State.{Setting, noSetting, settingAt}
 use Rattle.rules.specs.Setup.{InNumbers, framingOf}
 use Rattle.plan.specs.Read.{settingOf}
 use Rattle.plan.specs.declared.Lane as plan
-use Rattle.plan.specs.Accepted.{LaneFields, behind, fieldsOf, setupFields}
+use Rattle.plan.specs.Accepted.{LaneFields, sharedBehind, fieldsOf, setupFields}
 use Rattle.plan.specs.declared.parse.SetupField.the-variants.{Format, Lane, Shared, End}
 use Rattle.plan_writer.specs.Format.{fieldBytes, bytesOf}
-use Rattle.plan_writer.specs.Write.{laneField, ownBytes, laneBytes, laneSize, laneFields, lanesBytes, framingBytes, framingSize, unlessZero, Planned, Within, Either, setupBytes, sizeOf, size, Writes}
+use Rattle.plan_writer.specs.Write.{laneField, ownBytes, laneBytes, laneSize, laneFields, lanesBytes, framingBytes, framingSize, unlessZero, Planned, Within, Either, setupBytes, setupSize, writtenSize, Writes}
 use Rattle.plan_writer.specs.declared.Written.the-variants.{Size}
 use Rattle.plan_writer.proofs.Numbered.{numbered-size, none, lane-at, lane-next}
 use Rattle.plan_writer.proofs.Lane.{there-either, absent-either, lanesOf}
@@ -43,8 +43,8 @@ module _ (lanes : List plan.Lane) (k : ℕ) (h : k < 64) where
   lanes-more n =
       ap (lanesBytes k) (lane-next lanes k h)
       ∙ ap (λ (ls : List LaneFields). bytesOf (fieldsOf ls)) (fields-there k g (drop (suc k) (lanesOf lanes)) (n .weight-low))
-      ∙ ap (λ (l : List ℕ). fieldBytes (Lane (laneField k g)) ++ l) (bytes-append (behind (g .shared) k) (fieldsOf (laneFields (suc k) (drop (suc k) (lanesOf lanes)))))
-      ∙ sym (append-assoc (fieldBytes (Lane (laneField k g))) (bytesOf (behind (g .shared) k)) (lanesBytes (suc k) (drop (suc k) (lanesOf lanes))))
+      ∙ ap (λ (l : List ℕ). fieldBytes (Lane (laneField k g)) ++ l) (bytes-append (sharedBehind (g .shared) k) (fieldsOf (laneFields (suc k) (drop (suc k) (lanesOf lanes)))))
+      ∙ sym (append-assoc (fieldBytes (Lane (laneField k g))) (bytesOf (sharedBehind (g .shared) k)) (lanesBytes (suc k) (drop (suc k) (lanesOf lanes))))
       ∙ ap (λ (i : ℕ). laneBytes k g ++ lanesBytes i (drop i (lanesOf lanes))) (sym (add-one k))
 
   lanes-skip : g ≡ noSetting → lanesBytes k (drop k (lanesOf lanes)) ≡ lanesBytes (k + 1) (drop (k + 1) (lanesOf lanes))
@@ -58,7 +58,7 @@ pub lane-size : (k : ℕ) (g : Setting) → length (laneBytes k g) ≡ laneSize 
 unfolding bytesOf
 lane-size k g = go (g .shared)
   where
-    go : (b : Bool) → length (fieldBytes (Lane (laneField k g)) ++ bytesOf (behind b k)) ≡ (if b then 12 else 8)
+    go : (b : Bool) → length (fieldBytes (Lane (laneField k g)) ++ bytesOf (sharedBehind b k)) ≡ (if b then 12 else 8)
     go true = refl
     go false = refl
 
@@ -74,11 +74,11 @@ module _ (a : List ℕ) (at k : ℕ) (g : Setting) where
   pub both-stored : g .shared ≡ true → (sets (sets a at (ownBytes k g)) (at + 8) (fieldBytes (Shared k)) ≡ sets a at (laneBytes k g)) × (laneSize g ≡ 12)
   unfolding bytesOf
   both-stored e =
-      (sets-append a at (ownBytes k g) (fieldBytes (Shared k)) ∙ ap (λ (b : Bool). sets a at (ownBytes k g ++ bytesOf (behind b k))) (sym e), ap (λ (b : Bool). if b then 12 else 8) e)
+      (sets-append a at (ownBytes k g) (fieldBytes (Shared k)) ∙ ap (λ (b : Bool). sets a at (ownBytes k g ++ bytesOf (sharedBehind b k))) (sym e), ap (λ (b : Bool). if b then 12 else 8) e)
 
   pub own-stored : g .shared ≡ false → (sets a at (ownBytes k g) ≡ sets a at (laneBytes k g)) × (laneSize g ≡ 8)
   unfolding bytesOf
-  own-stored e = (ap (λ (b : Bool). sets a at (ownBytes k g ++ bytesOf (behind b k))) (sym e), ap (λ (b : Bool). if b then 12 else 8) e)
+  own-stored e = (ap (λ (b : Bool). sets a at (ownBytes k g ++ bytesOf (sharedBehind b k))) (sym e), ap (λ (b : Bool). if b then 12 else 8) e)
 
 lanes-none : (lanes : List plan.Lane) (k : ℕ) → 64 ≤ k → lanesBytes k (drop k (lanesOf lanes)) ≡ []
 unfolding laneFields bytesOf
@@ -151,11 +151,11 @@ stored-first a bs n e h = sets-eq bs a 0 (omega (arith, e, h)) ∙ ap (λ (k : �
 
 -- ---- the promise, where the plan was tested and there is room
 
-pub written-all : (p : Planned) → Within p → (before after : List ℕ) (h n : ℕ) → h ≡ framingOf (p .lanes) → n ≡ sizeOf p → n ≤ length before
+pub written-all : (p : Planned) → Within p → (before after : List ℕ) (h n : ℕ) → h ≡ framingOf (p .lanes) → n ≡ setupSize p → n ≤ length before
     → after ≡ sets before 0 (bytesOf (setupFields (p .format) (unlessZero h) (laneFields 0 (p .lanes)))) → Writes p before (Size n) after
 unfolding setupBytes
 written-all p w before after h n h-is n-is room e = record {
   outside = λ o. absurd (o w);
   short = λ _ l. absurd (omega (arith, l, n-is, room));
-  written = λ _ l. (ap size n-is, e ∙ ap (λ (x : ℕ). sets before 0 (bytesOf (setupFields (p .format) (unlessZero x) (laneFields 0 (p .lanes))))) h-is ∙ stored-first before (setupBytes p) (sizeOf p) (size-is p w) l);
+  written = λ _ l. (ap writtenSize n-is, e ∙ ap (λ (x : ℕ). sets before 0 (bytesOf (setupFields (p .format) (unlessZero x) (laneFields 0 (p .lanes))))) h-is ∙ stored-first before (setupBytes p) (setupSize p) (size-is p w) l);
 }

@@ -1,4 +1,4 @@
--- Writing and reading go back and forth: the promises, of the two calls' own answers. (`Writes` is what `write_setup` ensures, and `reads r ≡ readSetup s`
+-- Writing and reading go back and forth: the promises, of the two calls' own answers. (`Writes` is what `write_setup` ensures, and `setupReply r ≡ readSetup s`
 -- what `read_setup` does.) proofs/Calls.antt has the theorem of each: `reads-back-calls` and so on.
 --
 --   ReadsBack     R9.5: what was written is read as the same plan, also where other bytes stand behind it
@@ -15,47 +15,47 @@ use mathlib.Core.List.{List, _++_}
 use lib.ListN.{length, drop, take}
 use Rattle.fields.specs.Bytes.{byteAt}
 use Rattle.plan.specs.Read as r
-use Rattle.plan.specs.Read.{read, readPlan, readSetup, reads}
+use Rattle.plan.specs.Read.{setupRead, readPlan, readSetup, setupReply}
 use Rattle.plan.specs.declared.Plan.{Plan}
 use Rattle.plan.specs.declared.Reading.{Reading}
 use Rattle.plan.specs.declared.Outcome.the-variants.{Read}
 use Rattle.plan_writer.specs.Format.{InForm}
 use Rattle.plan_writer.specs.declared.Written.{Written}
-use Rattle.plan_writer.specs.Write.{Planned, planned, Within, setupBytes, sizeOf, size, refused, wrote, Writes}
+use Rattle.plan_writer.specs.Write.{Planned, planned, Within, setupBytes, setupSize, writtenSize, notWritten, writeReply, Writes}
 
 -- the elements of an input are bytes, as those of any lent slice are
 abbrev pub Bytes : List ℕ → Type 0
 Bytes s = (i : ℕ) → byteAt s i < 256
 
 -- The reader's reply that is this plan, read as far as a place.
-abbrev pub readAs : Planned → ℕ → r.Reply
-readAs p next = read (p .format) (p .lanes) (p .count) next
+abbrev pub readAs : Planned → ℕ → r.SetupReply
+readAs p next = setupRead (p .format) (p .lanes) (p .count) next
 
 unfoldable pub ReadsBack : Type 0
 ReadsBack =
-    (p : Plan) (before after : List ℕ) (a : Written) (k : ℕ) → Writes (planned p) before a after → wrote a ≡ size k
+    (p : Plan) (before after : List ℕ) (a : Written) (k : ℕ) → Writes (planned p) before a after → writeReply a ≡ writtenSize k
     → (readSetup (take k after) ≡ readAs (planned p) k) × (readPlan after 0 ≡ readAs (planned p) k)
 
 unfoldable pub WritesBack : Type 0
 WritesBack =
-    (s : List ℕ) → Bytes s → InForm s → (r : Reading) (k : ℕ) → reads r ≡ readSetup s → r .outcome ≡ Read k
+    (s : List ℕ) → Bytes s → InForm s → (r : Reading) (k : ℕ) → setupReply r ≡ readSetup s → r .outcome ≡ Read k
     → (before after : List ℕ) (a : Written) → Writes (planned (r .plan)) before a after → length s ≤ length before
-    → (wrote a ≡ size (length s)) × (after ≡ s ++ drop (length s) before)
+    → (writeReply a ≡ writtenSize (length s)) × (after ≡ s ++ drop (length s) before)
 
 unfoldable pub Rewritten : Type 0
 Rewritten =
     (s : List ℕ) (p : Planned) (next : ℕ) → readSetup s ≡ readAs p next
-    → Within p × (readSetup (setupBytes p) ≡ readAs p (sizeOf p)) × InForm (setupBytes p) × (setupBytes p ≡ s → InForm s)
+    → Within p × (readSetup (setupBytes p) ≡ readAs p (setupSize p)) × InForm (setupBytes p) × (setupBytes p ≡ s → InForm s)
 
 unfoldable pub OnlyOutside : Type 0
 OnlyOutside =
     (p : Planned) (before after : List ℕ) (a : Written) → Writes p before a after
-    → ((Within p → ⊥) → wrote a ≡ refused 55) × (wrote a ≡ refused 55 → Within p → ⊥)
+    → ((Within p → ⊥) → writeReply a ≡ notWritten 55) × (writeReply a ≡ notWritten 55 → Within p → ⊥)
 
 unfoldable pub OnlyShort : Type 0
 OnlyShort =
     (p : Planned) (before after : List ℕ) (a : Written) → Writes p before a after
-    → (Within p → length before < sizeOf p → wrote a ≡ refused 56) × (wrote a ≡ refused 56 → Within p × (length before < sizeOf p))
+    → (Within p → length before < setupSize p → writeReply a ≡ notWritten 56) × (writeReply a ≡ notWritten 56 → Within p × (length before < setupSize p))
 
 unfoldable pub SizeMost : Type 0
-SizeMost = (p : Planned) → Within p → sizeOf p ≤ 780
+SizeMost = (p : Planned) → Within p → setupSize p ≤ 780

@@ -3,7 +3,7 @@
 --   Planned      a plan as the promises speak of it; planned: that of the code's plan, its lanes by number
 --   Within       a plan within the numbers
 --   laneFields   the fields of its lanes; shareds: how many are shared
---   planFields   the fields of a plan, in order; setupBytes: their bytes; sizeOf: how many
+--   planFields   the fields of a plan, in order; setupBytes: their bytes; setupSize: how many
 --   Writes       the promise: what is answered, and the buffer after it, for every plan and every buffer
 --
 -- Assumes nothing.
@@ -20,7 +20,7 @@ use Rattle.rules.specs.State.{Setting, noSetting, settingAt}
 use Rattle.rules.specs.Setup.{InNumbers, Setup, framingOf}
 use Rattle.plan.specs.Judge.{knownFormat}
 use Rattle.plan.specs.Read.{settings}
-use Rattle.plan.specs.Accepted.{LaneFields, framed, behind, fieldsOf, setupFields, present}
+use Rattle.plan.specs.Accepted.{LaneFields, framed, sharedBehind, fieldsOf, setupFields, present}
 use Rattle.plan.specs.declared.Plan.{Plan}
 use Rattle.plan.specs.declared.parse.Longest.the-variants.{Given}
 use Rattle.plan.specs.declared.parse.LaneField.{LaneField}
@@ -79,13 +79,13 @@ pub record Tells (b : Bool) (P : Type 0) : Type 0 where
 abbrev pub laneField : ℕ → Setting → LaneField
 laneField k g = record { lane = k; weight = g .weight; longest = Given (g .longest) }
 
-abbrev pub laneOf : ℕ → Setting → LaneFields
-laneOf k g = record { lane = laneField k g; shared = g .shared }
+abbrev pub laneFieldsOf : ℕ → Setting → LaneFields
+laneFieldsOf k g = record { lane = laneField k g; shared = g .shared }
 
 -- The fields of each lane that is there; the first setting is that of lane k.
 unfoldable pub laneFields : ℕ → List Setting → List LaneFields
 laneFields k [] = []
-laneFields k (g ∷ gs) = if ltb 0 (g .weight) then laneOf k g ∷ laneFields (suc k) gs else laneFields (suc k) gs
+laneFields k (g ∷ gs) = if ltb 0 (g .weight) then laneFieldsOf k g ∷ laneFields (suc k) gs else laneFields (suc k) gs
 
 -- 0x11 is written where the number is not 0.
 abbrev pub unlessZero : ℕ → Option ℕ
@@ -104,7 +104,7 @@ abbrev pub ownBytes : ℕ → Setting → List ℕ
 ownBytes k g = fieldBytes (Lane (laneField k g))
 
 abbrev pub laneBytes : ℕ → Setting → List ℕ
-laneBytes k g = ownBytes k g ++ bytesOf (behind (g .shared) k)
+laneBytes k g = ownBytes k g ++ bytesOf (sharedBehind (g .shared) k)
 
 abbrev pub lanesBytes : ℕ → List Setting → List ℕ
 lanesBytes k gs = bytesOf (fieldsOf (laneFields k gs))
@@ -125,29 +125,29 @@ abbrev pub shareds : List Setting → ℕ
 shareds gs = sum (λ (g : Setting). if g .shared then 1 else 0) gs
 
 -- R9.2. Five bytes for 0x01, three for 0x7F, eight for each lane, four for each that is shared.
-abbrev pub sizeOf : Planned → ℕ
-sizeOf p = 8 + framingSize (framingOf (p .lanes)) + 8 * present (p .lanes) + 4 * shareds (p .lanes)
+abbrev pub setupSize : Planned → ℕ
+setupSize p = 8 + framingSize (framingOf (p .lanes)) + 8 * present (p .lanes) + 4 * shareds (p .lanes)
 
 -- ---- the promise
 
 -- What writing answers: the exact size, or a refusal's number. These refusals have no place.
-pub data Reply : Type 0 where
-  size : ℕ → Reply
-  refused : ℕ → Reply
+pub data WriteReply : Type 0 where
+  writtenSize : ℕ → WriteReply
+  notWritten : ℕ → WriteReply
 
 -- R9.3
-abbrev pub number : Unwritten → ℕ
-number Outside = 55
-number Short = 56
+abbrev pub unwrittenNumber : Unwritten → ℕ
+unwrittenNumber Outside = 55
+unwrittenNumber Short = 56
 
 -- The code's answer.
-abbrev pub wrote : Written → Reply
-wrote (Size n) = size n
-wrote (Refused x) = refused (number x)
+abbrev pub writeReply : Written → WriteReply
+writeReply (Size n) = writtenSize n
+writeReply (Refused x) = notWritten (unwrittenNumber x)
 
 -- R9.3, R9.4, R14.16, R14.17, R14.41. A plan outside the numbers is refused by 55, whatever the buffer; one within them by 56 where the buffer is shorter than
 -- its exact size; the buffer stays for both. Else the answer is the size, the plan's bytes stand first in the buffer, and those past them stay.
 pub record Writes (p : Planned) (before : List ℕ) (answer : Written) (after : List ℕ) : Type 0 where
-  pub outside : (Within p → ⊥) → (wrote answer ≡ refused 55) × (after ≡ before)
-  pub short : Within p → length before < sizeOf p → (wrote answer ≡ refused 56) × (after ≡ before)
-  pub written : Within p → sizeOf p ≤ length before → (wrote answer ≡ size (sizeOf p)) × (after ≡ setupBytes p ++ drop (sizeOf p) before)
+  pub outside : (Within p → ⊥) → (writeReply answer ≡ notWritten 55) × (after ≡ before)
+  pub short : Within p → length before < setupSize p → (writeReply answer ≡ notWritten 56) × (after ≡ before)
+  pub written : Within p → setupSize p ≤ length before → (writeReply answer ≡ writtenSize (setupSize p)) × (after ≡ setupBytes p ++ drop (setupSize p) before)

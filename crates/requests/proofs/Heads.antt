@@ -1,4 +1,4 @@
--- Laws of `headAt` and `itemAt` of specs/Request.antt: each way that a field goes.
+-- Laws of `headAt` and `requestItemAt` of specs/Request.antt: each way that a field goes.
 --
 --   head-none .. head-right             a header, judged
 --   head-whole, head-size, head-short   what a header that is right is
@@ -21,7 +21,7 @@ use Rattle.fields.specs.Header.{headerAt}
 use Rattle.fields.specs.declared.Field.the-variants.{Nothing, Cut, Header}
 use Rattle.fields.proofs.Header.{header-whole, header-cut, header-none}
 use Rattle.units.specs.Plain.{if_then_else_}
-use Rattle.requests.specs.Request.{sizeOf, Heading, right, wrong, sized, headed, headAt, request, last, bad, callOf, valued, itemAt}
+use Rattle.requests.specs.Request.{requestSize, Heading, right, wrong, sized, headed, headAt, request, last, badRequest, callOf, valued, requestItemAt}
 
 module _ (s : List ℕ) (at : ℕ) where
   pub head-none : headerAt s at ≡ Nothing → headAt s at ≡ wrong 1 (some (length s))
@@ -33,15 +33,15 @@ module _ (s : List ℕ) (at : ℕ) where
   head-cut h = ap (headed s at) h
 
 module _ (s : List ℕ) (at tag v n : ℕ) (h : headerAt s at ≡ Header tag v n) where
-  pub head-unknown : sizeOf tag ≡ none → headAt s at ≡ wrong 2 (some at)
+  pub head-unknown : requestSize tag ≡ none → headAt s at ≡ wrong 2 (some at)
   unfolding headAt
   head-unknown e = ap (headed s at) h ∙ ap (sized at tag n) e
 
-  pub head-wrong : (k : ℕ) → sizeOf tag ≡ some k → (n ≡ k → ⊥) → headAt s at ≡ wrong 3 (some at)
+  pub head-wrong : (k : ℕ) → requestSize tag ≡ some k → (n ≡ k → ⊥) → headAt s at ≡ wrong 3 (some at)
   unfolding headAt
   head-wrong k e f = ap (headed s at) h ∙ ap (sized at tag n) e ∙ rw (ne-eqb n k f)
 
-  pub head-right : (k : ℕ) → sizeOf tag ≡ some k → n ≡ k → headAt s at ≡ right tag n
+  pub head-right : (k : ℕ) → requestSize tag ≡ some k → n ≡ k → headAt s at ≡ right tag n
   unfolding headAt
   head-right k e f = ap (headed s at) h ∙ ap (sized at tag n) e ∙ rw (eq-eqb n k f)
 
@@ -56,7 +56,7 @@ pick-most true n x y p q = p
 pick-most false n x y p q = q
 
 -- a value has at most 8 bytes
-size-most : (t : ℕ) → Most 8 (sizeOf t)
+size-most : (t : ℕ) → Most 8 (requestSize t)
 size-most t =
     pick-most (eqb t 32) 8 _ _ (omega arith)
     (pick-most (eqb t 38) 8 _ _ (omega arith)
@@ -66,11 +66,11 @@ size-most t =
 never : {A : Type 0} (n : ℕ) (p : Option ℕ) (t k : ℕ) (x : Heading) → x ≡ wrong n p → x ≡ right t k → A
 never n p t k x e f = let z : _≡_ {A = ℕ} 0 1 = cc in absurd (omega arith)
 
-known-size : (at t m : ℕ) (o : Option ℕ) → sizeOf t ≡ o → (tag n : ℕ) → sized at t m o ≡ right tag n → sizeOf tag ≡ some n
+known-size : (at t m : ℕ) (o : Option ℕ) → requestSize t ≡ o → (tag n : ℕ) → sized at t m o ≡ right tag n → requestSize tag ≡ some n
 known-size at t m none q tag n e = never 2 (some at) tag n (sized at t m none) refl e
 known-size at t m (some k) q tag n e = go (eqb m k) refl e
   where
-    go : (b : Bool) → eqb m k ≡ b → (if b then right t m else wrong 3 (some at)) ≡ right tag n → sizeOf tag ≡ some n
+    go : (b : Bool) → eqb m k ≡ b → (if b then right t m else wrong 3 (some at)) ≡ right tag n → requestSize tag ≡ some n
     go true h f =
         let x : t ≡ tag = cc in
         let y : m ≡ n = cc in
@@ -89,9 +89,9 @@ head-whole s at tag n e =
     ]
 
 -- .. its length is the one for its tag ..
-pub head-size : (s : List ℕ) (at tag n : ℕ) → headAt s at ≡ right tag n → sizeOf tag ≡ some n
+pub head-size : (s : List ℕ) (at tag n : ℕ) → headAt s at ≡ right tag n → requestSize tag ≡ some n
 unfolding headAt
-head-size s at tag n e = known-size at (byteAt s at) (big s (at + 1) 2) (sizeOf (byteAt s at)) refl tag n (sym (ap (headed s at) (header-whole s at (head-whole s at tag n e))) ∙ e)
+head-size s at tag n e = known-size at (byteAt s at) (big s (at + 1) 2) (requestSize (byteAt s at)) refl tag n (sym (ap (headed s at) (header-whole s at (head-whole s at tag n e))) ∙ e)
 
 -- .. and short
 pub head-short : (s : List ℕ) (at tag n : ℕ) → headAt s at ≡ right tag n → n ≤ 8
@@ -100,24 +100,24 @@ head-short s at tag n e = subst (Most 8) (head-size s at tag n e) (size-most tag
 -- ---- a field
 
 module _ (s : List ℕ) (at : ℕ) where
-  pub item-wrong : (n : ℕ) (p : Option ℕ) → headAt s at ≡ wrong n p → itemAt s at ≡ bad n p
-  unfolding itemAt
+  pub item-wrong : (n : ℕ) (p : Option ℕ) → headAt s at ≡ wrong n p → requestItemAt s at ≡ badRequest n p
+  unfolding requestItemAt
   item-wrong n p h = ap (valued s at) h
 
 module _ (s : List ℕ) (at tag n : ℕ) (h : headAt s at ≡ right tag n) where
-  pub item-cut : length s < at + 3 + n → itemAt s at ≡ bad 1 (some at)
-  unfolding itemAt
+  pub item-cut : length s < at + 3 + n → requestItemAt s at ≡ badRequest 1 (some at)
+  unfolding requestItemAt
   item-cut l = ap (valued s at) h ∙ rw (lt-leb (at + 3 + n) (length s) l)
 
-  pub item-last : at + 3 + n ≤ length s → tag ≡ 127 → itemAt s at ≡ last (at + 3 + n)
-  unfolding itemAt
+  pub item-last : at + 3 + n ≤ length s → tag ≡ 127 → requestItemAt s at ≡ last (at + 3 + n)
+  unfolding requestItemAt
   item-last l e = ap (valued s at) h ∙ rw (le-leb (at + 3 + n) (length s) l, eq-eqb tag 127 e)
 
-  pub item-request : at + 3 + n ≤ length s → (tag ≡ 127 → ⊥) → itemAt s at ≡ request (callOf s tag (at + 3)) (at + 3 + n)
-  unfolding itemAt
+  pub item-request : at + 3 + n ≤ length s → (tag ≡ 127 → ⊥) → requestItemAt s at ≡ request (callOf s tag (at + 3)) (at + 3 + n)
+  unfolding requestItemAt
   item-request l f = ap (valued s at) h ∙ rw (le-leb (at + 3 + n) (length s) l, ne-eqb tag 127 f)
 
 -- a request whose header is read by its bytes
-pub item-quick : (s : List ℕ) (at tag n : ℕ) → byteAt s at ≡ tag → big s (at + 1) 2 ≡ n → sizeOf tag ≡ some n → (tag ≡ 127 → ⊥) → at + 3 + n ≤ length s → itemAt s at ≡ request (callOf s tag (at + 3)) (at + 3 + n)
+pub item-quick : (s : List ℕ) (at tag n : ℕ) → byteAt s at ≡ tag → big s (at + 1) 2 ≡ n → requestSize tag ≡ some n → (tag ≡ 127 → ⊥) → at + 3 + n ≤ length s → requestItemAt s at ≡ request (callOf s tag (at + 3)) (at + 3 + n)
 item-quick s at tag n e f k d h =
     item-request s at tag n (head-right s at tag (at + 3) n (header-whole s at (omega arith) ∙ rw (e, f)) n k refl) h d

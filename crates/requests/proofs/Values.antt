@@ -16,7 +16,7 @@ use borrow.Author.Tests.{eqb-true}
 use lib.Dec.{eqb}
 use Rattle.fields.specs.Bytes.{byteAt, big}
 use Rattle.rules.specs.Calls.{lag}
-use Rattle.requests.specs.Request.{sizeOf, callOf, numbered}
+use Rattle.requests.specs.Request.{requestSize, callOf, callByNumber}
 
 pub big-more : (s : List ℕ) (n at : ℕ) → big s at (suc n) ≡ big s at n * 256 + byteAt s (at + n)
 unfolding big
@@ -56,8 +56,8 @@ module _ (s : List ℕ) (small : (i : ℕ) → byteAt s i < 256) where
       let b : byteAt s at * 256 ^ n ≤ 255 * 256 ^ n = mul-le-mul-right (256 ^ n) (omega (arith, small at)) in
       omega (arith, b, big-most n (at + 1), pow-suc 256 n)
 
-  put-is : (at : ℕ) → numbered 32 (big s at 7) ≡ callOf s 32 at
-  unfolding numbered callOf
+  put-is : (at : ℕ) → callByNumber 32 (big s at 7) ≡ callOf s 32 at
+  unfolding callByNumber callOf
   put-is at =
       let x : ℕ = big s at 7 in
       let j : x / 2 ^ 48 % 2 ^ 8 ≡ byteAt s at = omega (arith, seven s at, small at, big-most 4 (at + 1), big-most 2 (at + 5)) in
@@ -65,8 +65,8 @@ module _ (s : List ℕ) (small : (i : ℕ) → byteAt s i < 256) where
       let n : x % 2 ^ 16 ≡ big s (at + 5) 2 = omega (arith, seven s at, small at, big-most 4 (at + 1), big-most 2 (at + 5)) in
       rw (j, m, n)
 
-  put-train-is : (at : ℕ) → numbered 38 (big s at 8) ≡ callOf s 38 at
-  unfolding numbered callOf
+  put-train-is : (at : ℕ) → callByNumber 38 (big s at 8) ≡ callOf s 38 at
+  unfolding callByNumber callOf
   put-train-is at =
       let x : ℕ = big s at 8 in
       let j : x / 2 ^ 56 % 2 ^ 8 ≡ byteAt s at = omega (arith, eight s at, small at, small (at + 1), big-most 4 (at + 2), big-most 2 (at + 6)) in
@@ -75,30 +75,30 @@ module _ (s : List ℕ) (small : (i : ℕ) → byteAt s i < 256) where
       let n : x % 2 ^ 16 ≡ big s (at + 6) 2 = omega (arith, eight s at, small at, small (at + 1), big-most 4 (at + 2), big-most 2 (at + 6)) in
       rw (j, t, m, n)
 
-  lag-is : (at : ℕ) → numbered 36 (big s at 1) ≡ callOf s 36 at
-  unfolding numbered callOf big
+  lag-is : (at : ℕ) → callByNumber 36 (big s at 1) ≡ callOf s 36 at
+  unfolding callByNumber callOf big
   lag-is at = let j : (byteAt s at * 256 ^ 0 + 0) % 2 ^ 8 ≡ byteAt s at = omega (arith, small at) in ap lag j
 
   -- the request by the number is the request by the bytes
-  pub value-is : (tag at n : ℕ) → sizeOf tag ≡ some n → numbered tag (big s at n) ≡ callOf s tag at
-  unfolding numbered callOf
+  pub value-is : (tag at n : ℕ) → requestSize tag ≡ some n → callByNumber tag (big s at n) ≡ callOf s tag at
+  unfolding callByNumber callOf
   value-is tag at n e = first (eqb tag 32) refl
     where
-      third : (b : Bool) → eqb tag 32 ≡ false → eqb tag 38 ≡ false → eqb tag 36 ≡ b → numbered tag (big s at n) ≡ callOf s tag at
+      third : (b : Bool) → eqb tag 32 ≡ false → eqb tag 38 ≡ false → eqb tag 36 ≡ b → callByNumber tag (big s at n) ≡ callOf s tag at
       third true p o q =
           let t : tag ≡ 36 = eqb-true tag 36 q in
           let k : n ≡ 1 = some-inj n 1 (sym e ∙ rw t) in
           rw (t, k) (lag-is at)
       third false p o q = rw (p, o, q)
 
-      second : (b : Bool) → eqb tag 32 ≡ false → eqb tag 38 ≡ b → numbered tag (big s at n) ≡ callOf s tag at
+      second : (b : Bool) → eqb tag 32 ≡ false → eqb tag 38 ≡ b → callByNumber tag (big s at n) ≡ callOf s tag at
       second true p q =
           let t : tag ≡ 38 = eqb-true tag 38 q in
           let k : n ≡ 8 = some-inj n 8 (sym e ∙ rw t) in
           rw (t, k) (put-train-is at)
       second false p q = third (eqb tag 36) p q refl
 
-      first : (b : Bool) → eqb tag 32 ≡ b → numbered tag (big s at n) ≡ callOf s tag at
+      first : (b : Bool) → eqb tag 32 ≡ b → callByNumber tag (big s at n) ≡ callOf s tag at
       first true p =
           let t : tag ≡ 32 = eqb-true tag 32 p in
           let k : n ≡ 7 = some-inj n 7 (sym e ∙ rw t) in

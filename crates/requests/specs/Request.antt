@@ -1,10 +1,10 @@
 -- The fields behind a session's setup (docs/RULES.md, R10), and the refusals 1 to 3 with their places.
 --
---   sizeOf     how long the value of a known tag is
---   headAt     the header at a place, judged
---   callOf     the request of a tag, from the bytes of its value
---   itemAt     what stands at a place: a request, the end field, or a refusal
---   numbered   the request of a tag, from its value as one number
+--   requestSize     how long the value of a known tag is
+--   headAt          the header at a place, judged
+--   callOf          the request of a tag, from the bytes of its value
+--   requestItemAt   what stands at a place: a request, the end field, or a refusal
+--   callByNumber    the request of a tag, from its value as one number
 --
 -- Assumes nothing.
 use Prim.Native.Nat.{ℕ, _+_, _/_, _%_, _^_}
@@ -27,8 +27,8 @@ use Rattle.requests.specs.declared.Request as Request
 use Rattle.requests.specs.declared.Quick as Quick
 
 -- R10.1: the tags that this part knows, each with the one length that is right for it; 0x26 is a put with a train.
-abbrev pub sizeOf : ℕ → Option ℕ
-sizeOf t =
+abbrev pub requestSize : ℕ → Option ℕ
+requestSize t =
     if eqb t 32 then some 7
     else (if eqb t 38 then some 8
     else (if eqb t 36 then some 1
@@ -48,16 +48,16 @@ sized at tag n (some k) = if eqb n k then right tag n else wrong 3 (some at)
 abbrev pub headed : List ℕ → ℕ → Field → Heading
 headed s at Nothing = wrong 1 (some (length s))
 headed s at Cut = wrong 1 (some at)
-headed s at (Header tag value n) = sized at tag n (sizeOf tag)
+headed s at (Header tag value n) = sized at tag n (requestSize tag)
 
 unfoldable pub headAt : List ℕ → ℕ → Heading
 headAt s at = headed s at (headerAt s at)
 
 -- A request and the place behind it; the end field and the place behind it; or a refusal's number and its place.
-pub data Item : Type 0 where
-  request : Call → ℕ → Item
-  last : ℕ → Item
-  bad : ℕ → Option ℕ → Item
+pub data RequestItem : Type 0 where
+  request : Call → ℕ → RequestItem
+  last : ℕ → RequestItem
+  badRequest : ℕ → Option ℕ → RequestItem
 
 -- R10.1, R10.3: no number is judged here, for the call does that. 0x26 is a put with its train behind the lane, 0x20 one of train 0.
 unfoldable pub callOf : List ℕ → ℕ → ℕ → Call
@@ -70,15 +70,15 @@ callOf s tag at =
     else (if eqb tag 36 then lag (byteAt s at) else restart)))))
 
 -- R10.2, R14.2 of a value, after all that is wrong with the header
-abbrev pub valued : List ℕ → ℕ → Heading → Item
-valued s at (wrong n p) = bad n p
+abbrev pub valued : List ℕ → ℕ → Heading → RequestItem
+valued s at (wrong n p) = badRequest n p
 valued s at (right tag n) =
     if leb (at + 3 + n) (length s) then (if eqb tag 127 then last (at + 3 + n) else request (callOf s tag (at + 3)) (at + 3 + n))
-    else bad 1 (some at)
+    else badRequest 1 (some at)
 
 -- R10.2, R14.36
-unfoldable pub itemAt : List ℕ → ℕ → Item
-itemAt s at = valued s at (headAt s at)
+unfoldable pub requestItemAt : List ℕ → ℕ → RequestItem
+requestItemAt s at = valued s at (headAt s at)
 
 -- ---- the code's own
 
@@ -100,12 +100,12 @@ callIs Request.the-variants.Restart = restart
 
 -- a request that was read at once is the one that stands at the place
 abbrev pub Quickly : List ℕ → ℕ → Quick.Quick → Type 0
-Quickly s at (Quick.the-variants.Whole q next) = itemAt s at ≡ request (callIs q) next
+Quickly s at (Quick.the-variants.Whole q next) = requestItemAt s at ≡ request (callIs q) next
 Quickly s at Quick.the-variants.Other = Unit
 
 -- the value as one number, high byte first: proofs/Values.antt shows that this is `callOf`
-unfoldable pub numbered : ℕ → ℕ → Call
-numbered tag x =
+unfoldable pub callByNumber : ℕ → ℕ → Call
+callByNumber tag x =
     if eqb tag 32 then put (x / 2 ^ 48 % 2 ^ 8) 0 (x / 2 ^ 16 % 2 ^ 32) (x % 2 ^ 16)
     else (if eqb tag 38 then put (x / 2 ^ 56 % 2 ^ 8) (x / 2 ^ 48 % 2 ^ 8) (x / 2 ^ 16 % 2 ^ 32) (x % 2 ^ 16)
     else (if eqb tag 33 then take

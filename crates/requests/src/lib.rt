@@ -9,7 +9,7 @@ ghost use mathlib.Core.Path.{_≡_};
 ghost use Prim.Native.Nat.{_+_, _<_, _≤_};
 ghost use lib.ListN.{length};
 ghost use Rattle.fields.specs.Bytes.{big};
-ghost use Rattle.requests.specs.Request.{sizeOf, sizeIs, headAt, headIs, callIs, numbered, Quickly};
+ghost use Rattle.requests.specs.Request.{requestSize, sizeIs, headAt, headIs, callIs, callByNumber, Quickly};
 use fields::Field;
 use fields::HEADER;
 use fields::u16_at;
@@ -67,7 +67,7 @@ pub enum Quick {
 
 // R10.1, and 0x26, a put with its train behind the lane. A lag names its lane; the others have no value.
 pub fn size_of(tag: u8) -> Size
-    ensures { λ r. ⌜ sizeIs r ≡ sizeOf tag ⌝ }
+    ensures { λ r. ⌜ sizeIs r ≡ requestSize tag ⌝ }
 {
     match tag {
         PUT => Size::Of(7),
@@ -104,7 +104,7 @@ pub fn head_at(s: &[u8], at: usize) -> Head
 
 // The request of a tag other than the end's, by its value as one number.
 pub fn request_of(tag: u8, x: u64) -> Request
-    ensures { λ r. ⌜ callIs r ≡ numbered tag x ⌝ }
+    ensures { λ r. ⌜ callIs r ≡ callByNumber tag x ⌝ }
 {
     match tag {
         PUT => Request::Put {

@@ -7,7 +7,7 @@ use mathlib.Core.Bool.{Bool}
 use mathlib.Core.List.{List, _∷_}
 use lib.ListN.{drop, getD}
 use lib.Seq.{getD-drop}
-use Rattle.words.specs.Runs.{reads}
+use Rattle.words.specs.Runs.{elementsFrom}
 use Rattle.words.specs.Words.{leVal, wordAt}
 use Rattle.digits.specs.Digits.{digit}
 use Rattle.turns.specs.Turns.{headOf, placeOf, namedOf, Ordered}
@@ -16,17 +16,17 @@ use Rattle.round_test.proofs.Answers.{says-as}
 use Rattle.round_test.proofs.Fill.{filled}
 use Rattle.round_test.proofs.Testing.{tallied-good, good-tallied}
 
-reads-drop : (t : List ℕ) (n a m : ℕ) → reads (drop n t) a m ≡ reads t (n + a) m
+reads-drop : (t : List ℕ) (n a m : ℕ) → elementsFrom (drop n t) a m ≡ elementsFrom t (n + a) m
 reads-drop t n a zero = refl
 reads-drop t n a (suc m) =
-    ap (λ (x : ℕ). x ∷ reads (drop n t) (suc a) m) (getD-drop n t a 0)
-    ∙ ap (λ (l : List ℕ). getD t (n + a) 0 ∷ l) (reads-drop t n (suc a) m ∙ ap (λ (b : ℕ). reads t b m) (add-suc n a))
+    ap (λ (x : ℕ). x ∷ elementsFrom (drop n t) (suc a) m) (getD-drop n t a 0)
+    ∙ ap (λ (l : List ℕ). getD t (n + a) 0 ∷ l) (reads-drop t n (suc a) m ∙ ap (λ (b : ℕ). elementsFrom t b m) (add-suc n a))
 
 word-drop : (t : List ℕ) (m j : ℕ) → wordAt (drop (m * 8) t) j ≡ wordAt t (m + j)
 unfolding wordAt
 word-drop t m j =
     let place : m * 8 + j * 8 ≡ (m + j) * 8 = omega arith in
-    ap leVal (reads-drop t (m * 8) (j * 8) 8 ∙ ap (λ (a : ℕ). reads t a 8) place)
+    ap leVal (reads-drop t (m * 8) (j * 8) 8 ∙ ap (λ (a : ℕ). elementsFrom t a 8) place)
 
 lengths-part : (t : List ℕ) (lengths p : ℕ) → lengthsAt (drop (lengths / 4 * 8) t) (lengths % 4) p ≡ lengthsAt t lengths p
 lengths-part t lengths p =

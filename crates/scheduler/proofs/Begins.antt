@@ -17,14 +17,14 @@ use Rattle.pages.specs.Device.{Page, Device, startPage, freshDevice, inForceOf,
 use Rattle.pages.specs.Offers.{DeviceEvent, deviceAfterBy, deviceTraceBy, Read, AllRead}
 use Rattle.pages.specs.Claims.{GoodPage}
 use Rattle.pages.proofs.Run.{fresh-none}
-use Rattle.plan.specs.Read as plan
+use Rattle.plan.specs.Read.{SetupReply}
 use Rattle.plan.proofs.Accepted.{accepted-whole}
 use Rattle.editions.specs.Part.{lastIn, waitingIn, GoodWait}
 use Rattle.table.specs.Means.{meant}
 use Rattle.paged.specs.Paged.{partOf, deviceOf, EncodesDevice, GoodUnit}
 use Rattle.paged.proofs.Units.{device-encoded}
 use Rattle.scheduler.specs.Step.{Step}
-use Rattle.scheduler.specs.Make.{Follows}
+use Rattle.scheduler.specs.Make.{TableBySetup}
 use Rattle.scheduler.specs.Chain.{Begins, Led}
 use Rattle.scheduler.specs.Demands.{ownOffer}
 use Rattle.scheduler.proofs.Steps.{step-says, others-stay}
@@ -34,7 +34,7 @@ pub by-make : (gs : List Setting) (t : List ℕ) → Begins gs t → Led gs [] t
 by-make gs t b =
     led-fresh gs t
     (accepted-whole (b .setup) (b .format) gs (b .lanes) (b .at) (b .reads-it) .0 .setup)
-    (subst (λ (y : plan.Reply). Follows y (b .before) (b .answer) t) (b .reads-it) (b .makes .follows (b .room)) .1)
+    (subst (λ (y : SetupReply). TableBySetup y (b .before) (b .answer) t) (b .reads-it) (b .makes .follows (b .room)) .1)
 
 -- ---- restart
 

@@ -11,9 +11,8 @@ use Rattle.pages.specs.Device.{Page, Device, freshDevice, inForceOf, DeviceCall
 use Rattle.pages.specs.Offers.{DeviceEvent, deviceAfter, deviceAfterBy, deviceTrace, deviceTraceBy, Read, AllRead}
 use Rattle.pages.specs.Claims.{GoodDevice}
 use Rattle.pages.proofs.Run.{Run, step-run, run-all}
-use Rattle.page.specs.Read as page
-use Rattle.page.specs.Read.{readPage}
-use Rattle.plan.specs.Accepted.{refusals, among}
+use Rattle.page.specs.Read.{readPage, PageReply, pageRead, pageRefused}
+use Rattle.plan.specs.Accepted.{setupRefusals, among}
 use Rattle.page.specs.Promises.{PagesWithin, RefusesInside}
 use Rattle.page.proofs.Promises.{pages-within, refuses-inside}
 use Rattle.paged.specs.Paged.{EncodesDevice, GoodUnit, EncodesGoodDevice}
@@ -26,9 +25,9 @@ pub page-read : (bytes : List ℕ) → Read (offered bytes)
 unfolding Read PagesWithin RefusesInside
 page-read bytes = go (readPage bytes) refl
   where
-    go : (r : page.Reply) → readPage bytes ≡ r → Read (offeredAs r)
-    go (page.read n f gs k) e = pages-within bytes n f gs k e .setup
-    go (page.refused n p) e = λ ten. false≢true (ap (among refusals) (sym ten) ∙ refuses-inside bytes n p e .listed)
+    go : (r : PageReply) → readPage bytes ≡ r → Read (offeredAs r)
+    go (pageRead n f gs k) e = pages-within bytes n f gs k e .setup
+    go (pageRefused n p) e = λ ten. false≢true (ap (among setupRefusals) (sym ten) ∙ refuses-inside bytes n p e .listed)
 
 pub run-good : (gs : List Setting) (past : List DeviceEvent) (d : Device) → Run gs past d → GoodDevice d
 run-good gs past d r = record { state = reached-good (d .state) (r .reached); waiting = r .waiting }

@@ -8,34 +8,33 @@ use Rattle.rules.specs.Setup.{Setup}
 use Rattle.rules.specs.declared.Refusal.{Refusal}
 use Rattle.rules.specs.declared.Refusal.the-variants.{TableShort}
 use Rattle.pages.specs.Device.{freshDevice}
-use Rattle.plan.specs.Read as plan
-use Rattle.plan.specs.Read.{readSetup, came, settings}
+use Rattle.plan.specs.Read.{readSetup, setupCame, settings, setupReply, SetupReply}
 use Rattle.plan.specs.declared.Reading.{Reading}
 use Rattle.plan.specs.declared.Outcome.the-variants.{Read}
 use Rattle.plan.specs.declared.Outcome.the-variants as outcome
 use Rattle.plan.proofs.Accepted.{accepted-setup}
 use Rattle.table.specs.Layout.{tableSize}
 use Rattle.paged.specs.Settles.{Leads}
-use Rattle.scheduler.specs.Make.{reads, Follows, MakeStep}
+use Rattle.scheduler.specs.Make.{makeReply, TableBySetup, MakeStep}
 use Rattle.scheduler.specs.declared.Making.the-variants.{Made, Refused}
 
 pub make-short : (setup t : List ℕ) → length t < tableSize → MakeStep setup t (Refused TableShort) t
 make-short setup t h = record { short = λ _. (refl, refl); follows = λ q. absurd (omega arith); size = refl }
 
-pub make-refused : (setup t : List ℕ) (x : Refusal) → tableSize ≤ length t → (r : Reading) → plan.reads r ≡ readSetup setup → r .outcome ≡ outcome.Refused x → MakeStep setup t (Refused x) t
+pub make-refused : (setup t : List ℕ) (x : Refusal) → tableSize ≤ length t → (r : Reading) → setupReply r ≡ readSetup setup → r .outcome ≡ outcome.Refused x → MakeStep setup t (Refused x) t
 make-refused setup t x h r e o = record {
   short = λ q. absurd (omega arith);
-  follows = λ _. subst (λ (y : plan.Reply). Follows y t (Refused x) t) (sym (ap (came (r .plan)) o) ∙ e) (refl, refl);
+  follows = λ _. subst (λ (y : SetupReply). TableBySetup y t (Refused x) t) (sym (ap (setupCame (r .plan)) o) ∙ e) (refl, refl);
   size = refl;
 }
 
-pub read-setup-good : (setup : List ℕ) (r : Reading) (p : ℕ) → plan.reads r ≡ readSetup setup → r .outcome ≡ Read p → Setup (settings (r .plan))
+pub read-setup-good : (setup : List ℕ) (r : Reading) (p : ℕ) → setupReply r ≡ readSetup setup → r .outcome ≡ Read p → Setup (settings (r .plan))
 read-setup-good setup r p e o = accepted-setup r setup p e o .0 .setup
 
-pub make-made : (setup t u : List ℕ) → tableSize ≤ length t → (r : Reading) (p : ℕ) → plan.reads r ≡ readSetup setup → r .outcome ≡ Read p → length u ≡ length t
+pub make-made : (setup t u : List ℕ) → tableSize ≤ length t → (r : Reading) (p : ℕ) → setupReply r ≡ readSetup setup → r .outcome ≡ Read p → length u ≡ length t
     → Leads t u (freshDevice (settings (r .plan))) → MakeStep setup t (Made (r .plan .count)) u
 make-made setup t u h r p e o len m = record {
   short = λ q. absurd (omega arith);
-  follows = λ _. subst (λ (y : plan.Reply). Follows y t (Made (r .plan .count)) u) (sym (ap (came (r .plan)) o) ∙ e) (refl, m .encodes, m .rest);
+  follows = λ _. subst (λ (y : SetupReply). TableBySetup y t (Made (r .plan .count)) u) (sym (ap (setupCame (r .plan)) o) ∙ e) (refl, m .encodes, m .rest);
   size = len;
 }

@@ -15,8 +15,7 @@ use Rattle.rules.specs.Calls.{refused}
 use Rattle.rules.specs.Reads.{number, placeOf}
 use Rattle.rules.specs.declared.Refusal.{Refusal}
 use Rattle.pages.specs.Device.{Page, DeviceCall, offer, unread, answered, inForceNow, waitsNow, inForceOf, newestEdition, DeviceOutcome, doOffer, deviceStep, deviceStepBy}
-use Rattle.page.specs.Read as page
-use Rattle.page.specs.Read.{readPage, came}
+use Rattle.page.specs.Read.{readPage, pageCame, pageReply, pageRead, PageReply, pageRefused}
 use Rattle.page.specs.Promises.{PagesWithin, RefusesInside}
 use Rattle.page.specs.declared.Reading.{Reading}
 use Rattle.page.specs.declared.Outcome.the-variants as outcome
@@ -90,9 +89,9 @@ module _ (t : List ℕ) (q : Page) (g : GoodUnit t) where
 
 -- ---- the bytes of a page
 
-module _ (bytes : List ℕ) (r : Reading) (e : page.reads r ≡ readPage bytes) where
-  pub read-is : (n : ℕ) → r .outcome ≡ outcome.Read n → readPage bytes ≡ page.read n (r .plan .format) (settings (r .plan)) (r .plan .count)
-  read-is n o = sym e ∙ ap (came (r .plan)) o
+module _ (bytes : List ℕ) (r : Reading) (e : pageReply r ≡ readPage bytes) where
+  pub read-is : (n : ℕ) → r .outcome ≡ outcome.Read n → readPage bytes ≡ pageRead n (r .plan .format) (settings (r .plan)) (r .plan .count)
+  read-is n o = sym e ∙ ap (pageCame (r .plan)) o
 
   pub read-page-good : (n : ℕ) → r .outcome ≡ outcome.Read n → Setup (settings (r .plan)) × (knownFormat (r .plan .format) ≡ true)
   unfolding PagesWithin
@@ -100,13 +99,13 @@ module _ (bytes : List ℕ) (r : Reading) (e : page.reads r ≡ readPage bytes) 
 
   pub offer-read : (n : ℕ) (t u : List ℕ) (o : Offering) → r .outcome ≡ outcome.Read n
       → UnitStep (offer (record { edition = n; settings = settings (r .plan) })) t (offering o) u → OfferStep bytes t o u
-  offer-read n t u o is p = subst (λ (x : page.Reply). UnitStep (offeredAs x) t (offering o) u) (sym (read-is n is)) p
+  offer-read n t u o is p = subst (λ (x : PageReply). UnitStep (offeredAs x) t (offering o) u) (sym (read-is n is)) p
 
   pub offer-refused : (x : Refusal) (t : List ℕ) → GoodUnit t → r .outcome ≡ outcome.Refused x → OfferStep bytes t (Refused x) t
   unfolding RefusesInside deviceStepBy
   offer-refused x t g o =
-      let is : readPage bytes ≡ page.refused (number x) (placeOf x) = sym e ∙ ap (came (r .plan)) o in
+      let is : readPage bytes ≡ pageRefused (number x) (placeOf x) = sym e ∙ ap (pageCame (r .plan)) o in
       let at = refuses-inside bytes (number x) (placeOf x) is in
       let placed : placeOf x ≡ some (placeIn (placeOf x)) = at .is ∙ ap (λ (p : Option ℕ). some (placeIn p)) (sym (at .is)) in
-      subst (λ (y : page.Reply). UnitStep (offeredAs y) t (offering (Refused x)) t) (sym is)
+      subst (λ (y : PageReply). UnitStep (offeredAs y) t (offering (Refused x)) t) (sym is)
       (unit-step (unread (number x) (placeIn (placeOf x))) t (offering (Refused x)) t g (ap (λ (p : Option ℕ). answered (refused (number x) p)) placed) (device-encoded t g) refl refl refl)

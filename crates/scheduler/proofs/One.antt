@@ -9,14 +9,12 @@ use lib.ListN.{length, drop}
 use Rattle.alike.specs.AlikeDevice.{AlikeDevice}
 use Rattle.alike.proofs.Alike.{alike-refl, alike-sym, alike-trans}
 use Rattle.pages.specs.Device.{Device, freshDevice, DeviceReply, deviceStep}
-use Rattle.plan.specs.Read as plan
-use Rattle.plan.specs.Read.{readSetup}
+use Rattle.plan.specs.Read.{readSetup, SetupReply, setupRefused, setupRead}
 use Rattle.table.specs.Layout.{tableSize}
 use Rattle.paged.specs.Paged.{deviceOf, EncodesDevice}
 use Rattle.paged.proofs.Units.{device-encoded}
 use Rattle.scheduler.specs.Step.{KeptBy, UnitStep}
-use Rattle.scheduler.specs.Make as Make
-use Rattle.scheduler.specs.Make.{Follows}
+use Rattle.scheduler.specs.Make.{TableBySetup, makeReply}
 use Rattle.scheduler.specs.One.{SameTable, OneAnswer, OneMaking}
 use Rattle.scheduler.proofs.Steps.{encoded-alike}
 
@@ -50,9 +48,9 @@ pub one-making : OneMaking
 unfolding OneMaking
 one-making setup t a a′ u u′ p p′ = elim (decLe tableSize (length t)) [ yes h ↦ read-one (readSetup setup) (p .follows h) (p′ .follows h) | no h ↦ short-one (omega arith) ]
   where
-    read-one : (r : plan.Reply) → Follows r t a u → Follows r t a′ u′ → (Make.reads a ≡ Make.reads a′) × SameTable u u′
-    read-one (plan.refused n q) h h′ = (h .0 ∙ sym (h′ .0), same-bytes t u u′ (h .1) (h′ .1))
-    read-one (plan.read v gs n q) h h′ = (h .0 ∙ sym (h′ .0), same-unit u u′ (freshDevice gs) (h .1) (h′ .1) (h .2 ∙ sym (h′ .2)))
+    read-one : (r : SetupReply) → TableBySetup r t a u → TableBySetup r t a′ u′ → (makeReply a ≡ makeReply a′) × SameTable u u′
+    read-one (setupRefused n q) h h′ = (h .0 ∙ sym (h′ .0), same-bytes t u u′ (h .1) (h′ .1))
+    read-one (setupRead v gs n q) h h′ = (h .0 ∙ sym (h′ .0), same-unit u u′ (freshDevice gs) (h .1) (h′ .1) (h .2 ∙ sym (h′ .2)))
 
-    short-one : length t < tableSize → (Make.reads a ≡ Make.reads a′) × SameTable u u′
+    short-one : length t < tableSize → (makeReply a ≡ makeReply a′) × SameTable u u′
     short-one q = let x = p .short q in let y = p′ .short q in (x .0 ∙ sym (y .0), same-bytes t u u′ (x .1) (y .1))

@@ -7,8 +7,7 @@ use mathlib.Core.Option.{Option, none, some}
 use Rattle.rules.specs.State.{State, anyHolds}
 use Rattle.rules.specs.Calls.{Call, put, take, look, sets, lag, restart, refused, step}
 use Rattle.pages.specs.Device.{Page, Device, ruled, DeviceReply, answered, inForceOf, settledDevice, deviceStep, deviceStepBy}
-use Rattle.page.specs.Read as page
-use Rattle.page.specs.Read.{read, readPage}
+use Rattle.page.specs.Read.{pageRead, readPage, PageReply}
 use Rattle.page.specs.Form.{pageBytes}
 use Rattle.page.specs.Promises.{WithoutSkipped}
 use Rattle.page.proofs.Promises.{without-skipped}
@@ -51,9 +50,9 @@ pub as-without : AsWithout
 unfolding AsWithout WithoutSkipped OneAnswer
 as-without edition xs setup ys small hx short hy e format n gs is t u u′ o o′ known p p′ =
     let plain = without-skipped edition xs setup ys small hx short hy e format gs n .0 is in
-    let on : UnitStep (offeredAs (read e format gs n)) t (offering o) u = subst (λ (r : page.Reply). UnitStep (offeredAs r) t (offering o) u) is p in
-    let off : UnitStep (offeredAs (read e format gs n)) t (offering o′) u′ = subst (λ (r : page.Reply). UnitStep (offeredAs r) t (offering o′) u′) plain p′ in
-    one-answer (offeredAs (read e format gs n)) t known (offering o) (offering o′) u u′ on off
+    let on : UnitStep (offeredAs (pageRead e format gs n)) t (offering o) u = subst (λ (r : PageReply). UnitStep (offeredAs r) t (offering o) u) is p in
+    let off : UnitStep (offeredAs (pageRead e format gs n)) t (offering o′) u′ = subst (λ (r : PageReply). UnitStep (offeredAs r) t (offering o′) u′) plain p′ in
+    one-answer (offeredAs (pageRead e format gs n)) t known (offering o) (offering o′) u u′ on off
 
 pub offer-keeps : OfferKeeps
 unfolding OfferKeeps

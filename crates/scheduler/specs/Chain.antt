@@ -15,7 +15,7 @@ use Rattle.rules.specs.Setup.{Setup}
 use Rattle.rules.specs.Calls.{Call, Reply}
 use Rattle.pages.specs.Device.{freshDevice, DeviceCall, ruled, DeviceReply, answered}
 use Rattle.pages.specs.Offers.{DeviceEvent, deviceAfter, deviceTrace, AllRead}
-use Rattle.plan.specs.Read.{read, readSetup}
+use Rattle.plan.specs.Read.{setupRead, readSetup}
 use Rattle.table.specs.Layout.{tableSize}
 use Rattle.paged.specs.Paged.{EncodesDevice}
 use Rattle.scheduler.specs.Step.{UnitStep, offered}
@@ -41,7 +41,7 @@ pub record Begins (gs : List Setting) (t : List ℕ) : Type 0 where
   pub format : ℕ
   pub lanes : ℕ
   pub at : ℕ
-  pub reads-it : readSetup setup ≡ read format gs lanes at
+  pub reads-it : readSetup setup ≡ setupRead format gs lanes at
   pub room : tableSize ≤ length before
   pub makes : MakeStep setup before answer t
 

@@ -15,8 +15,7 @@ use Rattle.alike.specs.AlikeDevice.{AlikeDevice}
 use Rattle.table.specs.Layout.{tableSize}
 use Rattle.paged.specs.Paged.{deviceOf, GoodUnit}
 use Rattle.scheduler.specs.Step.{UnitStep}
-use Rattle.scheduler.specs.Make as Make
-use Rattle.scheduler.specs.Make.{MakeStep}
+use Rattle.scheduler.specs.Make.{MakeStep, makeReply}
 use Rattle.scheduler.specs.declared.Making.{Making}
 
 -- the tables after two outcomes: no call tells their units apart, and the bytes past the table are the same
@@ -32,4 +31,4 @@ OneAnswer =
 unfoldable pub OneMaking : Type 0
 OneMaking =
     (setup t : List ℕ) (a a′ : Making) (u u′ : List ℕ) → MakeStep setup t a u → MakeStep setup t a′ u′
-    → (Make.reads a ≡ Make.reads a′) × SameTable u u′
+    → (makeReply a ≡ makeReply a′) × SameTable u u′

@@ -18,7 +18,7 @@ use Rattle.rules.specs.Calls.{Call, take, refused, step}
 use Rattle.rules.specs.Reads.{reads}
 use Rattle.rules.specs.declared.Answer.{Answer}
 use Rattle.pages.specs.Device.{Page, answered, inForceOf}
-use Rattle.page.specs.Read.{read, readPage}
+use Rattle.page.specs.Read.{pageRead, readPage}
 use Rattle.page.specs.Form.{Extra, AllSkippable, pageBytes}
 use Rattle.editions.specs.Part.{lastIn, waitingIn}
 use Rattle.table.specs.Means.{meant}
@@ -43,7 +43,7 @@ LastTake =
 unfoldable pub AsWithout : Type 0
 AsWithout =
     (edition : ℕ) (xs : List Extra) (setup : List ℕ) (ys : List Extra) → edition < 65536 → AllSkippable xs → length setup < 65536 → AllSkippable ys
-    → (e format n : ℕ) (gs : List Setting) → readPage (pageBytes edition xs setup ys) ≡ read e format gs n
+    → (e format n : ℕ) (gs : List Setting) → readPage (pageBytes edition xs setup ys) ≡ pageRead e format gs n
     → (t u u′ : List ℕ) (o o′ : Offering) → GoodUnit t ⊎ (GoodUnit t → ⊥)
     → OfferStep (pageBytes edition xs setup ys) t o u → OfferStep (pageBytes edition [] setup []) t o′ u′
     → (offering o ≡ offering o′) × SameTable u u′

@@ -14,8 +14,7 @@ use Rattle.rules.specs.Calls.{Call, refused}
 use Rattle.rules.specs.Reads.{number, placeOf, reads}
 use Rattle.rules.specs.declared.Answer.{Answer}
 use Rattle.pages.specs.Device.{Device, DeviceCall, ruled, offer, unread, DeviceReply, answered, inForceNow, waitsNow, deviceStep}
-use Rattle.page.specs.Read as page
-use Rattle.page.specs.Read.{readPage}
+use Rattle.page.specs.Read.{readPage, PageReply, pageRead, pageRefused}
 use Rattle.table.specs.Layout.{tableSize}
 use Rattle.engine.specs.Does.{Unchanged}
 use Rattle.paged.specs.Paged.{EncodesDevice, GoodUnit}
@@ -54,9 +53,9 @@ abbrev pub placeIn : Option ℕ → ℕ
 placeIn none = 0
 placeIn (some p) = p
 
-abbrev pub offeredAs : page.Reply → DeviceCall
-offeredAs (page.read edition format gs n) = offer (record { edition = edition; settings = gs })
-offeredAs (page.refused n p) = unread n (placeIn p)
+abbrev pub offeredAs : PageReply → DeviceCall
+offeredAs (pageRead edition format gs n) = offer (record { edition = edition; settings = gs })
+offeredAs (pageRefused n p) = unread n (placeIn p)
 
 -- R14.49, R19.7: of any bytes: the page that the page reader reads there, or one that it doesn't read
 abbrev pub offered : List ℕ → DeviceCall

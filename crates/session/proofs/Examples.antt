@@ -3,19 +3,19 @@ use mathlib.Core.Path.{refl}
 use Rattle.fields.specs.Bytes.{big}
 use Rattle.text.specs.Decimal.{digits, widthFrom, width, decimal, signed}
 use Rattle.rules.proofs.Computes.{rules}
-use Rattle.plan.specs.Fields.{fieldOf, itemAt}
+use Rattle.plan.specs.Fields.{setupFieldOf, setupItemAt}
 use Rattle.plan.specs.Judge.{laneOutside, judgedAt}
-use Rattle.plan.specs.Read as plan
+use Rattle.plan.specs.Read.{setupWalk, readPlan}
 use Rattle.lines.specs.Line.{spaced}
-use Rattle.requests.specs.Request as requests
-use Rattle.walk.specs.Script.{walk, script}
+use Rattle.requests.specs.Request.{headAt, callOf, requestItemAt}
+use Rattle.walk.specs.Script.{sessionWalk, script}
 use Rattle.session.specs.Computed.{TenLines, LimitNone, LimitReached, ByteAfter, EndsEarly}
 use Rattle.session.specs.EveryKind.{EveryKind}
 use Rattle.session.specs.Junction.{Junction}
 
 -- one name under which the script's definitions open
 unfoldable computes : Unit {0}
-unfolding rules big digits widthFrom width decimal signed fieldOf itemAt laneOutside judgedAt plan.walk plan.readPlan spaced requests.headAt requests.callOf requests.itemAt walk script
+unfolding rules big digits widthFrom width decimal signed setupFieldOf setupItemAt laneOutside judgedAt setupWalk readPlan spaced headAt callOf requestItemAt sessionWalk script
 computes = tt
 
 pub ten-lines : TenLines

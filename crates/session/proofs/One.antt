@@ -11,10 +11,10 @@ use Rattle.table.specs.Layout.{tableSize}
 use Rattle.table.specs.Means.{meant}
 use Rattle.paged.specs.Paged.{deviceOf}
 use Rattle.walk.specs.Script.{runOf}
-use Rattle.walk.specs.Follows.{Table}
+use Rattle.walk.specs.Follows.{TableLeft}
 use Rattle.session.specs.One.{OneRun}
 
-one-table : (t t₁ t₂ : List ℕ) (o : Option State) → Table t t₁ o → Table t t₂ o → AlikeDevice (deviceOf t₁) (deviceOf t₂) × (drop tableSize t₁ ≡ drop tableSize t₂)
+one-table : (t t₁ t₂ : List ℕ) (o : Option State) → TableLeft t t₁ o → TableLeft t t₂ o → AlikeDevice (deviceOf t₁) (deviceOf t₂) × (drop tableSize t₁ ≡ drop tableSize t₂)
 unfolding deviceOf
 one-table t t₁ t₂ none h h′ =
     let q : t₁ ≡ t₂ = h ∙ sym h′ in

@@ -3,7 +3,7 @@ use Prim.Native.Nat.{ℕ, zero, suc, _+_, _*_, _≤_}
 use native.Mathlib.Omega.{arith}
 use mathlib.Core.Path.{_≡_, refl, sym, ap, _∙_}
 use mathlib.Core.Bool.{Bool, true, false, _||_}
-use mathlib.Core.List.{List, [], _++_, append-nil, append-assoc}
+use mathlib.Core.List.{List, [], _∷_, _++_, append-nil, append-assoc}
 use mathlib.Core.Option.{none, some}
 use lib.Dec.{ltb}
 use lib.ListN.{length}
@@ -15,14 +15,23 @@ use Rattle.rules.specs.Runs.{after, trace}
 use Rattle.rules.specs.Fair.{Demand3, TwoLanes}
 use Rattle.rules.proofs.SameSetup.{same-setup, fresh-setup}
 use Rattle.rules.proofs.Fair.{demand3, two-lanes}
-use Rattle.plan.specs.Read as plan
+use Rattle.plan.specs.Read.{SetupReply, readPlan, setupRefused, setupRead}
 use Rattle.plan.proofs.Accepted.{accepted}
 use Rattle.table.specs.Layout.{tableSize}
 use Rattle.lines.specs.Line.{lanesLine}
-use Rattle.requests.specs.Request.{Item, request, last, bad, itemAt}
+use Rattle.requests.specs.Request.{RequestItem, request, last, badRequest, requestItemAt}
 use Rattle.answers.specs.Lines.{lineBy}
-use Rattle.walk.specs.Script.{Walked, closing, next, walk, begun, script, nothing, runOf}
-use Rattle.session.specs.Requests.{asked, requestsOf, linesOf, Lists, RunLists}
+use Rattle.walk.specs.Script.{Walked, closing, sessionWalk, sessionBegun, script, nothingDone, runOf}
+use Rattle.walk.proofs.Walking.{walked}
+use Rattle.session.specs.Requests.{requestsOf, linesOf, Lists, RunLists}
+
+-- one turn of `requestsOf`, as a function of what stands at the place
+abbrev asked : ℕ → List ℕ → RequestItem → List Call
+asked left s i = elim i [
+  | badRequest n p ↦ []
+  | last next ↦ []
+  | request c next ↦ c ∷ requestsOf left s next
+]
 
 -- the walk from a state, with the lines before it; the setup is the same in all of it
 record WalkLists (lines : List ℕ) (n : ℕ) (σ : State) (cs : List Call) (left : ℕ) (w : Walked) : Type 0 where
@@ -35,15 +44,15 @@ walk-stops : (lines : List ℕ) (n left : ℕ) (σ : State) (w : Walked) → w .
 unfolding trace after linesOf
 walk-stops lines n left σ w a b c = record { text = a ∙ sym (append-nil lines); count = omega (arith, b); state = c; within = omega arith }
 
-walk-lists : (left : ℕ) (s : List ℕ) (at n : ℕ) (lines : List ℕ) (σ : State) → WalkLists lines n σ (requestsOf left s at) left (walk left s at n lines σ)
-unfolding walk requestsOf trace after linesOf
-walk-lists zero s at n lines σ = walk-stops lines n 0 σ (walk zero s at n lines σ) refl refl refl
-walk-lists (suc left) s at n lines σ = go (itemAt s at) (λ q m ls τ. walk-lists left s q m ls τ)
+walk-lists : (left : ℕ) (s : List ℕ) (at n : ℕ) (lines : List ℕ) (σ : State) → WalkLists lines n σ (requestsOf left s at) left (sessionWalk left s at n lines σ)
+unfolding sessionWalk requestsOf trace after linesOf
+walk-lists zero s at n lines σ = walk-stops lines n 0 σ (sessionWalk zero s at n lines σ) refl refl refl
+walk-lists (suc left) s at n lines σ = go (requestItemAt s at) (λ q m ls τ. walk-lists left s q m ls τ)
   where
-    go : (i : Item) → ((q m : ℕ) (ls : List ℕ) (τ : State) → WalkLists ls m τ (requestsOf left s q) left (walk left s q m ls τ))
-        → WalkLists lines n σ (asked i (requestsOf left s)) (suc left) (next s n lines σ i (walk left s))
-    go (bad r p) more = walk-stops lines n (suc left) σ (next s n lines σ (bad r p) (walk left s)) refl refl refl
-    go (last q) more = walk-stops lines n (suc left) σ (next s n lines σ (last q) (walk left s)) refl refl refl
+    go : (i : RequestItem) → ((q m : ℕ) (ls : List ℕ) (τ : State) → WalkLists ls m τ (requestsOf left s q) left (sessionWalk left s q m ls τ))
+        → WalkLists lines n σ (asked left s i) (suc left) (walked left s n lines σ i)
+    go (badRequest r p) more = walk-stops lines n (suc left) σ (walked left s n lines σ (badRequest r p)) refl refl refl
+    go (last q) more = walk-stops lines n (suc left) σ (walked left s n lines σ (last q)) refl refl refl
     go (request c q) more =
         let line = lineBy (setupOf σ) ((step σ c) .reply) in
         let rest = more q (n + 1) (lines ++ line) ((step σ c) .state) in
@@ -56,11 +65,11 @@ walk-lists (suc left) s at n lines σ = go (itemAt s at) (λ q m ls τ. walk-lis
         }
 
 module _ (s : List ℕ) (limit : ℕ) (σ : State) where
-  begun-lists : (r : plan.Reply) → plan.readPlan s 0 ≡ r → begun s limit r .state ≡ some σ → Lists s limit (begun s limit r)
+  begun-lists : (r : SetupReply) → readPlan s 0 ≡ r → sessionBegun s limit r .state ≡ some σ → Lists s limit (sessionBegun s limit r)
   unfolding Demand3 TwoLanes
-  begun-lists (plan.refused n p) e h = let z : _≡_ {A = ℕ} 0 1 = cc in absurd (omega arith)
-  begun-lists (plan.read v gs lanes at) e h =
-      let w = walk limit s at 0 [] (fresh gs) in
+  begun-lists (setupRefused n p) e h = let z : _≡_ {A = ℕ} 0 1 = cc in absurd (omega arith)
+  begun-lists (setupRead v gs lanes at) e h =
+      let w = sessionWalk limit s at 0 [] (fresh gs) in
       let i = walk-lists limit s at 0 [] (fresh gs) in
       let ok : Setup gs = accepted s 0 v gs lanes at e .setup in
       record {
@@ -83,8 +92,8 @@ pub run-lists : RunLists
 unfolding RunLists runOf script
 run-lists s limit table area σ = go (ltb 1000 limit || ltb area (64 * (limit + 2))) (ltb table tableSize)
   where
-    go : (a b : Bool) → (if a then nothing 17 none else (if b then nothing 7 (some 0) else begun s limit (plan.readPlan s 0))) .state ≡ some σ
-        → Lists s limit (if a then nothing 17 none else (if b then nothing 7 (some 0) else begun s limit (plan.readPlan s 0)))
+    go : (a b : Bool) → (if a then nothingDone 17 none else (if b then nothingDone 7 (some 0) else sessionBegun s limit (readPlan s 0))) .state ≡ some σ
+        → Lists s limit (if a then nothingDone 17 none else (if b then nothingDone 7 (some 0) else sessionBegun s limit (readPlan s 0)))
     go true b h = let z : _≡_ {A = ℕ} 0 1 = cc in absurd (omega arith)
     go false true h = let z : _≡_ {A = ℕ} 0 1 = cc in absurd (omega arith)
-    go false false h = begun-lists s limit σ (plan.readPlan s 0) refl h
+    go false false h = begun-lists s limit σ (readPlan s 0) refl h

@@ -1,6 +1,6 @@
 -- The first session of docs/RULES.md, R16, and sessions at the edges of a run: what the script's definition gives for them.
 --
---   Shows          a run's text, its count of requests, and why it stopped
+--   RunShows       a run's text, its count of requests, and why it stopped
 --   TenLines       R16.3: the session gives its ten lines, and stops at the end field
 --   LimitNone      R16.5, as those below: a limit of 0: `lanes 2`, `end 0`
 --   LimitReached   the limit is looked at before the end field too: with 8 requests allowed the same lines, and the limit as the reason
@@ -17,24 +17,24 @@ use Rattle.lines.specs.Line.{noLine}
 use Rattle.walk.specs.Script.{Why, atEnd, atLimit, refusal, Script, script}
 use Rattle.session.specs.Examples.{session, output, lanesTwo, putOk, setsLine, takeFirst, takeThird, takeSecond, noSixteen, endEight, endNone}
 
-pub record Shows (x : Script) (text : List ℕ) (count : ℕ) (why : Why) : Type 0 where
+pub record RunShows (x : Script) (text : List ℕ) (count : ℕ) (why : Why) : Type 0 where
   pub text-is : x .text ≡ text
   pub count-is : x .count ≡ count
   pub why-is : x .why ≡ why
 
 unfoldable pub TenLines : Type 0
-TenLines = Shows (script session 1000) output 8 atEnd
+TenLines = RunShows (script session 1000) output 8 atEnd
 
 unfoldable pub LimitNone : Type 0
-LimitNone = Shows (script session 0) (lanesTwo ++ endNone) 0 atLimit
+LimitNone = RunShows (script session 0) (lanesTwo ++ endNone) 0 atLimit
 
 unfoldable pub LimitReached : Type 0
-LimitReached = Shows (script session 8) output 8 atLimit
+LimitReached = RunShows (script session 8) output 8 atLimit
 
 unfoldable pub ByteAfter : Type 0
 ByteAfter =
-    Shows (script (session ++ (0 ∷ [])) 1000)
+    RunShows (script (session ++ (0 ∷ [])) 1000)
     (lanesTwo ++ putOk 0 ++ putOk 0 ++ putOk 1 ++ setsLine ++ takeFirst ++ takeThird ++ takeSecond ++ noSixteen ++ noLine 4 (some 72) ++ endEight) 8 (refusal 4 (some 72))
 
 unfoldable pub EndsEarly : Type 0
-EndsEarly = Shows (script sessionSetup 1000) (lanesTwo ++ noLine 1 (some 24) ++ endNone) 0 (refusal 1 (some 24))
+EndsEarly = RunShows (script sessionSetup 1000) (lanesTwo ++ noLine 1 (some 24) ++ endNone) 0 (refusal 1 (some 24))

@@ -12,7 +12,7 @@ use mathlib.Core.Option.{some}
 use Rattle.plan.specs.Examples.{sessionSetup}
 use Rattle.walk.specs.Script.{refusal, script}
 use Rattle.session.specs.Examples.{putFirst, putSecond, putThird, setsField, takeField, lanesTwo, putOk, setsLine, takeFirst, takeThird, takeSecond}
-use Rattle.session.specs.Computed.{Shows}
+use Rattle.session.specs.Computed.{RunShows}
 
 -- ---- the fields
 
@@ -93,4 +93,4 @@ everyOutput =
 
 -- 15 requests are answered; the sixteenth field, at byte 100, is refused by 2
 unfoldable pub EveryKind : Type 0
-EveryKind = Shows (script everySession 1000) everyOutput 15 (refusal 2 (some 100))
+EveryKind = RunShows (script everySession 1000) everyOutput 15 (refusal 2 (some 100))

@@ -12,7 +12,7 @@ use Rattle.plan.specs.Examples.{formatField, endField}
 use Rattle.lines.specs.Line.{takeWord, lookWord, noWord}
 use Rattle.walk.specs.Script.{atEnd, script}
 use Rattle.session.specs.Examples.{takeField, lanesTwo, putOk, noSixteen}
-use Rattle.session.specs.Computed.{Shows}
+use Rattle.session.specs.Computed.{RunShows}
 use Rattle.session.specs.EveryKind.{lookField}
 
 -- ---- the fields
@@ -94,4 +94,4 @@ junctionOutput =
     ++ putOk 0 ++ putOk 1 ++ putOk 2 ++ putOk 3 ++ putOk 4 ++ putOk 5 ++ putOk 6 ++ putOk 7 ++ noSeventyOne ++ putOk 0 ++ endTwentyEight
 
 unfoldable pub Junction : Type 0
-Junction = Shows (script junctionSession 1000) junctionOutput 28 atEnd
+Junction = RunShows (script junctionSession 1000) junctionOutput 28 atEnd

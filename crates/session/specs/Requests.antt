@@ -17,21 +17,20 @@ use Rattle.rules.specs.Setup.{Setup, framingOf, margin}
 use Rattle.rules.specs.Calls.{Call, fresh}
 use Rattle.rules.specs.Runs.{Event, after, trace}
 use Rattle.rules.specs.Fair.{Fair, Compared}
-use Rattle.plan.specs.Read as plan
+use Rattle.plan.specs.Read.{readPlan, setupRead}
 use Rattle.lines.specs.Line.{lanesLine}
-use Rattle.requests.specs.Request.{Item, request, last, bad, itemAt}
+use Rattle.requests.specs.Request.{RequestItem, request, last, badRequest, requestItemAt}
 use Rattle.answers.specs.Lines.{lineBy}
 use Rattle.walk.specs.Script.{Script, closing, runOf}
 
--- a request, and those behind it; none at the end field or a refused field
-abbrev pub asked : Item → (ℕ → List Call) → List Call
-asked (bad n p) go = []
-asked (last at) go = []
-asked (request c at) go = c ∷ go at
-
+-- none at the end field or a refused field; else the request, and those behind it
 unfoldable pub requestsOf : ℕ → List ℕ → ℕ → List Call
 requestsOf zero s at = []
-requestsOf (suc left) s at = asked (itemAt s at) (requestsOf left s)
+requestsOf (suc left) s at = elim (requestItemAt s at) [
+  | badRequest n p ↦ []
+  | last next ↦ []
+  | request c next ↦ c ∷ requestsOf left s next
+]
 
 unfoldable pub linesOf : List Setting → List Event → List ℕ
 linesOf gs [] = []
@@ -43,7 +42,7 @@ pub record Lists (s : List ℕ) (limit : ℕ) (x : Script) : Type 0 where
   pub lanes : ℕ
   pub at : ℕ
   -- the setup at the front of the session, and the place behind it
-  pub reads-it : plan.readPlan s 0 ≡ plan.read format settings lanes at
+  pub reads-it : readPlan s 0 ≡ setupRead format settings lanes at
   pub setup : Setup settings
   -- all requests that stand there are answered, up to the limit
   pub count : x .count ≡ length (requestsOf limit s at)

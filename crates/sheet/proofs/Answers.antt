@@ -1,4 +1,4 @@
--- What `step` answers, by its tests, and what the tests say of a byte.
+-- What `lineStep` answers, by its tests, and what the tests say of a byte.
 -- Assumes nothing.
 use Prim.Native.Nat.{ℕ, _+_, _-_, _≤_}
 use native.Mathlib.Omega.{arith}
@@ -6,30 +6,30 @@ use mathlib.Core.Path.{_≡_, refl}
 use mathlib.Core.Bool.{Bool, true, false, _&&_}
 use lib.Dec.{leb, ltb, eqb}
 use borrow.Author.Tests.{leb-true, ltb-true, eq-eqb, ne-eqb}
-use Rattle.sheet.specs.Form.{digit, extends, stop, grown, closed, step}
+use Rattle.sheet.specs.Form.{digit, extends, stop, grown, numberClosed, lineStep}
 use Rattle.sheet.specs.declared.form.Line.{Line}
 use Rattle.sheet.specs.declared.form.Step.the-variants.{More, Wrong}
 use Rattle.sheet.proofs.Steps.{and-true}
 
 module _ (f : Line) (at b : ℕ) where
-  pub step-digit : digit b ≡ true → extends (f .begun) (f .last .value) ≡ true → More (grown f b) ≡ step f at b
-  unfolding step
+  pub step-digit : digit b ≡ true → extends (f .begun) (f .last .value) ≡ true → More (grown f b) ≡ lineStep f at b
+  unfolding lineStep
   step-digit d o = rw (d, o)
 
-  pub step-many : digit b ≡ true → extends (f .begun) (f .last .value) ≡ false → Wrong ≡ step f at b
-  unfolding step
+  pub step-many : digit b ≡ true → extends (f .begun) (f .last .value) ≡ false → Wrong ≡ lineStep f at b
+  unfolding lineStep
   step-many d o = rw (d, o)
 
-  pub step-stop : digit b ≡ false → f .begun ≡ true → b ≡ stop (f .part) → closed (f .part) f (at + 1) ≡ step f at b
-  unfolding step
+  pub step-stop : digit b ≡ false → f .begun ≡ true → b ≡ stop (f .part) → numberClosed (f .part) f (at + 1) ≡ lineStep f at b
+  unfolding lineStep
   step-stop d h e = let t : (f .begun && eqb b (stop (f .part))) ≡ true = rw h (eq-eqb b (stop (f .part)) e) in rw (d, t)
 
-  pub step-other : digit b ≡ false → (b ≡ stop (f .part) → ⊥) → f .begun ≡ true → Wrong ≡ step f at b
-  unfolding step
+  pub step-other : digit b ≡ false → (b ≡ stop (f .part) → ⊥) → f .begun ≡ true → Wrong ≡ lineStep f at b
+  unfolding lineStep
   step-other d e h = let t : (f .begun && eqb b (stop (f .part))) ≡ false = rw h (ne-eqb b (stop (f .part)) e) in rw (d, t)
 
-  pub step-none : digit b ≡ false → f .begun ≡ false → Wrong ≡ step f at b
-  unfolding step
+  pub step-none : digit b ≡ false → f .begun ≡ false → Wrong ≡ lineStep f at b
+  unfolding lineStep
   step-none d h = let t : (f .begun && eqb b (stop (f .part))) ≡ false = rw h in rw (d, t)
 
 pub digit-is : (b : ℕ) → digit b ≡ true → (48 ≤ b) × (b ≤ 57)

@@ -17,19 +17,19 @@ use Rattle.units.specs.Plain.{if_then_else_}
 use Rattle.rules.specs.State.{Setting, noSetting}
 use Rattle.rules.specs.Setup.{Setup, framingOf}
 use Rattle.rules.proofs.Figures.{framing-bound, framed-by}
-use Rattle.plan.specs.Judge.{given, after}
-use Rattle.plan.specs.Read.{Reply, read, refused, noLanes, placed}
+use Rattle.plan.specs.Judge.{given, seenAfter}
+use Rattle.plan.specs.Read.{SetupReply, setupRead, setupRefused, noLanes, placed}
 use Rattle.plan.specs.Accepted.{present}
 use Rattle.plan.specs.declared.judge.Seen.{Seen}
 use Rattle.plan.specs.declared.parse.SetupField.the-variants.{Lane}
 use Rattle.plan.proofs.Lists.{replicate-at}
 use Rattle.plan.proofs.Rest.{refused-read}
 use Rattle.plan.proofs.Sound.{Sound, sound-first, sound-after}
-use Rattle.sheet.specs.Form.{begin, step}
-use Rattle.sheet.specs.Judge.{verdict, fieldOf}
-use Rattle.sheet.specs.Read.{sheetFormat, noneSeen, blank, after-line, next, walk, readSheet}
+use Rattle.sheet.specs.Form.{newLine, lineStep}
+use Rattle.sheet.specs.Judge.{verdict, rowField}
+use Rattle.sheet.specs.Read.{sheetFormat, noneSeen, blank, sheetWalk, readSheet}
 use Rattle.sheet.specs.Text.{sheetFrom, sheetBytes}
-use Rattle.sheet.specs.Promises.{Accepted}
+use Rattle.sheet.specs.Promises.{AcceptedSheet}
 use Rattle.sheet.specs.declared.form.Part as part
 use Rattle.sheet.specs.declared.form.Part.the-variants as parts
 use Rattle.sheet.specs.declared.form.Line.{Line}
@@ -38,6 +38,7 @@ use Rattle.sheet.specs.declared.form.Step.{Step}
 use Rattle.sheet.specs.declared.form.Step.the-variants.{More, Whole, Wrong}
 use Rattle.sheet.specs.declared.judge.Verdict.{Verdict}
 use Rattle.sheet.specs.declared.judge.Verdict.the-variants.{Taken, Refused}
+use Rattle.sheet.proofs.Turn.{after-line, after-byte}
 use Rattle.sheet.proofs.Decimals.{append-assoc, append-nil}
 use Rattle.sheet.proofs.Steps.{soFar, lastBytes, bytesOf, rowBytes, Sane, sane-begin, Stepped, stepped, true-false}
 use Rattle.sheet.proofs.Rows.{Bare, is-taken, in-place}
@@ -46,20 +47,20 @@ use Rattle.sheet.proofs.Unshared.{stays}
 
 -- a lane that is taken, in the plan so far
 pub record Grown (seen : Seen) (gs : List Setting) (r : Row) : Type 0 where
-  pub sound : Sound (after seen (Lane (fieldOf r))) (placed sheetFormat 0 gs (Lane (fieldOf r)))
-  pub bare : Bare (after seen (Lane (fieldOf r)))
-  pub sheet : sheetBytes (placed sheetFormat 0 gs (Lane (fieldOf r))) ≡ sheetBytes gs ++ rowBytes r
+  pub sound : Sound (seenAfter seen (Lane (rowField r))) (placed sheetFormat 0 gs (Lane (rowField r)))
+  pub bare : Bare (seenAfter seen (Lane (rowField r)))
+  pub sheet : sheetBytes (placed sheetFormat 0 gs (Lane (rowField r))) ≡ sheetBytes gs ++ rowBytes r
 
 pub grows : (seen : Seen) (gs : List Setting) (r : Row) → Sound seen gs → Bare seen → verdict seen r ≡ Taken → Grown seen gs r
 grows seen gs r ok b e =
     let t = is-taken seen r e in
     record {
       sound =
-          subst (λ (v : ℕ). Sound (after seen (Lane (fieldOf r))) (placed v 0 gs (Lane (fieldOf r)))) (b .format)
-          (subst (λ (h : ℕ). Sound (after seen (Lane (fieldOf r))) (placed (seen .format) h gs (Lane (fieldOf r)))) (b .framing) (sound-after seen gs (Lane (fieldOf r)) ok (in-place seen r b t) (t .inside) (t .under)));
+          subst (λ (v : ℕ). Sound (seenAfter seen (Lane (rowField r))) (placed v 0 gs (Lane (rowField r)))) (b .format)
+          (subst (λ (h : ℕ). Sound (seenAfter seen (Lane (rowField r))) (placed (seen .format) h gs (Lane (rowField r)))) (b .framing) (sound-after seen gs (Lane (rowField r)) ok (in-place seen r b t) (t .inside) (t .under)));
       bare = record { begun = refl; format = b .format; framing = b .framing };
       sheet =
-          sheet-set (r .lane .value) gs (given sheetFormat 0 (fieldOf r)) (omega (arith, t .number, ok .size))
+          sheet-set (r .lane .value) gs (given sheetFormat 0 (rowField r)) (omega (arith, t .number, ok .size))
           (λ j h. ok .above j (omega (arith, ltb-false (r .lane .value) (seen .floor) (t .rising)))) (t .weight-low);
     }
 
@@ -87,7 +88,7 @@ module _ (v′ : ℕ) (gs′ : List Setting) (n p : ℕ) where
     pub some-lane : 1 ≤ n
 
   back-end : (seen : Seen) (gs : List Setting) (f : Line) (at : ℕ) (a c : Bool) → Sound seen gs → Bare seen → blank (f .part) (f .begun) ≡ a → ltb 0 (seen .count) ≡ c
-      → (if a && c then read sheetFormat gs (seen .count) at else refused 81 (some at)) ≡ read v′ gs′ n p → Back gs f at []
+      → (if a && c then setupRead sheetFormat gs (seen .count) at else setupRefused 81 (some at)) ≡ setupRead v′ gs′ n p → Back gs f at []
   back-end seen gs f at false c ok z x y h = refused-read h
   back-end seen gs f at true false ok z x y h = refused-read h
   back-end seen gs f at true true ok z x y h =
@@ -114,15 +115,15 @@ module _ (v′ : ℕ) (gs′ : List Setting) (n p : ℕ) where
       }
 
   module _ (seen : Seen) (gs : List Setting) (f : Line) (at b : ℕ) (bs : List ℕ) (ok : Sound seen gs) (bare : Bare seen)
-      (more : (seen₁ : Seen) (gs₁ : List Setting) (f₁ : Line) → Sound seen₁ gs₁ → Bare seen₁ → Sane f₁ (at + 1) → walk seen₁ gs₁ f₁ (at + 1) bs ≡ read v′ gs′ n p → Back gs₁ f₁ (at + 1) bs) where
-    abbrev go : Seen → List Setting → Line → Reply
-    go seen₁ gs₁ f₁ = walk seen₁ gs₁ f₁ (at + 1) bs
+      (more : (seen₁ : Seen) (gs₁ : List Setting) (f₁ : Line) → Sound seen₁ gs₁ → Bare seen₁ → Sane f₁ (at + 1) → sheetWalk seen₁ gs₁ f₁ (at + 1) bs ≡ setupRead v′ gs′ n p → Back gs₁ f₁ (at + 1) bs) where
+    abbrev go : Seen → List Setting → Line → SetupReply
+    go seen₁ gs₁ f₁ = sheetWalk seen₁ gs₁ f₁ (at + 1) bs
 
-    back-line : (r : Row) → bytesOf f ++ b ∷ [] ≡ rowBytes r → (v : Verdict) → verdict seen r ≡ v → after-line seen gs (at + 1) r v go ≡ read v′ gs′ n p → Back gs f at (b ∷ bs)
+    back-line : (r : Row) → bytesOf f ++ b ∷ [] ≡ rowBytes r → (v : Verdict) → verdict seen r ≡ v → after-line seen gs (at + 1) r v go ≡ setupRead v′ gs′ n p → Back gs f at (b ∷ bs)
     back-line r x (Refused y) e h = refused-read h
     back-line r x Taken e h =
         let g = grows seen gs r ok bare e in
-        let k = more (after seen (Lane (fieldOf r))) (placed sheetFormat 0 gs (Lane (fieldOf r))) (begin (at + 1)) (g .sound) (g .bare) (sane-begin (at + 1)) h in
+        let k = more (seenAfter seen (Lane (rowField r))) (placed sheetFormat 0 gs (Lane (rowField r))) (newLine (at + 1)) (g .sound) (g .bare) (sane-begin (at + 1)) h in
         record {
           bytes =
               ap (λ (l : List ℕ). sheetBytes gs ++ l) (add-byte f (rowBytes r) b bs x)
@@ -137,7 +138,7 @@ module _ (v′ : ℕ) (gs′ : List Setting) (n p : ℕ) where
           some-lane = k .some-lane;
         }
 
-    back-step : (s : Step) → Stepped f at b s → next seen gs at s go ≡ read v′ gs′ n p → Back gs f at (b ∷ bs)
+    back-step : (s : Step) → Stepped f at b s → after-byte seen gs at s go ≡ setupRead v′ gs′ n p → Back gs f at (b ∷ bs)
     back-step Wrong x h = refused-read h
     back-step (More g) x h =
         let k = more seen gs g ok bare (x .0) h in
@@ -152,11 +153,11 @@ module _ (v′ : ℕ) (gs′ : List Setting) (n p : ℕ) where
         }
     back-step (Whole r) x h = back-line r (x .1) (verdict seen r) refl h
 
-  pub back : (bs : List ℕ) (seen : Seen) (gs : List Setting) (f : Line) (at : ℕ) → Sound seen gs → Bare seen → Sane f at → walk seen gs f at bs ≡ read v′ gs′ n p → Back gs f at bs
-  unfolding walk
+  pub back : (bs : List ℕ) (seen : Seen) (gs : List Setting) (f : Line) (at : ℕ) → Sound seen gs → Bare seen → Sane f at → sheetWalk seen gs f at bs ≡ setupRead v′ gs′ n p → Back gs f at bs
+  unfolding sheetWalk
   back [] seen gs f at ok b sane h = back-end seen gs f at (blank (f .part) (f .begun)) (ltb 0 (seen .count)) ok b refl refl h
   back (b ∷ bs) seen gs f at ok bare sane h =
-      back-step seen gs f at b bs ok bare (λ seen₁ gs₁ f₁ ok₁ bare₁ sane₁ h₁. back bs seen₁ gs₁ f₁ (at + 1) ok₁ bare₁ sane₁ h₁) (step f at b) (stepped f at b sane) h
+      back-step seen gs f at b bs ok bare (λ seen₁ gs₁ f₁ ok₁ bare₁ sane₁ h₁. back bs seen₁ gs₁ f₁ (at + 1) ok₁ bare₁ sane₁ h₁) (lineStep f at b) (stepped f at b sane) h
 
 pub bare-none : Bare noneSeen
 bare-none = record { begun = refl; format = refl; framing = refl }
@@ -180,8 +181,8 @@ sound-none = record {
   last = λ o. true-false (sym o);
 }
 
-pub accepted-sheet : (s : List ℕ) (v : ℕ) (gs : List Setting) (n p : ℕ) → readSheet s ≡ read v gs n p → Accepted s v gs n p
+pub accepted-sheet : (s : List ℕ) (v : ℕ) (gs : List Setting) (n p : ℕ) → readSheet s ≡ setupRead v gs n p → AcceptedSheet s v gs n p
 unfolding readSheet sheetBytes sheetFrom
 accepted-sheet s v gs n p h =
-    let k = back v gs n p s noneSeen noLanes (begin 0) 0 sound-none bare-none (sane-begin 0) h in
-    record { format = k .format; same = sym (k .bytes); setup = k .setup; bare = k .bare; unshared = stays v gs n p s noneSeen noLanes (begin 0) 0 (λ i. ap (λ (g : Setting). g .shared) (replicate-at 64 i noSetting)) h; are-there = k .count; some-lane = k .some-lane; end = omega (arith, k .end) }
+    let k = back v gs n p s noneSeen noLanes (newLine 0) 0 sound-none bare-none (sane-begin 0) h in
+    record { format = k .format; same = sym (k .bytes); setup = k .setup; bare = k .bare; unshared = stays v gs n p s noneSeen noLanes (newLine 0) 0 (λ i. ap (λ (g : Setting). g .shared) (replicate-at 64 i noSetting)) h; are-there = k .count; some-lane = k .some-lane; end = omega (arith, k .end) }

@@ -17,17 +17,18 @@ use borrow.Author.Tests.{lt-ltb, ltb-false}
 use Rattle.units.specs.Plain.{if_then_else_}
 use Rattle.rules.specs.State.{Setting, noSetting, settingAt}
 use Rattle.rules.specs.Setup.{Setup, InNumbers, weights, framingOf}
-use Rattle.plan.specs.Judge.{given, after}
-use Rattle.plan.specs.Read.{read}
+use Rattle.plan.specs.Judge.{given, seenAfter}
+use Rattle.plan.specs.Read.{setupRead}
 use Rattle.plan.specs.Accepted.{there, present}
 use Rattle.plan.specs.declared.judge.Seen.{Seen}
 use Rattle.plan.specs.declared.parse.SetupField.the-variants.{Lane}
-use Rattle.sheet.specs.Form.{begin}
-use Rattle.sheet.specs.Judge.{fieldOf}
-use Rattle.sheet.specs.Read.{sheetFormat, noneSeen, after-line, walk, readSheet}
+use Rattle.sheet.specs.Form.{newLine}
+use Rattle.sheet.specs.Judge.{rowField}
+use Rattle.sheet.specs.Read.{sheetFormat, noneSeen, sheetWalk, readSheet}
 use Rattle.sheet.specs.Text.{lineBytes, laneLine, sheetFrom, sheetBytes}
 use Rattle.sheet.specs.declared.form.Row.{Row}
 use Rattle.sheet.specs.declared.judge.Verdict.{Verdict}
+use Rattle.sheet.proofs.Turn.{after-line}
 use Rattle.sheet.proofs.Decimals.{append-assoc}
 use Rattle.sheet.proofs.Rows.{passes}
 use Rattle.sheet.proofs.Sheets.{line-there}
@@ -43,7 +44,7 @@ snoc xs x ys = sym (append-assoc xs (x ∷ []) ys)
 -- what is to be shown of the lanes from k on
 abbrev Goes : List Setting → List Setting → Seen → ℕ → ℕ → Type 0
 Goes rest pre seen k at =
-    walk seen (pre ++ blanks rest) (begin at) at (sheetFrom k rest) ≡ read sheetFormat (pre ++ rest) (seen .count + present rest) (at + length (sheetFrom k rest))
+    sheetWalk seen (pre ++ blanks rest) (newLine at) at (sheetFrom k rest) ≡ setupRead sheetFormat (pre ++ rest) (seen .count + present rest) (at + length (sheetFrom k rest))
 
 -- what is known there
 record Ready (rest pre : List Setting) (seen : Seen) (k : ℕ) : Type 0 where
@@ -57,12 +58,12 @@ record Ready (rest pre : List Setting) (seen : Seen) (k : ℕ) : Type 0 where
   some-lane : 0 < seen .count + present rest
 
 goes-end : (pre : List Setting) (seen : Seen) (k at : ℕ) → Ready [] pre seen k → Goes [] pre seen k at
-unfolding walk sheetFrom
+unfolding sheetWalk sheetFrom
 goes-end pre seen k at h =
     let c : 0 < seen .count = omega (arith, h .some-lane) in
     let n : seen .count ≡ seen .count + 0 = omega arith in
     let p : at ≡ at + 0 = omega arith in
-    rw (lt-ltb 0 (seen .count) c) (ap (λ (m : ℕ). read sheetFormat (pre ++ []) m at) n ∙ ap (read sheetFormat (pre ++ []) (seen .count + 0)) p)
+    rw (lt-ltb 0 (seen .count) c) (ap (λ (m : ℕ). setupRead sheetFormat (pre ++ []) m at) n ∙ ap (setupRead sheetFormat (pre ++ []) (seen .count + 0)) p)
 
 module _ (g : Setting) (rest pre : List Setting) (seen : Seen) (k at : ℕ) (h : Ready (g ∷ rest) pre seen k) where
   size-next : length (pre ++ g ∷ []) ≡ suc k
@@ -85,13 +86,13 @@ module _ (g : Setting) (rest pre : List Setting) (seen : Seen) (k at : ℕ) (h :
         total = omega (arith, h .total);
         some-lane = omega (arith, h .some-lane, t);
       } in
-      ap (λ (x : List ℕ). walk seen (pre ++ noSetting ∷ blanks rest) (begin at) at x) bytes
-      ∙ ap (λ (x : Setting). walk seen (pre ++ x ∷ blanks rest) (begin at) at (sheetFrom (suc k) rest)) (sym e)
-      ∙ ap (λ (x : List Setting). walk seen x (begin at) at (sheetFrom (suc k) rest)) (snoc pre g (blanks rest))
+      ap (λ (x : List ℕ). sheetWalk seen (pre ++ noSetting ∷ blanks rest) (newLine at) at x) bytes
+      ∙ ap (λ (x : Setting). sheetWalk seen (pre ++ x ∷ blanks rest) (newLine at) at (sheetFrom (suc k) rest)) (sym e)
+      ∙ ap (λ (x : List Setting). sheetWalk seen x (newLine at) at (sheetFrom (suc k) rest)) (snoc pre g (blanks rest))
       ∙ more r
-      ∙ ap (λ (x : List Setting). read sheetFormat x (seen .count + present rest) (at + length (sheetFrom (suc k) rest))) (sym (snoc pre g rest))
-      ∙ ap (λ (x : ℕ). read sheetFormat (pre ++ g ∷ rest) x (at + length (sheetFrom (suc k) rest))) (omega (arith, t))
-      ∙ ap (λ (x : List ℕ). read sheetFormat (pre ++ g ∷ rest) (seen .count + present (g ∷ rest)) (at + length x)) (sym bytes)
+      ∙ ap (λ (x : List Setting). setupRead sheetFormat x (seen .count + present rest) (at + length (sheetFrom (suc k) rest))) (sym (snoc pre g rest))
+      ∙ ap (λ (x : ℕ). setupRead sheetFormat (pre ++ g ∷ rest) x (at + length (sheetFrom (suc k) rest))) (omega (arith, t))
+      ∙ ap (λ (x : List ℕ). setupRead sheetFormat (pre ++ g ∷ rest) (seen .count + present (g ∷ rest)) (at + length x)) (sym bytes)
 
   -- a lane that is there
   module _ (i : InNumbers g) where
@@ -99,7 +100,7 @@ module _ (g : Setting) (rest pre : List Setting) (seen : Seen) (k at : ℕ) (h :
     row = rowAt k (g .weight) (g .longest) at
 
     abbrev seen₁ : Seen
-    seen₁ = after seen (Lane (fieldOf row))
+    seen₁ = seenAfter seen (Lane (rowField row))
 
     abbrev at₁ : ℕ
     at₁ = place₃ k (g .weight) (g .longest) at
@@ -121,21 +122,21 @@ module _ (g : Setting) (rest pre : List Setting) (seen : Seen) (k at : ℕ) (h :
           some-lane = omega arith;
         } in
         let ok = passes seen row (omega arith) (i .weight-low) (i .weight-high) (i .longest-low) (i .longest-high) (h .floor) (omega (arith, h .total)) in
-        let own : given sheetFormat 0 (fieldOf row) ≡ g =
+        let own : given sheetFormat 0 (rowField row) ≡ g =
         ap (λ (n : ℕ). record { weight = g .weight; longest = g .longest; framing = n; shared = false }) (sym (h .bare 0))
         ∙ ap (λ (b : Bool). record { weight = g .weight; longest = g .longest; framing = g .framing; shared = b }) (sym (h .unshared 0)) in
         let count : seen₁ .count + present rest ≡ seen .count + present (g ∷ rest) = omega (arith, t) in
         let end : at₁ + length (sheetFrom (suc k) rest) ≡ at + length (sheetFrom k (g ∷ rest)) =
         omega (arith, length-line k (g .weight) (g .longest) at, ap length bytes, length-append (lineBytes k (g .weight) (g .longest)) (sheetFrom (suc k) rest)) in
-        ap (λ (x : List ℕ). walk seen (pre ++ noSetting ∷ blanks rest) (begin at) at x) bytes
+        ap (λ (x : List ℕ). sheetWalk seen (pre ++ noSetting ∷ blanks rest) (newLine at) at x) bytes
         ∙ line-walk k (g .weight) (g .longest) at seen (pre ++ noSetting ∷ blanks rest) (sheetFrom (suc k) rest) (omega arith) (omega (arith, i .weight-high)) (omega (arith, i .longest-high))
-        ∙ ap (λ (v : Verdict). after-line seen (pre ++ noSetting ∷ blanks rest) at₁ row v (λ seen₂ gs₂ f₂. walk seen₂ gs₂ f₂ at₁ (sheetFrom (suc k) rest))) ok
-        ∙ ap (λ (x : Setting). walk seen₁ (set (pre ++ noSetting ∷ blanks rest) k x) (begin at₁) at₁ (sheetFrom (suc k) rest)) own
-        ∙ ap (λ (x : List Setting). walk seen₁ x (begin at₁) at₁ (sheetFrom (suc k) rest)) (set-at pre noSetting (blanks rest) g k (h .size) ∙ snoc pre g (blanks rest))
+        ∙ ap (λ (v : Verdict). after-line seen (pre ++ noSetting ∷ blanks rest) at₁ row v (λ seen₂ gs₂ f₂. sheetWalk seen₂ gs₂ f₂ at₁ (sheetFrom (suc k) rest))) ok
+        ∙ ap (λ (x : Setting). sheetWalk seen₁ (set (pre ++ noSetting ∷ blanks rest) k x) (newLine at₁) at₁ (sheetFrom (suc k) rest)) own
+        ∙ ap (λ (x : List Setting). sheetWalk seen₁ x (newLine at₁) at₁ (sheetFrom (suc k) rest)) (set-at pre noSetting (blanks rest) g k (h .size) ∙ snoc pre g (blanks rest))
         ∙ more r
-        ∙ ap (λ (x : List Setting). read sheetFormat x (seen₁ .count + present rest) (at₁ + length (sheetFrom (suc k) rest))) (sym (snoc pre g rest))
-        ∙ ap (λ (x : ℕ). read sheetFormat (pre ++ g ∷ rest) x (at₁ + length (sheetFrom (suc k) rest))) count
-        ∙ ap (read sheetFormat (pre ++ g ∷ rest) (seen .count + present (g ∷ rest))) end
+        ∙ ap (λ (x : List Setting). setupRead sheetFormat x (seen₁ .count + present rest) (at₁ + length (sheetFrom (suc k) rest))) (sym (snoc pre g rest))
+        ∙ ap (λ (x : ℕ). setupRead sheetFormat (pre ++ g ∷ rest) x (at₁ + length (sheetFrom (suc k) rest))) count
+        ∙ ap (setupRead sheetFormat (pre ++ g ∷ rest) (seen .count + present (g ∷ rest))) end
 
 forth : (rest pre : List Setting) (seen : Seen) (k at : ℕ) → Ready rest pre seen k → Goes rest pre seen k at
 forth [] pre seen k at h = goes-end pre seen k at h
@@ -158,10 +159,10 @@ some-there (g ∷ gs) h = go (ltb 0 (g .weight)) refl (some-there gs)
 all-bare : (gs : List Setting) → Setup gs → framingOf gs ≡ 0 → (k : ℕ) → (settingAt gs k) .framing ≡ 0
 all-bare gs s none k = ⊎-elim (λ i. s .framed k (i .weight-low) ∙ none) (λ e. ap (λ (g : Setting). g .framing) e) (s .each k)
 
-pub written-read : (gs : List Setting) → Setup gs → framingOf gs ≡ 0 → Unshared gs → readSheet (sheetBytes gs) ≡ read sheetFormat gs (present gs) (length (sheetBytes gs))
+pub written-read : (gs : List Setting) → Setup gs → framingOf gs ≡ 0 → Unshared gs → readSheet (sheetBytes gs) ≡ setupRead sheetFormat gs (present gs) (length (sheetBytes gs))
 unfolding readSheet sheetBytes
 written-read gs s none un =
-    ap (λ (n : ℕ). walk noneSeen (replicate n noSetting) (begin 0) 0 (sheetFrom 0 gs)) (sym (s .size))
+    ap (λ (n : ℕ). sheetWalk noneSeen (replicate n noSetting) (newLine 0) 0 (sheetFrom 0 gs)) (sym (s .size))
     ∙ forth gs [] noneSeen 0 0 (record {
       size = refl;
       whole = omega (arith, s .size);
@@ -172,5 +173,5 @@ written-read gs s none un =
       total = omega (arith, s .total);
       some-lane = omega (arith, some-there gs (s .some-lane));
     })
-    ∙ ap (λ (n : ℕ). read sheetFormat gs n (0 + length (sheetFrom 0 gs))) (omega arith)
-    ∙ ap (read sheetFormat gs (present gs)) (omega arith)
+    ∙ ap (λ (n : ℕ). setupRead sheetFormat gs n (0 + length (sheetFrom 0 gs))) (omega arith)
+    ∙ ap (setupRead sheetFormat gs (present gs)) (omega arith)

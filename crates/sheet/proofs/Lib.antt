@@ -1,5 +1,6 @@
 pub mod Decimals
 pub mod Steps
+pub mod Turn
 pub mod Answers
 pub mod Rows
 pub mod Sheets

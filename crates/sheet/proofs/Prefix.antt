@@ -15,13 +15,13 @@ use lib.ListN.{length}
 use Rattle.units.specs.Plain.{if_then_else_}
 use Rattle.rules.specs.State.{Setting}
 use Rattle.rules.specs.Reads.{number}
-use Rattle.plan.specs.Judge.{after}
-use Rattle.plan.specs.Read.{Reply, read, refused, noLanes, placed}
+use Rattle.plan.specs.Judge.{seenAfter}
+use Rattle.plan.specs.Read.{SetupReply, setupRead, setupRefused, noLanes, placed}
 use Rattle.plan.specs.declared.judge.Seen.{Seen}
 use Rattle.plan.specs.declared.parse.SetupField.the-variants.{Lane}
-use Rattle.sheet.specs.Form.{begin, step}
-use Rattle.sheet.specs.Judge.{verdict, fieldOf}
-use Rattle.sheet.specs.Read.{sheetFormat, noneSeen, blank, after-line, next, walk, readSheet}
+use Rattle.sheet.specs.Form.{newLine, lineStep}
+use Rattle.sheet.specs.Judge.{verdict, rowField}
+use Rattle.sheet.specs.Read.{sheetFormat, noneSeen, blank, sheetWalk, readSheet}
 use Rattle.sheet.specs.Text.{Begins}
 use Rattle.sheet.specs.Promises.{WrongByte, Unfinished}
 use Rattle.sheet.specs.declared.form.Line.{Line}
@@ -30,6 +30,7 @@ use Rattle.sheet.specs.declared.form.Step.{Step}
 use Rattle.sheet.specs.declared.form.Step.the-variants.{More, Whole, Wrong}
 use Rattle.sheet.specs.declared.judge.Verdict.{Verdict}
 use Rattle.sheet.specs.declared.judge.Verdict.the-variants.{Taken, Refused}
+use Rattle.sheet.proofs.Turn.{after-line, after-byte}
 use Rattle.sheet.proofs.Decimals.{append-nil}
 use Rattle.sheet.proofs.Steps.{bytesOf, rowBytes, Sane, SaneRow, sane-begin, Stepped, stepped, true-false}
 use Rattle.sheet.proofs.Back.{add-byte}
@@ -47,16 +48,16 @@ pub record Wronged (seen : Seen) (gs : List Setting) (f : Line) (at p : ℕ) (bs
   pub is : front ++ byte ∷ back ≡ bs
   pub place : p ≡ at + length front
   pub begins : Begins (bytesOf f ++ front)
-  pub always : (t : List ℕ) → walk seen gs f at (front ++ byte ∷ t) ≡ refused 80 (some p)
+  pub always : (t : List ℕ) → sheetWalk seen gs f at (front ++ byte ∷ t) ≡ setupRefused 80 (some p)
 
 module _ (p : ℕ) where
   module _ (seen : Seen) (gs : List Setting) (f : Line) (at b : ℕ) (bs : List ℕ) (sane : Sane f at)
-      (more : (seen₁ : Seen) (gs₁ : List Setting) (f₁ : Line) → Sane f₁ (at + 1) → walk seen₁ gs₁ f₁ (at + 1) bs ≡ refused 80 (some p) → Wronged seen₁ gs₁ f₁ (at + 1) p bs) where
-    abbrev go : Seen → List Setting → Line → Reply
-    go seen₁ gs₁ f₁ = walk seen₁ gs₁ f₁ (at + 1) bs
+      (more : (seen₁ : Seen) (gs₁ : List Setting) (f₁ : Line) → Sane f₁ (at + 1) → sheetWalk seen₁ gs₁ f₁ (at + 1) bs ≡ setupRefused 80 (some p) → Wronged seen₁ gs₁ f₁ (at + 1) p bs) where
+    abbrev go : Seen → List Setting → Line → SetupReply
+    go seen₁ gs₁ f₁ = sheetWalk seen₁ gs₁ f₁ (at + 1) bs
 
-    module _ (s : Step) (e : step f at b ≡ s) (seen₁ : Seen) (gs₁ : List Setting) (f₁ : Line)
-        (same : (t : List ℕ) → next seen gs at s (λ seen₂ gs₂ f₂. walk seen₂ gs₂ f₂ (at + 1) t) ≡ walk seen₁ gs₁ f₁ (at + 1) t)
+    module _ (s : Step) (e : lineStep f at b ≡ s) (seen₁ : Seen) (gs₁ : List Setting) (f₁ : Line)
+        (same : (t : List ℕ) → after-byte seen gs at s (λ seen₂ gs₂ f₂. sheetWalk seen₂ gs₂ f₂ (at + 1) t) ≡ sheetWalk seen₁ gs₁ f₁ (at + 1) t)
         (x : List ℕ) (begun : Begins x) (w : Wronged seen₁ gs₁ f₁ (at + 1) p bs) (y : bytesOf f ++ b ∷ w .front ≡ x) where
       wronged-on : Wronged seen gs f at p (b ∷ bs)
       wronged-on = record {
@@ -69,16 +70,16 @@ module _ (p : ℕ) where
         always = λ t. walk-byte seen gs f at b (w .front ++ w .byte ∷ t) s (sym e) ∙ same (w .front ++ w .byte ∷ t) ∙ w .always t;
       }
 
-    wronged-line : (r : Row) → step f at b ≡ Whole r → SaneRow r at → bytesOf f ++ b ∷ [] ≡ rowBytes r → (v : Verdict) → verdict seen r ≡ v → Judged at v
-        → after-line seen gs (at + 1) r v go ≡ refused 80 (some p) → Wronged seen gs f at p (b ∷ bs)
+    wronged-line : (r : Row) → lineStep f at b ≡ Whole r → SaneRow r at → bytesOf f ++ b ∷ [] ≡ rowBytes r → (v : Verdict) → verdict seen r ≡ v → Judged at v
+        → after-line seen gs (at + 1) r v go ≡ setupRefused 80 (some p) → Wronged seen gs f at p (b ∷ bs)
     wronged-line r e s x (Refused y) d j h = true-false (sym (line-not (number y) 80 (j .listed) cc))
     wronged-line r e s x Taken d j h =
-        let w = more (after seen (Lane (fieldOf r))) (placed sheetFormat 0 gs (Lane (fieldOf r))) (begin (at + 1)) (sane-begin (at + 1)) h in
-        wronged-on (Whole r) e (after seen (Lane (fieldOf r))) (placed sheetFormat 0 gs (Lane (fieldOf r))) (begin (at + 1))
-        (λ t. ap (λ (v : Verdict). after-line seen gs (at + 1) r v (λ seen₂ gs₂ f₂. walk seen₂ gs₂ f₂ (at + 1) t)) d)
+        let w = more (seenAfter seen (Lane (rowField r))) (placed sheetFormat 0 gs (Lane (rowField r))) (newLine (at + 1)) (sane-begin (at + 1)) h in
+        wronged-on (Whole r) e (seenAfter seen (Lane (rowField r))) (placed sheetFormat 0 gs (Lane (rowField r))) (newLine (at + 1))
+        (λ t. ap (λ (v : Verdict). after-line seen gs (at + 1) r v (λ seen₂ gs₂ f₂. sheetWalk seen₂ gs₂ f₂ (at + 1) t)) d)
         (rowBytes r ++ w .front) (begins-behind r at (w .front) s (w .begins)) w (add-byte f (rowBytes r) b (w .front) x)
 
-    wronged-step : (s : Step) → step f at b ≡ s → Stepped f at b s → next seen gs at s go ≡ refused 80 (some p) → Wronged seen gs f at p (b ∷ bs)
+    wronged-step : (s : Step) → lineStep f at b ≡ s → Stepped f at b s → after-byte seen gs at s go ≡ setupRefused 80 (some p) → Wronged seen gs f at p (b ∷ bs)
     wronged-step Wrong e x h =
         let q : at ≡ p = cc in
         record {
@@ -88,22 +89,22 @@ module _ (p : ℕ) where
           is = refl;
           place = omega arith;
           begins = subst Begins (sym (append-nil (bytesOf f))) (begins-line f at sane);
-          always = λ t. walk-byte seen gs f at b t Wrong (sym e) ∙ ap (λ (k : ℕ). refused 80 (some k)) q;
+          always = λ t. walk-byte seen gs f at b t Wrong (sym e) ∙ ap (λ (k : ℕ). setupRefused 80 (some k)) q;
         }
     wronged-step (More g) e x h =
         let w = more seen gs g (x .0) h in
         wronged-on (More g) e seen gs g (λ t. refl) (bytesOf g ++ w .front) (w .begins) w (add-byte f (bytesOf g) b (w .front) (x .1))
     wronged-step (Whole r) e x h = wronged-line r e (x .0) (x .1) (verdict seen r) refl (judged-fault seen r at (x .0)) h
 
-  not-80 : {A : Type 0} (seen : Seen) (gs : List Setting) (at : ℕ) (c : Bool) → (if c then read sheetFormat gs (seen .count) at else refused 81 (some at)) ≡ refused 80 (some p) → A
+  not-80 : {A : Type 0} (seen : Seen) (gs : List Setting) (at : ℕ) (c : Bool) → (if c then setupRead sheetFormat gs (seen .count) at else setupRefused 81 (some at)) ≡ setupRefused 80 (some p) → A
   not-80 seen gs at true h = read-refused h
   not-80 seen gs at false h = absurd (let z : _≡_ {A = ℕ} 81 80 = cc in omega arith)
 
-  wronged : (bs : List ℕ) (seen : Seen) (gs : List Setting) (f : Line) (at : ℕ) → Sane f at → walk seen gs f at bs ≡ refused 80 (some p) → Wronged seen gs f at p bs
-  unfolding walk
+  wronged : (bs : List ℕ) (seen : Seen) (gs : List Setting) (f : Line) (at : ℕ) → Sane f at → sheetWalk seen gs f at bs ≡ setupRefused 80 (some p) → Wronged seen gs f at p bs
+  unfolding sheetWalk
   wronged [] seen gs f at sane h = not-80 seen gs at (blank (f .part) (f .begun) && ltb 0 (seen .count)) h
   wronged (b ∷ bs) seen gs f at sane h =
-      wronged-step seen gs f at b bs sane (λ seen₁ gs₁ f₁ sane₁ h₁. wronged bs seen₁ gs₁ f₁ (at + 1) sane₁ h₁) (step f at b) refl (stepped f at b sane) h
+      wronged-step seen gs f at b bs sane (λ seen₁ gs₁ f₁ sane₁ h₁. wronged bs seen₁ gs₁ f₁ (at + 1) sane₁ h₁) (lineStep f at b) refl (stepped f at b sane) h
 
 -- ---- the walk to a refusal 81
 
@@ -112,36 +113,36 @@ module _ (p : ℕ) where
   Cut f at bs = (p ≡ at + length bs) × Begins (bytesOf f ++ bs)
 
   module _ (seen : Seen) (gs : List Setting) (f : Line) (at b : ℕ) (bs : List ℕ)
-      (more : (seen₁ : Seen) (gs₁ : List Setting) (f₁ : Line) → Sane f₁ (at + 1) → walk seen₁ gs₁ f₁ (at + 1) bs ≡ refused 81 (some p) → Cut f₁ (at + 1) bs) where
-    abbrev onward : Seen → List Setting → Line → Reply
-    onward seen₁ gs₁ f₁ = walk seen₁ gs₁ f₁ (at + 1) bs
+      (more : (seen₁ : Seen) (gs₁ : List Setting) (f₁ : Line) → Sane f₁ (at + 1) → sheetWalk seen₁ gs₁ f₁ (at + 1) bs ≡ setupRefused 81 (some p) → Cut f₁ (at + 1) bs) where
+    abbrev onward : Seen → List Setting → Line → SetupReply
+    onward seen₁ gs₁ f₁ = sheetWalk seen₁ gs₁ f₁ (at + 1) bs
 
-    cut-line : (r : Row) → SaneRow r at → bytesOf f ++ b ∷ [] ≡ rowBytes r → (v : Verdict) → Judged at v → after-line seen gs (at + 1) r v onward ≡ refused 81 (some p) → Cut f at (b ∷ bs)
+    cut-line : (r : Row) → SaneRow r at → bytesOf f ++ b ∷ [] ≡ rowBytes r → (v : Verdict) → Judged at v → after-line seen gs (at + 1) r v onward ≡ setupRefused 81 (some p) → Cut f at (b ∷ bs)
     cut-line r s x (Refused y) j h = true-false (sym (line-not (number y) 81 (j .listed) cc))
     cut-line r s x Taken j h =
-        let w = more (after seen (Lane (fieldOf r))) (placed sheetFormat 0 gs (Lane (fieldOf r))) (begin (at + 1)) (sane-begin (at + 1)) h in
+        let w = more (seenAfter seen (Lane (rowField r))) (placed sheetFormat 0 gs (Lane (rowField r))) (newLine (at + 1)) (sane-begin (at + 1)) h in
         (omega (arith, w .0), subst Begins (sym (add-byte f (rowBytes r) b bs x)) (begins-behind r at bs s (w .1)))
 
-    cut-step : (s : Step) → Stepped f at b s → next seen gs at s onward ≡ refused 81 (some p) → Cut f at (b ∷ bs)
+    cut-step : (s : Step) → Stepped f at b s → after-byte seen gs at s onward ≡ setupRefused 81 (some p) → Cut f at (b ∷ bs)
     cut-step Wrong x h = absurd (let z : _≡_ {A = ℕ} 80 81 = cc in omega arith)
     cut-step (More g) x h = let w = more seen gs g (x .0) h in (omega (arith, w .0), subst Begins (sym (add-byte f (bytesOf g) b bs (x .1))) (w .1))
     cut-step (Whole r) x h = cut-line r (x .0) (x .1) (verdict seen r) (judged-fault seen r at (x .0)) h
 
-  cut-end : (seen : Seen) (gs : List Setting) (f : Line) (at : ℕ) → Sane f at → (c : Bool) → (if c then read sheetFormat gs (seen .count) at else refused 81 (some at)) ≡ refused 81 (some p) → Cut f at []
+  cut-end : (seen : Seen) (gs : List Setting) (f : Line) (at : ℕ) → Sane f at → (c : Bool) → (if c then setupRead sheetFormat gs (seen .count) at else setupRefused 81 (some at)) ≡ setupRefused 81 (some p) → Cut f at []
   cut-end seen gs f at sane true h = read-refused h
   cut-end seen gs f at sane false h = let q : at ≡ p = cc in (omega arith, subst Begins (sym (append-nil (bytesOf f))) (begins-line f at sane))
 
-  cut : (bs : List ℕ) (seen : Seen) (gs : List Setting) (f : Line) (at : ℕ) → Sane f at → walk seen gs f at bs ≡ refused 81 (some p) → Cut f at bs
-  unfolding walk
+  cut : (bs : List ℕ) (seen : Seen) (gs : List Setting) (f : Line) (at : ℕ) → Sane f at → sheetWalk seen gs f at bs ≡ setupRefused 81 (some p) → Cut f at bs
+  unfolding sheetWalk
   cut [] seen gs f at sane h = cut-end seen gs f at sane (blank (f .part) (f .begun) && ltb 0 (seen .count)) h
-  cut (b ∷ bs) seen gs f at sane h = cut-step seen gs f at b bs (λ seen₁ gs₁ f₁ sane₁ h₁. cut bs seen₁ gs₁ f₁ (at + 1) sane₁ h₁) (step f at b) (stepped f at b sane) h
+  cut (b ∷ bs) seen gs f at sane h = cut-step seen gs f at b bs (λ seen₁ gs₁ f₁ sane₁ h₁. cut bs seen₁ gs₁ f₁ (at + 1) sane₁ h₁) (lineStep f at b) (stepped f at b sane) h
 
 -- ---- the theorems
 
-pub wrong-byte : (s : List ℕ) (p : ℕ) → readSheet s ≡ refused 80 (some p) → WrongByte s p
+pub wrong-byte : (s : List ℕ) (p : ℕ) → readSheet s ≡ setupRefused 80 (some p) → WrongByte s p
 unfolding readSheet
 wrong-byte s p h =
-    let w = wronged p s noneSeen noLanes (begin 0) 0 (sane-begin 0) h in
+    let w = wronged p s noneSeen noLanes (newLine 0) 0 (sane-begin 0) h in
     record {
       front = w .front;
       byte = w .byte;
@@ -152,8 +153,8 @@ wrong-byte s p h =
       none = λ t f. never-formed 80 (some p) refl (w .front ++ w .byte ∷ t) f (w .always t);
     }
 
-pub cut-short : (s : List ℕ) (p : ℕ) → readSheet s ≡ refused 81 (some p) → Unfinished s p
+pub cut-short : (s : List ℕ) (p : ℕ) → readSheet s ≡ setupRefused 81 (some p) → Unfinished s p
 unfolding readSheet
 cut-short s p h =
-    let w = cut p s noneSeen noLanes (begin 0) 0 (sane-begin 0) h in
+    let w = cut p s noneSeen noLanes (newLine 0) 0 (sane-begin 0) h in
     record { place = omega (arith, w .0); begins = w .1; none = λ f. never-formed 81 (some p) refl s f h }

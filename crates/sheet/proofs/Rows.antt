@@ -19,7 +19,7 @@ use Rattle.plan.specs.Judge.{lastLane, within, misplaced, laneOutside, over}
 use Rattle.plan.specs.declared.judge.Fault.the-variants.{NoFault, BadLane, BadWeight, BadLongest, TotalOver}
 use Rattle.plan.specs.declared.judge.Seen.{Seen}
 use Rattle.plan.specs.declared.parse.SetupField.the-variants.{Lane}
-use Rattle.sheet.specs.Judge.{told, verdict, fieldOf}
+use Rattle.sheet.specs.Judge.{told, verdict, rowField}
 use Rattle.sheet.specs.Read.{sheetFormat}
 use Rattle.sheet.specs.declared.form.Row.{Row}
 use Rattle.sheet.specs.declared.judge.Verdict.{Verdict}
@@ -39,9 +39,9 @@ pub record TakenRow (seen : Seen) (r : Row) : Type 0 where
   pub weight-low : 1 ≤ r .weight .value
   pub weight-high : r .weight .value ≤ 1024
   pub longest-high : r .longest .value ≤ 1500
-  pub inside : laneOutside (fieldOf r) ≡ NoFault
+  pub inside : laneOutside (rowField r) ≡ NoFault
   pub rising : ltb (r .lane .value) (seen .floor) ≡ false
-  pub under : over seen (Lane (fieldOf r)) ≡ NoFault
+  pub under : over seen (Lane (rowField r)) ≡ NoFault
 
 module _ (seen : Seen) (r : Row) where
   abbrev number : Bool
@@ -88,7 +88,7 @@ module _ (seen : Seen) (r : Row) where
   unfolding verdict laneOutside
   is-taken h = tests number weight longest falls heavy refl refl refl refl refl h
 
-  pub in-place : Bare seen → TakenRow seen r → misplaced seen (Lane (fieldOf r)) ≡ false
+  pub in-place : Bare seen → TakenRow seen r → misplaced seen (Lane (rowField r)) ≡ false
   in-place b t = rw (b .begun, t .rising)
 
   -- the later tests may be unknown

@@ -14,7 +14,7 @@ use lib.Dec.{leb, ltb, eqb}
 use borrow.Author.Tests.{leb-true, ltb-true, eqb-true}
 use Rattle.units.specs.Plain.{if_then_else_}
 use Rattle.text.specs.Decimal.{decimal}
-use Rattle.sheet.specs.Form.{digit, extends, stop, unread, begin, grown, closed, step}
+use Rattle.sheet.specs.Form.{digit, extends, stop, noDigits, newLine, grown, numberClosed, lineStep}
 use Rattle.sheet.specs.Text.{lineBytes}
 use Rattle.sheet.specs.declared.form.Part.{Part}
 use Rattle.sheet.specs.declared.form.Part.the-variants.{Lane, Weight, Longest}
@@ -64,7 +64,7 @@ pub record SaneRow (r : Row) (at : ℕ) : Type 0 where
   pub weight-behind : r .weight .place ≤ at
   pub longest-behind : r .longest .place ≤ at
 
-pub sane-begin : (at : ℕ) → Sane (begin at) at
+pub sane-begin : (at : ℕ) → Sane (newLine at) at
 sane-begin at = record {
   lane = omega arith;
   weight = omega arith;
@@ -127,7 +127,7 @@ module _ (f : Line) (at b : ℕ) (sane : Sane f at) where
 
   -- the byte that ends a number
   unread-sane : (p : Part) (a w : Figure) → a .value < 100000 → w .value < 100000 → a .place ≤ at → w .place ≤ at
-      → Sane (record { part = p; lane = a; weight = w; begun = false; last = unread (at + 1) }) (at + 1)
+      → Sane (record { part = p; lane = a; weight = w; begun = false; last = noDigits (at + 1) }) (at + 1)
   unread-sane p a w h₁ h₂ h₃ h₄ = record {
     lane = h₁;
     weight = h₂;
@@ -146,7 +146,7 @@ module _ (f : Line) (at b : ℕ) (sane : Sane f at) where
   Closed p (Whole r) = SaneRow r at × (before p ++ b ∷ [] ≡ rowBytes r)
   Closed p Wrong = Unit
 
-  closes : (p : Part) → b ≡ stop p → Closed p (closed p f (at + 1))
+  closes : (p : Part) → b ≡ stop p → Closed p (numberClosed p f (at + 1))
   closes Lane e = (
     unread-sane Weight (f .last) (f .weight) (sane .last) (sane .weight) (sane .last-behind) (sane .weight-behind),
     ap (λ (x : ℕ). decimal v ++ x ∷ []) e,
@@ -167,8 +167,8 @@ module _ (f : Line) (at b : ℕ) (sane : Sane f at) where
     soFar-append Longest (f .lane .value) (f .weight .value) (decimal v) (b ∷ []) ∙ ap (λ (x : ℕ). soFar Longest (f .lane .value) (f .weight .value) (decimal v ++ x ∷ [])) e,
   )
 
-  stepped-closed : f .begun ≡ true → b ≡ stop (f .part) → Stepped f at b (closed (f .part) f (at + 1))
-  stepped-closed h e = moved (closed (f .part) f (at + 1)) (closes (f .part) e)
+  stepped-closed : f .begun ≡ true → b ≡ stop (f .part) → Stepped f at b (numberClosed (f .part) f (at + 1))
+  stepped-closed h e = moved (numberClosed (f .part) f (at + 1)) (closes (f .part) e)
     where
       same : bytesOf f ++ b ∷ [] ≡ before (f .part) ++ b ∷ []
       same = ap (λ (t : Bool). soFar (f .part) (f .lane .value) (f .weight .value) (lastBytes t v) ++ b ∷ []) h
@@ -178,12 +178,12 @@ module _ (f : Line) (at b : ℕ) (sane : Sane f at) where
       moved (Whole r) x = (x .0, same ∙ x .1)
       moved Wrong x = x
 
-  pub stepped : Stepped f at b (step f at b)
-  unfolding step
+  pub stepped : Stepped f at b (lineStep f at b)
+  unfolding lineStep
   stepped = go (digit b) (extends (f .begun) v) (f .begun && eqb b (stop (f .part))) refl refl refl
     where
       go : (d o e : Bool) → digit b ≡ d → extends (f .begun) v ≡ o → (f .begun && eqb b (stop (f .part))) ≡ e
-          → Stepped f at b (if d then (if o then More (grown f b) else Wrong) else (if e then closed (f .part) f (at + 1) else Wrong))
+          → Stepped f at b (if d then (if o then More (grown f b) else Wrong) else (if e then numberClosed (f .part) f (at + 1) else Wrong))
       go true true e p q r = stepped-digit p q
       go true false e p q r = tt
       go false o true p q r =

@@ -18,20 +18,21 @@ use Rattle.units.specs.Plain.{if_then_else_}
 use Rattle.rules.specs.State.{Setting}
 use Rattle.rules.specs.Reads.{number, placeOf}
 use Rattle.rules.specs.declared.Refusal.{Refusal}
-use Rattle.plan.specs.Judge.{after}
-use Rattle.plan.specs.Read.{Reply, read, refused, noLanes, placed}
+use Rattle.plan.specs.Judge.{seenAfter}
+use Rattle.plan.specs.Read.{SetupReply, setupRead, setupRefused, noLanes, placed}
 use Rattle.plan.specs.declared.judge.Seen.{Seen}
 use Rattle.plan.specs.declared.parse.SetupField.the-variants.{Lane}
 use Rattle.plan.proofs.Sound.{Sound}
-use Rattle.sheet.specs.Form.{begin, step}
-use Rattle.sheet.specs.Judge.{verdict, fieldOf}
-use Rattle.sheet.specs.Read.{sheetFormat, noneSeen, blank, after-line, next, walk, readSheet}
+use Rattle.sheet.specs.Form.{newLine, lineStep}
+use Rattle.sheet.specs.Judge.{verdict, rowField}
+use Rattle.sheet.specs.Read.{sheetFormat, noneSeen, blank, sheetWalk, readSheet}
 use Rattle.sheet.specs.declared.form.Line.{Line}
 use Rattle.sheet.specs.declared.form.Row.{Row}
 use Rattle.sheet.specs.declared.form.Step.{Step}
 use Rattle.sheet.specs.declared.form.Step.the-variants.{More, Whole, Wrong}
 use Rattle.sheet.specs.declared.judge.Verdict.{Verdict}
 use Rattle.sheet.specs.declared.judge.Verdict.the-variants.{Taken, Refused}
+use Rattle.sheet.proofs.Turn.{after-line, after-byte}
 use Rattle.sheet.proofs.Steps.{Sane, SaneRow, sane-begin, Stepped, stepped}
 use Rattle.sheet.proofs.Rows.{Bare}
 use Rattle.sheet.proofs.Back.{grows, bare-none, sound-none}
@@ -42,9 +43,9 @@ pub record Standing (s : List ℕ) (seen : Seen) (gs : List Setting) (f : Line) 
   pub bare : Bare seen
   pub sane : Sane f i
   pub low : i ≤ length s
-  pub same : walk seen gs f i (drop i s) ≡ readSheet s
+  pub same : sheetWalk seen gs f i (drop i s) ≡ readSheet s
 
-pub stand-first : (s : List ℕ) → Standing s noneSeen noLanes (begin 0) 0
+pub stand-first : (s : List ℕ) → Standing s noneSeen noLanes (newLine 0) 0
 unfolding readSheet
 stand-first s = record { sound = sound-none; bare = bare-none; sane = sane-begin 0; low = omega arith; same = refl }
 
@@ -53,35 +54,35 @@ module _ (s : List ℕ) (seen : Seen) (gs : List Setting) (f : Line) (i : ℕ) (
   count-low = omega (arith, st .sound .count, st .sound .floor)
 
   module _ (h : i < length s) where
-    abbrev go : Seen → List Setting → Line → Reply
-    go seen₁ gs₁ f₁ = walk seen₁ gs₁ f₁ (i + 1) (drop (i + 1) s)
+    abbrev go : Seen → List Setting → Line → SetupReply
+    go seen₁ gs₁ f₁ = sheetWalk seen₁ gs₁ f₁ (i + 1) (drop (i + 1) s)
 
     split : drop i s ≡ getD s i 0 ∷ drop (i + 1) s
     split = let e : suc i ≡ i + 1 = omega arith in drop-cons s i 0 h ∙ ap (λ (k : ℕ). getD s i 0 ∷ drop k s) e
 
-    here : (x : Step) → step f i (getD s i 0) ≡ x → next seen gs i x go ≡ readSheet s
-    here x e = sym (ap (walk seen gs f i) split ∙ walk-byte seen gs f i (getD s i 0) (drop (i + 1) s) x (sym e)) ∙ st .same
+    here : (x : Step) → lineStep f i (getD s i 0) ≡ x → after-byte seen gs i x go ≡ readSheet s
+    here x e = sym (ap (sheetWalk seen gs f i) split ∙ walk-byte seen gs f i (getD s i 0) (drop (i + 1) s) x (sym e)) ∙ st .same
 
-    did : (x : Step) → step f i (getD s i 0) ≡ x → Stepped f i (getD s i 0) x
+    did : (x : Step) → lineStep f i (getD s i 0) ≡ x → Stepped f i (getD s i 0) x
     did x e = subst (Stepped f i (getD s i 0)) e (stepped f i (getD s i 0) (st .sane))
 
-    pub stand-wrong : step f i (getD s i 0) ≡ Wrong → refused 80 (some i) ≡ readSheet s
+    pub stand-wrong : lineStep f i (getD s i 0) ≡ Wrong → setupRefused 80 (some i) ≡ readSheet s
     stand-wrong e = here Wrong e
 
-    pub stand-more : (g : Line) → step f i (getD s i 0) ≡ More g → Standing s seen gs g (i + 1)
+    pub stand-more : (g : Line) → lineStep f i (getD s i 0) ≡ More g → Standing s seen gs g (i + 1)
     stand-more g e = record { sound = st .sound; bare = st .bare; sane = did (More g) e .0; low = omega arith; same = here (More g) e }
 
-    module _ (r : Row) (e : step f i (getD s i 0) ≡ Whole r) where
+    module _ (r : Row) (e : lineStep f i (getD s i 0) ≡ Whole r) where
       pub row-sane : SaneRow r i
       row-sane = did (Whole r) e .0
 
       judged : (v : Verdict) → verdict seen r ≡ v → after-line seen gs (i + 1) r v go ≡ readSheet s
       judged v j = sym (ap (λ (w : Verdict). after-line seen gs (i + 1) r w go) j) ∙ here (Whole r) e
 
-      pub stand-refused : (x : Refusal) → verdict seen r ≡ Refused x → refused (number x) (placeOf x) ≡ readSheet s
+      pub stand-refused : (x : Refusal) → verdict seen r ≡ Refused x → setupRefused (number x) (placeOf x) ≡ readSheet s
       stand-refused x j = judged (Refused x) j
 
-      pub stand-taken : verdict seen r ≡ Taken → Standing s (after seen (Lane (fieldOf r))) (placed sheetFormat 0 gs (Lane (fieldOf r))) (begin (i + 1)) (i + 1)
+      pub stand-taken : verdict seen r ≡ Taken → Standing s (seenAfter seen (Lane (rowField r))) (placed sheetFormat 0 gs (Lane (rowField r))) (newLine (i + 1)) (i + 1)
       stand-taken j = record {
         sound = grows seen gs r (st .sound) (st .bare) j .sound;
         bare = grows seen gs r (st .sound) (st .bare) j .bare;
@@ -91,18 +92,18 @@ module _ (s : List ℕ) (seen : Seen) (gs : List Setting) (f : Line) (i : ℕ) (
       }
 
   module _ (h : length s ≤ i) where
-    at-end : (if blank (f .part) (f .begun) && ltb 0 (seen .count) then read sheetFormat gs (seen .count) i else refused 81 (some i)) ≡ readSheet s
-    unfolding walk
-    at-end = sym (ap (walk seen gs f i) (drop-of-length-le s h)) ∙ st .same
+    at-end : (if blank (f .part) (f .begun) && ltb 0 (seen .count) then setupRead sheetFormat gs (seen .count) i else setupRefused 81 (some i)) ≡ readSheet s
+    unfolding sheetWalk
+    at-end = sym (ap (sheetWalk seen gs f i) (drop-of-length-le s h)) ∙ st .same
 
-    pub stand-read : blank (f .part) (f .begun) ≡ true → ltb 0 (seen .count) ≡ true → read sheetFormat gs (seen .count) i ≡ readSheet s
+    pub stand-read : blank (f .part) (f .begun) ≡ true → ltb 0 (seen .count) ≡ true → setupRead sheetFormat gs (seen .count) i ≡ readSheet s
     stand-read a b = rw (← at-end, a, b)
 
-    pub stand-cut : (blank (f .part) (f .begun) && ltb 0 (seen .count)) ≡ false → refused 81 (some i) ≡ readSheet s
+    pub stand-cut : (blank (f .part) (f .begun) && ltb 0 (seen .count)) ≡ false → setupRefused 81 (some i) ≡ readSheet s
     stand-cut a = rw (← at-end, a)
 
-    pub stand-inside : blank (f .part) (f .begun) ≡ false → refused 81 (some i) ≡ readSheet s
+    pub stand-inside : blank (f .part) (f .begun) ≡ false → setupRefused 81 (some i) ≡ readSheet s
     stand-inside a = stand-cut (rw a)
 
-    pub stand-empty : blank (f .part) (f .begun) ≡ true → seen .count ≡ 0 → refused 81 (some i) ≡ readSheet s
+    pub stand-empty : blank (f .part) (f .begun) ≡ true → seen .count ≡ 0 → setupRefused 81 (some i) ≡ readSheet s
     stand-empty a e = stand-cut (rw (a, e))

@@ -4,8 +4,8 @@
 --   digit     a byte that is a decimal digit
 --   extends   a digit may follow
 --   stop      the byte that ends a number: a space, or the line feed after the third
---   begin     a line of which nothing is read
---   step      what the byte at a place does to a line: the line goes on, it is whole, or the form can't have the byte there
+--   newLine   a line of which nothing is read
+--   lineStep  what the byte at a place does to a line: the line goes on, it is whole, or the form can't have the byte there
 --
 -- specs/Text.antt says what the sheets of the form are without the machine, and specs/Promises.antt that the two agree.
 --
@@ -37,12 +37,12 @@ stop Weight = 32
 stop Longest = 10
 
 -- No digit yet of a number that begins at a place.
-abbrev pub unread : ℕ → Figure
-unread at = record { value = 0; place = at }
+abbrev pub noDigits : ℕ → Figure
+noDigits at = record { value = 0; place = at }
 
 -- A line that begins at a place.
-abbrev pub begin : ℕ → Line
-begin at = record { part = Lane; lane = unread at; weight = unread at; begun = false; last = unread at }
+abbrev pub newLine : ℕ → Line
+newLine at = record { part = Lane; lane = noDigits at; weight = noDigits at; begun = false; last = noDigits at }
 
 -- The last number with a digit more.
 abbrev pub grown : Line → ℕ → Line
@@ -55,13 +55,13 @@ grown f b = record {
 }
 
 -- The last number is read, and the next one begins at a place; or the line is whole.
-abbrev pub closed : Part → Line → ℕ → Step
-closed Lane f at = More (record { part = Weight; lane = f .last; weight = f .weight; begun = false; last = unread at })
-closed Weight f at = More (record { part = Longest; lane = f .lane; weight = f .last; begun = false; last = unread at })
-closed Longest f at = Whole (record { lane = f .lane; weight = f .weight; longest = f .last })
+abbrev pub numberClosed : Part → Line → ℕ → Step
+numberClosed Lane f at = More (record { part = Weight; lane = f .last; weight = f .weight; begun = false; last = noDigits at })
+numberClosed Weight f at = More (record { part = Longest; lane = f .lane; weight = f .last; begun = false; last = noDigits at })
+numberClosed Longest f at = Whole (record { lane = f .lane; weight = f .weight; longest = f .last })
 
 -- The byte b at a place.
-unfoldable pub step : Line → ℕ → ℕ → Step
-step f at b =
+unfoldable pub lineStep : Line → ℕ → ℕ → Step
+lineStep f at b =
     if digit b then (if extends (f .begun) (f .last .value) then More (grown f b) else Wrong)
-    else (if f .begun && eqb b (stop (f .part)) then closed (f .part) f (at + 1) else Wrong)
+    else (if f .begun && eqb b (stop (f .part)) then numberClosed (f .part) f (at + 1) else Wrong)

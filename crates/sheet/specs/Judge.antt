@@ -1,6 +1,6 @@
 -- A whole line, judged by the lines before it (R12.5, R14.20): refusals 51, 52, 53, 4 and 6, in this order, each at the first digit of its number.
 --
---   fieldOf   the lane field of a setup that says what the line says
+--   rowField  the lane field of a setup that says what the line says
 --   told      the table: a fault of a lane field, told at the number of the line that it is about; or what the rest decides
 --   verdict   the first refusal of a line, or none
 --
@@ -20,8 +20,8 @@ use Rattle.sheet.specs.declared.form.Row.{Row}
 use Rattle.sheet.specs.declared.judge.Verdict.{Verdict}
 use Rattle.sheet.specs.declared.judge.Verdict.the-variants.{Taken, Refused}
 
-abbrev pub fieldOf : Row → LaneField
-fieldOf r = record { lane = r .lane .value; weight = r .weight .value; longest = Given (r .longest .value) }
+abbrev pub rowField : Row → LaneField
+rowField r = record { lane = r .lane .value; weight = r .weight .value; longest = Given (r .longest .value) }
 
 -- A line has neither a format nor framing bytes.
 abbrev pub told : Row → Fault → Verdict → Verdict
@@ -37,4 +37,4 @@ told r TotalOver rest = Refused (WeightsOver (r .weight .place))
 -- then the weights so far.
 unfoldable pub verdict : Seen → Row → Verdict
 verdict seen r =
-    told r (laneOutside (fieldOf r)) (if ltb (r .lane .value) (seen .floor) then Refused (OutOfOrder (r .lane .place)) else told r (over seen (Lane (fieldOf r))) Taken)
+    told r (laneOutside (rowField r)) (if ltb (r .lane .value) (seen .floor) then Refused (OutOfOrder (r .lane .place)) else told r (over seen (Lane (rowField r))) Taken)

@@ -3,7 +3,7 @@
 ghost use mathlib.Core.Path.{_≡_};
 ghost use mathlib.Core.Bool.{true, false};
 ghost use Prim.Native.Nat.{_+_, _^_, _≤_, _<_};
-ghost use Rattle.sheet.specs.Form.{digit, extends, stop, unread, begin, grown, closed, step};
+ghost use Rattle.sheet.specs.Form.{digit, extends, stop, noDigits, newLine, grown, numberClosed, lineStep};
 
 const ZERO: u64 = b'0' as u64;
 
@@ -85,7 +85,7 @@ fn stop(part: Part) -> u64
 }
 
 fn unread(at: usize) -> Figure
-    ensures { λ r. ⌜ r ≡ unread at ⌝ }
+    ensures { λ r. ⌜ r ≡ noDigits at ⌝ }
 {
     Figure {
         value: 0,
@@ -95,7 +95,7 @@ fn unread(at: usize) -> Figure
 
 // A line that begins at a place.
 pub(crate) fn begin(at: usize) -> Line
-    ensures { λ r. ⌜ r ≡ begin at ⌝ }
+    ensures { λ r. ⌜ r ≡ newLine at ⌝ }
 {
     let none = unread(at);
     Line {
@@ -129,7 +129,7 @@ fn grown(f: Line, b: u64) -> Line
 
 // The last number is read: the next one begins at a place, or the line is whole.
 fn closed(f: Line, at: usize) -> Step
-    ensures { λ r. ⌜ r ≡ closed (f .part) f at ⌝ }
+    ensures { λ r. ⌜ r ≡ numberClosed (f .part) f at ⌝ }
 {
     let part = f.part;
     let lane = f.lane;
@@ -161,7 +161,7 @@ fn closed(f: Line, at: usize) -> Step
 // What the byte at a place does to a line.
 pub(crate) fn read_byte(f: Line, at: usize, b: u64) -> Step
     requires { ⌜ (at + 1 < 2 ^ 64) × ((f .begun ≡ false) → f .last .value ≡ 0) ⌝ }
-    ensures { λ r. ⌜ r ≡ step f at b ⌝ }
+    ensures { λ r. ⌜ r ≡ lineStep f at b ⌝ }
 {
     let part = f.part;
     if digit(b) {

@@ -4,9 +4,9 @@
 // for is the reader's own (`laneOutside`, `over` of plan/specs/Judge.antt).
 ghost use mathlib.Core.Path.{_≡_};
 ghost use Prim.Native.Nat.{_≤_, _<_};
-ghost use Rattle.plan.specs.Judge.{within, after};
+ghost use Rattle.plan.specs.Judge.{within, seenAfter};
 ghost use Rattle.plan.specs.declared.parse.SetupField.the-variants.{Lane};
-ghost use Rattle.sheet.specs.Judge.{verdict, fieldOf};
+ghost use Rattle.sheet.specs.Judge.{verdict, rowField};
 use crate::form::Row;
 use plan::judge::LAST_LANE;
 use plan::judge::LEAST_LONGEST;
@@ -61,7 +61,7 @@ pub(crate) fn judged(seen: Seen, row: Row) -> Verdict
 // What a line that was taken fixes for the next one.
 pub(crate) fn after(seen: Seen, row: Row) -> Seen
     requires { ⌜ (seen .total ≤ 1024) × ((seen .count ≤ 64) × ((row .weight .value ≤ 1024) × (row .lane .value ≤ 63))) ⌝ }
-    ensures { λ r. ⌜ r ≡ after seen (Lane (fieldOf row)) ⌝ }
+    ensures { λ r. ⌜ r ≡ seenAfter seen (Lane (rowField row)) ⌝ }
 {
     Seen {
         begun: true,

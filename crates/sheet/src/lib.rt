@@ -12,9 +12,9 @@ ghost use mathlib.Core.Path.{_≡_};
 ghost use mathlib.Core.List.{map};
 ghost use Prim.Native.Nat.{_≤_, _<_};
 ghost use lib.ListN.{length, getD};
-ghost use Rattle.plan.specs.Read.{settingOf, placed, came, reads};
+ghost use Rattle.plan.specs.Read.{settingOf, placed, setupCame, setupReply};
 ghost use Rattle.plan.specs.declared.parse.SetupField.the-variants as fields;
-ghost use Rattle.sheet.specs.Judge.{fieldOf};
+ghost use Rattle.sheet.specs.Judge.{rowField};
 ghost use Rattle.sheet.specs.Read.{sheetFormat, blank, readSheet};
 
 mod form;
@@ -53,7 +53,7 @@ fn byte(s: &[u8], i: usize) -> u64
 // The lanes, with the one that a line describes.
 fn placed(mut lanes: [Lane; LANES], row: Row) -> [Lane; LANES]
     requires { ⌜ (row .lane .value ≤ 63) × ((row .weight .value ≤ 1024) × (row .longest .value ≤ 1500)) ⌝ }
-    ensures { λ r. ⌜ map settingOf r ≡ placed sheetFormat 0 (map settingOf lanes) (fields.Lane (fieldOf row)) ⌝ }
+    ensures { λ r. ⌜ map settingOf r ≡ placed sheetFormat 0 (map settingOf lanes) (fields.Lane (rowField row)) ⌝ }
 {
     let k = row.lane.value as usize;
     lanes[k] = Lane {
@@ -78,7 +78,7 @@ fn blank(f: Line) -> bool
 }
 
 fn answered(lanes: [Lane; LANES], count: usize, outcome: Outcome) -> Reading
-    ensures { λ r. ⌜ reads r ≡ came (record { format = sheetFormat; lanes = lanes; count = count }) outcome ⌝ }
+    ensures { λ r. ⌜ setupReply r ≡ setupCame (record { format = sheetFormat; lanes = lanes; count = count }) outcome ⌝ }
 {
     Reading {
         plan: Plan {
@@ -92,7 +92,7 @@ fn answered(lanes: [Lane; LANES], count: usize, outcome: Outcome) -> Reading
 
 // The plan of a sheet.
 pub fn read_sheet(s: &[u8]) -> Reading
-    ensures { λ r. ⌜ reads r ≡ readSheet (now (s .entry)) ⌝ }
+    ensures { λ r. ⌜ setupReply r ≡ readSheet (now (s .entry)) ⌝ }
 {
     let mut lanes = plan::no_lanes();
     let mut seen = Seen {

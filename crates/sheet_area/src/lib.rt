@@ -3,9 +3,9 @@
 //   read_sheet    a sheet read into an area
 //   write_sheet   the plan of an area written as a sheet
 //
-// Both take any bytes and areas of any length. What they answer and leave is `ReadStep` and `WriteStep` of specs/Step.antt; what an area is, word by word,
-// is crate `plan_area`.
-ghost use Rattle.sheet_area.specs.Step.{ReadStep, WriteStep};
+// Both take any bytes and areas of any length. What they answer and leave is `SheetReadStep` and `SheetWriteStep` of specs/Step.antt; what an area is, word by
+// word, is crate `plan_area`.
+ghost use Rattle.sheet_area.specs.Step.{SheetReadStep, SheetWriteStep};
 use plan::Outcome;
 use plan_area::Got;
 use plan_area::SIZE;
@@ -15,7 +15,7 @@ use sheet_writer::Written;
 
 // Reads a sheet into an area: how many lanes it has, or a refusal with its place.
 pub fn read_sheet(s: &[u8], area: &mut [u8]) -> Got
-    ensures { λ r. ⌜ ReadStep (now (s .entry)) (now (area .entry)) r (now (area .exit)) ⌝ }
+    ensures { λ r. ⌜ SheetReadStep (now (s .entry)) (now (area .entry)) r (now (area .exit)) ⌝ }
 {
     if area.len() < SIZE {
         return Got::Refused(Refusal::TableShort);
@@ -34,7 +34,7 @@ pub fn read_sheet(s: &[u8], area: &mut [u8]) -> Got
 
 // Writes the plan of an area, of either format, as a sheet. Bytes that are no area are outside the numbers.
 pub fn write_sheet(area: &[u8], buf: &mut [u8]) -> Written
-    ensures { λ r. ⌜ WriteStep (now (area .entry)) (now (buf .entry)) r (now (buf .exit)) ⌝ }
+    ensures { λ r. ⌜ SheetWriteStep (now (area .entry)) (now (buf .entry)) r (now (buf .exit)) ⌝ }
 {
     if area.len() < SIZE {
         return Written::Refused(Unwritten::Outside);

@@ -18,8 +18,8 @@ use Rattle.units.specs.Plain.{if_then_else_}
 use Rattle.rules.specs.State.{Setting, settingAt}
 use Rattle.rules.specs.Setup.{framingOf}
 use Rattle.plan.specs.Judge.{knownFormat}
-use Rattle.plan.specs.Read.{read, settings, came}
-use Rattle.plan_writer.specs.Write.{Planned, planned, Within, shareds, size, refused}
+use Rattle.plan.specs.Read.{setupRead, settings, setupCame}
+use Rattle.plan_writer.specs.Write.{Planned, planned, Within, shareds, writtenSize, notWritten}
 use Rattle.plan_writer.proofs.Decided.{within-or-not}
 use Rattle.plan_writer.proofs.Numbered.{numbered-all}
 use Rattle.plan_writer.proofs.Writing.{stored-first}
@@ -28,7 +28,7 @@ use Rattle.sheet.specs.Text.{sheetBytes}
 use Rattle.sheet.specs.Promises.{Unshared}
 use Rattle.sheet.proofs.Back.{accepted-sheet}
 use Rattle.sheet.proofs.Forth.{written-read}
-use Rattle.sheet_writer.specs.Write.{sheetOf, sizeOf, Bare, wrote, Writes}
+use Rattle.sheet_writer.specs.Write.{sheetOf, sheetSize, Bare, sheetWriteReply, WritesSheet}
 use Rattle.sheet_writer.specs.RoundTrip.{ReadsBack, WritesBack, SizeMost}
 use Rattle.sheet_writer.specs.declared.Unwritten.the-variants.{Outside, NoSheet, Short}
 use Rattle.sheet_writer.specs.declared.Written.{Written}
@@ -38,13 +38,13 @@ use Rattle.sheet_writer.proofs.Most.{sheet-most}
 -- ---- the answer
 
 module _ (p : Planned) (before : List ℕ) where
-  pub says-outside : (Within p → ⊥) → Writes p before (Refused Outside) before
+  pub says-outside : (Within p → ⊥) → WritesSheet p before (Refused Outside) before
   says-outside o = record { outside = λ n. (refl, refl); no-sheet = λ w b. absurd (o w); short = λ w b l. absurd (o w); written = λ w b l. absurd (o w) }
 
-  pub says-no-sheet : Within p → (Bare p → ⊥) → Writes p before (Refused NoSheet) before
+  pub says-no-sheet : Within p → (Bare p → ⊥) → WritesSheet p before (Refused NoSheet) before
   says-no-sheet w o = record { outside = λ n. absurd (n w); no-sheet = λ v b. (refl, refl); short = λ v b l. absurd (o b); written = λ v b l. absurd (o b) }
 
-  pub says-short : Within p → Bare p → length before < sizeOf p → Writes p before (Refused Short) before
+  pub says-short : Within p → Bare p → length before < sheetSize p → WritesSheet p before (Refused Short) before
   says-short w b l = record {
     outside = λ n. absurd (n w);
     no-sheet = λ v o. absurd (o b);
@@ -52,17 +52,17 @@ module _ (p : Planned) (before : List ℕ) where
     written = λ v c m. absurd (omega (arith, l, m));
   }
 
-  pub says-size : Within p → Bare p → (n : ℕ) → n ≡ sizeOf p → n ≤ length before → (after : List ℕ) → after ≡ sets before 0 (sheetOf p) → Writes p before (Size n) after
+  pub says-size : Within p → Bare p → (n : ℕ) → n ≡ sheetSize p → n ≤ length before → (after : List ℕ) → after ≡ sets before 0 (sheetOf p) → WritesSheet p before (Size n) after
   says-size w b n is room after e = record {
     outside = λ o. absurd (o w);
     no-sheet = λ v o. absurd (o b);
     short = λ v c l. absurd (omega (arith, is, room, l));
-    written = λ v c l. (ap size is, e ∙ stored-first before (sheetOf p) (sizeOf p) refl l);
+    written = λ v c l. (ap writtenSize is, e ∙ stored-first before (sheetOf p) (sheetSize p) refl l);
   }
 
 -- ---- of the answers
 
-size-refused : {A : Type 0} {k n : ℕ} → size k ≡ refused n → A
+size-refused : {A : Type 0} {k n : ℕ} → writtenSize k ≡ notWritten n → A
 size-refused h = absurd (let z : _≡_ {A = ℕ} 0 1 = cc in omega arith)
 
 pub bare-or-not : (p : Planned) → Bare p ⊎ (Bare p → ⊥)
@@ -89,15 +89,15 @@ no-shareds (g ∷ gs) u = omega (arith, ap {B = ℕ} (λ (b : Bool). if b then 1
 pub record Sized (p : Planned) (before : List ℕ) (k : ℕ) : Type 0 where
   pub within : Within p
   pub bare : Bare p
-  pub room : sizeOf p ≤ length before
-  pub is : k ≡ sizeOf p
+  pub room : sheetSize p ≤ length before
+  pub is : k ≡ sheetSize p
 
-module _ (p : Planned) (before after : List ℕ) (a : Written) (h : Writes p before a after) (k : ℕ) (e : wrote a ≡ size k) where
+module _ (p : Planned) (before after : List ℕ) (a : Written) (h : WritesSheet p before a after) (k : ℕ) (e : sheetWriteReply a ≡ writtenSize k) where
   wrote-room : Within p → Bare p → Sized p before k
   wrote-room w b =
-      elim (decLe (sizeOf p) (length before)) [
-        | yes l ↦ record { within = w; bare = b; room = l; is = let q : size k ≡ size (sizeOf p) = sym e ∙ h .written w b l .0 in cc }
-        | no l ↦ let s : length before < sizeOf p = omega arith in size-refused (sym e ∙ h .short w b s .0)
+      elim (decLe (sheetSize p) (length before)) [
+        | yes l ↦ record { within = w; bare = b; room = l; is = let q : writtenSize k ≡ writtenSize (sheetSize p) = sym e ∙ h .written w b l .0 in cc }
+        | no l ↦ let s : length before < sheetSize p = omega arith in size-refused (sym e ∙ h .short w b s .0)
       ]
 
   wrote-size : Sized p before k
@@ -113,24 +113,24 @@ reads-back-calls plan before after a k h e =
     let p = planned plan in
     let s = wrote-size p before after a h k e in
     let bytes : take k after ≡ sheetOf p =
-    ap (take k) (h .written (s .within) (s .bare) (s .room) .1) ∙ ap (λ (i : ℕ). take i (sheetOf p ++ drop (sizeOf p) before)) (s .is) ∙ take-at (sheetOf p) (drop (sizeOf p) before) (sizeOf p) refl
+    ap (take k) (h .written (s .within) (s .bare) (s .room) .1) ∙ ap (λ (i : ℕ). take i (sheetOf p ++ drop (sheetSize p) before)) (s .is) ∙ take-at (sheetOf p) (drop (sheetSize p) before) (sheetSize p) refl
     in
     ap readSheet bytes
     ∙ written-read (p .lanes) (s .within .setup) (s .bare .0) (none-shared (p .lanes) (s .bare .1))
-    ∙ ap (λ (n : ℕ). read sheetFormat (p .lanes) n (sizeOf p)) (s .within .count)
-    ∙ ap (read sheetFormat (p .lanes) (plan .count)) (sym (s .is))
+    ∙ ap (λ (n : ℕ). setupRead sheetFormat (p .lanes) n (sheetSize p)) (s .within .count)
+    ∙ ap (setupRead sheetFormat (p .lanes) (plan .count)) (sym (s .is))
 
 pub writes-back-calls : WritesBack
 unfolding WritesBack
 writes-back-calls s r k e o before after a h room =
     let p : Planned = record { format = r .plan .format; lanes = settings (r .plan); count = r .plan .count } in
-    let is : readSheet s ≡ read (p .format) (p .lanes) (p .count) k = sym e ∙ ap (came (r .plan)) o in
+    let is : readSheet s ≡ setupRead (p .format) (p .lanes) (p .count) k = sym e ∙ ap (setupCame (r .plan)) o in
     let x = accepted-sheet s (p .format) (p .lanes) (p .count) k is in
     let w : Within p = record { format = ap knownFormat (x .format); setup = x .setup; count = x .are-there } in
-    let h₁ : Writes p before a after = subst (λ (y : List Setting). Writes (record { format = r .plan .format; lanes = y; count = r .plan .count }) before a after) (numbered-all (settings (r .plan)) (x .setup .size)) h in
-    let long : sizeOf p ≡ length s = ap length (x .same) in
+    let h₁ : WritesSheet p before a after = subst (λ (y : List Setting). WritesSheet (record { format = r .plan .format; lanes = y; count = r .plan .count }) before a after) (numbered-all (settings (r .plan)) (x .setup .size)) h in
+    let long : sheetSize p ≡ length s = ap length (x .same) in
     let done = h₁ .written w (x .bare, no-shareds (p .lanes) (x .unshared)) (omega (arith, long, room)) in
-    (done .0 ∙ ap size long, done .1 ∙ ap (λ (y : List ℕ). y ++ drop (sizeOf p) before) (x .same) ∙ ap (λ (i : ℕ). s ++ drop i before) long)
+    (done .0 ∙ ap writtenSize long, done .1 ∙ ap (λ (y : List ℕ). y ++ drop (sheetSize p) before) (x .same) ∙ ap (λ (i : ℕ). s ++ drop i before) long)
 
 pub size-most-calls : SizeMost
 unfolding SizeMost

@@ -1,5 +1,5 @@
--- Writing and reading sheets go back and forth (R12.9): the promises, of the two calls' own answers. (`Writes` is what `write_sheet` ensures, and
--- `reads r ≡ readSheet s` what `read_sheet` does.) Theorems of these names in small letters are in proofs/Calls.antt.
+-- Writing and reading sheets go back and forth (R12.9): the promises, of the two calls' own answers. (`WritesSheet` is what `write_sheet` ensures, and
+-- `setupReply r ≡ readSheet s` what `read_sheet` does.) Theorems of these names in small letters are in proofs/Calls.antt.
 --
 --   ReadsBack    what was written is read as the same lanes; the format is not given back
 --   WritesBack   a sheet that is read comes back as its own bytes
@@ -10,25 +10,25 @@ use Prim.Native.Nat.{ℕ, _≤_}
 use mathlib.Core.Path.{_≡_}
 use mathlib.Core.List.{List, _++_}
 use lib.ListN.{length, drop, take}
-use Rattle.plan.specs.Read.{read, reads}
+use Rattle.plan.specs.Read.{setupRead, setupReply}
 use Rattle.plan.specs.declared.Plan.{Plan}
 use Rattle.plan.specs.declared.Reading.{Reading}
 use Rattle.plan.specs.declared.Outcome.the-variants.{Read}
-use Rattle.plan_writer.specs.Write.{Planned, planned, Within, size}
+use Rattle.plan_writer.specs.Write.{Planned, planned, Within, writtenSize}
 use Rattle.sheet.specs.Read.{sheetFormat, readSheet}
-use Rattle.sheet_writer.specs.Write.{sizeOf, wrote, Writes}
+use Rattle.sheet_writer.specs.Write.{sheetSize, sheetWriteReply, WritesSheet}
 use Rattle.sheet_writer.specs.declared.Written.{Written}
 
 unfoldable pub ReadsBack : Type 0
 ReadsBack =
-    (p : Plan) (before after : List ℕ) (a : Written) (k : ℕ) → Writes (planned p) before a after → wrote a ≡ size k
-    → readSheet (take k after) ≡ read sheetFormat (planned p .lanes) (p .count) k
+    (p : Plan) (before after : List ℕ) (a : Written) (k : ℕ) → WritesSheet (planned p) before a after → sheetWriteReply a ≡ writtenSize k
+    → readSheet (take k after) ≡ setupRead sheetFormat (planned p .lanes) (p .count) k
 
 unfoldable pub WritesBack : Type 0
 WritesBack =
-    (s : List ℕ) (r : Reading) (k : ℕ) → reads r ≡ readSheet s → r .outcome ≡ Read k
-    → (before after : List ℕ) (a : Written) → Writes (planned (r .plan)) before a after → length s ≤ length before
-    → (wrote a ≡ size (length s)) × (after ≡ s ++ drop (length s) before)
+    (s : List ℕ) (r : Reading) (k : ℕ) → setupReply r ≡ readSheet s → r .outcome ≡ Read k
+    → (before after : List ℕ) (a : Written) → WritesSheet (planned (r .plan)) before a after → length s ≤ length before
+    → (sheetWriteReply a ≡ writtenSize (length s)) × (after ≡ s ++ drop (length s) before)
 
 unfoldable pub SizeMost : Type 0
-SizeMost = (p : Planned) → Within p → sizeOf p ≤ 698
+SizeMost = (p : Planned) → Within p → sheetSize p ≤ 698

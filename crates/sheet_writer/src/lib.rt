@@ -2,7 +2,7 @@
 // a line for each of its lanes.
 //
 // `write_sheet` takes any plan and any buffer. It tests the plan (55), then whether a sheet can say it (82), then the room (56), and only then stores: so
-// the buffer stays for a refusal. What it answers and leaves is `Writes` of specs/Write.antt; specs/RoundTrip.antt says that a plan's lanes come back from
+// the buffer stays for a refusal. What it answers and leaves is `WritesSheet` of specs/Write.antt; specs/RoundTrip.antt says that a plan's lanes come back from
 // its sheet, and that a sheet that is read comes back as its own bytes (R12.9).
 //
 // Units: a place is a number of bytes from the first byte of the buffer, a size a number of bytes. The inner functions' `requires` says that the plan was
@@ -17,7 +17,7 @@ ghost use Rattle.plan.specs.Read.{settingOf};
 ghost use Rattle.plan_writer.specs.Write.{planned, numbered};
 ghost use Rattle.text.specs.Decimal.{decimal};
 ghost use Rattle.sheet.specs.Text.{lineBytes, sheetBytes};
-ghost use Rattle.sheet_writer.specs.Write.{Writes};
+ghost use Rattle.sheet_writer.specs.Write.{WritesSheet};
 use plan::LANES;
 use plan::Lane;
 use plan::Plan;
@@ -128,7 +128,7 @@ fn sheet_size(lanes: [Lane; LANES]) -> usize
 
 // Writes the sheet of a plan.
 pub fn write_sheet(plan: Plan, buf: &mut [u8]) -> Written
-    ensures { λ r. ⌜ Writes (planned plan) (now (buf .entry)) r (now (buf .exit)) ⌝ }
+    ensures { λ r. ⌜ WritesSheet (planned plan) (now (buf .entry)) r (now (buf .exit)) ⌝ }
 {
     if !within(plan) {
         return Written::Refused(Unwritten::Outside);

@@ -27,8 +27,8 @@ use Rattle.paged.specs.Paged.{partOf, deviceOf, GoodUnit}
 use Rattle.scheduler.proofs.Steps.{encoded-alike}
 use Rattle.engine.proofs.RowIs.{RowIs, row-is, row-weighs, count-holds, count-idle}
 use Rattle.rules.specs.declared.Refusal.the-variants as why
-use Rattle.show.specs.Views.{Ask, View, clock, lane, backlog, waits, edition, wait, clockIs, refused, backlogIs, settingIs, recordIs, editionIs, noRec, timeOf, waitingEdition, view}
-use Rattle.show.specs.Shows.{reads, Shows, FindIs}
+use Rattle.show.specs.Views.{Ask, View, clock, lane, backlog, waits, edition, wait, clockIs, viewRefused, backlogIs, settingIs, recordIs, editionIs, noRec, timeOf, waitingEdition, view}
+use Rattle.show.specs.Shows.{viewReply, Shows, FindIs}
 use Rattle.show.specs.declared.Shown.{Shown}
 use Rattle.show.specs.declared.Shown.the-variants.{Refused}
 use Rattle.show.specs.declared.Found.{Found}
@@ -47,7 +47,7 @@ view-alike (wait k n) d e a = rw (a .state .lanes)
 pub bad-shows : (a : Ask) (t : List ℕ) → (GoodUnit t → ⊥) → Shows a t (Refused why.NotGood)
 bad-shows a t b = record { not-good = λ _. refl; shown = λ g. absurd (b g) }
 
-pub good-shows : (a : Ask) (t : List ℕ) (r : Shown) → GoodUnit t → reads r ≡ view (deviceOf t) a → Shows a t r
+pub good-shows : (a : Ask) (t : List ℕ) (r : Shown) → GoodUnit t → viewReply r ≡ view (deviceOf t) a → Shows a t r
 good-shows a t r g e = record { not-good = λ b. absurd (b g); shown = λ _ d n. e ∙ view-alike a (deviceOf t) d (encoded-alike t d n) }
 
 pub shows-clock : (t : List ℕ) (v : ℕ) → v ≡ meant t .clock → clockIs v ≡ view (deviceOf t) clock
@@ -70,19 +70,19 @@ shows-edition t n m e f = ap (λ (x : ℕ). editionIs x m) e ∙ ap (editionIs (
 -- ---- a lane that is not in the setup
 
 module _ (d : Device) (k : ℕ) (e : laneAt (d .state) k ≡ noLane) where
-  none-lane : refused 11 none ≡ view d (lane k)
+  none-lane : viewRefused 11 none ≡ view d (lane k)
   unfolding view deviceOf
   none-lane = rw e
 
-  none-backlog : refused 11 none ≡ view d (backlog k)
+  none-backlog : viewRefused 11 none ≡ view d (backlog k)
   unfolding view deviceOf
   none-backlog = rw e
 
-  none-waits : (j i : ℕ) → refused 11 none ≡ view d (waits k j i)
+  none-waits : (j i : ℕ) → viewRefused 11 none ≡ view d (waits k j i)
   unfolding view deviceOf
   none-waits j i = rw e
 
-  none-wait : (n : ℕ) → refused 11 none ≡ view d (wait k n)
+  none-wait : (n : ℕ) → viewRefused 11 none ≡ view d (wait k n)
   unfolding view deviceOf
   none-wait n = rw e
 

@@ -25,7 +25,7 @@ use Rattle.table.specs.declared.Entry.{Entry}
 use Rattle.table.proofs.Footprint.{lane-is}
 use Rattle.table.proofs.Rows.{waiting-row, waiting-plain, waiting-none, waiting-shared, waiting-kind, length-ring}
 use Rattle.paged.specs.Paged.{deviceOf}
-use Rattle.show.specs.Views.{waits, refused, recordIs, noRec, view}
+use Rattle.show.specs.Views.{waits, viewRefused, recordIs, noRec, view}
 use Rattle.show.specs.Shows.{RowFound, SpotIs}
 use Rattle.show.specs.declared.Spot.{Spot}
 use Rattle.show.specs.declared.Spot.the-variants.{NoTrain, Nothing, At}
@@ -127,11 +127,11 @@ module _ (t : List ℕ) (k : ℕ) (l : LaneRow) (f : RowFound t k l) where
     spot-as : (x : Spot) → r ≡ x → SpotIs t k j i x
     spot-as x e = subst (SpotIs t k j i) e found-at
 
-    pub shows-no-train : r ≡ NoTrain → refused 70 none ≡ view (deviceOf t) (waits k j i)
+    pub shows-no-train : r ≡ NoTrain → viewRefused 70 none ≡ view (deviceOf t) (waits k j i)
     unfolding view deviceOf
     shows-no-train is = rw (weighs t k l f, spot-as NoTrain is)
 
-    pub shows-nothing : r ≡ Nothing → refused 16 none ≡ view (deviceOf t) (waits k j i)
+    pub shows-nothing : r ≡ Nothing → viewRefused 16 none ≡ view (deviceOf t) (waits k j i)
     unfolding view deviceOf
     shows-nothing is = let e = spot-as Nothing is in rw (weighs t k l f, e .0, le-ltb i (length (queueOf q j)) (e .1))
 

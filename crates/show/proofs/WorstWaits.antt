@@ -22,9 +22,9 @@ use Rattle.table.specs.Means.{givenOf, presentAt, meant}
 use Rattle.table.specs.declared.LaneRow.{LaneRow}
 use Rattle.engine.proofs.RowIs.{absent-lane}
 use Rattle.paged.specs.Paged.{deviceOf, GoodUnit}
-use Rattle.show.specs.Views.{wait, waitIs, refused, view}
+use Rattle.show.specs.Views.{wait, waitIs, viewRefused, view}
 use Rattle.show.specs.Worst.{laneMost, numbersOf, noRoom, BothWorst}
-use Rattle.show.specs.Shows.{reads, FindIs}
+use Rattle.show.specs.Shows.{viewReply, FindIs}
 use Rattle.show.specs.declared.Shown.the-variants.{Refused}
 use Rattle.show.specs.declared.Found.the-variants.{Row}
 use Rattle.show.specs.declared.WorstWait.{WorstWait}
@@ -125,13 +125,13 @@ module _ (t : List ℕ) (k : ℕ) (l : LaneRow) (f : FindIs t k (Row l)) where
         rw (weighs t k l f, found t k l f .given, lt-ltb n (roomOf (givenOf l)) low′)
         (ap (λ (y : ℕ). waitIs y (r .tight)) (b .0 ∙ ap (λ (h : ℕ). worstOf (margin h) (givenOf l) n) same-framing) ∙ ap (waitIs (worstOf (margin (framingOf gs)) (givenOf l) n)) (b .1))
 
-    pub shows-no-room : m ≤ n → (r : Refusal) → r ≡ noRoom (x .shared) → reads (Refused r) ≡ view (deviceOf t) (wait k n)
+    pub shows-no-room : m ≤ n → (r : Refusal) → r ≡ noRoom (x .shared) → viewReply (Refused r) ≡ view (deviceOf t) (wait k n)
     unfolding view deviceOf
     shows-no-room high r e =
         let high′ : roomOf (givenOf l) ≤ n = omega (arith, room-is) in
         rw (weighs t k l f, found t k l f .given, le-ltb n (roomOf (givenOf l)) high′)
-        (ap (λ (y : Refusal). reads (Refused y)) (e ∙ ap (λ (y : LaneNumbers). noRoom (y .shared)) is) ∙ go (l .shared))
+        (ap (λ (y : Refusal). viewReply (Refused y)) (e ∙ ap (λ (y : LaneNumbers). noRoom (y .shared)) is) ∙ go (l .shared))
       where
-        go : (b : Bool) → reads (Refused (noRoom b)) ≡ refused (if b then 71 else 13) none
+        go : (b : Bool) → viewReply (Refused (noRoom b)) ≡ viewRefused (if b then 71 else 13) none
         go true = refl
         go false = refl

@@ -1,9 +1,9 @@
 -- The promise of a call that shows a table, whole: for every slice, every argument and every answer. The table is lent to be read, so it stays.
 --
---   reads    an answer as the definitions give it
---   Shows    the promise
---   FindIs   what is found of a lane's row
---   SpotIs   where a train's record is found
+--   viewReply   an answer as the definitions give it
+--   Shows       the promise
+--   FindIs      what is found of a lane's row
+--   SpotIs      where a train's record is found
 --
 -- Assumes nothing.
 use Prim.Native.Nat.{ℕ, _≤_, _<_}
@@ -20,7 +20,7 @@ use Rattle.table.specs.Means.{presentAt, recOf, meant}
 use Rattle.table.specs.declared.LaneRow.{LaneRow}
 use Rattle.pages.specs.Device.{Device}
 use Rattle.paged.specs.Paged.{EncodesDevice, GoodUnit}
-use Rattle.show.specs.Views.{Ask, View, clockIs, settingIs, backlogIs, recordIs, editionIs, waitIs, refused, noRec, view}
+use Rattle.show.specs.Views.{Ask, View, clockIs, settingIs, backlogIs, recordIs, editionIs, waitIs, viewRefused, noRec, view}
 use Rattle.show.specs.declared.Shown.{Shown}
 use Rattle.show.specs.declared.Shown.the-variants.{Clock, Setting, Backlog, Record, Edition, Wait, Refused}
 use Rattle.show.specs.declared.Found.{Found}
@@ -28,20 +28,20 @@ use Rattle.show.specs.declared.Found.the-variants.{NotGood, NoLane, Row}
 use Rattle.show.specs.declared.Spot.{Spot}
 use Rattle.show.specs.declared.Spot.the-variants.{NoTrain, Nothing, At}
 
-abbrev pub reads : Shown → View
-reads (Clock v) = clockIs (v .0)
-reads (Setting g) = settingIs (record { weight = g .weight; longest = g .longest .0; framing = g .framing .0; shared = g .shared }) (g .group)
-reads (Backlog b) = backlogIs (b .count) (b .time .0)
-reads (Record r) = recordIs (r .lane) (record { train = r .train; mark = r .mark; len = r .length .0 })
-reads (Edition e) = editionIs (e .last) (e .waiting)
-reads (Wait w) = waitIs (w .asked) (w .tight)
-reads (Refused x) = refused (rules.number x) (rules.placeOf x)
+abbrev pub viewReply : Shown → View
+viewReply (Clock v) = clockIs (v .0)
+viewReply (Setting g) = settingIs (record { weight = g .weight; longest = g .longest .0; framing = g .framing .0; shared = g .shared }) (g .group)
+viewReply (Backlog b) = backlogIs (b .count) (b .time .0)
+viewReply (Record r) = recordIs (r .lane) (record { train = r .train; mark = r .mark; len = r .length .0 })
+viewReply (Edition e) = editionIs (e .last) (e .waiting)
+viewReply (Wait w) = waitIs (w .asked) (w .tight)
+viewReply (Refused x) = viewRefused (rules.number x) (rules.placeOf x)
 
 pub record Shows (a : Ask) (t : List ℕ) (r : Shown) : Type 0 where
   -- R17.1: 10 for bytes that are no good table
-  pub not-good : (GoodUnit t → ⊥) → reads r ≡ refused 10 none
+  pub not-good : (GoodUnit t → ⊥) → viewReply r ≡ viewRefused 10 none
   -- R17.1: on a good table, of any origin: what any unit shows that the bytes encode
-  pub shown : GoodUnit t → (d : Device) → EncodesDevice t d → reads r ≡ view d a
+  pub shown : GoodUnit t → (d : Device) → EncodesDevice t d → viewReply r ≡ view d a
 
 -- l is the row of lane k, which the setup has
 abbrev pub RowFound : List ℕ → ℕ → LaneRow → Type 0

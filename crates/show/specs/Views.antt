@@ -49,7 +49,7 @@ pub data View : Type 0 where
   editionIs : ℕ → ℕ → View
   -- bytes: as the fair share has it for every setup, and by the costliest record of this one
   waitIs : ℕ → ℕ → View
-  refused : ℕ → Option ℕ → View
+  viewRefused : ℕ → Option ℕ → View
 
 -- R17.4
 abbrev pub timeOf : Lane → ℕ
@@ -62,13 +62,13 @@ noRec = record { mark = 0; len = 0 }
 -- only.
 abbrev pub recordOf : ℕ → Lane → ℕ → ℕ → View
 recordOf k l t i =
-    if not (known (l .waiting) t) then refused 70 none
+    if not (known (l .waiting) t) then viewRefused 70 none
     else if ltb i (length (queueOf (l .waiting) t)) then recordIs k (withTrain t (getD (queueOf (l .waiting) t) i noRec))
-    else refused 16 none
+    else viewRefused 16 none
 
 -- R17.3: 11 for a lane that is not in the setup
 abbrev pub ofLane : Lane → View → View
-ofLane l v = if ltb (l .given .weight) 1 then refused 11 none else v
+ofLane l v = if ltb (l .given .weight) 1 then viewRefused 11 none else v
 
 -- R17.9: no page that waits has edition 0 (crate editions)
 abbrev pub waitingEdition : Option Page → ℕ
@@ -79,7 +79,7 @@ waitingEdition (some p) = p .edition
 abbrev pub waitOf : List Setting → Setting → ℕ → View
 waitOf gs g n =
     if ltb n (roomOf g) then waitIs (worstOf (margin (framingOf gs)) g n) (worstOf (lineRate * longestCharge gs) g n)
-    else refused (if g .shared then 71 else 13) none
+    else viewRefused (if g .shared then 71 else 13) none
 
 -- R17.9, R17.2 to R17.5, R17.7, R17.10
 unfoldable pub view : Device → Ask → View

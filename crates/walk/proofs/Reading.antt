@@ -16,7 +16,7 @@ use mathlib.Core.List.{List}
 use lib.ListN.{length}
 use Rattle.fields.specs.Bytes.{byteAt, big}
 use Rattle.rules.specs.Calls.{Call}
-use Rattle.requests.specs.Request.{headAt, right, itemAt, request, callOf, numbered}
+use Rattle.requests.specs.Request.{headAt, right, requestItemAt, request, callOf, callByNumber}
 use Rattle.requests.proofs.Heads.{head-size, item-request}
 use Rattle.requests.proofs.Values.{big-more, big-most, value-is}
 
@@ -42,9 +42,9 @@ module _ {s : List ℕ} {at size i value : ℕ} (r : Reading s at size i value) 
   pub read-fits : ((k : ℕ) → byteAt s k < 256) → i < size → value < 256 ^ 7
   read-fits small l = omega (arith, r .is, big-most s small i (at + 3), pow-le-pow-right {n = 256} (omega arith) {i = i} {j = 7} (omega (arith, r .short)))
 
-  pub read-request : ((k : ℕ) → byteAt s k < 256) → (tag : ℕ) → headAt s at ≡ right tag size → size ≤ i → (tag ≡ 127 → ⊥) → (c : Call) → c ≡ numbered tag value → itemAt s at ≡ request c (at + 3 + size)
+  pub read-request : ((k : ℕ) → byteAt s k < 256) → (tag : ℕ) → headAt s at ≡ right tag size → size ≤ i → (tag ≡ 127 → ⊥) → (c : Call) → c ≡ callByNumber tag value → requestItemAt s at ≡ request c (at + 3 + size)
   read-request small tag h l d c e =
       let all : i ≡ size = omega (arith, r .few) in
       let whole : at + 3 + size ≤ length s = omega (arith, r .within) in
-      let is : c ≡ callOf s tag (at + 3) = e ∙ ap (numbered tag) (r .is ∙ ap (big s (at + 3)) all) ∙ value-is s small tag (at + 3) size (head-size s at tag size h) in
+      let is : c ≡ callOf s tag (at + 3) = e ∙ ap (callByNumber tag) (r .is ∙ ap (big s (at + 3)) all) ∙ value-is s small tag (at + 3) size (head-size s at tag size h) in
       item-request s at tag size h whole d ∙ ap (λ (x : Call). request x (at + 3 + size)) (sym is)

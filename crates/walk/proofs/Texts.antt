@@ -17,14 +17,14 @@ use lib.Seq.{sets-eq}
 use Rattle.rules.specs.State.{Setting}
 use Rattle.rules.specs.Reads.{number, placeOf}
 use Rattle.rules.specs.declared.Refusal.{Refusal}
-use Rattle.plan.specs.Read as plan
+use Rattle.plan.specs.Read.{readPlan, setupRefused, setupRead}
 use Rattle.table.specs.Layout.{tableSize}
 use Rattle.table.specs.Means.{meant}
 use Rattle.fresh.specs.Makes.{Makes}
 use Rattle.lines.specs.Line.{noLine, lanesLine, endLine, Wrote, Line}
 use Rattle.lines.proofs.Writing.{wrote-both}
 use Rattle.walk.specs.Script as Script
-use Rattle.walk.specs.Script.{walk, closing, finished, script}
+use Rattle.walk.specs.Script.{sessionWalk, closing, finished, script}
 use Rattle.walk.specs.Follows.{whyIs, Follows, FollowsCore}
 use Rattle.walk.specs.Walks.{Walks, Closes}
 use Rattle.walk.specs.declared.Stop.the-variants.{End, Limit, Refused}
@@ -65,7 +65,7 @@ requested-is lanes {limit} {t} {t′} {a} {a₁} {a₂} {a₃} {start} {end} {r}
     }
 
 module _ (s : List ℕ) (limit : ℕ) where
-  pub refused-is : (x : Refusal) {t a a′ : List ℕ} {end : ℕ} → plan.readPlan s 0 ≡ plan.refused (number x) (placeOf x)
+  pub refused-is : (x : Refusal) {t a a′ : List ℕ} {end : ℕ} → readPlan s 0 ≡ setupRefused (number x) (placeOf x)
       → Line a a′ 0 (noLine (number x) (placeOf x)) end → 64 ≤ length a
       → Follows t t a a′ (record { answered = 0; written = end; why = Refused x }) (script s limit)
   unfolding script
@@ -79,8 +79,8 @@ module _ (s : List ℕ) (limit : ℕ) where
       })
 
   -- the requests on the fresh table
-  pub begun-is : (v : ℕ) (gs : List Setting) (lanes at : ℕ) {t t₀ t₁ t′ a a′ : List ℕ} {r : RunResult} → plan.readPlan s 0 ≡ plan.read v gs lanes at
-      → tableSize ≤ length t′ → Blank t t₀ → Makes t₀ t₁ gs → FollowsCore t₁ t′ a a′ r (finished lanes (walk limit s at 0 [] (meant t₁))) → Follows t t′ a a′ r (script s limit)
+  pub begun-is : (v : ℕ) (gs : List Setting) (lanes at : ℕ) {t t₀ t₁ t′ a a′ : List ℕ} {r : RunResult} → readPlan s 0 ≡ setupRead v gs lanes at
+      → tableSize ≤ length t′ → Blank t t₀ → Makes t₀ t₁ gs → FollowsCore t₁ t′ a a′ r (finished lanes (sessionWalk limit s at 0 [] (meant t₁))) → Follows t t′ a a′ r (script s limit)
   unfolding script
   begun-is v gs lanes at {t} {t₀} {t₁} {t′} e room b m x =
       rw e (let y = rw (m .state) at x in record {

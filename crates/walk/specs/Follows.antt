@@ -1,8 +1,8 @@
 -- A run that follows a script: its result, the answer area and the table.
 --
---   whyIs     the code's reason as the script gives it
---   Table     what a run leaves of the lent table: untouched, or a unit with the script's state that has taken no page; Core: the same of the table's core alone
---   Follows   the result, the answer area and the table are those of a script; FollowsBy: with what is said of the table; FollowsCore: with its core alone
+--   whyIs       the code's reason as the script gives it
+--   TableLeft   what a run leaves of the lent table: untouched, or a unit with the script's state that has taken no page; CoreLeft: of the table's core alone
+--   Follows     the result, the answer area and the table are those of a script; FollowsBy: with what is said of the table; FollowsCore: with its core alone
 --
 -- Assumes nothing.
 use Prim.Native.Nat.{ℕ}
@@ -36,13 +36,13 @@ pub record Worked (t t′ : List ℕ) (σ : State) : Type 0 where
   pub rest : drop SIZE t′ ≡ drop SIZE t
 
 -- R10.4, R10.5, R14.43: every byte stays after 17, 7 or a refused setup; a later refusal keeps what the answered requests made
-abbrev pub Table : List ℕ → List ℕ → Option State → Type 0
-Table t t′ none = t′ ≡ t
-Table t t′ (some σ) = Tabled t t′ σ
+abbrev pub TableLeft : List ℕ → List ℕ → Option State → Type 0
+TableLeft t t′ none = t′ ≡ t
+TableLeft t t′ (some σ) = Tabled t t′ σ
 
-abbrev pub Core : List ℕ → List ℕ → Option State → Type 0
-Core t t′ none = t′ ≡ t
-Core t t′ (some σ) = Worked t t′ σ
+abbrev pub CoreLeft : List ℕ → List ℕ → Option State → Type 0
+CoreLeft t t′ none = t′ ≡ t
+CoreLeft t t′ (some σ) = Worked t t′ σ
 
 -- R10.11: a run on a table t and an answer area a, which leaves t′ and a′ and answers r.
 pub record FollowsBy (Left : List ℕ → List ℕ → Option State → Type 0) (t t′ a a′ : List ℕ) (r : RunResult) (x : Script) : Type 0 where
@@ -57,7 +57,7 @@ pub record FollowsBy (Left : List ℕ → List ℕ → Option State → Type 0) 
 
 -- R10.11
 abbrev pub Follows : List ℕ → List ℕ → List ℕ → List ℕ → RunResult → Script → Type 0
-Follows = FollowsBy Table
+Follows = FollowsBy TableLeft
 
 abbrev pub FollowsCore : List ℕ → List ℕ → List ℕ → List ℕ → RunResult → Script → Type 0
-FollowsCore = FollowsBy Core
+FollowsCore = FollowsBy CoreLeft

@@ -1,11 +1,11 @@
 -- The script of a session (docs/RULES.md, R10): what a run writes, counts and leaves, and why it stops.
 --
---   Why       why a run stops: at the end field, at the limit, or at a refusal with its number and place
---   Walked    what the requests come to: their lines, how many were answered, why the walk stopped, the state
---   walk      the requests, from a place on
---   Script    what the whole run comes to: its text, the count, why it stopped, and the state, if a table was made
---   script    a run whose limit, answer area and table are right
---   runOf     any run
+--   Why           why a run stops: at the end field, at the limit, or at a refusal with its number and place
+--   Walked        what the requests come to: their lines, how many were answered, why the walk stopped, the state
+--   sessionWalk   the requests, from a place on
+--   Script        what the whole run comes to: its text, the count, why it stopped, and the state, if a table was made
+--   script        a run whose limit, answer area and table are right
+--   runOf         any run
 --
 -- Assumes nothing.
 use Prim.Native.Nat.{ℕ, zero, suc, _+_, _*_}
@@ -17,10 +17,10 @@ use lib.ListN.{length}
 use Rattle.units.specs.Plain.{if_then_else_}
 use Rattle.rules.specs.State.{State, setupOf}
 use Rattle.rules.specs.Calls.{fresh, step}
-use Rattle.plan.specs.Read as plan
+use Rattle.plan.specs.Read.{SetupReply, setupRefused, setupRead, readPlan}
 use Rattle.table.specs.Layout.{tableSize}
 use Rattle.lines.specs.Line.{noLine, lanesLine, endLine}
-use Rattle.requests.specs.Request.{Item, request, last, bad, itemAt}
+use Rattle.requests.specs.Request.{RequestItem, request, last, badRequest, requestItemAt}
 use Rattle.answers.specs.Lines.{lineBy}
 
 -- R10.11: the reasons for a stop; a refusal has its number, and its place if there is one
@@ -37,20 +37,19 @@ pub record Walked : Type 0 where
   pub state : State
 
 -- R10.9, R14.6: a byte behind the end field is refused by 4, at that byte
-abbrev pub closed : List ℕ → ℕ → Why
-closed s at = if ltb at (length s) then refusal 4 (some at) else atEnd
+abbrev pub sessionClosed : List ℕ → ℕ → Why
+sessionClosed s at = if ltb at (length s) then refusal 4 (some at) else atEnd
 
--- R10.8, R10.9: the walk stops at the end field and at a refused field, and counts neither. It counts each request and goes on behind it, also where the
--- call refused it, as by 16, 70 or 71, and its line is a `no` line.
-abbrev pub next : List ℕ → ℕ → List ℕ → State → Item → (ℕ → ℕ → List ℕ → State → Walked) → Walked
-next s n lines σ (bad r p) go = record { lines = lines; count = n; why = refusal r p; state = σ }
-next s n lines σ (last at) go = record { lines = lines; count = n; why = closed s at; state = σ }
-next s n lines σ (request c at) go = go at (n + 1) (lines ++ lineBy (setupOf σ) ((step σ c) .reply)) ((step σ c) .state)
-
--- R10.7: the limit goes before each field, the end field too: n requests are answered, by these lines, and so many more are allowed
-unfoldable pub walk : ℕ → List ℕ → ℕ → ℕ → List ℕ → State → Walked
-walk zero s at n lines σ = record { lines = lines; count = n; why = atLimit; state = σ }
-walk (suc left) s at n lines σ = next s n lines σ (itemAt s at) (walk left s)
+-- R10.7 to R10.9: n requests are answered, by these lines, and so many more are allowed. The limit goes before each field, the end field too. The walk stops at
+-- a refused field and at the end field, and counts neither. It counts each request and goes on behind it, also where the call refused it, as by 16, 70 or 71,
+-- and its line is a `no` line.
+unfoldable pub sessionWalk : ℕ → List ℕ → ℕ → ℕ → List ℕ → State → Walked
+sessionWalk zero s at n lines σ = record { lines = lines; count = n; why = atLimit; state = σ }
+sessionWalk (suc left) s at n lines σ = elim (requestItemAt s at) [
+  | badRequest r p ↦ record { lines = lines; count = n; why = refusal r p; state = σ }
+  | last next ↦ record { lines = lines; count = n; why = sessionClosed s next; state = σ }
+  | request c next ↦ sessionWalk left s next (n + 1) (lines ++ lineBy (setupOf σ) ((step σ c) .reply)) ((step σ c) .state)
+]
 
 -- ---- the run
 
@@ -77,21 +76,21 @@ finished lanes w = record {
 }
 
 -- R10.5, R10.6: of a refused setup its `no` line alone; else `lanes N`, and the requests on the fresh table of the setup
-abbrev pub begun : List ℕ → ℕ → plan.Reply → Script
-begun s limit (plan.refused r p) = record { text = noLine r p; count = 0; why = refusal r p; state = none }
-begun s limit (plan.read v gs lanes at) = finished lanes (walk limit s at 0 [] (fresh gs))
+abbrev pub sessionBegun : List ℕ → ℕ → SetupReply → Script
+sessionBegun s limit (setupRefused r p) = record { text = noLine r p; count = 0; why = refusal r p; state = none }
+sessionBegun s limit (setupRead v gs lanes at) = finished lanes (sessionWalk limit s at 0 [] (fresh gs))
 
 -- R10.1: a setup comes first
 unfoldable pub script : List ℕ → ℕ → Script
-script s limit = begun s limit (plan.readPlan s 0)
+script s limit = sessionBegun s limit (readPlan s 0)
 
 -- R10.4: after 17 and 7 there is no text, and no table was made
-abbrev pub nothing : ℕ → Option ℕ → Script
-nothing r p = record { text = []; count = 0; why = refusal r p; state = none }
+abbrev pub nothingDone : ℕ → Option ℕ → Script
+nothingDone r p = record { text = []; count = 0; why = refusal r p; state = none }
 
 -- R10.4, R14.38: 17 by the limit and the answer area (R14.14), 7 by the table (R14.13), and then the setup, whose table is a new one (R3.22); of a session's
 -- bytes and a limit, with a table and an answer area of so many bytes
 unfoldable pub runOf : List ℕ → ℕ → ℕ → ℕ → Script
 runOf s limit table area =
-    if ltb 1000 limit || ltb area (64 * (limit + 2)) then nothing 17 none
-    else (if ltb table tableSize then nothing 7 (some 0) else script s limit)
+    if ltb 1000 limit || ltb area (64 * (limit + 2)) then nothingDone 17 none
+    else (if ltb table tableSize then nothingDone 7 (some 0) else script s limit)

@@ -12,7 +12,7 @@ ghost use lib.ListN.{length};
 ghost use Rattle.table.specs.Layout.{tableSize};
 ghost use Rattle.table.specs.Means.{meant};
 ghost use Rattle.answers.specs.Answers.{Made};
-ghost use Rattle.walk.specs.Script.{closed, walk, finished, script};
+ghost use Rattle.walk.specs.Script.{sessionClosed, sessionWalk, finished, script};
 ghost use Rattle.walk.specs.Follows.{whyIs, Follows, FollowsCore};
 ghost use Rattle.walk.specs.Walks.{lineCount, Walks, Closes};
 use answers::Tally;
@@ -55,7 +55,7 @@ fn wide(b: u8) -> u64
 
 // At the end field: a byte after it is out of order.
 fn closed(s: &[u8], at: usize) -> Stop
-    ensures { λ r. ⌜ whyIs r ≡ closed (now (s .entry)) at ⌝ }
+    ensures { λ r. ⌜ whyIs r ≡ sessionClosed (now (s .entry)) at ⌝ }
 {
     if at < s.len() {
         return Stop::Refused(Refusal::OutOfOrder(at));
@@ -67,7 +67,7 @@ fn closed(s: &[u8], at: usize) -> Stop
 // read at once; any other field is judged and then decoded byte by byte, and where it is refused the walk is left from there.
 fn walk(s: &[u8], from: usize, limit: u64, t: &mut [u8], a: &mut [u8], start: usize) -> Walked
     requires { ⌜ Made (now t) × (limit ≤ 1000) × (start ≤ 64) × (64 * (limit + 2) ≤ length (now a)) ⌝ }
-    ensures { λ r. ⌜ Walks limit (now (t .entry)) (now (t .exit)) (now (a .entry)) (now (a .exit)) start r (walk limit (now (s .entry)) from 0 [] (meant (now (t .entry)))) ⌝ }
+    ensures { λ r. ⌜ Walks limit (now (t .entry)) (now (t .exit)) (now (a .entry)) (now (a .exit)) start r (sessionWalk limit (now (s .entry)) from 0 [] (meant (now (t .entry)))) ⌝ }
 {
     let mut at = from;
     let mut done = Tally {
@@ -137,7 +137,7 @@ fn put_closing(a: &mut [u8], at: usize, why: Stop, n: u64) -> usize
 // The requests on a fresh table, from a place on: `lanes N`, their lines, and the last lines.
 fn requested(s: &[u8], at: usize, limit: u64, t: &mut [u8], a: &mut [u8], lanes: u64) -> RunResult
     requires { ⌜ Made (now t) × (limit ≤ 1000) × (64 * (limit + 2) ≤ length (now a)) ⌝ }
-    ensures { λ r. ⌜ FollowsCore (now (t .entry)) (now (t .exit)) (now (a .entry)) (now (a .exit)) r (finished lanes (walk limit (now (s .entry)) at 0 [] (meant (now (t .entry))))) ⌝ }
+    ensures { λ r. ⌜ FollowsCore (now (t .entry)) (now (t .exit)) (now (a .entry)) (now (a .exit)) r (finished lanes (sessionWalk limit (now (s .entry)) at 0 [] (meant (now (t .entry))))) ⌝ }
 {
     let start = lines::put_lanes(a, 0, lanes);
     let w = walk(s, at, limit, t, a, start);

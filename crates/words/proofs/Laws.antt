@@ -8,7 +8,7 @@ use native.Mathlib.Numerals.{towards-suc}
 use native.Mathlib.Omega.{arith}
 use lib.ListN.{length, drop, getD, set}
 use lib.Seq.{sets, length-sets}
-use Rattle.words.specs.Runs.{reads}
+use Rattle.words.specs.Runs.{elementsFrom}
 use Rattle.words.specs.Words.{leVal, leBytes, wordAt, putWord}
 use Rattle.words.proofs.Runs.{le-or-lt, drop-sets-lt, reads-below, reads-above, reads-same}
 
@@ -18,11 +18,11 @@ leVal-leBytes zero v h = omega arith
 leVal-leBytes (suc k) v h = rw (leVal-leBytes k (v / 256) (omega (arith, rw pow-suc at h))) (omega arith)
 
 -- what four reads give, and two runs of four
-pub half-sum : (t : List ℕ) (a : ℕ) → getD t a 0 + getD t (a + 1) 0 * 256 + (getD t (a + 2) 0 + getD t (a + 3) 0 * 256) * 65536 ≡ leVal (reads t a 4)
+pub half-sum : (t : List ℕ) (a : ℕ) → getD t a 0 + getD t (a + 1) 0 * 256 + (getD t (a + 2) 0 + getD t (a + 3) 0 * 256) * 65536 ≡ leVal (elementsFrom t a 4)
 unfolding leVal
 half-sum t a = simp towards-suc (omega arith)
 
-pub word-sum : (t : List ℕ) (a : ℕ) → leVal (reads t a 4) + leVal (reads t (a + 4) 4) * 4294967296 ≡ leVal (reads t a 8)
+pub word-sum : (t : List ℕ) (a : ℕ) → leVal (elementsFrom t a 4) + leVal (elementsFrom t (a + 4) 4) * 4294967296 ≡ leVal (elementsFrom t a 8)
 unfolding leVal
 word-sum t a = simp towards-suc (omega arith)
 

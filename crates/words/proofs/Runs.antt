@@ -8,7 +8,7 @@ use native.Mathlib.Numerals.{add-one}
 use native.Mathlib.Omega.{arith}
 use lib.ListN.{length, drop, getD, set, length-set}
 use lib.Seq.{sets, drop-set-lt, getD-set-same, getD-set-other}
-use Rattle.words.specs.Runs.{reads, tabFrom, tab}
+use Rattle.words.specs.Runs.{elementsFrom, tabFrom, tab}
 
 -- ---- cases
 
@@ -36,15 +36,15 @@ pub drop-sets-lt : (n : ℕ) (vs l : List ℕ) (a : ℕ) → a + length vs ≤ n
 drop-sets-lt n [] l a h = refl
 drop-sets-lt n (v ∷ vs) l a h = drop-sets-lt n vs (set l a v) (suc a) (omega arith) ∙ drop-set-lt n l a v (omega arith)
 
-pub reads-below : (vs l : List ℕ) (a b n : ℕ) → b + n ≤ a → reads (sets l a vs) b n ≡ reads l b n
+pub reads-below : (vs l : List ℕ) (a b n : ℕ) → b + n ≤ a → elementsFrom (sets l a vs) b n ≡ elementsFrom l b n
 reads-below vs l a b zero h = refl
 reads-below vs l a b (suc n) h = rw (getD-sets-below vs l a b 0 (omega arith), reads-below vs l a (suc b) n (omega arith))
 
-pub reads-above : (vs l : List ℕ) (a b n : ℕ) → a + length vs ≤ b → reads (sets l a vs) b n ≡ reads l b n
+pub reads-above : (vs l : List ℕ) (a b n : ℕ) → a + length vs ≤ b → elementsFrom (sets l a vs) b n ≡ elementsFrom l b n
 reads-above vs l a b zero h = refl
 reads-above vs l a b (suc n) h = rw (getD-sets-above vs l a b 0 h, reads-above vs l a (suc b) n (omega arith))
 
-pub reads-same : (vs l : List ℕ) (a : ℕ) → a + length vs ≤ length l → reads (sets l a vs) a (length vs) ≡ vs
+pub reads-same : (vs l : List ℕ) (a : ℕ) → a + length vs ≤ length l → elementsFrom (sets l a vs) a (length vs) ≡ vs
 reads-same [] l a h = refl
 reads-same (v ∷ vs) l a h =
     let e : getD (sets (set l a v) (suc a) vs) a 0 ≡ v = getD-sets-below vs (set l a v) (suc a) a 0 (omega arith) ∙ getD-set-same l a v 0 (omega arith) in
@@ -54,12 +54,12 @@ reads-same (v ∷ vs) l a h =
 -- ---- a run, by its elements
 
 -- lists that agree there have the same run
-pub reads-ext : (l m : List ℕ) (a n : ℕ) → ((i : ℕ) → a ≤ i → i < a + n → getD m i 0 ≡ getD l i 0) → reads m a n ≡ reads l a n
+pub reads-ext : (l m : List ℕ) (a n : ℕ) → ((i : ℕ) → a ≤ i → i < a + n → getD m i 0 ≡ getD l i 0) → elementsFrom m a n ≡ elementsFrom l a n
 reads-ext l m a zero h = refl
 reads-ext l m a (suc n) h =
     rw (h a (omega arith) (omega arith), reads-ext l m (suc a) n (λ i p q. h i (omega arith) (omega arith)))
 
-pub length-reads : (l : List ℕ) (a n : ℕ) → length (reads l a n) ≡ n
+pub length-reads : (l : List ℕ) (a n : ℕ) → length (elementsFrom l a n) ≡ n
 length-reads l a zero = refl
 length-reads l a (suc n) = ap suc (length-reads l (suc a) n)
 

@@ -1,16 +1,16 @@
 -- Runs of a list of numbers, and lists made by a rule.
 --
---   reads l a n   the n elements of l from index a on, 0 past its end
---   tab n f       f 0, f 1, .., n of them
+--   elementsFrom l a n   the n elements of l from index a on, 0 past its end
+--   tab n f              f 0, f 1, .., n of them
 --
 -- Assumes nothing.
 use Prim.Native.Nat.{ℕ, zero, suc}
 use mathlib.Core.List.{List, [], _∷_}
 use lib.ListN.{getD}
 
-abbrev pub reads : List ℕ → ℕ → ℕ → List ℕ
-reads l a zero = []
-reads l a (suc n) = getD l a 0 ∷ reads l (suc a) n
+abbrev pub elementsFrom : List ℕ → ℕ → ℕ → List ℕ
+elementsFrom l a zero = []
+elementsFrom l a (suc n) = getD l a 0 ∷ elementsFrom l (suc a) n
 
 -- f a, f (a + 1), .., n of them
 unfoldable pub tabFrom : {A : Type 0} → ℕ → ℕ → (ℕ → A) → List A

@@ -9,7 +9,7 @@
 use Prim.Native.Nat.{ℕ, zero, suc, _+_, _*_, _/_, _%_}
 use mathlib.Core.List.{List, [], _∷_}
 use lib.Seq.{sets}
-use Rattle.words.specs.Runs.{reads}
+use Rattle.words.specs.Runs.{elementsFrom}
 
 unfoldable pub leVal : List ℕ → ℕ
 leVal [] = 0
@@ -20,7 +20,7 @@ leBytes zero v = []
 leBytes (suc k) v = v % 256 ∷ leBytes k (v / 256)
 
 unfoldable pub wordAt : List ℕ → ℕ → ℕ
-wordAt t i = leVal (reads t (i * 8) 8)
+wordAt t i = leVal (elementsFrom t (i * 8) 8)
 
 unfoldable pub putWord : List ℕ → ℕ → ℕ → List ℕ
 putWord t i v = sets t (i * 8) (leBytes 8 v)

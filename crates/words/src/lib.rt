@@ -5,7 +5,7 @@
 ghost use mathlib.Core.Path.{_≡_};
 ghost use Prim.Native.Nat.{_+_, _*_, _^_, _<_, _≤_};
 ghost use lib.ListN.{length, getD};
-ghost use Rattle.words.specs.Runs.{reads};
+ghost use Rattle.words.specs.Runs.{elementsFrom};
 ghost use Rattle.words.specs.Words.{leVal, wordAt, putWord};
 
 // The byte at `a`, as a number below 256.
@@ -19,7 +19,7 @@ fn byte(t: &[u8], a: usize) -> u64
 // Four bytes from `a` on, as a number below 2^32.
 fn half(t: &[u8], a: usize) -> u64
     requires { ⌜ a + 4 ≤ length (now t) ⌝ }
-    ensures { λ r. ⌜ (r ≡ leVal (reads (now (t .entry)) a 4)) × (r < 2 ^ 32) ⌝ }
+    ensures { λ r. ⌜ (r ≡ leVal (elementsFrom (now (t .entry)) a 4)) × (r < 2 ^ 32) ⌝ }
 {
     byte(t, a) + byte(t, a + 1) * 256 + (byte(t, a + 2) + byte(t, a + 3) * 256) * 65536
 }
@@ -28,7 +28,7 @@ fn half(t: &[u8], a: usize) -> u64
 // again where only some of the bits are asked for, into up to four loads.
 fn whole(t: &[u8], a: usize) -> u64
     requires { ⌜ a + 8 ≤ length (now t) ⌝ }
-    ensures { λ r. ⌜ r ≡ leVal (reads (now (t .entry)) a 8) ⌝ }
+    ensures { λ r. ⌜ r ≡ leVal (elementsFrom (now (t .entry)) a 8) ⌝ }
 {
     half(t, a) + half(t, a + 4) * 4294967296
 }

@@ -8,7 +8,7 @@ use Rattle.paged.specs.Paged.{EncodesDevice}
 use Rattle.scheduler.specs.Demands.{EveryList}
 use Rattle.scheduler.proofs.Chains.{led-by, all-ruled}
 use Rattle.scheduler.proofs.Demands.{every-list}
-use Rattle.walk.specs.Follows.{Table}
+use Rattle.walk.specs.Follows.{TableLeft}
 use Rattle.session.specs.Requests.{requestsOf}
 use Rattle.zenfrosta.specs.AfterRun.{answered, ByRun, AfterRun}
 
@@ -17,7 +17,7 @@ unfolding ByRun WithoutOffers
 by-run s limit t t′ a a′ r p l =
     let cs = requestsOf limit s (l .at) in
     led-by (l .settings) (map ruled cs) t′ (l .setup) (all-ruled cs)
-    (subst (EncodesDevice t′) (sym (without-offers (l .settings) cs .1)) ((subst (Table t t′) (l .state) (p .table)) .encodes))
+    (subst (EncodesDevice t′) (sym (without-offers (l .settings) cs .1)) ((subst (TableLeft t t′) (l .state) (p .table)) .encodes))
 
 pub after-run : AfterRun
 unfolding AfterRun ByRun EveryList

@@ -11,8 +11,7 @@ use Rattle.rules.specs.Reads.{reads}
 use Rattle.rules.specs.declared.Refusal.{Refusal}
 use Rattle.table.specs.Layout.{tableSize}
 use Rattle.old_table.specs.Old.{OldTable}
-use Rattle.convert.specs.Converts as converting
-use Rattle.convert.specs.Converts.{TakenOver, Converts}
+use Rattle.convert.specs.Converts.{TakenOver, Converts, convertReply}
 use Rattle.convert.specs.Takes.{OldTakes, oldDone, oldThen, refuses, takes, UntilTen}
 use Rattle.convert.specs.declared.Converting.{Converting}
 use Rattle.convert.specs.declared.Converting.the-variants.{Converted, Refused}
@@ -68,11 +67,11 @@ pub host-converts : HostConverts
 unfolding HostConverts
 host-converts old before after out out′ r x = (when-done, when-refused)
   where
-    goes-on : (a : Converting) → Converts old before a after → convertCode (converting.reads a) ≡ 0 → GoesOn old before after
+    goes-on : (a : Converting) → Converts old before a after → convertCode (convertReply a) ≡ 0 → GoesOn old before after
     goes-on Converted c e = done old before after c
     goes-on (Refused y) c e = absurd (number-not-0 y e)
 
-    unchanged : (a : Converting) → Converts old before a after → (convertCode (converting.reads a) ≡ 0 → ⊥) → after ≡ before
+    unchanged : (a : Converting) → Converts old before a after → (convertCode (convertReply a) ≡ 0 → ⊥) → after ≡ before
     unchanged Converted c ne = absurd (ne refl)
     unchanged (Refused y) c ne = stays old before after y c
 

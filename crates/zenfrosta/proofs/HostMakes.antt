@@ -19,8 +19,7 @@ use Rattle.scheduler.specs.declared.Offering.the-variants.{InForce, Waits, Old}
 use Rattle.scheduler.specs.declared.Offering.the-variants as offers
 use Rattle.rules.specs.declared.Refusal.{Refusal}
 use Rattle.rules.specs.declared.Refusal.the-variants.{Cut, UnknownTag, WrongLength, OutOfOrder, WeightsOver, TableShort, NotGood, NoLane, BadLength, LaneFull, StillHolds, NothingHeld, RunBounds, InputLong, FormatOutside, LaneOutside, WeightOutside, LongestOutside, FramingOutside, WrongByte, SheetCut, NoSheet, NoTrain, TrainFull}
-use Rattle.plan.specs.Read as plan
-use Rattle.plan.specs.Read.{readSetup}
+use Rattle.plan.specs.Read.{readSetup, SetupReply, setupRefused, setupRead}
 use Rattle.table.specs.Layout.{tableSize}
 use Rattle.scheduler.specs.Make as making
 use Rattle.scheduler.specs.Make.{MakeStep}
@@ -71,9 +70,9 @@ offer-back Old = refl
 offer-back (offers.Refused x) = rw (ne-eqb (number x) 0 (number-not-0 x)) (ap (λ (p : Option ℕ). answered (refused (number x) p)) (place-back (placeOf x)))
 
 module _ (setup before t out out′ : List ℕ) (n : ℕ) (m : MakeStep setup before (Made n) t) (w : Spoken out (makeValues (making.made n)) out′) where
-  by-plan : tableSize ≤ length before → (y : plan.Reply) → readSetup setup ≡ y → making.Follows y before (Made n) t → Begun setup t out′
-  by-plan h (plan.refused k p) e f = let is = f .0 in let z : _≡_ {A = ℕ} 0 1 = cc in absurd (omega arith)
-  by-plan h (plan.read v gs k at) e f =
+  by-plan : tableSize ≤ length before → (y : SetupReply) → readSetup setup ≡ y → making.TableBySetup y before (Made n) t → Begun setup t out′
+  by-plan h (setupRefused k p) e f = let is = f .0 in let z : _≡_ {A = ℕ} 0 1 = cc in absurd (omega arith)
+  by-plan h (setupRead v gs k at) e f =
       let is = f .0 in
       let lanes : k ≡ n = cc in
       let told : n ≡ _ = sym (ap (λ (x : Four). x .a) (w .read)) in
@@ -81,7 +80,7 @@ module _ (setup before t out out′ : List ℕ) (n : ℕ) (m : MakeStep setup be
         settings = gs;
         format = v;
         at = at;
-        reads-it = e ∙ ap (λ (x : ℕ). plan.read v gs x at) (lanes ∙ told);
+        reads-it = e ∙ ap (λ (x : ℕ). setupRead v gs x at) (lanes ∙ told);
         led = by-make gs t (record { setup = setup; before = before; answer = Made n; format = v; lanes = k; at = at; reads-it = e; room = h; makes = m });
       }
 
@@ -93,7 +92,7 @@ pub host-makes : HostMakes
 unfolding HostMakes
 host-makes setup before t out out′ r x zero = go (le-or-lt 32 (length out))
   where
-    made : (a : Making) → MakeStep setup before a t → r ≡ makeCode (making.reads a) → Spoken out (makeValues (making.reads a)) out′ → Begun setup t out′
+    made : (a : Making) → MakeStep setup before a t → r ≡ makeCode (making.makeReply a) → Spoken out (makeValues (making.makeReply a)) out′ → Begun setup t out′
     made (Made n) m c w = by-room setup before t out out′ n m w (le-or-lt tableSize (length before))
     made (Refused y) m c w = absurd (number-not-0 y (sym c ∙ zero))
 

@@ -9,8 +9,8 @@ use mathlib.Core.Path.{_≡_}
 use mathlib.Core.List.{List}
 use mathlib.Core.Option.{none, some}
 use Rattle.desk.specs.Calls.{clear}
-use Rattle.journal.specs.Reads.{Plain, line, stands, begun, refused, told, shown, beginning}
-use Rattle.journal.specs.Step.{Step, RecordStep, LineStep, BeginStep}
+use Rattle.journal.specs.Reads.{Plain, line, stands, begun, plainRefused, told, shown, beginning}
+use Rattle.journal.specs.Step.{BoardStep, RecordStep, LineStep, BeginStep}
 use Rattle.zenfrosta.specs.Crossing.{four, refusalWords, Crosses}
 use Rattle.zenfrosta.specs.declared.Four.{Four}
 
@@ -18,7 +18,7 @@ abbrev pub boardCode : Plain → ℕ
 boardCode (line k) = 0
 boardCode (stands x) = 0
 boardCode begun = 0
-boardCode (refused n p) = n
+boardCode (plainRefused n p) = n
 
 -- R13.5. The line that was changed. What stands on a line: kind, train, cell, sequence, all 0 where it is free. A refusal as in every call.
 abbrev pub boardValues : Plain → Four
@@ -26,7 +26,7 @@ boardValues (line k) = four k 0 0 0
 boardValues (stands none) = four 0 0 0 0
 boardValues (stands (some r)) = four (r .kind) (r .train) (r .cell) (r .sequence)
 boardValues begun = four 0 0 0 0
-boardValues (refused n p) = refusalWords p
+boardValues (plainRefused n p) = refusalWords p
 
 -- R13.5
 abbrev pub CrossesBegin : (board board′ out : List ℕ) (r : ℕ) (out′ : List ℕ) → Type 0
@@ -41,7 +41,7 @@ CrossesRecord field board board′ out r out′ =
 -- R13.5
 abbrev pub CrossesClear : (train : ℕ) (board board′ out : List ℕ) (r : ℕ) (out′ : List ℕ) → Type 0
 CrossesClear train board board′ out r out′ =
-    Crosses (λ a. boardCode (told a)) (λ a. boardValues (told a)) (λ a. Step (clear train) board a board′) (board′ ≡ board) out r out′
+    Crosses (λ a. boardCode (told a)) (λ a. boardValues (told a)) (λ a. BoardStep (clear train) board a board′) (board′ ≡ board) out r out′
 
 -- R13.5: the board is lent to be read, so there is no byte of it that could change
 abbrev pub CrossesLine : (line : ℕ) (board out : List ℕ) (r : ℕ) (out′ : List ℕ) → Type 0

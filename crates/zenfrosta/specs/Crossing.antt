@@ -23,8 +23,7 @@ use Rattle.rules.specs.Calls.{Call, Reply, accepted, taken, seen, words, lagged
 use Rattle.rules.specs.Reads.{reads}
 use Rattle.pages.specs.Device.{DeviceReply, answered, inForceNow, waitsNow}
 use Rattle.scheduler.specs.Step.{Step, offering, OfferStep}
-use Rattle.scheduler.specs.Make as making
-use Rattle.scheduler.specs.Make.{made, notMade, MakeStep}
+use Rattle.scheduler.specs.Make.{made, notMade, MakeStep, MakeReply, makeReply}
 use Rattle.walk.specs.Script.{Why, atEnd, atLimit, refusal}
 use Rattle.walk.specs.Follows.{whyIs}
 use Rattle.walk.specs.declared.RunResult.{RunResult}
@@ -60,12 +59,12 @@ values (lagged z) = four (ofZ w64 z) 0 0 0
 values restarted = four 0 0 0 0
 values (refused n p) = refusalWords p
 
-abbrev pub makeCode : making.Reply → ℕ
+abbrev pub makeCode : MakeReply → ℕ
 makeCode (made n) = 0
 makeCode (notMade n p) = n
 
 -- R13.4: the number of lanes, or a refusal
-abbrev pub makeValues : making.Reply → Four
+abbrev pub makeValues : MakeReply → Four
 makeValues (made n) = four n 0 0 0
 makeValues (notMade n p) = refusalWords p
 
@@ -135,7 +134,7 @@ CrossesCall c table table′ out r out′ =
 -- R13.4
 abbrev pub CrossesMaking : (setup table table′ out : List ℕ) (r : ℕ) (out′ : List ℕ) → Type 0
 CrossesMaking setup table table′ out r out′ =
-    Crosses (λ a. makeCode (making.reads a)) (λ a. makeValues (making.reads a)) (λ a. MakeStep setup table a table′) (table′ ≡ table) out r out′
+    Crosses (λ a. makeCode (makeReply a)) (λ a. makeValues (makeReply a)) (λ a. MakeStep setup table a table′) (table′ ≡ table) out r out′
 
 -- R19.17
 abbrev pub CrossesOffer : (page table table′ out : List ℕ) (r : ℕ) (out′ : List ℕ) → Type 0

@@ -10,7 +10,7 @@ use mathlib.Core.Path.{_≡_}
 use mathlib.Core.List.{List}
 use Rattle.rules.specs.Calls.{Call}
 use Rattle.rules.specs.Reads as answer
-use Rattle.halt.specs.Halt.{HaltTable, HaltStep, HaltMake, reads}
+use Rattle.halt.specs.Halt.{HaltTable, HaltStep, HaltMake, haltReply}
 use Rattle.zenfrosta.specs.Crossing.{code, values, makeCode, makeValues, Crosses, CrossesCall}
 
 -- R13.4, R20.6
@@ -21,7 +21,7 @@ CrossesHalt c table table′ out r out′ =
 -- R13.4, R20.6
 abbrev pub CrossesHaltMaking : (setup table table′ out : List ℕ) (r : ℕ) (out′ : List ℕ) → Type 0
 CrossesHaltMaking setup table table′ out r out′ =
-    Crosses (λ a. makeCode (reads a)) (λ a. makeValues (reads a)) (λ a. HaltMake setup table a table′) (table′ ≡ table) out r out′
+    Crosses (λ a. makeCode (haltReply a)) (λ a. makeValues (haltReply a)) (λ a. HaltMake setup table a table′) (table′ ≡ table) out r out′
 
 -- R20.4, R20.6
 unfoldable pub HaltCrosses : Type 0

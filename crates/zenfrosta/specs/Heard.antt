@@ -20,7 +20,7 @@ use Rattle.rules.specs.State.{Setting}
 use Rattle.rules.specs.Calls.{Call, put, take, look, sets, lag, restart, Reply, accepted, taken, seen, words, lagged, restarted, refused}
 use Rattle.pages.specs.Device.{ruled, DeviceReply, answered, inForceNow, waitsNow}
 use Rattle.pages.specs.Offers.{DeviceEvent}
-use Rattle.plan.specs.Read.{read, readSetup}
+use Rattle.plan.specs.Read.{setupRead, readSetup}
 use Rattle.scheduler.specs.Step.{offered}
 use Rattle.scheduler.specs.Chain.{Chain, Led}
 use Rattle.scheduler.specs.Demands.{Demands}
@@ -67,7 +67,7 @@ pub record Begun (setup t out : List ℕ) : Type 0 where
   pub settings : List Setting
   pub format : ℕ
   pub at : ℕ
-  pub reads-it : readSetup setup ≡ read format settings (wordsIn out .a) at
+  pub reads-it : readSetup setup ≡ setupRead format settings (wordsIn out .a) at
   pub led : Led settings [] t
 
 unfoldable pub HostMakes : Type 0

@@ -14,25 +14,25 @@ use lib.ListN.{length}
 use Rattle.rules.specs.Calls as calls
 use Rattle.rules.specs.Calls.{take}
 use Rattle.old_table.specs.Old.{OldTable}
-use Rattle.convert.specs.Converts.{Reply, converted, notConverted, reads, TakenOver, Converts}
+use Rattle.convert.specs.Converts.{ConvertReply, converted, notConverted, convertReply, TakenOver, Converts}
 use Rattle.convert.specs.Takes.{OldTakes, UntilTen}
 use Rattle.zenfrosta.specs.Crossing.{four, refusalWords, wordsIn, bufferSize, Crosses, CrossesCall}
 use Rattle.zenfrosta.specs.Heard.{heard}
 use Rattle.zenfrosta.specs.declared.Four.{Four}
 
-abbrev pub convertCode : Reply → ℕ
+abbrev pub convertCode : ConvertReply → ℕ
 convertCode converted = 0
 convertCode (notConverted n p) = n
 
 -- R13.4
-abbrev pub convertValues : Reply → Four
+abbrev pub convertValues : ConvertReply → Four
 convertValues converted = four 0 0 0 0
 convertValues (notConverted n p) = refusalWords p
 
 -- R13.4
 abbrev pub CrossesConverting : (old table table′ out : List ℕ) (r : ℕ) (out′ : List ℕ) → Type 0
 CrossesConverting old table table′ out r out′ =
-    Crosses (λ a. convertCode (reads a)) (λ a. convertValues (reads a)) (λ a. Converts old table a table′) (table′ ≡ table) out r out′
+    Crosses (λ a. convertCode (convertReply a)) (λ a. convertValues (convertReply a)) (λ a. Converts old table a table′) (table′ ≡ table) out r out′
 
 pub data HeardTakes : List ℕ → List calls.Reply → List ℕ → Type 0 where
   nothing : {t : List ℕ} → HeardTakes t [] t

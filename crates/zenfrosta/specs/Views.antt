@@ -7,8 +7,8 @@
 use Prim.Native.Nat.{ℕ, _+_}
 use mathlib.Core.List.{List}
 use Rattle.plan_area.specs.Area.{sharedPart}
-use Rattle.show.specs.Views.{Ask, View, clockIs, settingIs, backlogIs, recordIs, editionIs, waitIs, refused}
-use Rattle.show.specs.Shows.{reads, Shows}
+use Rattle.show.specs.Views.{Ask, View, clockIs, settingIs, backlogIs, recordIs, editionIs, waitIs, viewRefused}
+use Rattle.show.specs.Shows.{viewReply, Shows}
 use Rattle.zenfrosta.specs.Crossing.{four, refusalWords, Crosses}
 use Rattle.zenfrosta.specs.declared.Four.{Four}
 
@@ -19,7 +19,7 @@ viewCode (backlogIs n x) = 0
 viewCode (recordIs k r) = 0
 viewCode (editionIs n m) = 0
 viewCode (waitIs n m) = 0
-viewCode (refused n p) = n
+viewCode (viewRefused n p) = n
 
 -- The clock. A setting: weight, longest, h, group, which has 2^32 added in a shared lane. A backlog: how many wait, S or F. A record: lane, mark, length,
 -- train. The editions: the last one taken, and the waiting page's. A worst wait: as the fair share has it for every setup, and by the costliest record of this
@@ -31,8 +31,8 @@ viewValues (backlogIs n x) = four n x 0 0
 viewValues (recordIs k r) = four k (r .mark) (r .len) (r .train)
 viewValues (editionIs n m) = four n m 0 0
 viewValues (waitIs n m) = four n m 0 0
-viewValues (refused n p) = refusalWords p
+viewValues (viewRefused n p) = refusalWords p
 
 -- R17.6, R17.8: the table is lent to be read, so there is no byte of it that could change
 abbrev pub CrossesView : (a : Ask) (table out : List ℕ) (r : ℕ) (out′ : List ℕ) → Type 0
-CrossesView a table out r out′ = Crosses (λ x. viewCode (reads x)) (λ x. viewValues (reads x)) (Shows a table) (Unit {0}) out r out′
+CrossesView a table out r out′ = Crosses (λ x. viewCode (viewReply x)) (λ x. viewValues (viewReply x)) (Shows a table) (Unit {0}) out r out′

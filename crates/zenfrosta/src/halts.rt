@@ -3,7 +3,7 @@ ghost use mathlib.Core.Path.{_≡_};
 ghost use Prim.Native.Nat.{_≤_};
 ghost use lib.ListN.{length};
 ghost use Rattle.rules.specs.Calls as Calls;
-ghost use Rattle.halt.specs.Halt.{reads};
+ghost use Rattle.halt.specs.Halt.{haltReply};
 ghost use Rattle.zenfrosta.specs.Crossing.{makeCode, makeValues, Spoken};
 ghost use Rattle.zenfrosta.specs.Halts.{CrossesHalt, CrossesHaltMaking};
 use crate::refusal_words;
@@ -18,7 +18,7 @@ const NOT_A_HALT: u64 = 90;
 // Tells how making went.
 fn tell_made(out: &mut [u8], x: Making) -> u64
     requires { ⌜ 32 ≤ length (now out) ⌝ }
-    ensures { λ r. ⌜ (r ≡ makeCode (reads x)) × Spoken (now (out .entry)) (makeValues (reads x)) (now (out .exit)) ⌝ }
+    ensures { λ r. ⌜ (r ≡ makeCode (haltReply x)) × Spoken (now (out .entry)) (makeValues (haltReply x)) (now (out .exit)) ⌝ }
 {
     match x {
         Making::Made(n) => {

@@ -3,7 +3,7 @@ ghost use mathlib.Core.Path.{_≡_};
 ghost use Prim.Native.Nat.{_≤_};
 ghost use lib.ListN.{length};
 ghost use Rattle.old_table.specs.Old.{oldSize};
-ghost use Rattle.convert.specs.Converts.{reads};
+ghost use Rattle.convert.specs.Converts.{convertReply};
 ghost use Rattle.zenfrosta.specs.Crossing.{Spoken};
 ghost use Rattle.zenfrosta.specs.Old.{convertCode, convertValues, CrossesConverting};
 use crate::refusal_words;
@@ -13,7 +13,7 @@ use convert::Converting;
 // Tells how converting went.
 fn tell_converted(out: &mut [u8], x: Converting) -> u64
     requires { ⌜ 32 ≤ length (now out) ⌝ }
-    ensures { λ r. ⌜ (r ≡ convertCode (reads x)) × Spoken (now (out .entry)) (convertValues (reads x)) (now (out .exit)) ⌝ }
+    ensures { λ r. ⌜ (r ≡ convertCode (convertReply x)) × Spoken (now (out .entry)) (convertValues (convertReply x)) (now (out .exit)) ⌝ }
 {
     match x {
         Converting::Converted => {

@@ -3,9 +3,9 @@
 ghost use mathlib.Core.Path.{_≡_};
 ghost use Prim.Native.Nat.{_≤_};
 ghost use lib.ListN.{length};
-ghost use Rattle.plan_writer.specs.Write.{number, wrote};
+ghost use Rattle.plan_writer.specs.Write.{unwrittenNumber, writeReply};
 ghost use Rattle.plan_area.specs.Area.{areaSize};
-ghost use Rattle.plan_area.specs.Step.{got};
+ghost use Rattle.plan_area.specs.Step.{areaReply};
 ghost use Rattle.zenfrosta.specs.Crossing.{Spoken};
 ghost use Rattle.zenfrosta.specs.Plans.{readCode, readValues, writeCode, writeValues, CrossesSetupRead, CrossesSetupWrite};
 use crate::refusal_words;
@@ -17,7 +17,7 @@ use plan_writer::Written;
 // Tells how reading went.
 pub(crate) fn tell_got(out: &mut [u8], x: Got) -> u64
     requires { ⌜ 32 ≤ length (now out) ⌝ }
-    ensures { λ r. ⌜ (r ≡ readCode (got x)) × Spoken (now (out .entry)) (readValues (got x)) (now (out .exit)) ⌝ }
+    ensures { λ r. ⌜ (r ≡ readCode (areaReply x)) × Spoken (now (out .entry)) (readValues (areaReply x)) (now (out .exit)) ⌝ }
 {
     match x {
         Got::Lanes(n) => {
@@ -34,7 +34,7 @@ pub(crate) fn tell_got(out: &mut [u8], x: Got) -> u64
 
 // The number of a refusal of writing.
 fn unwritten_code(x: Unwritten) -> u64
-    ensures { λ r. ⌜ r ≡ number x ⌝ }
+    ensures { λ r. ⌜ r ≡ unwrittenNumber x ⌝ }
 {
     match x {
         Unwritten::Outside => 55,
@@ -45,7 +45,7 @@ fn unwritten_code(x: Unwritten) -> u64
 // Tells how writing went.
 fn tell_written(out: &mut [u8], x: Written) -> u64
     requires { ⌜ 32 ≤ length (now out) ⌝ }
-    ensures { λ r. ⌜ (r ≡ writeCode (wrote x)) × Spoken (now (out .entry)) (writeValues (wrote x)) (now (out .exit)) ⌝ }
+    ensures { λ r. ⌜ (r ≡ writeCode (writeReply x)) × Spoken (now (out .entry)) (writeValues (writeReply x)) (now (out .exit)) ⌝ }
 {
     match x {
         Written::Size(n) => {

@@ -3,7 +3,7 @@
 ghost use mathlib.Core.Path.{_≡_};
 ghost use Prim.Native.Nat.{_≤_};
 ghost use lib.ListN.{length};
-ghost use Rattle.sheet_writer.specs.Write.{number, wrote};
+ghost use Rattle.sheet_writer.specs.Write.{unwrittenSheetNumber, sheetWriteReply};
 ghost use Rattle.zenfrosta.specs.Crossing.{Spoken};
 ghost use Rattle.zenfrosta.specs.Plans.{writeCode, writeValues, CrossesSheetRead, CrossesSheetWrite};
 use crate::plans::tell_got;
@@ -13,7 +13,7 @@ use sheet_writer::Written;
 
 // The number of a refusal of writing.
 fn unwritten_code(x: Unwritten) -> u64
-    ensures { λ r. ⌜ r ≡ number x ⌝ }
+    ensures { λ r. ⌜ r ≡ unwrittenSheetNumber x ⌝ }
 {
     match x {
         Unwritten::Outside => 55,
@@ -25,7 +25,7 @@ fn unwritten_code(x: Unwritten) -> u64
 // Tells how writing went.
 fn tell_written(out: &mut [u8], x: Written) -> u64
     requires { ⌜ 32 ≤ length (now out) ⌝ }
-    ensures { λ r. ⌜ (r ≡ writeCode (wrote x)) × Spoken (now (out .entry)) (writeValues (wrote x)) (now (out .exit)) ⌝ }
+    ensures { λ r. ⌜ (r ≡ writeCode (sheetWriteReply x)) × Spoken (now (out .entry)) (writeValues (sheetWriteReply x)) (now (out .exit)) ⌝ }
 {
     match x {
         Written::Size(n) => {

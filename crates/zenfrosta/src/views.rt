@@ -4,7 +4,7 @@ ghost use Prim.Native.Nat.{_≤_};
 ghost use lib.ListN.{length};
 ghost use Rattle.plan_area.specs.Area.{sharedPart};
 ghost use Rattle.show.specs.Views as Views;
-ghost use Rattle.show.specs.Shows.{reads};
+ghost use Rattle.show.specs.Shows.{viewReply};
 ghost use Rattle.zenfrosta.specs.Crossing.{Spoken};
 ghost use Rattle.zenfrosta.specs.Views.{viewCode, viewValues, CrossesView};
 use crate::record_words;
@@ -22,7 +22,7 @@ fn shared_part(shared: bool) -> u64
 // Tells what a table shows.
 fn tell_view(out: &mut [u8], x: Shown) -> u64
     requires { ⌜ 32 ≤ length (now out) ⌝ }
-    ensures { λ r. ⌜ (r ≡ viewCode (reads x)) × Spoken (now (out .entry)) (viewValues (reads x)) (now (out .exit)) ⌝ }
+    ensures { λ r. ⌜ (r ≡ viewCode (viewReply x)) × Spoken (now (out .entry)) (viewValues (viewReply x)) (now (out .exit)) ⌝ }
 {
     match x {
         Shown::Clock(v) => {

@@ -4,14 +4,14 @@ use Prim.Native.Nat.{_-_}
 use native.Mathlib.Omega.{arith}
 use borrow.Author.Tests.{not-true, not-false}
 use lib.ListN.{length, getD, replicate, length-set}
-use Rattle.board.specs.Layout.{Room, boardOf, SeenBelow}
+use Rattle.board.specs.Layout.{BoardRoom, boardOf, SeenBelow}
 use Rattle.board.proofs.Means.{Passed, passed-none, passed-more, passed-all, fails-room, fails-formed, fails-parted}
 use Rattle.board.proofs.Tested.{parted-known, seen-none, seen-here, seen-more}
 use Rattle.board.proofs.sound.Statement.{statement}
 use Rattle.board.proofs.sound.Tie as tie
 
 abbrev Inv-loop : tie.InvT-loop
-Inv-loop t k₀ seen₀ k seen = Room t × Passed t k × SeenBelow (boardOf t) k seen × (length seen ≡ 16)
+Inv-loop t k₀ seen₀ k seen = BoardRoom t × Passed t k × SeenBelow (boardOf t) k seen × (length seen ≡ 16)
 
 abbrev μ-loop : tie.MeasureT-loop
 μ-loop t k₀ seen₀ k seen = 64 - k

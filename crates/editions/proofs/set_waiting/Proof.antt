@@ -7,7 +7,7 @@ use native.Mathlib.Omega.{arith}
 use lib.ListN.{drop, length-drop}
 use Rattle.plan.specs.Read.{settings}
 use Rattle.plan_writer.proofs.Parts.{format-small}
-use Rattle.plan_area.specs.Area.{Room}
+use Rattle.plan_area.specs.Area.{AreaRoom}
 use Rattle.editions.proofs.Lent.{tail-all}
 use Rattle.editions.proofs.Stored.{long, waiting-stored}
 use Rattle.editions.proofs.set_waiting.Statement.{statement}
@@ -33,7 +33,7 @@ store-requires : tie.Need-store-requires
 store-requires c κs =
     let s = c .before .before .before .before .before .before in
     let q = c .before .before .before .set-word .last .0 in (
-      subst Room (sym (tail-all 16 q)) (omega (arith, length-drop 16 q, long (s .args .p .now) q [] (s .args .edition) (s .pre .0) (c .before .before .before .set-word .ensures), s .pre .0)),
+      subst AreaRoom (sym (tail-all 16 q)) (omega (arith, length-drop 16 q, long (s .args .p .now) q [] (s .args .edition) (s .pre .0) (c .before .before .before .set-word .ensures), s .pre .0)),
       s .pre .2,
       format-small (s .args .plan .format) (s .pre .3),
     )

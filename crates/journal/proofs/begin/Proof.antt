@@ -2,13 +2,13 @@
 use mathlib.Core.Path.{_≡_, sym, subst}
 use Prim.Native.Nat.{_+_, _-_}
 use native.Mathlib.Omega.{arith}
-use Rattle.board.specs.Layout.{Room}
+use Rattle.board.specs.Layout.{BoardRoom}
 use Rattle.journal.proofs.Steps.{Wiped, wiped-none, wiped-more, begin-short, begin-done}
 use Rattle.journal.proofs.begin.Statement.{statement}
 use Rattle.journal.proofs.begin.Tie as tie
 
 abbrev Inv-loop : tie.InvT-loop
-Inv-loop t₀ i₀ t i = Room t₀ × Wiped t₀ t i
+Inv-loop t₀ i₀ t i = BoardRoom t₀ × Wiped t₀ t i
 
 abbrev μ-loop : tie.MeasureT-loop
 μ-loop t₀ i₀ t i = 128 - i

@@ -2,7 +2,7 @@
 use mathlib.Core.Path.{sym, subst}
 use native.Mathlib.Omega.{arith}
 use Rattle.desk.specs.Calls.{clear}
-use Rattle.journal.specs.Step.{Step}
+use Rattle.journal.specs.Step.{BoardStep}
 use Rattle.journal.specs.declared.Told.the-variants.{Line}
 use Rattle.journal.proofs.Steps.{found-board, found-none, bad-step, clear-absent, clear-joined, clear-done}
 use borrow.Author.Needs.{needs}
@@ -46,7 +46,7 @@ same-length-4 : tie.Need-same-length-4
 same-length-4 c = search needs
 
 returns-4 : tie.Need-returns-4
-returns-4 c = subst (Step (clear (c .before .before .before .before .before .before .before .before .before .before .before .before .before .before .before .args .train)) (c .before .before .before .before .before .before .before .before .before .before .before .before .before .before .before .args .t .now) (Line (c .before .before .before .before .before .before .before .before .before .find .result))) (sym (c .before .before .set-line .ensures)) (clear-done (c .before .before .before .before .before .before .before .before .before .before .before .before .before .before .before .args .t .now) (c .before .before .before .before .before .before .before .before .before .before .before .before .before .before .before .args .train) (c .before .before .before .before .before .before .before .before .before .find .result) (found-board (c .before .before .before .before .before .before .before .before .before .before .before .before .before .before .before .args .t .now) (c .before .before .before .before .before .before .before .before .before .before .before .before .sound .result) (c .before .before .before .before .before .before .before .before .before .before .before .before .sound .ensures) (c .before .before .before .before .before .before .before .before .before .before .before .if1 .left)) (c .before .before .before .before .before .before .before .before .before .find .ensures) (c .before .before .before .before .before .before .line-at .result) (c .before .before .before .before .before .before .line-at .ensures) (omega arith) (omega (arith, c .before .before .before .before .before .before .before .before .before .find .ensures .within, c .before .before .before .before .before .before .before .before .if2 .left)) (omega arith))
+returns-4 c = subst (BoardStep (clear (c .before .before .before .before .before .before .before .before .before .before .before .before .before .before .before .args .train)) (c .before .before .before .before .before .before .before .before .before .before .before .before .before .before .before .args .t .now) (Line (c .before .before .before .before .before .before .before .before .before .find .result))) (sym (c .before .before .set-line .ensures)) (clear-done (c .before .before .before .before .before .before .before .before .before .before .before .before .before .before .before .args .t .now) (c .before .before .before .before .before .before .before .before .before .before .before .before .before .before .before .args .train) (c .before .before .before .before .before .before .before .before .before .find .result) (found-board (c .before .before .before .before .before .before .before .before .before .before .before .before .before .before .before .args .t .now) (c .before .before .before .before .before .before .before .before .before .before .before .before .sound .result) (c .before .before .before .before .before .before .before .before .before .before .before .before .sound .ensures) (c .before .before .before .before .before .before .before .before .before .before .before .if1 .left)) (c .before .before .before .before .before .before .before .before .before .find .ensures) (c .before .before .before .before .before .before .line-at .result) (c .before .before .before .before .before .before .line-at .ensures) (omega arith) (omega (arith, c .before .before .before .before .before .before .before .before .before .find .ensures .within, c .before .before .before .before .before .before .before .before .if2 .left)) (omega arith))
 
 pub clear-spec : {M : Type 1} → statement M
 clear-spec =

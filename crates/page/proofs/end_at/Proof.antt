@@ -4,18 +4,18 @@ use mathlib.Core.Path.{_≡_, sym, ap, _∙_}
 use Rattle.page.proofs.Answers.{not-end, end-bad, end-other, end-more, end-closed}
 use Rattle.page.proofs.end_at.Statement.{statement}
 use Rattle.page.proofs.end_at.Tie as tie
-use Rattle.page.specs.Fields.{whole, itemAt, itemOf}
+use Rattle.page.specs.Fields.{wholePageField, pageItemAt, pageItemOf}
 use Rattle.page.specs.declared.parse.PageField.{PageField}
 use Rattle.page.specs.declared.parse.PageField.the-variants.{End}
 
 -- the field at the place, as it is taken apart
 field-is : (c : tie.After-field)
-    → itemAt (c .before .before .before .before .args .s .now) (c .before .before .before .before .args .at) ≡ whole (c .field .given .0 .0) (c .field .given .0 .1 .0)
-field-is c = sym (c .before .before .parsed-field .ensures) ∙ ap itemOf (c .field .given .1)
+    → pageItemAt (c .before .before .before .before .args .s .now) (c .before .before .before .before .args .at) ≡ wholePageField (c .field .given .0 .0) (c .field .given .0 .1 .0)
+field-is c = sym (c .before .before .parsed-field .ensures) ∙ ap pageItemOf (c .field .given .1)
 
 end-is : (c : tie.After-enum-told)
-    → itemAt (c .before .before .before .before .before .before .before .args .s .now) (c .before .before .before .before .before .before .before .args .at) ≡ whole End (c .before .before .before .field .given .0 .1 .0)
-end-is c = field-is (c .before .before .before) ∙ ap (λ (g : PageField). whole g (c .before .before .before .field .given .0 .1 .0)) (c .enum-told .given .1)
+    → pageItemAt (c .before .before .before .before .before .before .before .args .s .now) (c .before .before .before .before .before .before .before .args .at) ≡ wholePageField End (c .before .before .before .field .given .0 .1 .0)
+end-is c = field-is (c .before .before .before) ∙ ap (λ (g : PageField). wholePageField g (c .before .before .before .field .given .0 .1 .0)) (c .enum-told .given .1)
 
 parsed-field-requires : tie.Need-parsed-field-requires
 parsed-field-requires c κs = search needs
@@ -45,7 +45,7 @@ returns-2 : tie.Need-returns-2
 returns-2 c = c .refused3 .ensures ∙ sym (end-more _ _ _ _ (end-is (c .before .before)) (c .before .if1 .taken))
 
 returns-3 : tie.Need-returns-3
-returns-3 c = c .refused .ensures ∙ sym (end-bad _ _ _ _ _ (sym (c .before .before .before .before .parsed-field .ensures) ∙ ap itemOf (c .before .before .x .given .1)))
+returns-3 c = c .refused .ensures ∙ sym (end-bad _ _ _ _ _ (sym (c .before .before .before .before .parsed-field .ensures) ∙ ap pageItemOf (c .before .before .x .given .1)))
 
 returns-4 : tie.Need-returns-4
 returns-4 c = sym (end-closed _ _ _ _ (end-is (c .before)) (c .if1 .left))

@@ -7,7 +7,7 @@ use native.Mathlib.Omega.{arith}
 use Rattle.page.proofs.Skips.{Standing, stand-first, stand-stop, stand-next, moves}
 use Rattle.page.proofs.past_skipped.Statement.{statement}
 use Rattle.page.proofs.past_skipped.Tie as tie
-use Rattle.page.specs.Fields.{whole, itemAt, itemOf}
+use Rattle.page.specs.Fields.{wholePageField, pageItemAt, pageItemOf}
 use Rattle.page.specs.declared.parse.PageField.{PageField}
 
 abbrev Inv-loop : tie.InvT-loop
@@ -18,8 +18,8 @@ abbrev μ-loop : tie.MeasureT-loop
 
 -- the field at the place, as it is taken apart
 field-is : (c : tie.After-field Inv-loop μ-loop) (f : PageField) → c .field .given .0 .0 ≡ f
-    → itemAt (c .before .before .before .before .before .args .s .now) (c .before .before .before .loop .p) ≡ whole f (c .field .given .0 .1 .0)
-field-is c f e = sym (c .before .before .parsed-field .ensures) ∙ ap itemOf (c .field .given .1) ∙ ap (λ (g : PageField). whole g (c .field .given .0 .1 .0)) e
+    → pageItemAt (c .before .before .before .before .before .args .s .now) (c .before .before .before .loop .p) ≡ wholePageField f (c .field .given .0 .1 .0)
+field-is c f e = sym (c .before .before .parsed-field .ensures) ∙ ap pageItemOf (c .field .given .1) ∙ ap (λ (g : PageField). wholePageField g (c .field .given .0 .1 .0)) e
 
 loop-holds : tie.Need-loop-holds Inv-loop μ-loop
 loop-holds c = stand-first _ _
@@ -31,7 +31,7 @@ enum-told : tie.Need-enum-told Inv-loop μ-loop
 enum-told c = search needs
 
 returns : tie.Need-returns Inv-loop μ-loop
-returns c = stand-stop _ _ _ (c .before .before .before .loop .inv) _ (sym (c .before .before .parsed-field .ensures) ∙ ap itemOf (c .enum-told .given .1)) (λ go. refl)
+returns c = stand-stop _ _ _ (c .before .before .before .loop .inv) _ (sym (c .before .before .parsed-field .ensures) ∙ ap pageItemOf (c .enum-told .given .1)) (λ turns. refl)
 
 enum-known-field : tie.Need-enum-known-field Inv-loop μ-loop
 enum-known-field c = search needs
@@ -40,19 +40,19 @@ enum-told-2 : tie.Need-enum-told-2 Inv-loop μ-loop
 enum-told-2 c = search needs
 
 returns-2 : tie.Need-returns-2 Inv-loop μ-loop
-returns-2 c = stand-stop _ _ _ (c .before .before .before .before .before .before .loop .inv) _ (field-is (c .before .before .before) _ (c .enum-told2 .given .1)) (λ go. refl)
+returns-2 c = stand-stop _ _ _ (c .before .before .before .before .before .before .loop .inv) _ (field-is (c .before .before .before) _ (c .enum-told2 .given .1)) (λ turns. refl)
 
 enum-told-3 : tie.Need-enum-told-3 Inv-loop μ-loop
 enum-told-3 c = search needs
 
 returns-3 : tie.Need-returns-3 Inv-loop μ-loop
-returns-3 c = stand-stop _ _ _ (c .before .before .before .before .before .before .loop .inv) _ (field-is (c .before .before .before) _ (c .enum-told3 .given .1)) (λ go. refl)
+returns-3 c = stand-stop _ _ _ (c .before .before .before .before .before .before .loop .inv) _ (field-is (c .before .before .before) _ (c .enum-told3 .given .1)) (λ turns. refl)
 
 enum-told-4 : tie.Need-enum-told-4 Inv-loop μ-loop
 enum-told-4 c = search needs
 
 returns-4 : tie.Need-returns-4 Inv-loop μ-loop
-returns-4 c = stand-stop _ _ _ (c .before .before .before .before .before .before .loop .inv) _ (field-is (c .before .before .before) _ (c .enum-told4 .given .1)) (λ go. refl)
+returns-4 c = stand-stop _ _ _ (c .before .before .before .before .before .before .loop .inv) _ (field-is (c .before .before .before) _ (c .enum-told4 .given .1)) (λ turns. refl)
 
 enum-told-5 : tie.Need-enum-told-5 Inv-loop μ-loop
 enum-told-5 c = search needs

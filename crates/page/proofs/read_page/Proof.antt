@@ -5,18 +5,18 @@ use Prim.Native.Nat.{ℕ}
 use Rattle.page.proofs.Answers.{not-edition, page-bad, page-other, page-begun}
 use Rattle.page.proofs.read_page.Statement.{statement}
 use Rattle.page.proofs.read_page.Tie as tie
-use Rattle.page.specs.Fields.{whole, itemAt, itemOf}
+use Rattle.page.specs.Fields.{wholePageField, pageItemAt, pageItemOf}
 use Rattle.page.specs.Read.{settingsAt}
 use Rattle.page.specs.declared.parse.PageField.{PageField}
 use Rattle.page.specs.declared.parse.PageField.the-variants.{Edition}
 
 -- the first field, as it is taken apart
-field-is : (c : tie.After-field) → itemAt (c .before .before .before .before .args .s .now) 0 ≡ whole (c .field .given .0 .0) (c .field .given .0 .1 .0)
-field-is c = sym (c .before .before .parsed-field .ensures) ∙ ap itemOf (c .field .given .1)
+field-is : (c : tie.After-field) → pageItemAt (c .before .before .before .before .args .s .now) 0 ≡ wholePageField (c .field .given .0 .0) (c .field .given .0 .1 .0)
+field-is c = sym (c .before .before .parsed-field .ensures) ∙ ap pageItemOf (c .field .given .1)
 
 edition-is : (c : tie.After-field2)
-    → itemAt (c .before .before .before .before .before .before .before .args .s .now) 0 ≡ whole (Edition (c .field2 .given .0 .0)) (c .before .before .before .field .given .0 .1 .0)
-edition-is c = field-is (c .before .before .before) ∙ ap (λ (g : PageField). whole g (c .before .before .before .field .given .0 .1 .0)) (c .field2 .given .1)
+    → pageItemAt (c .before .before .before .before .before .before .before .args .s .now) 0 ≡ wholePageField (Edition (c .field2 .given .0 .0)) (c .before .before .before .field .given .0 .1 .0)
+edition-is c = field-is (c .before .before .before) ∙ ap (λ (g : PageField). wholePageField g (c .before .before .before .field .given .0 .1 .0)) (c .field2 .given .1)
 
 parsed-field-requires : tie.Need-parsed-field-requires
 parsed-field-requires c κs = search needs
@@ -46,7 +46,7 @@ settings-at-requires : tie.Need-settings-at-requires
 settings-at-requires c κs = search needs
 
 returns-2 : tie.Need-returns-2
-returns-2 c = c .refused .ensures ∙ sym (page-bad _ _ _ (sym (c .before .before .before .before .parsed-field .ensures) ∙ ap itemOf (c .before .before .x .given .1)))
+returns-2 c = c .refused .ensures ∙ sym (page-bad _ _ _ (sym (c .before .before .before .before .parsed-field .ensures) ∙ ap pageItemOf (c .before .before .x .given .1)))
 
 returns-3 : tie.Need-returns-3
 returns-3 c =

@@ -8,22 +8,21 @@ use Rattle.page.proofs.Answers.{Value, value-fits, value-length, not-se
 use Rattle.page.proofs.Refusals.{setup-refused}
 use Rattle.page.proofs.settings_at.Statement.{statement}
 use Rattle.page.proofs.settings_at.Tie as tie
-use Rattle.page.specs.Fields.{whole, itemAt, itemOf}
-use Rattle.page.specs.Read.{read, refused, endAt, valueAt, distance}
+use Rattle.page.specs.Fields.{wholePageField, pageItemAt, pageItemOf}
+use Rattle.page.specs.Read.{pageRead, pageRefused, endAt, valueAt, distance}
 use Rattle.page.specs.declared.parse.PageField.the-variants.{Settings}
 use Rattle.page.specs.declared.parse.PageField.{PageField}
-use Rattle.plan.specs.Read as plan
-use Rattle.plan.specs.Read.{readSetup}
+use Rattle.plan.specs.Read.{readSetup, setupReply, setupRefused, setupCame, setupRead, settings}
 use Rattle.rules.specs.Reads.{number, placeOf}
 
 -- the field at the place, as it is taken apart
 field-is : (c : tie.After-field)
-    → itemAt (c .before .before .before .before .args .s .now) (c .before .before .before .before .args .at) ≡ whole (c .field .given .0 .0) (c .field .given .0 .1 .0)
-field-is c = sym (c .before .before .parsed-field .ensures) ∙ ap itemOf (c .field .given .1)
+    → pageItemAt (c .before .before .before .before .args .s .now) (c .before .before .before .before .args .at) ≡ wholePageField (c .field .given .0 .0) (c .field .given .0 .1 .0)
+field-is c = sym (c .before .before .parsed-field .ensures) ∙ ap pageItemOf (c .field .given .1)
 
 settings-is : (c : tie.After-field2)
-    → itemAt (c .before .before .before .before .before .before .before .args .s .now) (c .before .before .before .before .before .before .before .args .at) ≡ whole (Settings (c .field2 .given .0 .0) (c .field2 .given .0 .1 .0)) (c .before .before .before .field .given .0 .1 .0)
-settings-is c = field-is (c .before .before .before) ∙ ap (λ (g : PageField). whole g (c .before .before .before .field .given .0 .1 .0)) (c .field2 .given .1)
+    → pageItemAt (c .before .before .before .before .before .before .before .args .s .now) (c .before .before .before .before .before .before .before .args .at) ≡ wholePageField (Settings (c .field2 .given .0 .0) (c .field2 .given .0 .1 .0)) (c .before .before .before .field .given .0 .1 .0)
+settings-is c = field-is (c .before .before .before) ∙ ap (λ (g : PageField). wholePageField g (c .before .before .before .field .given .0 .1 .0)) (c .field2 .given .1)
 
 -- where its value stands
 value-is : (c : tie.After-known-told3)
@@ -32,7 +31,7 @@ value-is c = value-fits _ _ _ _ _ (settings-is (c .before))
 
 -- the setup inside is read ..
 setup-is : (c : tie.After-read-setup)
-    → plan.reads (c .read-setup .result) ≡ readSetup (valueAt (c .before .before .before .before .before .before .before .before .before .before .args .s .now) (c .before .before .before .field2 .given .0 .0) (c .before .before .before .field2 .given .0 .1 .0))
+    → setupReply (c .read-setup .result) ≡ readSetup (valueAt (c .before .before .before .before .before .before .before .before .before .before .args .s .now) (c .before .before .before .field2 .given .0 .0) (c .before .before .before .field2 .given .0 .1 .0))
 unfolding valueAt
 setup-is c =
     let v = c .before .before .before .field2 .given .0 in
@@ -41,13 +40,13 @@ setup-is c =
 
 -- .. and refused ..
 refused-is : (c : tie.After-outcome)
-    → readSetup (valueAt (c .before .before .before .before .before .before .before .before .before .before .before .before .args .s .now) (c .before .before .before .before .before .field2 .given .0 .0) (c .before .before .before .before .before .field2 .given .0 .1 .0)) ≡ plan.refused (number (c .outcome .given .0 .0)) (placeOf (c .outcome .given .0 .0))
-refused-is c = sym (setup-is (c .before .before)) ∙ ap (plan.came (c .before .before .read-setup .result .plan)) (c .outcome .given .1)
+    → readSetup (valueAt (c .before .before .before .before .before .before .before .before .before .before .before .before .args .s .now) (c .before .before .before .before .before .field2 .given .0 .0) (c .before .before .before .before .before .field2 .given .0 .1 .0)) ≡ setupRefused (number (c .outcome .given .0 .0)) (placeOf (c .outcome .given .0 .0))
+refused-is c = sym (setup-is (c .before .before)) ∙ ap (setupCame (c .before .before .read-setup .result .plan)) (c .outcome .given .1)
 
 -- .. or not
 read-is : (c : tie.After-enum-told)
-    → readSetup (valueAt (c .before .before .before .before .before .before .before .before .before .before .before .before .args .s .now) (c .before .before .before .before .before .field2 .given .0 .0) (c .before .before .before .before .before .field2 .given .0 .1 .0)) ≡ plan.read (c .before .before .read-setup .result .plan .format) (plan.settings (c .before .before .read-setup .result .plan)) (c .before .before .read-setup .result .plan .count) (c .enum-told .given .0 .0)
-read-is c = sym (setup-is (c .before .before)) ∙ ap (plan.came (c .before .before .read-setup .result .plan)) (c .enum-told .given .1)
+    → readSetup (valueAt (c .before .before .before .before .before .before .before .before .before .before .before .before .args .s .now) (c .before .before .before .before .before .field2 .given .0 .0) (c .before .before .before .before .before .field2 .given .0 .1 .0)) ≡ setupRead (c .before .before .read-setup .result .plan .format) (settings (c .before .before .read-setup .result .plan)) (c .before .before .read-setup .result .plan .count) (c .enum-told .given .0 .0)
+read-is c = sym (setup-is (c .before .before)) ∙ ap (setupCame (c .before .before .read-setup .result .plan)) (c .enum-told .given .1)
 
 parsed-field-requires : tie.Need-parsed-field-requires
 parsed-field-requires c κs = search needs
@@ -107,21 +106,21 @@ end-at-requires : tie.Need-end-at-requires
 end-at-requires c κs = search needs
 
 returns-2 : tie.Need-returns-2
-returns-2 c = c .refused .ensures ∙ sym (settings-bad _ _ _ _ _ (sym (c .before .before .before .before .parsed-field .ensures) ∙ ap itemOf (c .before .before .x .given .1)))
+returns-2 c = c .refused .ensures ∙ sym (settings-bad _ _ _ _ _ (sym (c .before .before .before .before .parsed-field .ensures) ∙ ap pageItemOf (c .before .before .x .given .1)))
 
 returns-3 : tie.Need-returns-3
 returns-3 c =
     let x = c .before .before .before .outcome .given .0 .0 in
     c .refused3 .ensures
-    ∙ ap (λ (k : ℕ). refused k (placeOf (c .before .moved .result))) (c .before .moved .ensures .0)
-    ∙ ap (refused (number x)) (c .before .moved .ensures .1)
+    ∙ ap (λ (k : ℕ). pageRefused k (placeOf (c .before .moved .result))) (c .before .moved .ensures .0)
+    ∙ ap (pageRefused (number x)) (c .before .moved .ensures .1)
     ∙ sym (settings-refused _ _ _ _ _ _ (settings-is (c .before .before .before .before .before .before .before .before)) _ _ (refused-is (c .before .before .before)))
 
 returns-4 : tie.Need-returns-4
 returns-4 c =
     let p = c .before .before .before .before .before .read-setup .result .plan in
     c .end-at .ensures
-    ∙ ap (λ (k : ℕ). endAt (c .before .before .before .before .before .before .before .before .before .before .before .before .before .before .before .args .s .now) k (read (c .before .before .before .before .before .before .before .before .before .before .before .before .before .before .before .args .edition) (p .format) (plan.settings p) (p .count))) (c .before .past-skipped .ensures)
+    ∙ ap (λ (k : ℕ). endAt (c .before .before .before .before .before .before .before .before .before .before .before .before .before .before .before .args .s .now) k (pageRead (c .before .before .before .before .before .before .before .before .before .before .before .before .before .before .before .args .edition) (p .format) (settings p) (p .count))) (c .before .past-skipped .ensures)
     ∙ sym (settings-read _ _ _ _ _ _ (settings-is (c .before .before .before .before .before .before .before .before)) _ _ _ _ (read-is (c .before .before .before)))
 
 pub settings-at-spec : {M : Type 1} → statement M

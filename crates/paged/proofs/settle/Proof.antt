@@ -4,7 +4,7 @@ use mathlib.Core.Path.{_≡_, sym, ap, subst, _∙_}
 use native.Mathlib.Omega.{arith}
 use lib.ListN.{length-drop}
 use Rattle.rules.specs.Setup.{Setup}
-use Rattle.editions.specs.Part.{Room, newIn}
+use Rattle.editions.specs.Part.{PartRoom, newIn}
 use Rattle.editions.proofs.Lent.{tail-all}
 use Rattle.table.specs.Layout.{SIZE}
 use Rattle.paged.specs.Paged.{partOf}
@@ -62,7 +62,7 @@ plan-requires : tie.Need-plan-requires
 plan-requires c κs =
     let s = c .before .before .before .before .before .before .before .before .before .before in
     let t = s .args .t .now in
-    subst Room (sym (tail-all SIZE t)) (omega (arith, s .pre .room, length-drop SIZE t))
+    subst PartRoom (sym (tail-all SIZE t)) (omega (arith, s .pre .room, length-drop SIZE t))
 
 come-in-force-requires : tie.Need-come-in-force-requires
 come-in-force-requires c κs =

@@ -10,7 +10,7 @@ use Rattle.plan.proofs.Sound.{numbered}
 use Rattle.plan.proofs.Walks.{Standing, stand-first, stand-no, taken-here, moves, stand-end, stand-next}
 use Rattle.plan.proofs.read_plan.Statement.{statement}
 use Rattle.plan.proofs.read_plan.Tie as tie
-use Rattle.plan.specs.Fields.{itemOf, whole}
+use Rattle.plan.specs.Fields.{setupItemOf, wholeField}
 use Rattle.plan.specs.Judge.{judgedAt}
 use Rattle.plan.specs.Read.{settingOf}
 
@@ -22,15 +22,15 @@ abbrev μ-loop : tie.MeasureT-loop
 
 -- the judged field, as it is taken apart ..
 field-is : (c : tie.After-field Inv-loop μ-loop)
-    → judgedAt (c .before .before .before .loop .seen) (c .before .before .before .before .before .before .args .s .now) (c .before .before .before .loop .p) ≡ whole (c .field .given .0 .0) (c .field .given .0 .1 .0)
-field-is c = sym (c .before .before .judged-field .ensures) ∙ ap itemOf (c .field .given .1)
+    → judgedAt (c .before .before .before .loop .seen) (c .before .before .before .before .before .before .args .s .now) (c .before .before .before .loop .p) ≡ wholeField (c .field .given .0 .0) (c .field .given .0 .1 .0)
+field-is c = sym (c .before .before .judged-field .ensures) ∙ ap setupItemOf (c .field .given .1)
 
 -- .. and the reader moves to the place behind it
 moved-is : (c : tie.After-next-at Inv-loop μ-loop)
-    → judgedAt (c .before .before .before .before .before .loop .seen) (c .before .before .before .before .before .before .before .before .args .s .now) (c .before .before .before .before .before .loop .p) ≡ whole (c .before .before .field .given .0 .0) (c .next-at .result)
+    → judgedAt (c .before .before .before .before .before .loop .seen) (c .before .before .before .before .before .before .before .before .args .s .now) (c .before .before .before .before .before .loop .p) ≡ wholeField (c .before .before .field .given .0 .0) (c .next-at .result)
 moved-is c =
     let f = field-is (c .before .before) in
-    f ∙ ap (whole (c .before .before .field .given .0 .0)) (sym (c .next-at .ensures ∙ behind-item _ _ _ _ (is-taken _ _ _ _ _ f .item)))
+    f ∙ ap (wholeField (c .before .before .field .given .0 .0)) (sym (c .next-at .ensures ∙ behind-item _ _ _ _ (is-taken _ _ _ _ _ f .item)))
 
 no-lanes-requires : tie.Need-no-lanes-requires Inv-loop μ-loop
 no-lanes-requires c κs = search needs
@@ -48,7 +48,7 @@ answered-requires : tie.Need-answered-requires Inv-loop μ-loop
 answered-requires c κs = search needs
 
 returns : tie.Need-returns Inv-loop μ-loop
-returns c = c .answered .ensures ∙ stand-no _ _ _ _ _ (c .before .before .before .before .before .loop .inv) _ _ (sym (c .before .before .before .before .judged-field .ensures) ∙ ap itemOf (c .before .before .x .given .1))
+returns c = c .answered .ensures ∙ stand-no _ _ _ _ _ (c .before .before .before .before .before .loop .inv) _ _ (sym (c .before .before .before .before .judged-field .ensures) ∙ ap setupItemOf (c .before .before .x .given .1))
 
 enum-known-field : tie.Need-enum-known-field Inv-loop μ-loop
 enum-known-field c = search needs

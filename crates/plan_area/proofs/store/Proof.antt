@@ -6,13 +6,13 @@ use mathlib.Core.Path.{sym, ap, _∙_}
 use native.Mathlib.Omega.{arith}
 use Rattle.words.specs.Words.{putWord}
 use Rattle.plan.specs.Read.{settingOf}
-use Rattle.plan_area.specs.Area.{Room, laneWord}
+use Rattle.plan_area.specs.Area.{AreaRoom, planLaneWord}
 use Rattle.plan_area.proofs.Stored.{Stored, line-is, store-none, rest-first, lane-is, store-more, store-all}
 use Rattle.plan_area.proofs.store.Statement.{statement}
 use Rattle.plan_area.proofs.store.Tie as tie
 
 abbrev Inv-loop : tie.InvT-loop
-Inv-loop area₀ format lanes h k₀ area k = Stored format (map settingOf lanes) area₀ area k × Room area₀
+Inv-loop area₀ format lanes h k₀ area k = Stored format (map settingOf lanes) area₀ area k × AreaRoom area₀
 
 abbrev μ-loop : tie.MeasureT-loop
 μ-loop area₀ format lanes h k₀ area k = 64 - k
@@ -68,7 +68,7 @@ loop-again c =
     let s = c .before .before .before .before .before .before .before .before .before .before .before .before .before .before .before .before in
     let l = c .before .before .before .before .before .before .before .loop in
     let gs = map settingOf (s .args .plan .lanes) in
-    let word-is = c .before .before .before .lane-word .ensures ∙ ap laneWord (sym (lane-is (s .args .plan .lanes) (l .k))) in
+    let word-is = c .before .before .before .lane-word .ensures ∙ ap planLaneWord (sym (lane-is (s .args .plan .lanes) (l .k))) in
     (store-more (s .args .plan .format) gs _ (l .area) (l .k) (l .inv .0) (l .inv .1) (c .before .before .before .before .before .before .loop-test .taken) (s .pre .1 .each (l .k)) _ (c .before .before .set-word2 .ensures ∙ ap (putWord (l .area) (l .k + 1)) word-is), l .inv .1)
 
 same-length : tie.Need-same-length Inv-loop μ-loop

@@ -4,7 +4,7 @@ use borrow.Author.Tests.{not-true, not-false}
 use mathlib.Core.Path.{_≡_, refl, sym, ap, subst}
 use native.Mathlib.Omega.{arith}
 use Rattle.rules.specs.State.{settingAt}
-use Rattle.plan_writer.specs.Write.{planned, Fitting, framingSize, sizeOf}
+use Rattle.plan_writer.specs.Write.{planned, Fitting, framingSize, setupSize}
 use Rattle.plan_writer.proofs.Framing.{framing-few, fitting-line}
 use Rattle.plan_writer.proofs.Round.{size-most}
 use Rattle.plan_writer.proofs.Writing.{written-all}
@@ -73,7 +73,7 @@ returns-3 c =
     let p = planned (s .args .plan) in
     let w = c .before .before .before .before .before .before .before .before .before .before .before .within .ensures .yes (not-false (c .before .before .before .before .before .before .before .before .before .before .before .within .result) (c .before .before .before .before .before .before .before .before .before .before .if1 .left)) in
     let h-is = c .before .before .before .before .before .before .before .before .line-framing .ensures in
-    let size-of : 8 + c .before .before .before .before .before .before .before .framing-size .result + 8 * s .args .plan .count + 4 * c .before .before .before .before .before .shared-lanes .result ≡ sizeOf p = omega (arith, w .count, c .before .before .before .before .before .before .before .framing-size .ensures, c .before .before .before .before .before .shared-lanes .ensures .0, ap framingSize h-is) in
+    let size-of : 8 + c .before .before .before .before .before .before .before .framing-size .result + 8 * s .args .plan .count + 4 * c .before .before .before .before .before .shared-lanes .result ≡ setupSize p = omega (arith, w .count, c .before .before .before .before .before .before .before .framing-size .ensures, c .before .before .before .before .before .shared-lanes .ensures .0, ap framingSize h-is) in
     written-all p w (s .args .buf .now) (c .before .before .put-setup .last .0) (c .before .before .before .before .before .before .before .before .line-framing .result) _ h-is size-of (c .before .before .before .before .if2 .left) (c .before .before .put-setup .ensures)
 
 pub write-setup-spec : {M : Type 1} → statement M

@@ -1,6 +1,6 @@
 -- `request_of` meets its contract. Assumes nothing.
 use borrow.Author.Tests.{ne-eqb}
-use Rattle.requests.specs.Request.{numbered}
+use Rattle.requests.specs.Request.{callByNumber}
 use borrow.Author.Needs.{needs}
 use Rattle.requests.proofs.request_of.Statement.{statement}
 use Rattle.requests.proofs.request_of.Tie as tie
@@ -33,37 +33,37 @@ cast-t24 c = search needs
 
 -- src/lib.rt:94:1
 returns : tie.Need-returns
-unfolding numbered
+unfolding callByNumber
 returns c = rw (c .match .keys1)
 
 -- src/lib.rt:94:1
 returns-2 : tie.Need-returns-2
-unfolding numbered
+unfolding callByNumber
 returns-2 c = rw (c .match .keys2)
 
 -- src/lib.rt:94:1
 returns-3 : tie.Need-returns-3
-unfolding numbered
+unfolding callByNumber
 returns-3 c = rw (c .match .keys3)
 
 -- src/lib.rt:94:1
 returns-4 : tie.Need-returns-4
-unfolding numbered
+unfolding callByNumber
 returns-4 c = rw (c .match .keys4)
 
 -- src/lib.rt:94:1
 returns-5 : tie.Need-returns-5
-unfolding numbered
+unfolding callByNumber
 returns-5 c = rw (c .match .keys5)
 
 -- src/lib.rt:94:1
 returns-6 : tie.Need-returns-6
-unfolding numbered
+unfolding callByNumber
 returns-6 c = rw (c .match .keys6)
 
 -- src/lib.rt:94:1
 returns-7 : tie.Need-returns-7
-unfolding numbered
+unfolding callByNumber
 returns-7 c =
     let t = c .before .args .tag in
     let r = c .match .rest in

@@ -6,7 +6,7 @@ use lib.ListN.{length-drop}
 use borrow.Author.Tests.{not-true, not-false}
 use Rattle.pages.specs.Device.{Page}
 use Rattle.plan.specs.Read.{settings}
-use Rattle.editions.specs.Part.{Room, lastIn, newIn}
+use Rattle.editions.specs.Part.{PartRoom, lastIn, newIn}
 use Rattle.editions.proofs.Lent.{tail-all}
 use Rattle.table.specs.Layout.{SIZE}
 use Rattle.paged.proofs.Units.{good-rests}
@@ -56,7 +56,7 @@ new-requires : tie.Need-new-requires
 new-requires c κs =
     let s = c .before .before .before .before .before .before .before in
     let t = s .args .t .now in
-    subst Room (sym (tail-all SIZE t)) (omega (arith, s .pre .0 .room, length-drop SIZE t))
+    subst PartRoom (sym (tail-all SIZE t)) (omega (arith, s .pre .0 .room, length-drop SIZE t))
 
 same-length-2 : tie.Need-same-length-2
 same-length-2 c = search needs

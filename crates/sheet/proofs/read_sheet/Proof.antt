@@ -7,7 +7,7 @@ use borrow.Author.Needs.{needs}
 use borrow.Author.Tests.{not-true, not-false, lt-ltb}
 use lib.ListN.{length, getD}
 use Rattle.plan.specs.Read.{settingOf}
-use Rattle.sheet.specs.Form.{step}
+use Rattle.sheet.specs.Form.{lineStep}
 use Rattle.sheet.proofs.Rows.{is-taken}
 use Rattle.sheet.proofs.Walks.{Standing, stand-first, count-low, stand-wrong, stand-more, row-sane, stand-refused, stand-taken, stand-read, stand-inside, stand-empty}
 use Rattle.sheet.proofs.read_sheet.Statement.{statement}
@@ -21,8 +21,8 @@ abbrev μ-loop : tie.MeasureT-loop
 
 -- what the byte does, as it is answered
 step-is : (c : tie.After-read-byte Inv-loop μ-loop)
-    → step (c .before .before .before .loop .f) (c .before .before .before .loop .i) (getD (c .before .before .before .before .before .before .before .args .s .now) (c .before .before .before .loop .i) 0) ≡ c .read-byte .result
-step-is c = ap (step (c .before .before .before .loop .f) (c .before .before .before .loop .i)) (sym (c .before .byte .ensures)) ∙ sym (c .read-byte .ensures)
+    → lineStep (c .before .before .before .loop .f) (c .before .before .before .loop .i) (getD (c .before .before .before .before .before .before .before .args .s .now) (c .before .before .before .loop .i) 0) ≡ c .read-byte .result
+step-is c = ap (lineStep (c .before .before .before .loop .f) (c .before .before .before .loop .i)) (sym (c .before .byte .ensures)) ∙ sym (c .read-byte .ensures)
 
 -- the byte's place is far from the last number
 small : (c : tie.After-byte Inv-loop μ-loop) → c .before .before .loop .i + 1 < 2 ^ 64

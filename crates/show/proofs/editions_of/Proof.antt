@@ -2,7 +2,7 @@
 use mathlib.Core.Path.{sym, ap, subst, _∙_}
 use native.Mathlib.Omega.{arith}
 use lib.ListN.{length-drop}
-use Rattle.editions.specs.Part.{Room, lastIn, newIn}
+use Rattle.editions.specs.Part.{PartRoom, lastIn, newIn}
 use Rattle.editions.proofs.Lent.{tail-all}
 use Rattle.table.specs.Layout.{SIZE}
 use borrow.Author.Needs.{needs}
@@ -38,7 +38,7 @@ new-requires : tie.Need-new-requires
 new-requires c κs =
     let s = c .before .before .before .before in
     let t = s .args .t .now in
-    subst Room (sym (tail-all SIZE t)) (omega (arith, s .pre .room, length-drop SIZE t))
+    subst PartRoom (sym (tail-all SIZE t)) (omega (arith, s .pre .room, length-drop SIZE t))
 
 returns : tie.Need-returns
 returns c =

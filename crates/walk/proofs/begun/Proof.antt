@@ -4,7 +4,7 @@ use native.Mathlib.Omega.{arith}
 use borrow.Rule.Slice.PartMut.{same-len-mid}
 use Prim.Native.Nat.{_-_}
 use lib.ListN.{length}
-use Rattle.plan.specs.Read.{came}
+use Rattle.plan.specs.Read.{setupCame}
 use Rattle.plan.proofs.Accepted.{accepted-plan}
 use Rattle.table.specs.Layout.{SIZE}
 use Rattle.answers.proofs.Made.{made-fresh}
@@ -63,7 +63,7 @@ returns : tie.Need-returns
 returns c =
     let s = c .before .before .before .before .before .before .before .before .before .before .before in
     let r = c .before .before .before .before .before .before .before .read-plan in
-    refused-is (s .args .s .now) (s .args .limit) (c .before .before .before .before .before .outcome .given .0 .0) (sym (r .ensures) ∙ ap (came (r .result .plan)) (c .before .before .before .before .before .outcome .given .1)) (c .before .before .put-no .ensures) (omega (arith, s .pre .2))
+    refused-is (s .args .s .now) (s .args .limit) (c .before .before .before .before .before .outcome .given .0 .0) (sym (r .ensures) ∙ ap (setupCame (r .result .plan)) (c .before .before .before .before .before .outcome .given .1)) (c .before .before .put-no .ensures) (omega (arith, s .pre .2))
 
 same-length-2 : tie.Need-same-length-2
 same-length-2 c =
@@ -82,7 +82,7 @@ returns-2 c =
     let p = c .before .before .before .before .before .before .before .before .before .before .before .before .before .set-taken in
     let w = c .before .before .before .before .before .before .before .before .before .write in
     let q = c .before .before .before .before .requested in
-    begun-is (s .args .s .now) (s .args .limit) _ _ _ _ (sym (r .ensures) ∙ ap (came (r .result .plan)) (c .before .before .before .before .before .before .before .before .before .before .before .before .before .before .before .before .before .before .outcome2 .given .1))
+    begun-is (s .args .s .now) (s .args .limit) _ _ _ _ (sym (r .ensures) ∙ ap (setupCame (r .result .plan)) (c .before .before .before .before .before .before .before .before .before .before .before .before .before .before .before .before .before .before .outcome2 .given .1))
     (omega (arith, s .pre .0, q .kept .1 .1 .1 .0, w .kept .0, same-len-mid SIZE (length t - SIZE) t (p .last .0) (p .kept .0))) (blank-stored t (p .last .0) (s .pre .0) (p .ensures)) (w .ensures) (q .ensures)
 
 pub begun-spec : {M : Type 1} → statement M

@@ -7,7 +7,7 @@ use lib.ListN.{length}
 use borrow.Author.Needs.{needs}
 use Rattle.fields.specs.Bytes.{byteAt}
 use Rattle.rules.specs.declared.Refusal.the-variants.{Cut}
-use Rattle.requests.specs.Request.{headIs, headAt, right, callIs, itemAt, request}
+use Rattle.requests.specs.Request.{headIs, headAt, right, callIs, requestItemAt, request}
 use Rattle.requests.proofs.Heads.{head-whole, head-short, item-wrong, item-cut, item-last}
 use Rattle.walk.proofs.Reading.{Reading, read-none, read-more, read-fits, read-request}
 use Rattle.walk.proofs.Walking.{Stands, stands-first, stands-room, stands-next, same-area, text-most, two-lines, stops, walk-limit, walk-bad, walk-last}
@@ -42,7 +42,7 @@ whole : (c : tie.After-loop Inv-loop μ-loop Inv-fields μ-fields) → c .before
 whole c = omega (arith, c .loop-test .left, c .before .loop .inv .0 .few, c .before .loop .inv .0 .within)
 
 -- the request that is answered stands at the place, read at once or byte by byte
-found : (c : tie.At-match-came Inv-loop μ-loop Inv-fields μ-fields) → itemAt (c .before .before .before .before .before .before .before .before .args .s .now) (c .before .before .before .before .fields .at) ≡ request (callIs (c .match .q)) (c .match .next)
+found : (c : tie.At-match-came Inv-loop μ-loop Inv-fields μ-fields) → requestItemAt (c .before .before .before .before .before .before .before .before .args .s .now) (c .before .before .before .before .fields .at) ≡ request (callIs (c .match .q)) (c .match .next)
 found c =
     ⊎-elim
     (λ w. rw (w .4, w .5) (rw (w .1 .given .1) at (c .before .quick-at .ensures)))

@@ -1,6 +1,6 @@
 -- `after` meets its contract. Assumes nothing.
 use mathlib.Core.Path.{sym, ap}
-use Rattle.plan.specs.Judge.{after}
+use Rattle.plan.specs.Judge.{seenAfter}
 use borrow.Author.Needs.{needs}
 use Rattle.plan.proofs.judge.after.Statement.{statement}
 use Rattle.plan.proofs.judge.after.Tie as tie
@@ -36,16 +36,16 @@ enum-told-2 : tie.Need-enum-told-2
 enum-told-2 c = search needs
 
 returns : tie.Need-returns
-returns c = sym (ap (after (c .before .before .before .args .seen)) (c .before .field .given .1))
+returns c = sym (ap (seenAfter (c .before .before .before .args .seen)) (c .before .field .given .1))
 
 returns-2 : tie.Need-returns-2
-returns-2 c = sym (ap (after (c .before .before .before .before .before .before .before .args .seen)) (c .before .before .before .before .before .field2 .given .1))
+returns-2 c = sym (ap (seenAfter (c .before .before .before .before .before .before .before .args .seen)) (c .before .before .before .before .before .field2 .given .1))
 
 returns-3 : tie.Need-returns-3
-returns-3 c = sym (ap (after (c .before .before .before .args .seen)) (c .before .field3 .given .1))
+returns-3 c = sym (ap (seenAfter (c .before .before .before .args .seen)) (c .before .field3 .given .1))
 
 returns-4 : tie.Need-returns-4
-returns-4 c = sym (ap (after (c .before .before .args .seen)) (c .enum-told .given .1))
+returns-4 c = sym (ap (seenAfter (c .before .before .args .seen)) (c .enum-told .given .1))
 
 returns-5 : tie.Need-returns-5
 returns-5 c = search needs

@@ -2,7 +2,7 @@
 use Prim.Native.Nat.{ℕ, _+_, _≤_}
 use mathlib.Core.Path.{_≡_, sym, ap}
 use native.Mathlib.Omega.{arith}
-use Rattle.plan.specs.Fields.{Item, itemOf}
+use Rattle.plan.specs.Fields.{SetupItem, setupItemOf}
 use Rattle.plan.specs.Judge.{offset, faulted}
 use Rattle.plan.specs.declared.judge.Fault.{Fault}
 use Rattle.plan.specs.declared.judge.Fault.the-variants.{BadFormat, BadLane, BadWeight, BadLongest, BadFraming, TotalOver}
@@ -11,7 +11,7 @@ use Rattle.plan.proofs.judge.faulted.Statement.{statement}
 use Rattle.plan.proofs.judge.faulted.Tie as tie
 
 -- the row of a fault that was found ..
-row : (at : ℕ) (rest : Item) (x y : Fault) → x ≡ y → faulted at y rest ≡ faulted at x rest
+row : (at : ℕ) (rest : SetupItem) (x y : Fault) → x ≡ y → faulted at y rest ≡ faulted at x rest
 row at rest x y e = sym (ap (λ (z : Fault). faulted at z rest) e)
 
 -- .. and its place, before the next field
@@ -61,22 +61,22 @@ returns : tie.Need-returns
 returns c = search needs
 
 returns-2 : tie.Need-returns-2
-returns-2 c = let a = c .before .before .args in row (a .at) (itemOf (a .rest)) (a .fault) BadFormat (c .enum-told2 .given .1)
+returns-2 c = let a = c .before .before .args in row (a .at) (setupItemOf (a .rest)) (a .fault) BadFormat (c .enum-told2 .given .1)
 
 returns-3 : tie.Need-returns-3
-returns-3 c = let a = c .before .before .args in row (a .at) (itemOf (a .rest)) (a .fault) BadLane (c .enum-told3 .given .1)
+returns-3 c = let a = c .before .before .args in row (a .at) (setupItemOf (a .rest)) (a .fault) BadLane (c .enum-told3 .given .1)
 
 returns-4 : tie.Need-returns-4
-returns-4 c = let a = c .before .before .args in row (a .at) (itemOf (a .rest)) (a .fault) BadWeight (c .enum-told4 .given .1)
+returns-4 c = let a = c .before .before .args in row (a .at) (setupItemOf (a .rest)) (a .fault) BadWeight (c .enum-told4 .given .1)
 
 returns-5 : tie.Need-returns-5
-returns-5 c = let a = c .before .before .args in row (a .at) (itemOf (a .rest)) (a .fault) BadLongest (c .enum-told5 .given .1)
+returns-5 c = let a = c .before .before .args in row (a .at) (setupItemOf (a .rest)) (a .fault) BadLongest (c .enum-told5 .given .1)
 
 returns-6 : tie.Need-returns-6
-returns-6 c = let a = c .before .before .args in row (a .at) (itemOf (a .rest)) (a .fault) BadFraming (c .enum-told6 .given .1)
+returns-6 c = let a = c .before .before .args in row (a .at) (setupItemOf (a .rest)) (a .fault) BadFraming (c .enum-told6 .given .1)
 
 returns-7 : tie.Need-returns-7
-returns-7 c = let a = c .before .before .args in row (a .at) (itemOf (a .rest)) (a .fault) TotalOver (c .enum-told7 .given .1)
+returns-7 c = let a = c .before .before .args in row (a .at) (setupItemOf (a .rest)) (a .fault) TotalOver (c .enum-told7 .given .1)
 
 pub faulted-spec : {M : Type 1} → statement M
 faulted-spec =

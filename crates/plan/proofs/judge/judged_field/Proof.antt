@@ -4,7 +4,7 @@ use mathlib.Core.Path.{_≡_, sym, ap, _∙_}
 use Rattle.plan.proofs.Judged.{judged-no, judged-misplaced, judged-faults}
 use Rattle.plan.proofs.Offsets.{outside-in, over-in, fits}
 use Rattle.plan.proofs.Stands.{stands}
-use Rattle.plan.specs.Fields.{Item, itemOf, whole, itemAt}
+use Rattle.plan.specs.Fields.{SetupItem, setupItemOf, wholeField, setupItemAt}
 use Rattle.plan.specs.Judge.{outside, over, faulted}
 use Rattle.plan.specs.declared.judge.Fault.{Fault}
 use borrow.Author.Needs.{needs}
@@ -12,13 +12,13 @@ use Rattle.plan.proofs.judge.judged_field.Statement.{statement}
 use Rattle.plan.proofs.judge.judged_field.Tie as tie
 
 -- the two tests, one after the other
-both : (at : ℕ) (x y x₁ y₁ : Fault) (r w i : Item) → r ≡ faulted at x w → x ≡ x₁ → w ≡ faulted at y i → y ≡ y₁ → r ≡ faulted at x₁ (faulted at y₁ i)
+both : (at : ℕ) (x y x₁ y₁ : Fault) (r w i : SetupItem) → r ≡ faulted at x w → x ≡ x₁ → w ≡ faulted at y i → y ≡ y₁ → r ≡ faulted at x₁ (faulted at y₁ i)
 both at x y x₁ y₁ r w i a b d e =
     a ∙ ap (λ (z : Fault). faulted at z w) b ∙ ap (faulted at x₁) (d ∙ ap (λ (z : Fault). faulted at z i) e)
 
 -- what each place of the code knows
-item-is : (c : tie.After-parsed) → itemAt (c .before .before .before .before .args .s .now) (c .before .before .before .before .args .at) ≡ whole (c .parsed .given .0 .0) (c .parsed .given .0 .1 .0)
-item-is c = sym (c .before .before .field-at .ensures) ∙ ap itemOf (c .parsed .given .1)
+item-is : (c : tie.After-parsed) → setupItemAt (c .before .before .before .before .args .s .now) (c .before .before .before .before .args .at) ≡ wholeField (c .parsed .given .0 .0) (c .parsed .given .0 .1 .0)
+item-is c = sym (c .before .before .field-at .ensures) ∙ ap setupItemOf (c .parsed .given .1)
 
 field-at-requires : tie.Need-field-at-requires
 field-at-requires c κs = search needs
@@ -30,7 +30,7 @@ enum-told : tie.Need-enum-told
 enum-told c = search needs
 
 returns : tie.Need-returns
-returns c = ap itemOf (c .enum-told .given .1) ∙ sym (judged-no _ _ _ _ _ (sym (c .before .before .field-at .ensures) ∙ ap itemOf (c .enum-told .given .1)))
+returns c = ap setupItemOf (c .enum-told .given .1) ∙ sym (judged-no _ _ _ _ _ (sym (c .before .before .field-at .ensures) ∙ ap setupItemOf (c .enum-told .given .1)))
 
 misplaced-requires : tie.Need-misplaced-requires
 misplaced-requires c κs = search needs
@@ -63,8 +63,8 @@ returns-3 c =
     let o = c .before .before .before .before in
     let k = o .before .before .before in
     let a = k .before .before .before .before .args in
-    both (a .at) (c .before .outside .result) (c .before .before .before .over .result) (outside (k .parsed .given .0 .0)) (over (a .seen) (k .parsed .given .0 .0)) (itemOf (c .faulted2 .result)) (itemOf (c .before .before .faulted .result))
-    (whole (k .parsed .given .0 .0) (k .parsed .given .0 .1 .0)) (c .faulted2 .ensures) (c .before .outside .ensures) (c .before .before .faulted .ensures) (c .before .before .before .over .ensures)
+    both (a .at) (c .before .outside .result) (c .before .before .before .over .result) (outside (k .parsed .given .0 .0)) (over (a .seen) (k .parsed .given .0 .0)) (setupItemOf (c .faulted2 .result)) (setupItemOf (c .before .before .faulted .result))
+    (wholeField (k .parsed .given .0 .0) (k .parsed .given .0 .1 .0)) (c .faulted2 .ensures) (c .before .outside .ensures) (c .before .before .faulted .ensures) (c .before .before .before .over .ensures)
     ∙ sym (judged-faults _ _ _ _ _ (item-is k) (sym (o .before .misplaced .ensures) ∙ o .if1 .left))
 
 pub judged-field-spec : {M : Type 1} → statement M
