@@ -72,6 +72,16 @@ impl Lane {
         !self.waiting.is_empty()
     }
 
+    /// A time, which is never below 0, rounded down to a multiple of the slot.
+    fn rounded(&self, time: i128) -> i128 {
+        time >> self.group << self.group
+    }
+
+    /// What orders lanes of a group with the same R: who got its present S earliest.
+    pub fn turn(&self) -> (u32, i128, u64, u8) {
+        (self.group, self.rounded_start, self.since, self.plan.number)
+    }
+
     pub fn rounded_finish(&self) -> i128 {
         self.rounded_start + 2 * self.slot()
     }
@@ -85,7 +95,7 @@ impl Lane {
     fn begin(&mut self, start: i128, event: u64, framing: u8) {
         let (_, first) = self.waiting.first().expect("a lane that gets an S holds a record");
         self.start = start;
-        self.rounded_start = start - start % self.slot();
+        self.rounded_start = self.rounded(start);
         self.finish = start + charged(first.length, framing) * self.units_per_byte;
         self.since = event;
     }
@@ -121,10 +131,10 @@ impl State {
 
     /// The same contents, but for the turns of lanes that no call compares: a tie is between lanes of one group with the same R.
     pub fn alike(&self, other: &State) -> bool {
-        let lane = |lane: &Lane| {
+        fn lane(lane: &Lane) -> impl PartialEq + '_ {
             let start = lane.holds().then_some((lane.start, lane.rounded_start));
-            (lane.plan, lane.units_per_byte, lane.group, lane.waiting.clone(), lane.finish, start)
-        };
+            (lane.plan, lane.units_per_byte, lane.group, &lane.waiting, lane.finish, start)
+        }
         (self.clock, self.framing) == (other.clock, other.framing)
             && self.lanes.iter().map(lane).eq(other.lanes.iter().map(lane))
             && self.turns() == other.turns()
@@ -134,8 +144,7 @@ impl State {
 
     /// The lanes that hold records: by group and R, and where those tie, the one first that got its present S earliest.
     pub fn turns(&self) -> Vec<u8> {
-        let turn = |lane: &Lane| (lane.group, lane.rounded_start, lane.since, lane.plan.number);
-        let mut turns: Vec<_> = self.holding().map(turn).collect();
+        let mut turns: Vec<_> = self.holding().map(Lane::turn).collect();
         turns.sort_unstable();
         turns.into_iter().map(|(.., number)| number).collect()
     }
@@ -239,25 +248,28 @@ impl State {
     /// The four words: eligible ready, ineligible ready, eligible blocked, ineligible blocked.
     pub fn sets(&self) -> [u64; 4] {
         // A group's start and finish: the least R and the least R + 2s of its lanes that hold records.
-        let mut groups: Vec<Option<(i128, i128)>> = vec![None; 32];
+        let mut groups: [Option<(i128, i128)>; 32] = [None; 32];
         for lane in self.holding() {
             let (start, finish) = (lane.rounded_start, lane.rounded_finish());
             let group = &mut groups[lane.group as usize];
             *group = Some(group.map_or((start, finish), |(s, f)| (s.min(start), f.min(finish))));
         }
         let mut words = [0; 4];
-        for (i, group) in groups.iter().enumerate() {
+        // The least finish of the eligible groups above: a group is blocked where that is below its own.
+        let mut least_above = i128::MAX;
+        for (i, group) in groups.iter().enumerate().rev() {
             let Some((start, finish)) = *group else { continue };
             let eligible = start <= self.clock;
-            let above = groups[i + 1..].iter().flatten();
-            let blocked = above.into_iter().any(|&(s, f)| s <= self.clock && f < finish);
-            let word = match (eligible, blocked) {
+            let word = match (eligible, least_above < finish) {
                 (true, false) => 0,
                 (false, false) => 1,
                 (true, true) => 2,
                 (false, true) => 3,
             };
             words[word] |= 1 << i;
+            if eligible {
+                least_above = least_above.min(finish);
+            }
         }
         words
     }

@@ -51,7 +51,7 @@ pub fn stored(back: i128) -> u64 {
 
 /// The list in which a lane belongs, by the clock that was never taken back.
 pub fn list_of(lane: &Lane, back: u64) -> u32 {
-    ((lane.start + i128::from(back)) / lane.slot() % i128::from(LISTS)) as u32
+    ((lane.start + i128::from(back)) >> lane.group) as u32 % LISTS
 }
 
 fn bits(value: u64) -> impl Iterator<Item = u32> {

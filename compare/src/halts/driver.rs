@@ -6,12 +6,14 @@
 
 use super::{draw, held, makes, Halt, SEES_BELOW};
 use crate::calls::{Answer, Call};
+use crate::driver::cases;
 use crate::driver::lent::Lent;
 use crate::driver::report::{hex, Found};
 use crate::gen::{caller::Caller, setups};
 use crate::layout::{self, TABLE_SIZE};
 use crate::numbers::refusal;
 use crate::rng::Rng;
+use crate::run::book::kept;
 use crate::rules::State;
 use std::fmt;
 
@@ -33,6 +35,11 @@ pub struct Tally {
     /// The most bytes that a waiting lane saw.
     pub seen: [u64; 4],
 }
+
+kept!(Tally {
+    sum: cases, setups, made, ninety, tables, own, calls;
+    most: seen;
+});
 
 impl fmt::Display for Tally {
     fn fmt(&self, f: &mut fmt::Formatter) -> fmt::Result {
@@ -203,20 +210,18 @@ fn sees(state: &State, answer: Answer, seen: &mut [u64; 4], tally: &mut Tally) -
     Ok(())
 }
 
+/// The case of this number, with other random numbers than those of the other comparisons.
+pub fn one<H: Halt>(halt: &mut H, seed: u64, number: u64, tally: &mut Tally) -> Result<(), Found> {
+    case(halt, &mut Rng::of_case(seed ^ 0x0004_0256_0000_0000, number), tally)
+}
+
 /// Cases from `first` on while `more` says so, with the case that shows a difference.
 pub fn compare<H: Halt>(
     halt: &mut H,
     seed: u64,
     first: u64,
-    mut more: impl FnMut(u64) -> bool,
+    more: impl FnMut(u64) -> bool,
     tally: &mut Tally,
 ) -> Result<(), (u64, Found)> {
-    let mut number = first;
-    while more(number - first) {
-        // Other numbers than those of the other comparisons.
-        let mut rng = Rng::of_case(seed ^ 0x0004_0256_0000_0000, number);
-        case(halt, &mut rng, tally).map_err(|found| (number, found))?;
-        number += 1;
-    }
-    Ok(())
+    cases(first, more, |number| one(halt, seed, number, tally))
 }

@@ -2,11 +2,13 @@
 
 use super::words::{bytes, in_form, lay, plan, words, Reference, SIZE};
 use super::{Depot, Refused};
+use crate::driver::cases;
 use crate::driver::lent::Lent;
 use crate::driver::report::{hex, Found};
 use crate::gen::{damage, setups};
 use crate::numbers::WEIGHT_SUM;
 use crate::rng::Rng;
+use crate::run::book::kept;
 use std::collections::BTreeMap;
 use std::fmt;
 
@@ -26,6 +28,11 @@ pub struct Tally {
     pub areas: u64,
     pub areas_good: u64,
 }
+
+kept!(Tally {
+    sum: cases, read, written, in_form, shared, areas, areas_good;
+    by_number: refused;
+});
 
 impl fmt::Display for Tally {
     fn fmt(&self, f: &mut fmt::Formatter) -> fmt::Result {
@@ -200,20 +207,18 @@ pub fn edit(rng: &mut Rng, area: &mut [u8]) {
     }
 }
 
+/// The case of this number, with other random numbers than those of the other comparisons.
+pub fn one<D: Depot>(depot: &mut D, seed: u64, number: u64, tally: &mut Tally) -> Result<(), Found> {
+    case(depot, &mut Rng::of_case(seed ^ 0x0055_0056_5E70_0000, number), tally)
+}
+
 /// Cases from `first` on while `more` says so, with the case that shows a difference.
 pub fn compare<D: Depot>(
     depot: &mut D,
     seed: u64,
     first: u64,
-    mut more: impl FnMut(u64) -> bool,
+    more: impl FnMut(u64) -> bool,
     tally: &mut Tally,
 ) -> Result<(), (u64, Found)> {
-    let mut number = first;
-    while more(number - first) {
-        // Other numbers than those of a table's case.
-        let mut rng = Rng::of_case(seed ^ 0x0055_0056_5E70_0000, number);
-        case(depot, &mut rng, tally).map_err(|found| (number, found))?;
-        number += 1;
-    }
-    Ok(())
+    cases(first, more, |number| one(depot, seed, number, tally))
 }

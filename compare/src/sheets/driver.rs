@@ -3,11 +3,13 @@
 use super::draw;
 use super::text::{write as text_of, Reference};
 use super::{Office, Refused};
+use crate::driver::cases;
 use crate::driver::lent::Lent;
 use crate::driver::report::{hex, Found};
 use crate::gen::setups;
 use crate::plans::words::{lay, plan, words, SIZE};
 use crate::rng::Rng;
+use crate::run::book::kept;
 use std::collections::BTreeMap;
 use std::fmt;
 
@@ -20,6 +22,11 @@ pub struct Tally {
     /// By number.
     pub refused: BTreeMap<u64, u64>,
 }
+
+kept!(Tally {
+    sum: cases, read, written;
+    by_number: refused;
+});
 
 impl fmt::Display for Tally {
     fn fmt(&self, f: &mut fmt::Formatter) -> fmt::Result {
@@ -142,20 +149,18 @@ fn write<O: Office>(
     Ok(answer.ok().map(|size| right[..size as usize].to_vec()))
 }
 
+/// The case of this number, with other random numbers than those of the other comparisons.
+pub fn one<O: Office>(office: &mut O, seed: u64, number: u64, tally: &mut Tally) -> Result<(), Found> {
+    case(office, &mut Rng::of_case(seed ^ 0x0080_0081_0082_0000, number), tally)
+}
+
 /// Cases from `first` on while `more` says so, with the case that shows a difference.
 pub fn compare<O: Office>(
     office: &mut O,
     seed: u64,
     first: u64,
-    mut more: impl FnMut(u64) -> bool,
+    more: impl FnMut(u64) -> bool,
     tally: &mut Tally,
 ) -> Result<(), (u64, Found)> {
-    let mut number = first;
-    while more(number - first) {
-        // Other numbers than those of the other comparisons.
-        let mut rng = Rng::of_case(seed ^ 0x0080_0081_0082_0000, number);
-        case(office, &mut rng, tally).map_err(|found| (number, found))?;
-        number += 1;
-    }
-    Ok(())
+    cases(first, more, |number| one(office, seed, number, tally))
 }
