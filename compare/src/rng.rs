@@ -59,8 +59,10 @@ impl Rng {
     pub fn noise(&mut self, count: usize) -> Vec<u8> {
         let mut own = Rng::new(!self.state);
         self.state = self.state.wrapping_add(STEP.wrapping_mul(count as u64));
-        let mut bytes: Vec<u8> = (0..count.div_ceil(8)).flat_map(|_| own.word().to_le_bytes()).collect();
-        bytes.truncate(count);
+        let mut bytes = vec![0; count];
+        for eight in bytes.chunks_mut(8) {
+            eight.copy_from_slice(&own.word().to_le_bytes()[..eight.len()]);
+        }
         bytes
     }
 

@@ -43,7 +43,8 @@ impl Lane {
         let weight = i128::from(plan.weight);
         let units_per_byte = (UNITS_OF_A_FULL_LINE + weight - 1) / weight;
         let most = charged(plan.longest.into(), framing) * units_per_byte;
-        let group = (0..).find(|i| (1_i128 << i) >= most).expect("some power of two is large enough");
+        // The least i with 2^i at least this.
+        let group = i128::BITS - (most.max(1) - 1).leading_zeros();
         let waiting = Waiting::none(plan.shared);
         Lane { plan, units_per_byte, group, waiting, start: 0, rounded_start: 0, finish: 0, since: 0 }
     }
@@ -298,18 +299,30 @@ impl State {
         self.lane(number).is_some_and(|lane| lane.plan.shared)
     }
 
+    /// The answer of a call that only reads.
+    pub fn told(&self, call: &Call) -> Option<Answer> {
+        let answer = match call {
+            Call::Look => self.look().map(Answer::Looked),
+            Call::Sets => Ok(Answer::Sets(self.sets())),
+            Call::Lag { lane } => self.lag(*lane).map(Answer::Lag),
+            _ => return None,
+        };
+        Some(answer.unwrap_or_else(Answer::No))
+    }
+
     pub fn answer(&mut self, call: &Call) -> Answer {
+        if let Some(answer) = self.told(call) {
+            return answer;
+        }
         let answer = match call {
             Call::Put { lane, mark, length } => self.put(*lane, *mark, *length).map(Answer::Put),
             Call::PutTrain { lane, train, mark, length } => {
                 self.put_train(*lane, *train, *mark, *length).map(Answer::Put)
             }
             Call::Take => self.take().map(Answer::Taken),
-            Call::Look => self.look().map(Answer::Looked),
-            Call::Sets => Ok(Answer::Sets(self.sets())),
-            Call::Lag { lane } => self.lag(*lane).map(Answer::Lag),
             Call::Restart => self.restart().map(|()| Answer::Restarted),
             Call::Offer(page) => Ok(self.offer(page)),
+            Call::Look | Call::Sets | Call::Lag { .. } => unreachable!("it only reads"),
         };
         answer.unwrap_or_else(Answer::No)
     }

@@ -155,9 +155,14 @@ fn list<H: Halt>(halt: &mut H, rng: &mut Rng, tally: &mut Tally) -> Result<(), F
     let setup = draw::halt(rng);
     let mut lent = Lent::new(rng, TABLE_SIZE);
     let bytes = setups::bytes(rng, &setup);
-    let mut how = vec![format!("make {}", hex(&bytes))];
+    let mut calls = vec![];
+    let found = |what: String, calls: &[(Call, Answer)]| {
+        let made = [format!("make {}", hex(&bytes))];
+        let calls = calls.iter().map(|(call, answer)| format!("{call} -> {answer}"));
+        Err(Found::new(what, made.into_iter().chain(calls).collect()))
+    };
     if let Err(refused) = halt.make(&bytes, lent.bytes()) {
-        return Err(Found::new(format!("the halt's setup gave {refused:?}"), how));
+        return found(format!("the halt's setup gave {refused:?}"), &calls);
     }
     let mut state = State::fresh(&setup);
     let mut caller = Caller::new(rng);
@@ -167,20 +172,20 @@ fn list<H: Halt>(halt: &mut H, rng: &mut Rng, tally: &mut Tally) -> Result<(), F
         let expected = state.answer(&call);
         caller.heard(expected);
         let given = halt.answer(lent.bytes(), &call);
-        how.push(format!("{call} -> {expected}"));
+        calls.push((call, expected));
         tally.calls += 1;
         if given != expected {
-            return Err(Found::new(format!("the unit gave {given}"), how));
+            return found(format!("the unit gave {given}"), &calls);
         }
         if let Err(what) = sees(&state, expected, &mut seen, tally) {
-            return Err(Found::new(what, how));
+            return found(what, &calls);
         }
     }
     let wrong = match held(&lent.copy()) {
         Some(after) if after.alike(&state) => lent.guarded().err(),
         after => Some(format!("the table holds {after:?}, and should hold {state:?}")),
     };
-    wrong.map_or(Ok(()), |what| Err(Found::new(what, how)))
+    wrong.map_or(Ok(()), |what| found(what, &calls))
 }
 
 /// A put of the halt's is of train 0.

@@ -82,25 +82,26 @@ struct Both {
     lent: Lent,
     /// The whole lent part, as it must be.
     right: Vec<u8>,
-    said: Vec<String>,
+    /// The board before the first call, and the calls.
+    first: Vec<u8>,
+    calls: Vec<Call>,
 }
 
 impl Both {
     fn new(rng: &mut Rng) -> Both {
         let mut lent = Lent::new(rng, SIZE);
         let right = lent.bytes().to_vec();
-        Both { lent, right, said: vec![] }
+        Both { lent, right, first: vec![], calls: vec![] }
     }
 
     /// One call on both sides: the same answer, the same bytes, and nothing written outside the board.
     fn call<D: Desk>(&mut self, desk: &mut D, call: &Call, tally: &mut Tally) -> Result<Answer, Found> {
-        let before = if self.said.is_empty() { hex(&self.right) } else { String::new() };
+        if self.calls.is_empty() {
+            self.first.clone_from(&self.right);
+        }
+        self.calls.push(call.clone());
         let given = ask(desk, self.lent.bytes(), call);
         let right = ask(&mut Reference, &mut self.right, call);
-        if self.said.is_empty() {
-            self.said.push(format!("board {before}"));
-        }
-        self.said.push(call.to_string());
         tally.calls += 1;
         tally.fields += u64::from(matches!(call, Call::Record(_)));
         match (&right, call) {
@@ -125,7 +126,8 @@ impl Both {
     }
 
     fn found(&self, what: String) -> Found {
-        Found::new(what, self.said.clone())
+        let board = [format!("board {}", hex(&self.first))];
+        Found::new(what, board.into_iter().chain(self.calls.iter().map(Call::to_string)).collect())
     }
 }
 

@@ -86,18 +86,18 @@ fn setup<D: Depot>(depot: &mut D, rng: &mut Rng, tally: &mut Tally) -> Result<()
     let mut lent = Lent::new(rng, SIZE);
     let length = if rng.once_in(8) { rng.pick(&[0, 1, 8, 512, 519]) } else { lent.bytes().len() };
     let mut right = lent.short(length).to_vec();
-    let shown = vec![format!("setup {}", hex(&input)), format!("an area of {length} bytes")];
+    let shown = || vec![format!("setup {}", hex(&input)), format!("an area of {length} bytes")];
     let given = depot.read(&input, lent.short(length));
     let answer = Reference.read(&input, &mut right);
     tally.heard(&answer);
     if given != answer {
-        return Err(Found::new(format!("the unit says {given:?}, the rules say {answer:?}"), shown));
+        return Err(Found::new(format!("the unit says {given:?}, the rules say {answer:?}"), shown()));
     }
     if lent.short(length) != right {
         let theirs = hex(lent.short(length));
-        return Err(Found::new(format!("the area differs: {theirs}, right is {}", hex(&right)), shown));
+        return Err(Found::new(format!("the area differs: {theirs}, right is {}", hex(&right)), shown()));
     }
-    lent.guarded().map_err(|what| Found::new(what, shown.clone()))?;
+    lent.guarded().map_err(|what| Found::new(what, shown()))?;
     if answer.is_err() {
         return Ok(());
     }
@@ -108,7 +108,7 @@ fn setup<D: Depot>(depot: &mut D, rng: &mut Rng, tally: &mut Tally) -> Result<()
     tally.in_form += u64::from(formed);
     match back {
         Some(back) if formed && back != input => {
-            Err(Found::new(format!("it is written back as {}", hex(&back)), shown))
+            Err(Found::new(format!("it is written back as {}", hex(&back)), shown()))
         }
         _ => Ok(()),
     }
@@ -158,18 +158,18 @@ fn write<D: Depot>(
     };
     let mut lent = Lent::new(rng, length);
     let mut right = lent.short(length).to_vec();
-    let shown = vec![format!("area {}", hex(area)), format!("a buffer of {length} bytes")];
+    let shown = || vec![format!("area {}", hex(area)), format!("a buffer of {length} bytes")];
     let given = depot.write(area, lent.short(length));
     let answer = Reference.write(area, &mut right);
     tally.heard(&answer);
     if given != answer {
-        return Err(Found::new(format!("the unit says {given:?}, the rules say {answer:?}"), shown));
+        return Err(Found::new(format!("the unit says {given:?}, the rules say {answer:?}"), shown()));
     }
     if lent.short(length) != right {
         let theirs = hex(lent.short(length));
-        return Err(Found::new(format!("the buffer differs: {theirs}, right is {}", hex(&right)), shown));
+        return Err(Found::new(format!("the buffer differs: {theirs}, right is {}", hex(&right)), shown()));
     }
-    lent.guarded().map_err(|what| Found::new(what, shown))?;
+    lent.guarded().map_err(|what| Found::new(what, shown()))?;
     tally.written += u64::from(answer.is_ok());
     Ok(answer.ok().map(|size| right[..size as usize].to_vec()))
 }

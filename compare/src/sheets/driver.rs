@@ -68,25 +68,25 @@ fn sheet<O: Office>(office: &mut O, rng: &mut Rng, tally: &mut Tally) -> Result<
     let mut lent = Lent::new(rng, SIZE);
     let length = if rng.once_in(8) { rng.pick(&[0, 1, 8, 512, 519]) } else { lent.bytes().len() };
     let mut right = lent.short(length).to_vec();
-    let said = vec![shown(&input), format!("an area of {length} bytes")];
+    let said = || vec![shown(&input), format!("an area of {length} bytes")];
     let given = office.read(&input, lent.short(length));
     let answer = Reference.read(&input, &mut right);
     tally.heard(&answer);
     if given != answer {
-        return Err(Found::new(format!("the unit says {given:?}, the rules say {answer:?}"), said));
+        return Err(Found::new(format!("the unit says {given:?}, the rules say {answer:?}"), said()));
     }
     if lent.short(length) != right {
         let theirs = hex(lent.short(length));
-        return Err(Found::new(format!("the area differs: {theirs}, right is {}", hex(&right)), said));
+        return Err(Found::new(format!("the area differs: {theirs}, right is {}", hex(&right)), said()));
     }
-    lent.guarded().map_err(|what| Found::new(what, said.clone()))?;
+    lent.guarded().map_err(|what| Found::new(what, said()))?;
     if answer.is_err() {
         return Ok(());
     }
     tally.read += 1;
     match write(office, rng, &right, tally)? {
         Some(back) if back != input => {
-            Err(Found::new(format!("it is written back as {}", shown(&back)), said))
+            Err(Found::new(format!("it is written back as {}", shown(&back)), said()))
         }
         _ => Ok(()),
     }
@@ -133,18 +133,18 @@ fn write<O: Office>(
     };
     let mut lent = Lent::new(rng, length);
     let mut right = lent.short(length).to_vec();
-    let said = vec![format!("area {}", hex(area)), format!("a buffer of {length} bytes")];
+    let said = || vec![format!("area {}", hex(area)), format!("a buffer of {length} bytes")];
     let given = office.write(area, lent.short(length));
     let answer = Reference.write(area, &mut right);
     tally.heard(&answer);
     if given != answer {
-        return Err(Found::new(format!("the unit says {given:?}, the rules say {answer:?}"), said));
+        return Err(Found::new(format!("the unit says {given:?}, the rules say {answer:?}"), said()));
     }
     if lent.short(length) != right {
         let theirs = hex(lent.short(length));
-        return Err(Found::new(format!("the buffer differs: {theirs}, right is {}", hex(&right)), said));
+        return Err(Found::new(format!("the buffer differs: {theirs}, right is {}", hex(&right)), said()));
     }
-    lent.guarded().map_err(|what| Found::new(what, said))?;
+    lent.guarded().map_err(|what| Found::new(what, said()))?;
     tally.written += u64::from(answer.is_ok());
     Ok(answer.ok().map(|size| right[..size as usize].to_vec()))
 }
