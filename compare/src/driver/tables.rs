@@ -153,7 +153,15 @@ impl<U: Unit> Table<'_, U> {
         let before = rng.pick(&[0, 0, 1, 64, u64::MAX]);
         let record = Ask::TrainRecord(lane, rng.below(9) as u8, before);
         let wait = Ask::Wait(lane, before);
-        vec![Ask::Clock, Ask::Edition, Ask::Lane(lane), Ask::Backlog(lane), Ask::Record(lane, before), record, wait]
+        vec![
+            Ask::Clock,
+            Ask::Edition,
+            Ask::Lane(lane),
+            Ask::Backlog(lane),
+            Ask::Record(lane, before),
+            record,
+            wait,
+        ]
     }
 
     /// One call on the table that is lent, which reads as `reading`, or as the one that was drawn: the answer, and the bytes after it. If they may be others

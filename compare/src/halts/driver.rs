@@ -13,8 +13,8 @@ use crate::gen::{caller::Caller, setups};
 use crate::layout::{self, TABLE_SIZE};
 use crate::numbers::refusal;
 use crate::rng::Rng;
-use crate::run::book::kept;
 use crate::rules::State;
+use crate::run::book::kept;
 use std::fmt;
 
 const SETUPS: u64 = 12;

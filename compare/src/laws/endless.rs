@@ -54,7 +54,8 @@ impl Endless {
         same_waiting(own, other)?;
         for (lane, beside) in lanes {
             same_times(lane, table.clock, beside, twin.clock, on)?;
-            if lane.holds() && own.holds() && own.turn().cmp(&lane.turn()) != other.turn().cmp(&beside.turn()) {
+            if lane.holds() && own.holds() && own.turn().cmp(&lane.turn()) != other.turn().cmp(&beside.turn())
+            {
                 return Err("the turns are not the endless clock's".to_string());
             }
         }

@@ -111,7 +111,9 @@ impl Book {
 
     /// The greatest of a kind.
     pub fn most(&mut self, name: &str, most: &mut [u64]) {
-        let Some(other) = self.line(name, most.iter().map(|most| i128::from(*most)).collect()) else { return };
+        let Some(other) = self.line(name, most.iter().map(|most| i128::from(*most)).collect()) else {
+            return;
+        };
         let other: Vec<u64> = other.into_iter().filter_map(|other| other.try_into().ok()).collect();
         if other.len() != most.len() {
             return self.wrong(name);
@@ -124,7 +126,8 @@ impl Book {
         let own = counts.iter().flat_map(|(number, count)| [i128::from(*number), i128::from(*count)]);
         let Some(more) = self.line(name, own.collect()) else { return };
         for pair in more.chunks(2) {
-            match pair.iter().map(|number| u64::try_from(*number)).collect::<Result<Vec<u64>, _>>().as_deref() {
+            match pair.iter().map(|number| u64::try_from(*number)).collect::<Result<Vec<u64>, _>>().as_deref()
+            {
                 Ok([number, count]) => *counts.entry(*number).or_default() += count,
                 _ => return self.wrong(name),
             }

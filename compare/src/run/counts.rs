@@ -28,13 +28,7 @@ kept!(Counts {
 
 impl Counts {
     /// Runs the case of this number, if it is of the kind; whether it is.
-    pub fn case(
-        &mut self,
-        units: &mut UnderTest,
-        kind: Kind,
-        seed: u64,
-        number: u64,
-    ) -> Result<bool, Found> {
+    pub fn case(&mut self, units: &mut UnderTest, kind: Kind, seed: u64, number: u64) -> Result<bool, Found> {
         if let Some(drawn) = kind.drawn() {
             return driver::one_of(&mut units.unit, seed, number, |kind| kind == drawn, &mut self.calls);
         }
@@ -138,7 +132,8 @@ impl fmt::Display for Counts {
             (self.conversions.cases, self.conversions.to_string()),
             (self.halts.cases, self.halts.to_string()),
         ];
-        let told: Vec<String> = all.into_iter().filter(|(cases, _)| *cases > 0).map(|(_, told)| told).collect();
+        let told: Vec<String> =
+            all.into_iter().filter(|(cases, _)| *cases > 0).map(|(_, told)| told).collect();
         write!(f, "{}", told.join("\n"))?;
         for near in self.waits.waits_by_lane.values() {
             write!(f, "\n  {near}")?;

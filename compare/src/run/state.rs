@@ -48,7 +48,10 @@ pub fn read(text: &str) -> Result<Run, String> {
         }
         let (name, rest) = line.split_once(' ').ok_or("a line has no numbers")?;
         let values: Result<Vec<i128>, _> = rest.split_whitespace().map(str::parse).collect();
-        numbers.insert(name.to_string(), values.map_err(|_| format!("'{name}' has something else than numbers"))?);
+        numbers.insert(
+            name.to_string(),
+            values.map_err(|_| format!("'{name}' has something else than numbers"))?,
+        );
     }
     if !ended {
         return Err("its end is missing".to_string());
@@ -58,7 +61,8 @@ pub fn read(text: &str) -> Result<Run, String> {
         let line: Result<Vec<u64>, _> = line.into_iter().map(u64::try_from).collect();
         line.map_err(|_| format!("'{name}' is wrong"))
     });
-    let (Some(seed), Some(part), Some(next), Some(spent)) = (own.next(), own.next(), own.next(), own.next()) else {
+    let (Some(seed), Some(part), Some(next), Some(spent)) = (own.next(), own.next(), own.next(), own.next())
+    else {
         unreachable!("four lines")
     };
     let ([seed], [at, of], [spent]) = (&seed?[..], &part?[..], &spent?[..]) else {
@@ -106,7 +110,11 @@ pub fn joined(runs: &[Run]) -> Result<Run, String> {
     let mut all = first.clone();
     for (at, run) in (1..).zip(rest) {
         let same = |other: &&Run| other.seed == run.seed;
-        if runs[..at].iter().filter(same).any(|other| other.part.of != run.part.of || other.part.at == run.part.at) {
+        if runs[..at]
+            .iter()
+            .filter(same)
+            .any(|other| other.part.of != run.part.of || other.part.at == run.part.at)
+        {
             return Err(format!("two states of seed {} have cases in common", run.seed));
         }
         Book::add(Book::written(&mut run.counts.clone()), &mut all.counts)?;

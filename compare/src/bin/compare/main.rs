@@ -153,7 +153,8 @@ fn one(options: &Options) -> ExitCode {
 
 /// What several states together have counted.
 fn states(options: &Options) -> ExitCode {
-    let runs: Result<Vec<Run>, String> = options.names.iter().map(|name| state::load(name.as_ref())).collect();
+    let runs: Result<Vec<Run>, String> =
+        options.names.iter().map(|name| state::load(name.as_ref())).collect();
     match runs.and_then(|runs| state::joined(&runs)) {
         Ok(run) => {
             println!("sha256 {}", state::LIBRARY);
