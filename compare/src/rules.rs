@@ -5,6 +5,7 @@
 
 mod back;
 mod offers;
+mod reads;
 mod waiting;
 
 pub use back::taken_off;
@@ -220,6 +221,10 @@ impl State {
             .min_by_key(|lane| (lane.rounded_finish(), lane.group, lane.since))
     }
 
+    pub fn any_eligible(&self) -> bool {
+        self.lanes.iter().any(|lane| lane.eligible(self.clock))
+    }
+
     pub fn look(&self) -> Result<Taken, u8> {
         let lane = self.chosen().ok_or(refusal::NOTHING_HELD)?;
         let (train, first) = lane.waiting.first().expect("an eligible lane holds a record");
@@ -237,49 +242,13 @@ impl State {
             lane.begin(lane.finish, event, framing);
         }
         // "Last, if records are held and no lane is eligible, V becomes the least R."
-        if self.chosen().is_none() {
+        if !self.any_eligible() {
             if let Some(least) = self.holding().map(|lane| lane.rounded_start).min() {
                 self.clock = least;
             }
         }
         self.settle();
         Ok(taken)
-    }
-
-    /// The four words: eligible ready, ineligible ready, eligible blocked, ineligible blocked.
-    pub fn sets(&self) -> [u64; 4] {
-        // A group's start and finish: the least R and the least R + 2s of its lanes that hold records.
-        let mut groups: [Option<(i128, i128)>; 32] = [None; 32];
-        for lane in self.holding() {
-            let (start, finish) = (lane.rounded_start, lane.rounded_finish());
-            let group = &mut groups[lane.group as usize];
-            *group = Some(group.map_or((start, finish), |(s, f)| (s.min(start), f.min(finish))));
-        }
-        let mut words = [0; 4];
-        // The least finish of the eligible groups above: a group is blocked where that is below its own.
-        let mut least_above = i128::MAX;
-        for (i, group) in groups.iter().enumerate().rev() {
-            let Some((start, finish)) = *group else { continue };
-            let eligible = start <= self.clock;
-            let word = match (eligible, least_above < finish) {
-                (true, false) => 0,
-                (false, false) => 1,
-                (true, true) => 2,
-                (false, true) => 3,
-            };
-            words[word] |= 1 << i;
-            if eligible {
-                least_above = least_above.min(finish);
-            }
-        }
-        words
-    }
-
-    /// "Lag of a lane is V minus S ...; for an idle lane V minus the greater of F and V."
-    pub fn lag(&self, number: u8) -> Result<i64, u8> {
-        let lane = self.lane(number).ok_or(refusal::NO_SUCH_LANE)?;
-        let from = if lane.holds() { lane.start } else { lane.finish.max(self.clock) };
-        Ok(i64::try_from(self.clock - from).expect("a lag fits 64 bits"))
     }
 
     /// "Restart gives the fresh table of the same setup"; it keeps the edition.
@@ -297,17 +266,6 @@ impl State {
     /// Whether a lane of the setup is shared.
     pub fn shared(&self, number: u8) -> bool {
         self.lane(number).is_some_and(|lane| lane.plan.shared)
-    }
-
-    /// The answer of a call that only reads.
-    pub fn told(&self, call: &Call) -> Option<Answer> {
-        let answer = match call {
-            Call::Look => self.look().map(Answer::Looked),
-            Call::Sets => Ok(Answer::Sets(self.sets())),
-            Call::Lag { lane } => self.lag(*lane).map(Answer::Lag),
-            _ => return None,
-        };
-        Some(answer.unwrap_or_else(Answer::No))
     }
 
     pub fn answer(&mut self, call: &Call) -> Answer {

@@ -7,7 +7,7 @@ use compare::run::progress::Progress;
 use compare::run::sha256::sha256;
 use compare::run::state::{self, joined, read, text};
 use compare::run::under_test::UnderTest;
-use compare::run::{Part, Run, Until, SHARES, WHOLE};
+use compare::run::{Part, Run, Until, WHOLE};
 use compare::stand_in::{Slip, StandIn};
 use std::time::Duration;
 
@@ -16,7 +16,7 @@ fn units() -> UnderTest {
 }
 
 fn until(cases: u64) -> Until {
-    Until { kind: None, goals: SHARES, cases: Some(cases), time: None }
+    Until { kind: None, goals: None, cases: Some(cases), time: None }
 }
 
 /// So many cases in all, from where the run stands.
@@ -127,7 +127,7 @@ fn parts_of_a_run() {
 fn goals_are_reached() {
     let goals = [30_000, 9_000, 60, 40];
     let mut run = Run::new(2, WHOLE);
-    go_on(&mut run, Until { kind: None, goals, cases: None, time: None });
+    go_on(&mut run, Until { kind: None, goals: Some(goals), cases: None, time: None });
     let reached = GOALS.map(|goal| run.counts.reached(goal));
     assert!(reached.iter().zip(goals).all(|(reached, goal)| *reached >= goal), "{reached:?}");
     // No goal is far behind or beyond: each kind has its share.
@@ -135,7 +135,7 @@ fn goals_are_reached() {
     assert!(run.counts.done(Kind::Sheets) > 1_000 && run.counts.done(Kind::Boards) > 1_000);
     assert!(run.counts.done(Kind::Pages) > 1_000 && run.counts.done(Kind::Runs) > 100);
     let mut one = Run::new(2, WHOLE);
-    go_on(&mut one, Until { kind: None, goals: [0, 0, 0, 5], cases: None, time: None });
+    go_on(&mut one, Until { kind: None, goals: Some([0, 0, 0, 5]), cases: None, time: None });
     assert!(one.counts.reached(Goal::Conversions) >= 5 && one.counts.reached(Goal::Calls) == 0);
 }
 

@@ -23,7 +23,7 @@ pub fn check_touched(state: &State, touched: Option<u8>) -> Result<(), String> {
             return Err(format!("lane {} of a table made by the calls: {broken}", lane.plan.number));
         }
     }
-    if state.holding().next().is_some() && state.chosen().is_none() {
+    if state.holding().next().is_some() && !state.any_eligible() {
         return Err("records are held and no lane is eligible".to_string());
     }
     Ok(())

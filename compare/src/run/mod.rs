@@ -36,7 +36,7 @@ pub const WHOLE: Part = Part { at: 0, of: 1 };
 /// Which numbers are asked for of each goal, in the order of [`GOALS`]; 0 for none.
 pub type Goals = [u64; GOALS.len()];
 
-/// Where a run without goals has the shares of its kinds from.
+/// A run without goals goes on towards these, and beyond them.
 pub const SHARES: Goals = [1_000_000_000, 100_000_000, 10_000_000, 1_000_000];
 
 /// When a run ends: after so many cases, when the goals are reached, or after so much time.
@@ -44,7 +44,7 @@ pub const SHARES: Goals = [1_000_000_000, 100_000_000, 10_000_000, 1_000_000];
 pub struct Until {
     /// Of all kinds, or of this one alone.
     pub kind: Option<Kind>,
-    pub goals: Goals,
+    pub goals: Option<Goals>,
     /// In all, those of a state that the run goes on with among them.
     pub cases: Option<u64>,
     pub time: Option<Duration>,
@@ -90,7 +90,7 @@ impl Run {
         let before = self.spent;
         for number in 0..end {
             self.spent = before + begin.elapsed();
-            progress.look(self, Goals::default());
+            progress.look(self, None);
             self.counts.case(units, kind, self.seed, number).map_err(|found| (number, found))?;
         }
         Ok(())
@@ -121,7 +121,9 @@ impl Run {
         }
         let far = |done: u64, asked: u64| u128::from(done) * 1_000_000_000 / u128::from(asked.max(1));
         let reached = |goal: Goal| self.counts.reached(goal);
-        let open = GOALS.into_iter().zip(until.goals).filter(|(goal, asked)| reached(*goal) < *asked);
+        let goals = until.goals.unwrap_or(SHARES);
+        let endless = until.goals.is_none();
+        let open = GOALS.into_iter().zip(goals).filter(|(goal, asked)| endless || reached(*goal) < *asked);
         let (goal, asked) = open.min_by_key(|(goal, asked)| far(reached(*goal), *asked))?;
         // Only tables as docs/TABLE.md lays them out can be laid by hand.
         let runs = |kind: &Kind| *kind != Kind::Tables || units.unit.documented_layout();

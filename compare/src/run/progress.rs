@@ -15,15 +15,15 @@ pub struct Progress {
     quiet: bool,
     told: Instant,
     saved: Instant,
-    /// What was reached at the last line.
-    before: [u64; GOALS.len()],
+    /// What was reached at the last line, or when the run began.
+    before: Option<[u64; GOALS.len()]>,
 }
 
 impl Progress {
     /// A run with a state in this file, if there is one.
     pub fn new(state: Option<PathBuf>) -> Progress {
         let now = Instant::now();
-        Progress { state, quiet: false, told: now, saved: now, before: Default::default() }
+        Progress { state, quiet: false, told: now, saved: now, before: None }
     }
 
     /// A run that tells nothing and writes nothing.
@@ -31,13 +31,16 @@ impl Progress {
         Progress { quiet: true, ..Progress::new(None) }
     }
 
-    pub fn look(&mut self, run: &Run, goals: Goals) {
+    /// Behind every case; now and then something is told.
+    pub fn look(&mut self, run: &Run, goals: Option<Goals>) {
+        let reached = || GOALS.map(|goal| run.counts.reached(goal));
+        let before = *self.before.get_or_insert_with(reached);
         if self.quiet || self.told.elapsed() < TELL {
             return;
         }
-        eprintln!("{}", self.line(run, goals));
+        eprintln!("{}", self.line(run, goals.unwrap_or_default(), before));
         self.told = Instant::now();
-        self.before = GOALS.map(|goal| run.counts.reached(goal));
+        self.before = Some(reached());
         if self.saved.elapsed() >= SAVE {
             self.save(run);
             self.saved = Instant::now();
@@ -52,9 +55,9 @@ impl Progress {
     }
 
     /// Cases, then of each goal what is reached, what is asked for and how many a second, then how near each bound was come to.
-    fn line(&self, run: &Run, goals: Goals) -> String {
+    fn line(&self, run: &Run, goals: Goals, before: [u64; GOALS.len()]) -> String {
         let seconds = self.told.elapsed().as_secs_f64().max(0.001);
-        let goals = GOALS.into_iter().zip(goals).zip(self.before).map(|((goal, asked), before)| {
+        let goals = GOALS.into_iter().zip(goals).zip(before).map(|((goal, asked), before)| {
             let reached = run.counts.reached(goal);
             let rate = reached.saturating_sub(before) as f64 / seconds;
             let asked = if asked > 0 { format!(" of {asked}") } else { String::new() };

@@ -10,7 +10,7 @@ use compare::pipes;
 use compare::run::kinds::Kind;
 use compare::run::progress::Progress;
 use compare::run::under_test::UnderTest;
-use compare::run::{state, Run, Until, SHARES, WHOLE};
+use compare::run::{state, Run, Until, WHOLE};
 use compare::unit::Unit;
 use options::{options, Options, HELP};
 use std::process::ExitCode;
@@ -95,13 +95,10 @@ fn short(options: &Options) -> ExitCode {
 
 /// Cases of every kind, until the goals are reached or the time or the cases are spent.
 fn long(options: &Options) -> ExitCode {
-    let asked = options.goals != [0; 4];
-    if !asked && options.cases.is_none() && options.time.is_none() {
+    let goals = (options.goals != [0; 4]).then_some(options.goals);
+    if goals.is_none() && options.cases.is_none() && options.time.is_none() {
         return help();
     }
-    let goals = if asked { options.goals } else { SHARES };
-    // Without goals the shares alone are theirs, and the end is elsewhere.
-    let goals = if asked { goals } else { goals.map(|goal| goal * 1_000) };
     go(options, Until { kind: None, goals, cases: options.cases, time: options.time })
 }
 
@@ -112,7 +109,7 @@ fn alone(kind: Kind, options: &Options) -> ExitCode {
         (None, None, None) => return help(),
         (cases, ..) => cases,
     };
-    go(options, Until { kind: Some(kind), goals: [0; 4], cases, time: options.time })
+    go(options, Until { kind: Some(kind), goals: None, cases, time: options.time })
 }
 
 fn go(options: &Options, until: Until) -> ExitCode {
