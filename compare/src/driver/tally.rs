@@ -91,7 +91,7 @@ impl Tally {
         self.closest_wait = self.closest_wait.or(laws.waits.closest);
         self.closest_shared_wait = self.closest_shared_wait.or(laws.waits.closest_shared);
         for (lane, near) in &laws.waits.by_lane {
-            let best = self.waits_by_lane.entry(*lane).or_default();
+            let best = self.waits_by_lane.entry(*lane).or_insert(*near);
             *best = best.or(*near);
         }
     }

@@ -145,7 +145,7 @@ impl Waits {
     fn of_table(&mut self, near: Near) {
         let Near { weight, longest, framing, ahead, .. } = near;
         if framing == 0 && WEIGHTS.contains(&weight) && LONGEST.contains(&longest) && AHEAD.contains(&ahead) {
-            let best = self.by_lane.entry((weight, longest, ahead)).or_default();
+            let best = self.by_lane.entry((weight, longest, ahead)).or_insert(near);
             *best = best.or(near);
         }
     }

@@ -155,7 +155,7 @@ impl Book {
         let Some(more) = self.line(name, nears.values().flat_map(of_near).collect()) else { return };
         for line in more.chunks(NEAR) {
             let Some(near) = near_of(line) else { return self.wrong(name) };
-            let best = nears.entry((near.weight, near.longest, near.ahead)).or_default();
+            let best = nears.entry((near.weight, near.longest, near.ahead)).or_insert(near);
             *best = best.or(near);
         }
     }
