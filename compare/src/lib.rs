@@ -39,6 +39,7 @@ pub mod pipes;
 pub mod plans;
 pub mod rng;
 pub mod rules;
+pub mod run;
 pub mod session;
 pub mod setup;
 pub mod sheets;

@@ -1,5 +1,8 @@
 //! Random numbers that depend on the seed alone (splitmix64), so that every case can be run again.
 
+/// From one state to the next.
+const STEP: u64 = 0x9E37_79B9_7F4A_7C15;
+
 #[derive(Clone, Debug)]
 pub struct Rng {
     state: u64,
@@ -17,7 +20,7 @@ impl Rng {
     }
 
     pub fn word(&mut self) -> u64 {
-        self.state = self.state.wrapping_add(0x9E37_79B9_7F4A_7C15);
+        self.state = self.state.wrapping_add(STEP);
         let mut z = self.state;
         z = (z ^ (z >> 30)).wrapping_mul(0xBF58_476D_1CE4_E5B9);
         z = (z ^ (z >> 27)).wrapping_mul(0x94D0_49BB_1331_11EB);
@@ -50,6 +53,17 @@ impl Rng {
 
     pub fn pick<T: Copy>(&mut self, from: &[T]) -> T {
         from[self.index(from.len())]
+    }
+
+    /// So many bytes of a stream of their own, eight to a word; the numbers go on as if each byte had been drawn.
+    pub fn noise(&mut self, count: usize) -> Vec<u8> {
+        let mut own = Rng::new(!self.state);
+        self.state = self.state.wrapping_add(STEP.wrapping_mul(count as u64));
+        let mut bytes = vec![0; count];
+        for eight in bytes.chunks_mut(8) {
+            eight.copy_from_slice(&own.word().to_le_bytes()[..eight.len()]);
+        }
+        bytes
     }
 
     pub fn bytes(&mut self, count: usize) -> Vec<u8> {

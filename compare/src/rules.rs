@@ -5,6 +5,7 @@
 
 mod back;
 mod offers;
+mod reads;
 mod waiting;
 
 pub use back::taken_off;
@@ -43,7 +44,8 @@ impl Lane {
         let weight = i128::from(plan.weight);
         let units_per_byte = (UNITS_OF_A_FULL_LINE + weight - 1) / weight;
         let most = charged(plan.longest.into(), framing) * units_per_byte;
-        let group = (0..).find(|i| (1_i128 << i) >= most).expect("some power of two is large enough");
+        // The least i with 2^i at least this.
+        let group = i128::BITS - (most.max(1) - 1).leading_zeros();
         let waiting = Waiting::none(plan.shared);
         Lane { plan, units_per_byte, group, waiting, start: 0, rounded_start: 0, finish: 0, since: 0 }
     }
@@ -72,6 +74,16 @@ impl Lane {
         !self.waiting.is_empty()
     }
 
+    /// A time, which is never below 0, rounded down to a multiple of the slot.
+    fn rounded(&self, time: i128) -> i128 {
+        time >> self.group << self.group
+    }
+
+    /// What orders lanes of a group with the same R: who got its present S earliest.
+    pub fn turn(&self) -> (u32, i128, u64, u8) {
+        (self.group, self.rounded_start, self.since, self.plan.number)
+    }
+
     pub fn rounded_finish(&self) -> i128 {
         self.rounded_start + 2 * self.slot()
     }
@@ -85,7 +97,7 @@ impl Lane {
     fn begin(&mut self, start: i128, event: u64, framing: u8) {
         let (_, first) = self.waiting.first().expect("a lane that gets an S holds a record");
         self.start = start;
-        self.rounded_start = start - start % self.slot();
+        self.rounded_start = self.rounded(start);
         self.finish = start + charged(first.length, framing) * self.units_per_byte;
         self.since = event;
     }
@@ -121,10 +133,10 @@ impl State {
 
     /// The same contents, but for the turns of lanes that no call compares: a tie is between lanes of one group with the same R.
     pub fn alike(&self, other: &State) -> bool {
-        let lane = |lane: &Lane| {
+        fn lane(lane: &Lane) -> impl PartialEq + '_ {
             let start = lane.holds().then_some((lane.start, lane.rounded_start));
-            (lane.plan, lane.units_per_byte, lane.group, lane.waiting.clone(), lane.finish, start)
-        };
+            (lane.plan, lane.units_per_byte, lane.group, &lane.waiting, lane.finish, start)
+        }
         (self.clock, self.framing) == (other.clock, other.framing)
             && self.lanes.iter().map(lane).eq(other.lanes.iter().map(lane))
             && self.turns() == other.turns()
@@ -134,8 +146,7 @@ impl State {
 
     /// The lanes that hold records: by group and R, and where those tie, the one first that got its present S earliest.
     pub fn turns(&self) -> Vec<u8> {
-        let turn = |lane: &Lane| (lane.group, lane.rounded_start, lane.since, lane.plan.number);
-        let mut turns: Vec<_> = self.holding().map(turn).collect();
+        let mut turns: Vec<_> = self.holding().map(Lane::turn).collect();
         turns.sort_unstable();
         turns.into_iter().map(|(.., number)| number).collect()
     }
@@ -210,6 +221,10 @@ impl State {
             .min_by_key(|lane| (lane.rounded_finish(), lane.group, lane.since))
     }
 
+    pub fn any_eligible(&self) -> bool {
+        self.lanes.iter().any(|lane| lane.eligible(self.clock))
+    }
+
     pub fn look(&self) -> Result<Taken, u8> {
         let lane = self.chosen().ok_or(refusal::NOTHING_HELD)?;
         let (train, first) = lane.waiting.first().expect("an eligible lane holds a record");
@@ -227,46 +242,13 @@ impl State {
             lane.begin(lane.finish, event, framing);
         }
         // "Last, if records are held and no lane is eligible, V becomes the least R."
-        if self.chosen().is_none() {
+        if !self.any_eligible() {
             if let Some(least) = self.holding().map(|lane| lane.rounded_start).min() {
                 self.clock = least;
             }
         }
         self.settle();
         Ok(taken)
-    }
-
-    /// The four words: eligible ready, ineligible ready, eligible blocked, ineligible blocked.
-    pub fn sets(&self) -> [u64; 4] {
-        // A group's start and finish: the least R and the least R + 2s of its lanes that hold records.
-        let mut groups: Vec<Option<(i128, i128)>> = vec![None; 32];
-        for lane in self.holding() {
-            let (start, finish) = (lane.rounded_start, lane.rounded_finish());
-            let group = &mut groups[lane.group as usize];
-            *group = Some(group.map_or((start, finish), |(s, f)| (s.min(start), f.min(finish))));
-        }
-        let mut words = [0; 4];
-        for (i, group) in groups.iter().enumerate() {
-            let Some((start, finish)) = *group else { continue };
-            let eligible = start <= self.clock;
-            let above = groups[i + 1..].iter().flatten();
-            let blocked = above.into_iter().any(|&(s, f)| s <= self.clock && f < finish);
-            let word = match (eligible, blocked) {
-                (true, false) => 0,
-                (false, false) => 1,
-                (true, true) => 2,
-                (false, true) => 3,
-            };
-            words[word] |= 1 << i;
-        }
-        words
-    }
-
-    /// "Lag of a lane is V minus S ...; for an idle lane V minus the greater of F and V."
-    pub fn lag(&self, number: u8) -> Result<i64, u8> {
-        let lane = self.lane(number).ok_or(refusal::NO_SUCH_LANE)?;
-        let from = if lane.holds() { lane.start } else { lane.finish.max(self.clock) };
-        Ok(i64::try_from(self.clock - from).expect("a lag fits 64 bits"))
     }
 
     /// "Restart gives the fresh table of the same setup"; it keeps the edition.
@@ -287,17 +269,18 @@ impl State {
     }
 
     pub fn answer(&mut self, call: &Call) -> Answer {
+        if let Some(answer) = self.told(call) {
+            return answer;
+        }
         let answer = match call {
             Call::Put { lane, mark, length } => self.put(*lane, *mark, *length).map(Answer::Put),
             Call::PutTrain { lane, train, mark, length } => {
                 self.put_train(*lane, *train, *mark, *length).map(Answer::Put)
             }
             Call::Take => self.take().map(Answer::Taken),
-            Call::Look => self.look().map(Answer::Looked),
-            Call::Sets => Ok(Answer::Sets(self.sets())),
-            Call::Lag { lane } => self.lag(*lane).map(Answer::Lag),
             Call::Restart => self.restart().map(|()| Answer::Restarted),
             Call::Offer(page) => Ok(self.offer(page)),
+            Call::Look | Call::Sets | Call::Lag { .. } => unreachable!("it only reads"),
         };
         answer.unwrap_or_else(Answer::No)
     }

@@ -51,11 +51,16 @@ pub fn stored(back: i128) -> u64 {
 
 /// The list in which a lane belongs, by the clock that was never taken back.
 pub fn list_of(lane: &Lane, back: u64) -> u32 {
-    ((lane.start + i128::from(back)) / lane.slot() % i128::from(LISTS)) as u32
+    ((lane.start + i128::from(back)) >> lane.group) as u32 % LISTS
 }
 
-fn bits(value: u64) -> impl Iterator<Item = u32> {
-    (0..64).filter(move |bit| value >> bit & 1 == 1)
+/// The set bits of a word, the lowest first.
+fn bits(mut value: u64) -> impl Iterator<Item = u32> {
+    std::iter::from_fn(move || {
+        let lowest = (value != 0).then(|| value.trailing_zeros())?;
+        value &= value - 1;
+        Some(lowest)
+    })
 }
 
 /// The marked groups that are groups at all.
@@ -70,9 +75,13 @@ pub fn lists(bytes: &[u8], group: u32) -> Vec<u32> {
 
 /// What stands in a list's ring, the first first.
 pub fn lanes(bytes: &[u8], group: u32, list: u32) -> Vec<u8> {
+    in_list(bytes, group, list).collect()
+}
+
+fn in_list(bytes: &[u8], group: u32, list: u32) -> impl Iterator<Item = u8> + '_ {
     let ring = ring(group, list);
     let first = usize::from(bytes[first_place(ring)]);
-    (0..usize::from(bytes[number(ring)])).map(|i| bytes[place(ring, first + i)]).collect()
+    (0..usize::from(bytes[number(ring)])).map(move |i| bytes[place(ring, first + i)])
 }
 
 /// Everything that stands in a marked list, as (group, list, lane), in the order of the bytes.
@@ -80,7 +89,7 @@ pub fn standing(bytes: &[u8]) -> Vec<(u32, u32, u8)> {
     let mut all = vec![];
     for group in groups(bytes) {
         for list in lists(bytes, group) {
-            all.extend(lanes(bytes, group, list).into_iter().map(|lane| (group, list, lane)));
+            all.extend(in_list(bytes, group, list).map(|lane| (group, list, lane)));
         }
     }
     all

@@ -32,7 +32,7 @@ fn random_lists() {
     }
     assert!(checked > 1_000_000, "demand 3 was checked at {checked} points");
     assert!(compared > 500_000, "two lanes were compared at {compared} points");
-    assert!(trains > 100_000, "two trains were compared at {trains} points");
+    assert!(trains > 20_000, "two trains were compared at {trains} points");
     assert!(blocked > 100, "{blocked} tables had an eligible group that is blocked");
 }
 

@@ -148,9 +148,7 @@ fn each_clause_from_both_sides() {
     assert_eq!(setting(1_500, 256, 24, 4_096), [Group]);
     assert_eq!(setting(1_500, 256, 22, 4_096), [Group]);
     // The same c and groups in an idle lane's word, where they mean nothing.
-    let idle = |group: u64, c: u64| {
-        filed(&[(86, 4), (84, layout::setting_of(1_500, 256, group, c, false))])
-    };
+    let idle = |group: u64, c: u64| filed(&[(86, 4), (84, layout::setting_of(1_500, 256, group, c, false))]);
     assert_eq!((idle(23, 4_097), idle(24, 4_096), idle(0, 0)), (vec![], vec![], vec![]));
     // 64 and 65 records; lengths 1, longest, longest + 1 and 65,536.
     assert_eq!(broken(&[(86, 3 + 64 * 64)]), []);

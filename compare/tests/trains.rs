@@ -160,7 +160,11 @@ fn as_far_apart_as_two_trains_come() {
         })
         .collect();
     assert_eq!(sent, [(0, 64), (0, 63), (1, 1), (0, 64)]);
-    assert_eq!((law.closest, trains::bound(64)), (1_000, 190), "191 bytes against 1: the bound is reached");
+    assert_eq!(
+        (law.closest().of(1_000), trains::bound(64)),
+        (1_000, 190),
+        "191 bytes against 1: the bound is reached"
+    );
 }
 
 #[test]

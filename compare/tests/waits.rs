@@ -66,5 +66,5 @@ fn lists_that_make_a_record_wait() {
     let result = driver::compare_waits(&mut StandIn::new(Slip::None), 1, 0, |done| done < 40, &mut tally);
     assert!(result.is_ok(), "{result:?}");
     assert_eq!(tally.lists, 40);
-    assert!(tally.closest_wait.part > 600, "{}", tally.closest_wait);
+    assert!(tally.closest_wait.part.of(1_000) > 600, "{}", tally.closest_wait);
 }

@@ -7,11 +7,13 @@
 
 use super::{answer, draw, Converter, Refused};
 use crate::calls::Taken;
+use crate::driver::cases;
 use crate::driver::lent::Lent;
 use crate::driver::report::Found;
 use crate::layout::{self, old, old::THEN, TABLE_SIZE};
 use crate::numbers::{refusal, DEPTH, LANES};
 use crate::rng::Rng;
+use crate::run::book::kept;
 use std::fmt;
 
 /// Old tables of a case.
@@ -31,6 +33,10 @@ pub struct Tally {
     pub takes: u64,
     pub tens: u64,
 }
+
+kept!(Tally {
+    sum: cases, tables, converted, short, not_good, takes, tens;
+});
 
 impl fmt::Display for Tally {
     fn fmt(&self, f: &mut fmt::Formatter) -> fmt::Result {
@@ -165,20 +171,18 @@ fn told(taken: Result<Taken, u8>) -> String {
     taken.map_or_else(|number| format!("no {number}"), |taken| format!("{taken:?}"))
 }
 
+/// The case of this number, with other random numbers than those of the other comparisons.
+pub fn one<C: Converter>(converter: &mut C, seed: u64, number: u64, tally: &mut Tally) -> Result<(), Found> {
+    case(converter, &mut Rng::of_case(seed ^ 0x0016_0064_0000_0000, number), tally)
+}
+
 /// Cases from `first` on while `more` says so, with the case that shows a difference.
 pub fn compare<C: Converter>(
     converter: &mut C,
     seed: u64,
     first: u64,
-    mut more: impl FnMut(u64) -> bool,
+    more: impl FnMut(u64) -> bool,
     tally: &mut Tally,
 ) -> Result<(), (u64, Found)> {
-    let mut number = first;
-    while more(number - first) {
-        // Other numbers than those of the other comparisons.
-        let mut rng = Rng::of_case(seed ^ 0x0016_0064_0000_0000, number);
-        case(converter, &mut rng, tally).map_err(|found| (number, found))?;
-        number += 1;
-    }
-    Ok(())
+    cases(first, more, |number| one(converter, seed, number, tally))
 }

@@ -19,17 +19,15 @@ pub fn case<U: Unit>(unit: &mut U, rng: &mut Rng, tally: &mut Tally) -> Result<(
     let setup = setups::setup(rng);
     let bytes = setups::bytes(rng, &setup);
     let mut table = Lent::new(rng, unit.table_size());
-    let mut shown_by = vec![format!("make {}", hex(&bytes))];
     let made = unit.make(&bytes, table.bytes());
     if made != Ok(setup.lanes.len() as u64) {
         return Err(Found::new(
             format!("a valid setup of {} lanes gave {made:?}", setup.lanes.len()),
-            shown_by,
+            vec![format!("make {}", hex(&bytes))],
         ));
     }
     let fresh = State::fresh(&setup);
     let lifts = rng.once_in(2).then(|| Lifts::drawn(rng));
-    shown_by.extend(lifts.map(|lifts| lifts.to_string()));
     let mut list = List::new(unit, table, fresh.clone(), lifts);
     let result = list.run(rng, tally);
     tally.list(&list.laws);
@@ -44,6 +42,8 @@ pub fn case<U: Unit>(unit: &mut U, rng: &mut Rng, tally: &mut Tally) -> Result<(
             }
             None => what,
         };
+        let mut shown_by = vec![format!("make {}", hex(&bytes))];
+        shown_by.extend(lifts.map(|lifts| lifts.to_string()));
         shown_by.extend(calls.iter().map(|(call, answer)| format!("{call} -> {answer}")));
         Found::new(what, shown_by)
     })
@@ -127,24 +127,13 @@ impl<U: Unit> List<'_, U> {
             self.contents()?;
             self.state.lift(up);
             self.unit.lift(self.table.bytes(), up as u64);
+            self.table.wrote();
         }
         Ok(())
     }
 
-    /// What the table holds, where that can be read.
     fn contents(&self) -> Result<(), String> {
-        if !self.unit.documented_layout() {
-            return Ok(());
-        }
-        match layout::read(&self.table.copy()).good() {
-            Some(read)
-                if read.alike(&self.state) && read.back == i128::from(slots::stored(self.state.back)) =>
-            {
-                Ok(())
-            }
-            Some(_) => Err("the table does not hold what the rules hold".to_string()),
-            None => Err("the table is not good".to_string()),
-        }
+        reads_as(self.unit, &self.table, &self.state)
     }
 
     /// What the table shows to a host that asks.
@@ -153,7 +142,7 @@ impl<U: Unit> List<'_, U> {
     }
 
     fn asked(&mut self, asks: &[Ask], tally: &mut Tally) -> Result<(), String> {
-        let before = self.table.copy();
+        self.table.keep();
         for ask in asks {
             let Some(answer) = self.unit.show(self.table.bytes(), *ask) else { return Ok(()) };
             let expected = shown::shown(&self.state, *ask);
@@ -163,7 +152,7 @@ impl<U: Unit> List<'_, U> {
             tally.asked += 1;
         }
         self.table.guarded()?;
-        if self.table.same(&before) {
+        if self.table.as_kept() {
             Ok(())
         } else {
             Err("a call that shows the table changed it".to_string())
@@ -201,12 +190,16 @@ impl<U: Unit> List<'_, U> {
         tally.taken_back += u64::from(self.state.back > back && call.put().is_some());
         self.calls.push((call.clone(), expected));
         let stays = call.only_reads() || expected.refused();
-        let before = stays.then(|| self.table.copy());
+        if stays {
+            self.table.keep();
+        }
         let answer = self.unit.answer(self.table.bytes(), &call);
         if answer != expected {
             return Err(format!("the unit's answer to the last call: {answer}"));
         }
-        if before.is_some_and(|before| !self.table.same(&before)) {
+        if !stays {
+            self.table.wrote();
+        } else if !self.table.as_kept() {
             return Err("the last call changed the table".to_string());
         }
         self.table.guarded()?;
@@ -217,7 +210,7 @@ impl<U: Unit> List<'_, U> {
 
     /// A table cut short is not good: 10, before every other refusal, and nothing changes.
     fn on_a_short_table(&mut self, rng: &mut Rng, call: Call, tally: &mut Tally) -> Result<(), String> {
-        let before = self.table.copy();
+        self.table.keep();
         let size = self.unit.table_size();
         let length = if rng.once_in(2) { size - 1 } else { rng.index(size) };
         let answer = self.unit.answer(self.table.short(length), &call);
@@ -229,7 +222,7 @@ impl<U: Unit> List<'_, U> {
         if answer.is_some_and(|answer| answer != Err(refusal::NOT_GOOD)) {
             return Err(format!("{ask:?} on the table's first {length} bytes gave: {answer:?}"));
         }
-        if !self.table.same(&before) {
+        if !self.table.as_kept() {
             return Err(format!("{call} on a table cut short changed it"));
         }
         tally.call(Answer::No(refusal::NOT_GOOD));
@@ -255,6 +248,18 @@ impl<U: Unit> List<'_, U> {
         }
         self.call(Call::Restart, tally)?;
         self.laws.end(&self.state)
+    }
+}
+
+/// What the table holds is what the rules hold, where that can be read.
+pub(super) fn reads_as<U: Unit>(unit: &U, table: &Lent, state: &State) -> Result<(), String> {
+    if !unit.documented_layout() {
+        return Ok(());
+    }
+    match layout::read(table.table()).good() {
+        Some(read) if read.alike(state) && read.back == i128::from(slots::stored(state.back)) => Ok(()),
+        Some(_) => Err("the table does not hold what the rules hold".to_string()),
+        None => Err("the table is not good".to_string()),
     }
 }
 

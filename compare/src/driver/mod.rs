@@ -8,15 +8,20 @@
 //! - [`shrink`] — a list that shows a difference made shorter
 //! - [`clock`] — one lane driven to where the clock is taken back, through the calls alone
 //! - [`waits`] — lists in which one lane runs ahead and the others flood, so that a record waits long
-//! - [`report`] — what was compared, and the reproducer of a difference
+//! - [`tight`] — lists that drive one lane to demand 3's bound
+//! - [`offers`] — settings pages offered to a table one after another
+//! - [`tally`] — what was compared; [`report`] — the same told, and the reproducer of a difference
 
 pub mod clock;
 pub mod inputs;
 pub mod lent;
 pub mod lists;
+pub mod offers;
 pub mod report;
 pub mod shrink;
 pub mod tables;
+pub mod tally;
+pub mod tight;
 pub mod waits;
 
 use crate::rng::Rng;
@@ -69,12 +74,24 @@ pub fn compare_kinds<U: Unit>(
         if spent {
             break;
         }
-        let (kind, mut rng) = drawn(unit, seed, case);
-        if kinds(kind) {
-            run(unit, kind, &mut rng, tally).map_err(|found| Difference { seed, case, found })?;
-        }
+        one_of(unit, seed, case, &kinds, tally).map_err(|found| Difference { seed, case, found })?;
     }
     Ok(())
+}
+
+/// The case of this number, if it is one of these kinds; whether it is.
+pub fn one_of<U: Unit>(
+    unit: &mut U,
+    seed: u64,
+    case: u64,
+    kinds: impl Fn(Kind) -> bool,
+    tally: &mut Tally,
+) -> Result<bool, Found> {
+    let (kind, mut rng) = drawn(unit, seed, case);
+    if !kinds(kind) {
+        return Ok(false);
+    }
+    run(unit, kind, &mut rng, tally).map(|()| true)
 }
 
 /// One case.
@@ -82,17 +99,26 @@ pub fn one<U: Unit>(unit: &mut U, seed: u64, case: u64, tally: &mut Tally) -> Re
     compare(unit, seed, case, Budget::Cases(1), tally)
 }
 
-/// Lists that make a record wait, likewise; the case that differs is told.
+/// Cases from `first` on while `more` says so, with the case that shows a difference.
+pub fn cases(
+    first: u64,
+    mut more: impl FnMut(u64) -> bool,
+    mut one: impl FnMut(u64) -> Result<(), Found>,
+) -> Result<(), (u64, Found)> {
+    (first..)
+        .take_while(|case| more(case - first))
+        .try_for_each(|case| one(case).map_err(|found| (case, found)))
+}
+
+/// Lists that make a record wait; the case that differs is told.
 pub fn compare_waits<U: Unit>(
     unit: &mut U,
     seed: u64,
     first: u64,
-    mut more: impl FnMut(u64) -> bool,
+    more: impl FnMut(u64) -> bool,
     tally: &mut Tally,
 ) -> Result<(), (u64, Found)> {
-    (first..).take_while(|case| more(case - first)).try_for_each(|case| {
-        waits::case(unit, &mut Rng::of_case(seed, case), tally).map_err(|found| (case, found))
-    })
+    cases(first, more, |case| waits::case(unit, &mut Rng::of_case(seed, case), tally))
 }
 
 /// What a case is, and the numbers that it goes on with. A unit whose layout is not docs/TABLE.md's gets a list in place of tables.

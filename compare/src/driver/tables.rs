@@ -33,12 +33,12 @@ pub fn case<U: Unit>(unit: &mut U, rng: &mut Rng, tally: &mut Tally) -> Result<(
         let reading = layout::read(&bytes);
         tally.table(&reading);
         let last = Answer::Restarted;
-        Table { unit, lent: &mut lent, bytes: &bytes, reading: &reading, tally, last }.compare(rng).map_err(
-            |what| {
-                let broken = format!("clauses of a good table that it breaks: {:?}", reading.broken);
-                Found::new(what, [how, vec![broken]].concat())
-            },
-        )?;
+        let lent = &mut lent;
+        let mut table = Table { unit, lent, bytes: &bytes, reading: &reading, tally, last, laid: false };
+        table.compare(rng).map_err(|what| {
+            let broken = format!("clauses of a good table that it breaks: {:?}", reading.broken);
+            Found::new(what, [how, vec![broken]].concat())
+        })?;
     }
     Ok(())
 }
@@ -84,13 +84,15 @@ struct Table<'a, U: Unit> {
     tally: &'a mut Tally,
     /// The last answer.
     last: Answer,
+    /// Whether the lent bytes are the table as it was drawn.
+    laid: bool,
 }
 
 impl<U: Unit> Table<'_, U> {
     fn compare(&mut self, rng: &mut Rng) -> Result<(), String> {
         for call in self.each_call(rng) {
             self.lay();
-            self.call(call, self.reading)?;
+            self.call(&call, None)?;
         }
         if rng.once_in(4) {
             self.cut_short(rng)?;
@@ -104,7 +106,11 @@ impl<U: Unit> Table<'_, U> {
     }
 
     fn lay(&mut self) {
-        self.lent.bytes()[..layout::TABLE_SIZE].copy_from_slice(self.bytes);
+        if !self.laid {
+            self.lent.bytes()[..layout::TABLE_SIZE].copy_from_slice(self.bytes);
+            self.lent.wrote();
+            self.laid = true;
+        }
     }
 
     /// Every public call at least once.
@@ -117,11 +123,16 @@ impl<U: Unit> Table<'_, U> {
         let length = rng.pick(&[1, 64, longest, longest, longest + 1, 0]);
         let train = rng.pick(&[0, 0, 1, 2, 3, 4, 5, 6, 7, 8, any]);
         let mark = rng.word() as u32;
-        let state = self.reading.state.clone();
-        let state = state.unwrap_or_else(|| State::fresh(&setups::setup(rng)));
+        let offer = |rng: &mut Rng| match &self.reading.state {
+            Some(state) => offers::offer(rng, state),
+            None => {
+                let setup = setups::setup(rng);
+                offers::offer(rng, &State::fresh(&setup))
+            }
+        };
         vec![
-            offers::offer(rng, &state),
-            offers::offer(rng, &state),
+            offer(rng),
+            offer(rng),
             Call::Put { lane, mark: rng.word() as u32, length },
             Call::Put { lane: own, mark: rng.word() as u32, length: longest.max(1) },
             Call::PutTrain { lane, train, mark, length },
@@ -141,52 +152,69 @@ impl<U: Unit> Table<'_, U> {
         let lane = if lanes.is_empty() || rng.once_in(4) { rng.byte() } else { rng.pick(&lanes) };
         let before = rng.pick(&[0, 0, 1, 64, u64::MAX]);
         let record = Ask::TrainRecord(lane, rng.below(9) as u8, before);
-        vec![Ask::Clock, Ask::Edition, Ask::Lane(lane), Ask::Backlog(lane), Ask::Record(lane, before), record]
+        let wait = Ask::Wait(lane, before);
+        vec![
+            Ask::Clock,
+            Ask::Edition,
+            Ask::Lane(lane),
+            Ask::Backlog(lane),
+            Ask::Record(lane, before),
+            record,
+            wait,
+        ]
     }
 
-    /// One call on the table that is lent, which reads as `reading`: the answer, and the bytes after it.
-    fn call(&mut self, call: Call, reading: &Reading) -> Result<Reading, String> {
-        let mut state = reading.clone().good();
-        let back = state.as_ref().map(|state| state.back);
-        let expected = state.as_mut().map_or(Answer::No(refusal::NOT_GOOD), |state| state.answer(&call));
-        let taken_back = call.put().is_some() && state.as_ref().map(|state| state.back) != back;
+    /// One call on the table that is lent, which reads as `reading`, or as the one that was drawn: the answer, and the bytes after it. If they may be others
+    /// then, they are read.
+    fn call(&mut self, call: &Call, reading: Option<&Reading>) -> Result<Option<Reading>, String> {
+        let good = reading.unwrap_or(self.reading).as_good();
+        // Contents of their own are worked on where the call may change them.
+        let mut after = good.filter(|_| !call.only_reads()).cloned();
+        let expected = match (&mut after, good) {
+            (Some(state), _) => state.answer(call),
+            (None, Some(state)) => state.told(call).expect("a call that only reads"),
+            (None, None) => Answer::No(refusal::NOT_GOOD),
+        };
+        let back = |state: Option<&State>| state.map(|state| state.back);
+        let taken_back = call.put().is_some() && back(after.as_ref()) != back(good);
         self.tally.tables_taken_back += u64::from(taken_back);
-        let before = self.lent.copy();
-        let answer = self.unit.answer(self.lent.bytes(), &call);
+        let stays = call.only_reads() || expected.refused();
+        if stays && !self.laid {
+            self.lent.keep();
+        }
+        let answer = self.unit.answer(self.lent.bytes(), call);
         self.tally.table_call();
         self.last = answer;
         if answer != expected {
             return Err(format!("{call}: the unit gave {answer}, the rules {expected}"));
         }
         self.lent.guarded()?;
-        if call.only_reads() || expected.refused() {
-            let same = self.lent.same(&before);
-            return if same {
-                Ok(reading.clone())
-            } else {
-                Err(format!("{call} changed the table: {answer}"))
-            };
+        if stays {
+            let same = if self.laid { self.lent.same(self.bytes) } else { self.lent.as_kept() };
+            return if same { Ok(None) } else { Err(format!("{call} changed the table: {answer}")) };
         }
-        let after = layout::read(&self.lent.copy());
-        if let Some(clause) = after.broken.iter().find(|clause| !clause.may_be_lost()) {
+        self.laid = false;
+        self.lent.wrote();
+        let read = layout::read(self.lent.table());
+        if let Some(clause) = read.broken.iter().find(|clause| !clause.may_be_lost()) {
             return Err(format!("{call} left a table that breaks {clause:?}"));
         }
-        match (&after.state, &state) {
-            (Some(after), Some(state))
-                if after.alike(state) && after.back == i128::from(slots::stored(state.back)) => {}
-            (after, state) => return Err(format!("{call} left {after:?}, the rules {state:?}")),
+        match (&read.state, &after) {
+            (Some(read), Some(state))
+                if read.alike(state) && read.back == i128::from(slots::stored(state.back)) => {}
+            (read, state) => return Err(format!("{call} left {read:?}, the rules {state:?}")),
         }
-        Ok(after)
+        Ok(Some(read))
     }
 
     /// What the table shows to a host that asks: 10 and nothing else, if it is not good.
     fn shown(&mut self, rng: &mut Rng) -> Result<(), String> {
         self.lay();
-        let state = self.reading.clone().good();
-        let asks = state.as_ref().map_or_else(|| self.each_ask(rng), shown::all);
+        let state = self.reading.as_good();
+        let asks = state.map_or_else(|| self.each_ask(rng), shown::all);
         for ask in asks {
             let Some(answer) = self.unit.show(self.lent.bytes(), ask) else { return Ok(()) };
-            let expected = state.as_ref().map_or(Err(refusal::NOT_GOOD), |state| shown::shown(state, ask));
+            let expected = state.map_or(Err(refusal::NOT_GOOD), |state| shown::shown(state, ask));
             if answer != expected {
                 return Err(format!("{ask:?} is shown as {answer:?}, and is {expected:?}"));
             }
@@ -202,16 +230,20 @@ impl<U: Unit> Table<'_, U> {
     /// Calls one after another, as long as the table is good and at most once more.
     fn walk(&mut self, rng: &mut Rng) -> Result<(), String> {
         let mut caller = Caller::offering(rng);
-        let mut reading = self.reading.clone();
-        let mut endless = reading.state.as_ref().map(Endless::new);
+        let mut now: Option<Reading> = None;
+        let mut endless = self.reading.state.as_ref().map(Endless::new);
         for _ in 0..rng.below(WALK + 1) {
+            let reading = now.as_ref().unwrap_or(self.reading);
             let Some(state) = &reading.state else { return Ok(()) };
             let call = caller.next(rng, state);
             let good = reading.broken.is_empty();
-            reading = self.call(call.clone(), &reading)?;
+            if let Some(read) = self.call(&call, now.as_ref())? {
+                now = Some(read);
+            }
             if !good {
                 return Ok(());
             }
+            let reading = now.as_ref().unwrap_or(self.reading);
             if let (Some(endless), Some(after)) = (&mut endless, &reading.state) {
                 endless.step(&call, self.last, after)?;
             }

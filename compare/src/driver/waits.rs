@@ -127,7 +127,7 @@ fn waits<U: Unit>(list: &mut List<U>, rng: &mut Rng, tally: &mut Tally) -> Resul
 }
 
 /// Each of these lanes holds a record more, up to two.
-fn fill<U: Unit>(
+pub(super) fn fill<U: Unit>(
     list: &mut List<U>,
     lanes: &[LanePlan],
     full: bool,

@@ -14,7 +14,7 @@ pub fn blank(rng: &mut Rng, form: &Form) -> Vec<u8> {
     match rng.below(4) {
         0 => vec![0; form.size],
         1 => vec![0xFF; form.size],
-        _ => rng.bytes(form.size),
+        _ => rng.noise(form.size),
     }
 }
 

@@ -6,6 +6,7 @@
 
 use super::{draw, held, makes, Halt, SEES_BELOW};
 use crate::calls::{Answer, Call};
+use crate::driver::cases;
 use crate::driver::lent::Lent;
 use crate::driver::report::{hex, Found};
 use crate::gen::{caller::Caller, setups};
@@ -13,6 +14,7 @@ use crate::layout::{self, TABLE_SIZE};
 use crate::numbers::refusal;
 use crate::rng::Rng;
 use crate::rules::State;
+use crate::run::book::kept;
 use std::fmt;
 
 const SETUPS: u64 = 12;
@@ -33,6 +35,11 @@ pub struct Tally {
     /// The most bytes that a waiting lane saw.
     pub seen: [u64; 4],
 }
+
+kept!(Tally {
+    sum: cases, setups, made, ninety, tables, own, calls;
+    most: seen;
+});
 
 impl fmt::Display for Tally {
     fn fmt(&self, f: &mut fmt::Formatter) -> fmt::Result {
@@ -148,9 +155,14 @@ fn list<H: Halt>(halt: &mut H, rng: &mut Rng, tally: &mut Tally) -> Result<(), F
     let setup = draw::halt(rng);
     let mut lent = Lent::new(rng, TABLE_SIZE);
     let bytes = setups::bytes(rng, &setup);
-    let mut how = vec![format!("make {}", hex(&bytes))];
+    let mut calls = vec![];
+    let found = |what: String, calls: &[(Call, Answer)]| {
+        let made = [format!("make {}", hex(&bytes))];
+        let calls = calls.iter().map(|(call, answer)| format!("{call} -> {answer}"));
+        Err(Found::new(what, made.into_iter().chain(calls).collect()))
+    };
     if let Err(refused) = halt.make(&bytes, lent.bytes()) {
-        return Err(Found::new(format!("the halt's setup gave {refused:?}"), how));
+        return found(format!("the halt's setup gave {refused:?}"), &calls);
     }
     let mut state = State::fresh(&setup);
     let mut caller = Caller::new(rng);
@@ -160,20 +172,20 @@ fn list<H: Halt>(halt: &mut H, rng: &mut Rng, tally: &mut Tally) -> Result<(), F
         let expected = state.answer(&call);
         caller.heard(expected);
         let given = halt.answer(lent.bytes(), &call);
-        how.push(format!("{call} -> {expected}"));
+        calls.push((call, expected));
         tally.calls += 1;
         if given != expected {
-            return Err(Found::new(format!("the unit gave {given}"), how));
+            return found(format!("the unit gave {given}"), &calls);
         }
         if let Err(what) = sees(&state, expected, &mut seen, tally) {
-            return Err(Found::new(what, how));
+            return found(what, &calls);
         }
     }
     let wrong = match held(&lent.copy()) {
         Some(after) if after.alike(&state) => lent.guarded().err(),
         after => Some(format!("the table holds {after:?}, and should hold {state:?}")),
     };
-    wrong.map_or(Ok(()), |what| Err(Found::new(what, how)))
+    wrong.map_or(Ok(()), |what| found(what, &calls))
 }
 
 /// A put of the halt's is of train 0.
@@ -203,20 +215,18 @@ fn sees(state: &State, answer: Answer, seen: &mut [u64; 4], tally: &mut Tally) -
     Ok(())
 }
 
+/// The case of this number, with other random numbers than those of the other comparisons.
+pub fn one<H: Halt>(halt: &mut H, seed: u64, number: u64, tally: &mut Tally) -> Result<(), Found> {
+    case(halt, &mut Rng::of_case(seed ^ 0x0004_0256_0000_0000, number), tally)
+}
+
 /// Cases from `first` on while `more` says so, with the case that shows a difference.
 pub fn compare<H: Halt>(
     halt: &mut H,
     seed: u64,
     first: u64,
-    mut more: impl FnMut(u64) -> bool,
+    more: impl FnMut(u64) -> bool,
     tally: &mut Tally,
 ) -> Result<(), (u64, Found)> {
-    let mut number = first;
-    while more(number - first) {
-        // Other numbers than those of the other comparisons.
-        let mut rng = Rng::of_case(seed ^ 0x0004_0256_0000_0000, number);
-        case(halt, &mut rng, tally).map_err(|found| (number, found))?;
-        number += 1;
-    }
-    Ok(())
+    cases(first, more, |number| one(halt, seed, number, tally))
 }

@@ -3,9 +3,11 @@
 use super::bytes::{read, Reference, SIZE};
 use super::rules::{Journal, Record, JOINED, LINES};
 use super::{draw, Desk, Refused, Shown};
+use crate::driver::cases;
 use crate::driver::lent::Lent;
 use crate::driver::report::{hex, Found};
 use crate::rng::Rng;
+use crate::run::book::kept;
 use std::collections::BTreeMap;
 use std::fmt;
 
@@ -14,6 +16,8 @@ use std::fmt;
 pub struct Tally {
     pub cases: u64,
     pub calls: u64,
+    /// Fields given to be entered, and how many were.
+    pub fields: u64,
     pub records: u64,
     pub cleared: u64,
     /// By number.
@@ -25,10 +29,15 @@ pub struct Tally {
     pub orders: u64,
 }
 
+kept!(Tally {
+    sum: cases, calls, records, fields, cleared, boards, boards_good, orders;
+    by_number: refused;
+});
+
 impl fmt::Display for Tally {
     fn fmt(&self, f: &mut fmt::Formatter) -> fmt::Result {
         write!(f, "the board: {} cases, {} calls compared: ", self.cases, self.calls)?;
-        write!(f, "{} records entered, {} trains cleared", self.records, self.cleared)?;
+        write!(f, "{} records entered of {}, {} trains cleared", self.records, self.fields, self.cleared)?;
         let refused: Vec<String> = self.refused.iter().map(|(number, n)| format!("{number}: {n}")).collect();
         write!(f, "\n  calls refused by {}", refused.join(", "))?;
         write!(f, "\n  boards that no call made: {}, {} of them good; ", self.boards, self.boards_good)?;
@@ -73,26 +82,28 @@ struct Both {
     lent: Lent,
     /// The whole lent part, as it must be.
     right: Vec<u8>,
-    said: Vec<String>,
+    /// The board before the first call, and the calls.
+    first: Vec<u8>,
+    calls: Vec<Call>,
 }
 
 impl Both {
     fn new(rng: &mut Rng) -> Both {
         let mut lent = Lent::new(rng, SIZE);
         let right = lent.bytes().to_vec();
-        Both { lent, right, said: vec![] }
+        Both { lent, right, first: vec![], calls: vec![] }
     }
 
     /// One call on both sides: the same answer, the same bytes, and nothing written outside the board.
     fn call<D: Desk>(&mut self, desk: &mut D, call: &Call, tally: &mut Tally) -> Result<Answer, Found> {
-        let before = if self.said.is_empty() { hex(&self.right) } else { String::new() };
+        if self.calls.is_empty() {
+            self.first.clone_from(&self.right);
+        }
+        self.calls.push(call.clone());
         let given = ask(desk, self.lent.bytes(), call);
         let right = ask(&mut Reference, &mut self.right, call);
-        if self.said.is_empty() {
-            self.said.push(format!("board {before}"));
-        }
-        self.said.push(call.to_string());
         tally.calls += 1;
+        tally.fields += u64::from(matches!(call, Call::Record(_)));
         match (&right, call) {
             (Err(refused), _) => *tally.refused.entry(refused.number).or_default() += 1,
             (Ok(_), Call::Record(_)) => tally.records += 1,
@@ -115,7 +126,8 @@ impl Both {
     }
 
     fn found(&self, what: String) -> Found {
-        Found::new(what, self.said.clone())
+        let board = [format!("board {}", hex(&self.first))];
+        Found::new(what, board.into_iter().chain(self.calls.iter().map(Call::to_string)).collect())
     }
 }
 
@@ -228,6 +240,7 @@ fn short<D: Desk>(desk: &mut D, rng: &mut Rng, tally: &mut Tally) -> Result<(), 
         let given = ask(desk, lent.short(length), &call);
         let right = ask(&mut Reference, &mut before.clone(), &call);
         tally.calls += 1;
+        tally.fields += u64::from(matches!(call, Call::Record(_)));
         *tally.refused.entry(right.err().map_or(0, |refused| refused.number)).or_default() += 1;
         if given != right || lent.short(length) != before {
             let what = format!("the unit says {given:?}, the rules say {right:?}");
@@ -269,6 +282,7 @@ fn orders<D: Desk>(desk: &mut D, rng: &mut Rng, tally: &mut Tally) -> Result<(),
         fields.reverse();
     }
     tally.calls += 4;
+    tally.fields += 4;
     tally.orders += 1;
     if outcomes[0] != outcomes[1] {
         let said = vec![format!("board {}", hex(&board)), hex(&fields[0]), hex(&fields[1])];
@@ -287,22 +301,20 @@ fn orders<D: Desk>(desk: &mut D, rng: &mut Rng, tally: &mut Tally) -> Result<(),
     Ok(())
 }
 
+/// The case of this number, with other random numbers than those of the other comparisons.
+pub fn one<D: Desk>(desk: &mut D, seed: u64, number: u64, tally: &mut Tally) -> Result<(), Found> {
+    case(desk, &mut Rng::of_case(seed ^ 0x0030_0B0A_4D00_0000, number), tally)
+}
+
 /// Cases from `first` on while `more` says so, with the case that shows a difference.
 pub fn compare<D: Desk>(
     desk: &mut D,
     seed: u64,
     first: u64,
-    mut more: impl FnMut(u64) -> bool,
+    more: impl FnMut(u64) -> bool,
     tally: &mut Tally,
 ) -> Result<(), (u64, Found)> {
-    let mut number = first;
-    while more(number - first) {
-        // Other numbers than those of a table's case.
-        let mut rng = Rng::of_case(seed ^ 0x0030_0B0A_4D00_0000, number);
-        case(desk, &mut rng, tally).map_err(|found| (number, found))?;
-        number += 1;
-    }
-    Ok(())
+    cases(first, more, |number| one(desk, seed, number, tally))
 }
 
 /// A train that joined, for the boundary's test of short answer buffers.

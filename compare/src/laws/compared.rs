@@ -6,6 +6,8 @@
 //! it holds, at each point, against the least D since both lanes hold: one number a pair. A take moves D of those pairs alone that the served lane is in, so
 //! all stretches of a list of n calls on l lanes take n l steps.
 
+use super::ratio::Ratio;
+use super::units;
 use crate::calls::{Answer, Call};
 use crate::numbers::*;
 use crate::rules::State;
@@ -13,22 +15,31 @@ use crate::waits::tighter;
 
 struct Watch {
     number: u8,
-    units_per_byte: i128,
-    four_slots: i128,
+    units_per_byte: i64,
+    four_slots: i64,
     /// Puts accepted less records handed out.
     held: u64,
     /// W: c times the bytes charged for what was handed out.
-    work: i128,
+    work: i64,
+}
+
+/// Of lanes a and b.
+#[derive(Clone, Copy, Default)]
+struct Pair {
+    /// The least W of a - W of b at the points since both began to hold; of no meaning while one of them is idle.
+    least: i64,
+    /// The most that a stretch has used.
+    most: i64,
 }
 
 pub struct Compared {
     lanes: Vec<Watch>,
     framing: u8,
-    /// For each two lanes a and b, the least W of a - W of b at the points since both began to hold; of no meaning while one of them is idle.
-    least: Vec<Vec<i128>>,
-    margins: i128,
-    /// The greatest part of a pair's bound that a stretch has used, in thousandths.
-    pub closest: i128,
+    /// Row a, column b.
+    pairs: Vec<Pair>,
+    margins: i64,
+    /// The nearest to a pair's bound by the setups before.
+    before: Ratio,
     /// Points and pairs at which all stretches that end there were checked.
     pub checked: u64,
 }
@@ -39,19 +50,31 @@ impl Compared {
         assert!(margin <= crate::numbers::margin(fresh.framing), "the tighter figure gives the other");
         let watch = |lane: &crate::rules::Lane| Watch {
             number: lane.plan.number,
-            units_per_byte: lane.units_per_byte,
-            four_slots: 4 * lane.slot(),
+            units_per_byte: units(lane.units_per_byte),
+            four_slots: 4 * units(lane.slot()),
             held: 0,
             work: 0,
         };
         let lanes: Vec<Watch> = fresh.lanes.iter().map(watch).collect();
-        let least = vec![vec![0; lanes.len()]; lanes.len()];
-        Compared { lanes, framing: fresh.framing, least, margins: 2 * margin, closest: 0, checked: 0 }
+        let pairs = vec![Pair::default(); lanes.len() * lanes.len()];
+        let margins = 2 * units(margin);
+        Compared { lanes, framing: fresh.framing, pairs, margins, before: Ratio::default(), checked: 0 }
     }
 
     /// The stretches by the setup that came into force behind these, with the counts so far.
     pub fn after(fresh: &State, before: &Compared) -> Compared {
-        Compared { closest: before.closest, checked: before.checked, ..Compared::new(fresh) }
+        Compared { before: before.closest(), checked: before.checked, ..Compared::new(fresh) }
+    }
+
+    /// The nearest that a stretch came to a pair's bound.
+    pub fn closest(&self) -> Ratio {
+        let lanes = self.lanes.iter().flat_map(|a| self.lanes.iter().map(move |b| self.bound(a, b)));
+        let used = self.pairs.iter().zip(lanes).filter(|(pair, _)| pair.most > 0);
+        used.fold(self.before, |best, (pair, bound)| best.or(Ratio::new(pair.most, bound)))
+    }
+
+    fn bound(&self, a: &Watch, b: &Watch) -> i64 {
+        a.four_slots + b.four_slots + self.margins
     }
 
     pub fn step(&mut self, call: &Call, answer: Answer) -> Result<(), String> {
@@ -65,7 +88,7 @@ impl Compared {
                 Ok(())
             }
             (Call::Take, Answer::Taken(taken)) => {
-                let (at, bytes) = (self.at(taken.lane)?, charged(taken.length, self.framing));
+                let (at, bytes) = (self.at(taken.lane)?, units(charged(taken.length, self.framing)));
                 let lane = &mut self.lanes[at];
                 lane.held = lane.held.checked_sub(1).ok_or("a record was taken that no put gave")?;
                 lane.work += lane.units_per_byte * bytes;
@@ -77,40 +100,44 @@ impl Compared {
 
     fn at(&self, number: u8) -> Result<usize, String> {
         let at = self.lanes.iter().position(|watch| watch.number == number);
-        at.ok_or(format!("lane {number} is not in the setup"))
+        at.ok_or_else(|| format!("lane {number} is not in the setup"))
     }
 
     /// Stretches in which this lane holds records begin anew with each other lane.
     fn begins(&mut self, at: usize) {
-        for other in 0..self.lanes.len() {
+        let count = self.lanes.len();
+        for other in 0..count {
             let ahead = self.lanes[at].work - self.lanes[other].work;
-            self.least[at][other] = ahead;
-            self.least[other][at] = -ahead;
+            self.pairs[at * count + other].least = ahead;
+            self.pairs[other * count + at].least = -ahead;
         }
     }
 
     /// The lane was served: it is ahead of the others by more, and they of it by less.
     fn served(&mut self, at: usize) -> Result<(), String> {
-        if self.lanes[at].held == 0 {
+        let count = self.lanes.len();
+        let a = &self.lanes[at];
+        if a.held == 0 {
             return Ok(());
         }
-        for other in (0..self.lanes.len()).filter(|other| *other != at) {
-            let (a, b) = (&self.lanes[at], &self.lanes[other]);
-            if b.held == 0 {
+        for (other, b) in self.lanes.iter().enumerate() {
+            if b.held == 0 || other == at {
                 continue;
             }
             let ahead = a.work - b.work;
-            let bound = a.four_slots + b.four_slots + self.margins;
-            let used = ahead - self.least[at][other];
+            let bound = self.bound(a, b);
+            let pair = &mut self.pairs[at * count + other];
+            let used = ahead - pair.least;
             if used >= bound {
                 return Err(format!(
                     "lanes {} and {} are both busy: c O of the first less c O of the second is {used} and not below {bound}",
                     a.number, b.number
                 ));
             }
-            self.closest = self.closest.max(1_000 * used / bound);
+            pair.most = pair.most.max(used);
             self.checked += 1;
-            self.least[other][at] = self.least[other][at].min(-ahead);
+            let back = &mut self.pairs[other * count + at];
+            back.least = back.least.min(-ahead);
         }
         Ok(())
     }

@@ -6,7 +6,11 @@
 //! With X = 1,024 T - c O counted from the list's beginning, the claim is X(end) - X(begin) < bound. So it holds of
 //! all stretches exactly if it holds, at each point, against the least X since the lane last began to hold: one
 //! number a lane, and one pass.
+//!
+//! The sums are numbers of 64 bits; one that left them would stop the run.
 
+use super::ratio::Ratio;
+use super::units;
 use crate::calls::{Answer, Call};
 use crate::numbers::*;
 use crate::rules::State;
@@ -14,21 +18,24 @@ use crate::waits::tighter;
 
 struct Watch {
     number: u8,
-    units_per_byte: i128,
-    four_slots: i128,
+    units_per_byte: i64,
+    /// The tighter bound, and demand 3's own.
+    bound: i64,
+    plain: i64,
     /// "more puts to it were accepted than records of it handed out by take"
     held: u64,
-    x: i128,
+    x: i64,
     /// The least X at the points since the lane began to hold.
-    least: i128,
+    least: i64,
+    /// The most that a stretch has used.
+    most: i64,
 }
 
 pub struct Fairness {
     lanes: Vec<Watch>,
     framing: u8,
-    margin: i128,
-    /// The greatest part of a lane's bound that a stretch has used, in thousandths.
-    pub closest: i128,
+    /// The nearest to the two bounds by the setups before.
+    before: [Ratio; 2],
     /// Points and lanes at which all stretches that end there were checked.
     pub checked: u64,
 }
@@ -36,23 +43,32 @@ pub struct Fairness {
 impl Fairness {
     /// "c and the slot come from the setup."
     pub fn new(fresh: &State) -> Fairness {
-        let margin = tighter(fresh);
-        assert!(margin <= crate::numbers::margin(fresh.framing), "the tighter figure gives demand 3's");
+        let (tight, plain) = (units(tighter(fresh)), units(margin(fresh.framing)));
+        assert!(tight <= plain, "the tighter figure gives demand 3's");
         let watch = |lane: &crate::rules::Lane| Watch {
             number: lane.plan.number,
-            units_per_byte: lane.units_per_byte,
-            four_slots: 4 * lane.slot(),
+            units_per_byte: units(lane.units_per_byte),
+            bound: 4 * units(lane.slot()) + tight,
+            plain: 4 * units(lane.slot()) + plain,
             held: 0,
             x: 0,
             least: 0,
+            most: 0,
         };
         let lanes = fresh.lanes.iter().map(watch).collect();
-        Fairness { lanes, framing: fresh.framing, margin, closest: 0, checked: 0 }
+        Fairness { lanes, framing: fresh.framing, before: Default::default(), checked: 0 }
     }
 
     /// The stretches by the setup that came into force behind these, with the counts so far.
     pub fn after(fresh: &State, before: &Fairness) -> Fairness {
-        Fairness { closest: before.closest, checked: before.checked, ..Fairness::new(fresh) }
+        Fairness { before: before.closest(), checked: before.checked, ..Fairness::new(fresh) }
+    }
+
+    /// The nearest that a stretch came to the tighter bound, and to demand 3's own.
+    pub fn closest(&self) -> [Ratio; 2] {
+        self.lanes.iter().fold(self.before, |[tight, plain], watch| {
+            [tight.or(Ratio::new(watch.most, watch.bound)), plain.or(Ratio::new(watch.most, watch.plain))]
+        })
     }
 
     pub fn step(&mut self, call: &Call, answer: Answer) -> Result<(), String> {
@@ -66,9 +82,10 @@ impl Fairness {
                 }
             }
             (Call::Take, Answer::Taken(taken)) => {
-                let bytes = charged(taken.length, self.framing);
+                let bytes = units(charged(taken.length, self.framing));
+                let line = units(UNITS_PER_BYTE_SENT) * bytes;
                 for watch in &mut self.lanes {
-                    watch.x += UNITS_PER_BYTE_SENT * bytes;
+                    watch.x += line;
                     if watch.number == taken.lane {
                         watch.x -= watch.units_per_byte * bytes;
                         watch.held =
@@ -77,15 +94,14 @@ impl Fairness {
                     if watch.held == 0 {
                         continue;
                     }
-                    let bound = watch.four_slots + self.margin;
                     let used = watch.x - watch.least;
-                    if used >= bound {
+                    if used >= watch.bound {
                         return Err(format!(
-                            "demand 3 fails for lane {}: 1,024 T - c O is {used} and not below {bound}",
-                            watch.number
+                            "demand 3 fails for lane {}: 1,024 T - c O is {used} and not below {}",
+                            watch.number, watch.bound
                         ));
                     }
-                    self.closest = self.closest.max(1_000 * used / bound);
+                    watch.most = watch.most.max(used);
                     self.checked += 1;
                     watch.least = watch.least.min(watch.x);
                 }

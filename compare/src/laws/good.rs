@@ -5,6 +5,11 @@ use crate::numbers::*;
 use crate::rules::{Lane, State, Trains, Waiting};
 
 pub fn check(state: &State) -> Result<(), String> {
+    check_touched(state, None)
+}
+
+/// The same after a call that put a record to one lane, or took one from it: what waits in the others is as it was, and was looked at before.
+pub fn check_touched(state: &State, touched: Option<u8>) -> Result<(), String> {
     if !(0..CLOCK_END).contains(&state.clock) {
         return Err(format!("the clock {} is out of its range", state.clock));
     }
@@ -12,23 +17,21 @@ pub fn check(state: &State) -> Result<(), String> {
         return Err(format!("the framing number {} is out of its range", state.framing));
     }
     for lane in &state.lanes {
-        if let Some(broken) = broken(lane, state.clock, state.framing) {
+        let whole = touched.map_or(true, |touched| touched == lane.plan.number);
+        let waiting = if whole { waiting_broken(lane) } else { None };
+        if let Some(broken) = waiting.or_else(|| times_broken(lane, state.clock, state.framing)) {
             return Err(format!("lane {} of a table made by the calls: {broken}", lane.plan.number));
         }
     }
-    if state.holding().next().is_some() && state.chosen().is_none() {
+    if state.holding().next().is_some() && !state.any_eligible() {
         return Err("records are held and no lane is eligible".to_string());
     }
     Ok(())
 }
 
-/// The clause that does not hold of the lane.
-fn broken(lane: &Lane, clock: i128, framing: u8) -> Option<&'static str> {
-    let two_slots = 2 * lane.slot();
+/// The clause that does not hold of what waits in the lane.
+fn waiting_broken(lane: &Lane) -> Option<&'static str> {
     let lengths = 1..=u64::from(lane.plan.longest);
-    if !(16..=31).contains(&lane.group) {
-        return Some("the group lies in 16 to 31");
-    }
     if lane.waiting.len() > DEPTH {
         return Some("0 to 64 records");
     }
@@ -36,10 +39,17 @@ fn broken(lane: &Lane, clock: i128, framing: u8) -> Option<&'static str> {
     if !held.all(|record| lengths.contains(&record.length)) {
         return Some("each length 1 to the lane's longest");
     }
-    if let Waiting::Shared(trains) = &lane.waiting {
-        if let Some(broken) = of_trains(trains, lane.plan.longest.into()) {
-            return Some(broken);
-        }
+    match &lane.waiting {
+        Waiting::Shared(trains) => of_trains(trains, lane.plan.longest.into()),
+        Waiting::Own(_) => None,
+    }
+}
+
+/// The clause that does not hold of the lane's group, S, R and F.
+fn times_broken(lane: &Lane, clock: i128, framing: u8) -> Option<&'static str> {
+    let two_slots = 2 * lane.slot();
+    if !(16..=31).contains(&lane.group) {
+        return Some("the group lies in 16 to 31");
     }
     let Some((_, first)) = lane.waiting.first() else {
         return (lane.finish >= clock + two_slots).then_some("F below V + 2s for an idle lane");

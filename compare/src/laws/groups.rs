@@ -21,15 +21,17 @@ pub fn laws_of(state: &State, words: [u64; 4]) -> Result<(), String> {
     if first != chosen {
         return Err(format!("the first eligible-ready group is {first:?}, the chosen lane's {chosen:?}"));
     }
+    let mut finishes = [i128::MAX; 64];
+    for lane in state.holding() {
+        let finish = &mut finishes[lane.group as usize];
+        *finish = lane.rounded_finish().min(*finish);
+    }
     let mut last = i128::MIN;
     for group in (0..64).filter(|i| eligible_ready >> i & 1 == 1) {
-        let lanes = state.holding().filter(|lane| lane.group == group);
-        let finish =
-            lanes.map(|lane| lane.rounded_finish()).min().expect("a group of the word holds a record");
-        if finish < last {
+        if finishes[group] < last {
             return Err(format!("finishes fall along the eligible-ready word at group {group}"));
         }
-        last = finish;
+        last = finishes[group];
     }
     Ok(())
 }

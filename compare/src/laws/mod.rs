@@ -10,6 +10,7 @@
 //! - [`groups`] — the four words part the groups, name the chosen lane's group, and are in order of finish
 //! - [`good`] — the clock's range and every other clause of "A good table"
 //! - [`endless`] — every answer is that of a clock which is never taken back, and the clock is taken back in time
+//! - [`ratio`] — how near a list came to a bound
 
 pub mod compared;
 pub mod editions;
@@ -18,11 +19,22 @@ pub mod fairness;
 pub mod good;
 pub mod groups;
 pub mod order;
+pub mod ratio;
 pub mod trains;
 pub mod waits;
 
 use crate::calls::{Answer, Call};
+use crate::numbers::{CLOCK_EARLY, CLOCK_FAR};
 use crate::rules::State;
+use ratio::Ratio;
+
+/// After so many calls what is known to stay is looked at as well.
+const WHOLE: u64 = 64;
+
+/// A number of the rules as the laws add it up.
+fn units(number: i128) -> i64 {
+    i64::try_from(number).expect("a number of 64 bits")
+}
 
 /// All laws together.
 pub struct Laws {
@@ -35,6 +47,9 @@ pub struct Laws {
     pub endless: endless::Endless,
     /// The endless clock.
     clock: i128,
+    calls: u64,
+    /// The greatest V so far.
+    latest: i128,
 }
 
 impl Laws {
@@ -48,7 +63,14 @@ impl Laws {
             editions: editions::Editions::default(),
             endless: endless::Endless::new(fresh),
             clock: fresh.clock + fresh.back,
+            calls: 0,
+            latest: fresh.clock,
         }
+    }
+
+    /// How far V came past where it is taken back, of what it never comes to.
+    pub fn clock(&self) -> Ratio {
+        Ratio::new((self.latest - CLOCK_FAR).max(0), CLOCK_EARLY - CLOCK_FAR)
     }
 
     /// One more call of the list, its answer, and the table's contents after it.
@@ -59,17 +81,32 @@ impl Laws {
         // By lane number over the whole list: what was accepted before a change has all been handed out.
         self.order.step(call, answer)?;
         self.waits.step(call, answer, after)?;
-        self.endless.step(call, answer, after)?;
+        self.endless.answers(call, answer)?;
         let changed = self.editions.step(call, answer, after)?;
         if changed {
             self.change(after);
         }
+        self.calls += 1;
+        if self.calls % WHOLE == 0 {
+            self.endless.beside(after)?;
+            good::check(after)?;
+        }
         if call.only_reads() || answer.refused() {
             return Ok(());
         }
+        let touched = match (call.put(), answer) {
+            (Some((lane, ..)), _) => Some(lane),
+            (_, Answer::Taken(taken)) => Some(taken.lane),
+            _ => None,
+        };
+        match touched.filter(|_| !changed) {
+            Some(lane) => self.endless.beside_touched(after, lane)?,
+            None => self.endless.beside(after)?,
+        }
         groups::check(after)?;
-        good::check(after)?;
+        good::check_touched(after, touched.filter(|_| !changed))?;
         endless::early(after)?;
+        self.latest = self.latest.max(after.clock);
         let clock = after.clock + after.back;
         if answer != Answer::Restarted && !changed && clock < self.clock {
             return Err(format!("the endless clock fell from {} to {clock}", self.clock));
@@ -87,6 +124,8 @@ impl Laws {
 
     /// The list's end: what was accepted and not handed out is held.
     pub fn end(&mut self, after: &State) -> Result<(), String> {
+        self.endless.beside(after)?;
+        good::check(after)?;
         self.waits.end()?;
         self.order.end(after)
     }

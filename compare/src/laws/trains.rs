@@ -5,7 +5,8 @@
 //! With D = the other's bytes less the train's own, counted from the list's beginning, the claim is D(end) - D(begin) <= bound. So it holds of all stretches
 //! exactly if it holds, at each point, against the least D since the train last began to hold.
 
-use crate::calls::{Answer, Call};
+use super::ratio::Ratio;
+use crate::calls::{Answer, Call, Taken};
 use crate::numbers::TRAINS;
 use crate::rules::State;
 
@@ -13,23 +14,25 @@ const COUNT: usize = TRAINS as usize;
 
 struct Watch {
     number: u8,
-    longest: i128,
+    bound: i64,
     held: [u64; COUNT],
-    sent: [i128; COUNT],
+    sent: [i64; COUNT],
     /// For each train and each other one, the least D since the train began to hold; of no meaning while it holds nothing.
-    least: [[i128; COUNT]; COUNT],
+    least: [[i64; COUNT]; COUNT],
+    /// The most that a stretch has used.
+    most: i64,
 }
 
 pub struct Even {
     lanes: Vec<Watch>,
-    /// The greatest part of the bound that a stretch has used, in thousandths.
-    pub closest: i128,
+    /// The nearest to the bound by the setups before.
+    before: Ratio,
     /// Points and two trains at which all stretches that end there were checked.
     pub checked: u64,
 }
 
 /// Three times the longest less 2.
-pub fn bound(longest: i128) -> i128 {
+pub fn bound(longest: i64) -> i64 {
     3 * longest - 2
 }
 
@@ -37,18 +40,24 @@ impl Even {
     pub fn new(fresh: &State) -> Even {
         let watch = |lane: &crate::rules::Lane| Watch {
             number: lane.plan.number,
-            longest: lane.plan.longest.into(),
+            bound: bound(lane.plan.longest.into()),
             held: [0; COUNT],
             sent: [0; COUNT],
             least: [[0; COUNT]; COUNT],
+            most: 0,
         };
         let lanes = fresh.lanes.iter().filter(|lane| lane.plan.shared).map(watch).collect();
-        Even { lanes, closest: 0, checked: 0 }
+        Even { lanes, before: Ratio::default(), checked: 0 }
     }
 
     /// The stretches by the setup that came into force behind these, with the counts so far.
     pub fn after(fresh: &State, before: &Even) -> Even {
-        Even { closest: before.closest, checked: before.checked, ..Even::new(fresh) }
+        Even { before: before.closest(), checked: before.checked, ..Even::new(fresh) }
+    }
+
+    /// The nearest that a stretch came to its bound.
+    pub fn closest(&self) -> Ratio {
+        self.lanes.iter().fold(self.before, |best, watch| best.or(Ratio::new(watch.most, watch.bound)))
     }
 
     pub fn step(&mut self, call: &Call, answer: Answer) -> Result<(), String> {
@@ -68,33 +77,37 @@ impl Even {
                 let Some(watch) = self.lanes.iter_mut().find(|watch| watch.number == taken.lane) else {
                     return Ok(());
                 };
-                let train = usize::from(taken.train);
-                watch.held[train] =
-                    watch.held[train].checked_sub(1).ok_or("a train sent what no put gave")?;
-                watch.sent[train] += i128::from(taken.length);
-                self.served(taken.lane)
+                watch.served(taken).map(|checked| self.checked += checked)
             }
             _ => Ok(()),
         }
     }
+}
 
-    fn served(&mut self, lane: u8) -> Result<(), String> {
-        let watch = self.lanes.iter_mut().find(|watch| watch.number == lane).expect("a lane that was found");
-        let most = bound(watch.longest);
-        for train in (0..COUNT).filter(|train| watch.held[*train] > 0) {
-            for other in (0..COUNT).filter(|other| *other != train) {
-                let ahead = watch.sent[other] - watch.sent[train];
-                let used = ahead - watch.least[train][other];
-                if used > most {
-                    return Err(format!(
-                        "train {other} of lane {lane} was sent {used} bytes more than train {train}, which holds records: over {most}"
-                    ));
-                }
-                self.closest = self.closest.max(1_000 * used / most);
-                self.checked += 1;
-                watch.least[train][other] = watch.least[train][other].min(ahead);
+impl Watch {
+    /// A train was sent a record: it is ahead of each other one by more, and they of it by less; no other two are further apart than they were. Answers how
+    /// many trains that hold records it was compared with.
+    fn served(&mut self, taken: Taken) -> Result<u64, String> {
+        let served = usize::from(taken.train);
+        self.held[served] = self.held[served].checked_sub(1).ok_or("a train sent what no put gave")?;
+        self.sent[served] += taken.length as i64;
+        let mut checked = 0;
+        for train in (0..COUNT).filter(|train| *train != served) {
+            let ahead = self.sent[served] - self.sent[train];
+            self.least[served][train] = self.least[served][train].min(-ahead);
+            if self.held[train] == 0 {
+                continue;
             }
+            let used = ahead - self.least[train][served];
+            if used > self.bound {
+                return Err(format!(
+                    "train {served} of lane {} was sent {used} bytes more than train {train}, which holds records: over {}",
+                    self.number, self.bound
+                ));
+            }
+            self.most = self.most.max(used);
+            checked += 1;
         }
-        Ok(())
+        Ok(checked)
     }
 }

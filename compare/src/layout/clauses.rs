@@ -147,6 +147,11 @@ impl Reading {
         self.state.filter(|_| self.broken.is_empty())
     }
 
+    /// The same, to look at.
+    pub fn as_good(&self) -> Option<&State> {
+        self.state.as_ref().filter(|_| self.broken.is_empty())
+    }
+
     pub fn breaks(&mut self, clause: Clause, when: bool) {
         if when && !self.broken.contains(&clause) {
             self.broken.push(clause);

@@ -36,18 +36,19 @@ impl Form {
         (word % self.depth, word / self.depth)
     }
 
-    /// The places at which a holding lane has records.
-    fn taken(&self, bytes: &[u8], lane: u8, shared: bool) -> Vec<u64> {
+    /// The places at which a holding lane has records, as bits.
+    fn taken(&self, bytes: &[u8], lane: u8, shared: bool) -> u64 {
+        let places = |places: u64, place: u64| places | 1 << place;
         if shared {
             let of_train = |train: u8| {
                 let number = trains::number(bytes, lane, train);
                 let count = trains::count_of(number);
                 (0..count).map(move |place| trains::place_of(train, trains::first_of(number) + place))
             };
-            return (0..TRAINS).flat_map(of_train).collect();
+            return (0..TRAINS).flat_map(of_train).fold(0, places);
         }
         let (first, count) = self.ring(bytes, lane);
-        (0..count.min(self.depth)).map(|place| (first + place) % self.depth).collect()
+        (0..count.min(self.depth)).map(|place| (first + place) % self.depth).fold(0, places)
     }
 
     pub fn read(&self, bytes: &[u8]) -> Reading {
@@ -127,7 +128,7 @@ impl Form {
         let held = || waiting.queues().flat_map(|(_, queue)| queue);
         reading.breaks(Clause::Length, !held().all(fits));
         let taken = self.taken(bytes, number, shared);
-        let mut free = (0..self.depth).filter(|place| !taken.contains(place));
+        let mut free = (0..self.depth).filter(|place| taken >> place & 1 == 0);
         let asked = self.depth_word.is_some() && count > 0;
         reading
             .breaks(Clause::Places, asked && !free.all(|place| fits(&(self.record)(bytes, number, place))));

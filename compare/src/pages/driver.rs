@@ -2,6 +2,7 @@
 
 use super::reader::Reference;
 use super::{draw, Page, Reads};
+use crate::driver::cases;
 use crate::driver::report::{hex, Found};
 use crate::fields::Fault;
 use crate::rng::Rng;
@@ -53,20 +54,18 @@ pub fn case<R: Reads>(reader: &mut R, rng: &mut Rng, tally: &mut Tally) -> Resul
     Ok(())
 }
 
+/// The case of this number, with other random numbers than those of the other comparisons.
+pub fn one<R: Reads>(reader: &mut R, seed: u64, number: u64, tally: &mut Tally) -> Result<(), Found> {
+    case(reader, &mut Rng::of_case(seed ^ 0x0040_0041_007F_0000, number), tally)
+}
+
 /// Cases from `first` on while `more` says so, with the case that shows a difference.
 pub fn compare<R: Reads>(
     reader: &mut R,
     seed: u64,
     first: u64,
-    mut more: impl FnMut(u64) -> bool,
+    more: impl FnMut(u64) -> bool,
     tally: &mut Tally,
 ) -> Result<(), (u64, Found)> {
-    let mut number = first;
-    while more(number - first) {
-        // Other numbers than those of the other comparisons.
-        let mut rng = Rng::of_case(seed ^ 0x0040_0041_007F_0000, number);
-        case(reader, &mut rng, tally).map_err(|found| (number, found))?;
-        number += 1;
-    }
-    Ok(())
+    cases(first, more, |number| one(reader, seed, number, tally))
 }

@@ -2,11 +2,13 @@
 
 use super::words::{bytes, in_form, lay, plan, words, Reference, SIZE};
 use super::{Depot, Refused};
+use crate::driver::cases;
 use crate::driver::lent::Lent;
 use crate::driver::report::{hex, Found};
 use crate::gen::{damage, setups};
 use crate::numbers::WEIGHT_SUM;
 use crate::rng::Rng;
+use crate::run::book::kept;
 use std::collections::BTreeMap;
 use std::fmt;
 
@@ -26,6 +28,11 @@ pub struct Tally {
     pub areas: u64,
     pub areas_good: u64,
 }
+
+kept!(Tally {
+    sum: cases, read, written, in_form, shared, areas, areas_good;
+    by_number: refused;
+});
 
 impl fmt::Display for Tally {
     fn fmt(&self, f: &mut fmt::Formatter) -> fmt::Result {
@@ -79,18 +86,18 @@ fn setup<D: Depot>(depot: &mut D, rng: &mut Rng, tally: &mut Tally) -> Result<()
     let mut lent = Lent::new(rng, SIZE);
     let length = if rng.once_in(8) { rng.pick(&[0, 1, 8, 512, 519]) } else { lent.bytes().len() };
     let mut right = lent.short(length).to_vec();
-    let shown = vec![format!("setup {}", hex(&input)), format!("an area of {length} bytes")];
+    let shown = || vec![format!("setup {}", hex(&input)), format!("an area of {length} bytes")];
     let given = depot.read(&input, lent.short(length));
     let answer = Reference.read(&input, &mut right);
     tally.heard(&answer);
     if given != answer {
-        return Err(Found::new(format!("the unit says {given:?}, the rules say {answer:?}"), shown));
+        return Err(Found::new(format!("the unit says {given:?}, the rules say {answer:?}"), shown()));
     }
     if lent.short(length) != right {
         let theirs = hex(lent.short(length));
-        return Err(Found::new(format!("the area differs: {theirs}, right is {}", hex(&right)), shown));
+        return Err(Found::new(format!("the area differs: {theirs}, right is {}", hex(&right)), shown()));
     }
-    lent.guarded().map_err(|what| Found::new(what, shown.clone()))?;
+    lent.guarded().map_err(|what| Found::new(what, shown()))?;
     if answer.is_err() {
         return Ok(());
     }
@@ -101,7 +108,7 @@ fn setup<D: Depot>(depot: &mut D, rng: &mut Rng, tally: &mut Tally) -> Result<()
     tally.in_form += u64::from(formed);
     match back {
         Some(back) if formed && back != input => {
-            Err(Found::new(format!("it is written back as {}", hex(&back)), shown))
+            Err(Found::new(format!("it is written back as {}", hex(&back)), shown()))
         }
         _ => Ok(()),
     }
@@ -151,18 +158,18 @@ fn write<D: Depot>(
     };
     let mut lent = Lent::new(rng, length);
     let mut right = lent.short(length).to_vec();
-    let shown = vec![format!("area {}", hex(area)), format!("a buffer of {length} bytes")];
+    let shown = || vec![format!("area {}", hex(area)), format!("a buffer of {length} bytes")];
     let given = depot.write(area, lent.short(length));
     let answer = Reference.write(area, &mut right);
     tally.heard(&answer);
     if given != answer {
-        return Err(Found::new(format!("the unit says {given:?}, the rules say {answer:?}"), shown));
+        return Err(Found::new(format!("the unit says {given:?}, the rules say {answer:?}"), shown()));
     }
     if lent.short(length) != right {
         let theirs = hex(lent.short(length));
-        return Err(Found::new(format!("the buffer differs: {theirs}, right is {}", hex(&right)), shown));
+        return Err(Found::new(format!("the buffer differs: {theirs}, right is {}", hex(&right)), shown()));
     }
-    lent.guarded().map_err(|what| Found::new(what, shown))?;
+    lent.guarded().map_err(|what| Found::new(what, shown()))?;
     tally.written += u64::from(answer.is_ok());
     Ok(answer.ok().map(|size| right[..size as usize].to_vec()))
 }
@@ -200,20 +207,18 @@ pub fn edit(rng: &mut Rng, area: &mut [u8]) {
     }
 }
 
+/// The case of this number, with other random numbers than those of the other comparisons.
+pub fn one<D: Depot>(depot: &mut D, seed: u64, number: u64, tally: &mut Tally) -> Result<(), Found> {
+    case(depot, &mut Rng::of_case(seed ^ 0x0055_0056_5E70_0000, number), tally)
+}
+
 /// Cases from `first` on while `more` says so, with the case that shows a difference.
 pub fn compare<D: Depot>(
     depot: &mut D,
     seed: u64,
     first: u64,
-    mut more: impl FnMut(u64) -> bool,
+    more: impl FnMut(u64) -> bool,
     tally: &mut Tally,
 ) -> Result<(), (u64, Found)> {
-    let mut number = first;
-    while more(number - first) {
-        // Other numbers than those of a table's case.
-        let mut rng = Rng::of_case(seed ^ 0x0055_0056_5E70_0000, number);
-        case(depot, &mut rng, tally).map_err(|found| (number, found))?;
-        number += 1;
-    }
-    Ok(())
+    cases(first, more, |number| one(depot, seed, number, tally))
 }

@@ -26,7 +26,7 @@ impl State {
             lane.finish -= off;
             if lane.holds() {
                 lane.start -= off;
-                lane.rounded_start = lane.start - lane.start % lane.slot();
+                lane.rounded_start = lane.rounded(lane.start);
             } else {
                 lane.finish = lane.finish.max(0);
             }

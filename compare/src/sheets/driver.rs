@@ -3,11 +3,13 @@
 use super::draw;
 use super::text::{write as text_of, Reference};
 use super::{Office, Refused};
+use crate::driver::cases;
 use crate::driver::lent::Lent;
 use crate::driver::report::{hex, Found};
 use crate::gen::setups;
 use crate::plans::words::{lay, plan, words, SIZE};
 use crate::rng::Rng;
+use crate::run::book::kept;
 use std::collections::BTreeMap;
 use std::fmt;
 
@@ -20,6 +22,11 @@ pub struct Tally {
     /// By number.
     pub refused: BTreeMap<u64, u64>,
 }
+
+kept!(Tally {
+    sum: cases, read, written;
+    by_number: refused;
+});
 
 impl fmt::Display for Tally {
     fn fmt(&self, f: &mut fmt::Formatter) -> fmt::Result {
@@ -61,25 +68,25 @@ fn sheet<O: Office>(office: &mut O, rng: &mut Rng, tally: &mut Tally) -> Result<
     let mut lent = Lent::new(rng, SIZE);
     let length = if rng.once_in(8) { rng.pick(&[0, 1, 8, 512, 519]) } else { lent.bytes().len() };
     let mut right = lent.short(length).to_vec();
-    let said = vec![shown(&input), format!("an area of {length} bytes")];
+    let said = || vec![shown(&input), format!("an area of {length} bytes")];
     let given = office.read(&input, lent.short(length));
     let answer = Reference.read(&input, &mut right);
     tally.heard(&answer);
     if given != answer {
-        return Err(Found::new(format!("the unit says {given:?}, the rules say {answer:?}"), said));
+        return Err(Found::new(format!("the unit says {given:?}, the rules say {answer:?}"), said()));
     }
     if lent.short(length) != right {
         let theirs = hex(lent.short(length));
-        return Err(Found::new(format!("the area differs: {theirs}, right is {}", hex(&right)), said));
+        return Err(Found::new(format!("the area differs: {theirs}, right is {}", hex(&right)), said()));
     }
-    lent.guarded().map_err(|what| Found::new(what, said.clone()))?;
+    lent.guarded().map_err(|what| Found::new(what, said()))?;
     if answer.is_err() {
         return Ok(());
     }
     tally.read += 1;
     match write(office, rng, &right, tally)? {
         Some(back) if back != input => {
-            Err(Found::new(format!("it is written back as {}", shown(&back)), said))
+            Err(Found::new(format!("it is written back as {}", shown(&back)), said()))
         }
         _ => Ok(()),
     }
@@ -126,20 +133,25 @@ fn write<O: Office>(
     };
     let mut lent = Lent::new(rng, length);
     let mut right = lent.short(length).to_vec();
-    let said = vec![format!("area {}", hex(area)), format!("a buffer of {length} bytes")];
+    let said = || vec![format!("area {}", hex(area)), format!("a buffer of {length} bytes")];
     let given = office.write(area, lent.short(length));
     let answer = Reference.write(area, &mut right);
     tally.heard(&answer);
     if given != answer {
-        return Err(Found::new(format!("the unit says {given:?}, the rules say {answer:?}"), said));
+        return Err(Found::new(format!("the unit says {given:?}, the rules say {answer:?}"), said()));
     }
     if lent.short(length) != right {
         let theirs = hex(lent.short(length));
-        return Err(Found::new(format!("the buffer differs: {theirs}, right is {}", hex(&right)), said));
+        return Err(Found::new(format!("the buffer differs: {theirs}, right is {}", hex(&right)), said()));
     }
-    lent.guarded().map_err(|what| Found::new(what, said))?;
+    lent.guarded().map_err(|what| Found::new(what, said()))?;
     tally.written += u64::from(answer.is_ok());
     Ok(answer.ok().map(|size| right[..size as usize].to_vec()))
+}
+
+/// The case of this number, with other random numbers than those of the other comparisons.
+pub fn one<O: Office>(office: &mut O, seed: u64, number: u64, tally: &mut Tally) -> Result<(), Found> {
+    case(office, &mut Rng::of_case(seed ^ 0x0080_0081_0082_0000, number), tally)
 }
 
 /// Cases from `first` on while `more` says so, with the case that shows a difference.
@@ -147,15 +159,8 @@ pub fn compare<O: Office>(
     office: &mut O,
     seed: u64,
     first: u64,
-    mut more: impl FnMut(u64) -> bool,
+    more: impl FnMut(u64) -> bool,
     tally: &mut Tally,
 ) -> Result<(), (u64, Found)> {
-    let mut number = first;
-    while more(number - first) {
-        // Other numbers than those of the other comparisons.
-        let mut rng = Rng::of_case(seed ^ 0x0080_0081_0082_0000, number);
-        case(office, &mut rng, tally).map_err(|found| (number, found))?;
-        number += 1;
-    }
-    Ok(())
+    cases(first, more, |number| one(office, seed, number, tally))
 }
