@@ -46,6 +46,8 @@ uint8_t *lend(struct area *area, size_t length, int at_end) {
 }
 
 void only_reading(struct area *area, int on) {
+  if (area->closed == on) return;
+  area->closed = on;
   check(mprotect(area->pages + page(), area->room, on ? PROT_READ : PROT_READ | PROT_WRITE) == 0, "mprotect");
 }
 

@@ -27,6 +27,7 @@ struct area {
   size_t room;
   uint8_t *at;
   size_t length;
+  int closed; /* whether it is write-protected */
 };
 
 extern struct area input, table, answers, out;

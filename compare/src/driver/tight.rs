@@ -5,8 +5,8 @@
 //!
 //! - It is alone. A record brings its S to just under the end of a slot, the next one costs a whole slot: F comes to just under V + 2s. It runs empty.
 //! - The others begin, and so V stays when lane 0 gets records again: a short one, and one that is still held at the end. Here the stretch begins.
-//! - The others have all of the line's other weight, and are kept filled. They go first as long as their finishes are earlier: until V has come to the finish of
-//!   lane 0's slot, which is some three slots further.
+//! - The others have all of the line's other weight, and are kept filled. They go first as long as their finishes are earlier: until V has come to the finish
+//!   of lane 0's slot, which is some three slots further.
 //! - Then the short record goes out. It is just long enough to bring S over the end of the slot, to the beginning of the next one. Again the others go first,
 //!   until V has come to the finish of that one, two slots further than S.
 //!

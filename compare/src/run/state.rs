@@ -40,6 +40,7 @@ pub fn read(text: &str) -> Result<Run, String> {
     head(&format!("library {LIBRARY}"), "it is of another library")?;
     head(&format!("sources {SOURCES}"), "its cases were drawn by another version of the comparison")?;
     let mut numbers = Lines::new();
+    // The end is there, once, and nothing behind it.
     let mut ended = false;
     for line in lines {
         if ended || line == LAST {
