@@ -4,7 +4,7 @@ use crate::fields::Fault;
 use std::fmt;
 use std::rc::Rc;
 
-/// A record that take handed out or that look names: "lane, mark and length inside it", and its train, which is 0 in a lane that is not shared.
+/// A record that take handed out or that look names: its lane, mark and length (R3.11), and its train, which is 0 in a lane that is not shared.
 #[derive(Clone, Copy, Debug, PartialEq, Eq)]
 pub struct Taken {
     pub lane: u8,
@@ -34,11 +34,11 @@ pub enum Call {
         lane: u8,
     },
     Restart,
-    /// A settings page is offered, as bytes (document 02, k).
+    /// A settings page is offered, as bytes (R19.7).
     Offer(Rc<[u8]>),
 }
 
-/// "A put's answer, a taken record and a refusal are separate cases".
+/// R3.23: each kind of answer is a case of its own.
 #[derive(Clone, Copy, Debug, PartialEq, Eq)]
 pub enum Answer {
     /// How many records of its train the lane held before the put: those of the train that go out before this one.
@@ -79,7 +79,7 @@ impl Answer {
         matches!(self, Answer::No(_) | Answer::Unread(_))
     }
 
-    /// The session's line for it, without its line feed. "a take or look line of a shared lane ends with the train"; `shared` tells of a lane whether it is.
+    /// The session's line for it, without its line feed (R10.12). `shared` tells whether trains share a lane: a record's line then has its train at the end.
     pub fn line(&self, shared: impl Fn(u8) -> bool) -> String {
         match self {
             Answer::Taken(r) | Answer::Looked(r) if shared(r.lane) => format!("{self} {}", r.train),
@@ -108,7 +108,7 @@ impl fmt::Display for Call {
     }
 }
 
-/// The session's line for an answer in a lane that is not shared, without its line feed ("A session in full"). An offer has no line in a session.
+/// The session's line for an answer in a lane that is not shared, without its line feed. An offer has no line in a session.
 impl fmt::Display for Answer {
     fn fmt(&self, f: &mut fmt::Formatter) -> fmt::Result {
         match self {

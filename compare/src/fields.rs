@@ -1,4 +1,4 @@
-//! "Each field: one-byte tag, two-byte length, value; high byte first."
+//! Fields: tag, length, value (R8.1).
 
 use crate::numbers::refusal;
 use std::fmt;
@@ -49,11 +49,11 @@ impl Field<'_> {
     }
 }
 
-/// The field whose tag stands at `place`. "in a field 1 (header), 2, 3, 1 (value)": what comes after is not of
+/// The field whose tag stands at `place`. The tests as far as R8.3 has them for every part: what comes after is not of
 /// the field's form and is told by the part's own reader.
 pub fn field<'a>(input: &'a [u8], place: usize, part: &Part) -> Result<Field<'a>, Fault> {
     let &[tag, high, low, ref rest @ ..] = &input[place..] else {
-        // "input ends before 0x7F": nothing is left, and the place is the input's length.
+        // R8.4: nothing is left, and the place is the input's length.
         return Err(Fault::at(refusal::CUT, place));
     };
     let length = usize::from(u16::from_be_bytes([high, low]));

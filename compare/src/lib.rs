@@ -1,5 +1,4 @@
-//! An independent implementation of document 01 ("The line scheduler defined, with its exact rules") and the
-//! machinery that compares the unit with it over long random lists of calls and random inputs.
+//! An independent implementation of what the unit was asked to do, and the machinery that compares the unit with it over long random lists of calls and random inputs.
 //!
 //! The implementation: [`numbers`], [`calls`], [`rules`], [`fields`], [`setup`], [`session`]; [`layout`] and [`slots`] read docs/TABLE.md's tables;
 //! [`shown`] is what a table shows to a host that asks, [`waits`] how long a record can wait at worst.

@@ -122,7 +122,7 @@ fn call(call: impl FnOnce(*mut u8, usize) -> u64) -> Result<[u64; 4], (u8, [u64;
     }
 }
 
-/// A call that uses the first `used` words and has no place in a refusal: "What a call does not use is 0."
+/// A call that uses the first `used` words and has no place in a refusal; the words that it does not use are 0 (R13.1).
 fn plain(used: usize, ask: impl FnOnce(*mut u8, usize) -> u64) -> Result<[u64; 4], u8> {
     match call(ask) {
         Ok(words) if words[used..].iter().all(|word| *word == 0) => Ok(words),

@@ -1,7 +1,7 @@
-//! "The plain rules" of document 01, over all lanes: no group lists, no links, no stored sets.
+//! The calls (docs/RULES.md, R2 and R3), worked plainly over all lanes: no group lists, no links, no stored sets.
 //!
 //! A lane keeps its S, R and F as they were worked out when it got its S, and the number of that event, which
-//! orders lanes by who "got its present S earliest".
+//! orders lanes by who was given its S first.
 
 mod back;
 mod offers;
@@ -27,7 +27,7 @@ pub struct Lane {
     pub plan: LanePlan,
     /// c: clock units per byte of this lane.
     pub units_per_byte: i128,
-    /// i: the least i with 2^i at least longest plus h, times c.
+    /// R1.10
     pub group: u32,
     pub waiting: Waiting,
     /// S and R, of no meaning while the lane is idle.
@@ -88,7 +88,7 @@ impl Lane {
         self.rounded_start + 2 * self.slot()
     }
 
-    /// "A lane with a record is eligible when R is at most V."
+    /// R2.6
     pub fn eligible(&self, clock: i128) -> bool {
         self.holds() && self.rounded_start <= clock
     }
@@ -119,7 +119,7 @@ pub struct State {
 }
 
 impl State {
-    /// "Fresh: V = 0, each lane idle with F = 0."
+    /// R2.4
     pub fn fresh(setup: &Setup) -> State {
         let lanes = setup.lanes.iter().map(|plan| Lane::fresh(*plan, setup.framing)).collect();
         State { clock: 0, framing: setup.framing, lanes, back: 0, edition: 0, page: None, events: 0 }
@@ -168,12 +168,12 @@ impl State {
         self.events
     }
 
-    /// "0x20 means train 0".
+    /// R10.3: of train 0.
     pub fn put(&mut self, number: u8, mark: u32, length: u64) -> Result<u64, u8> {
         self.put_train(number, 0, mark, length)
     }
 
-    /// Answers how many records of the train the lane held before (document 02, b and l). A put that is not refused takes a clock that is far on back first
+    /// Answers how many records of the train the lane held before (R3.9). A put that is not refused takes a clock that is far on back first
     /// (h).
     pub fn put_train(&mut self, number: u8, train: u8, mark: u32, length: u64) -> Result<u64, u8> {
         self.accepts(number, train, length)?;
@@ -204,7 +204,7 @@ impl State {
         if was_idle {
             lane.begin(lane.finish.max(self.clock), event, framing);
         }
-        // "If no other lane holds a record and V is below R, then V = R"
+        // R3.8
         let rounded_start = self.lanes[at].rounded_start;
         if self.holding().count() == 1 && self.clock < rounded_start {
             self.clock = rounded_start;
@@ -212,8 +212,7 @@ impl State {
         Ok(ahead)
     }
 
-    /// "choose among eligible lanes the least rounded finish; ties go to the lowest group, then to the lane that
-    /// got its present S earliest." Nothing if no lane is eligible.
+    /// R3.10: by rounded finish, group, and who was given its S first. Nothing if no lane is eligible.
     pub fn chosen(&self) -> Option<&Lane> {
         self.lanes
             .iter()
@@ -241,7 +240,7 @@ impl State {
         if lane.holds() {
             lane.begin(lane.finish, event, framing);
         }
-        // "Last, if records are held and no lane is eligible, V becomes the least R."
+        // R3.14
         if !self.any_eligible() {
             if let Some(least) = self.holding().map(|lane| lane.rounded_start).min() {
                 self.clock = least;
@@ -251,7 +250,7 @@ impl State {
         Ok(taken)
     }
 
-    /// "Restart gives the fresh table of the same setup"; it keeps the edition.
+    /// R3.19; the edition stays.
     pub fn restart(&mut self) -> Result<(), u8> {
         if self.holding().next().is_some() {
             return Err(refusal::STILL_HELD);

@@ -1,4 +1,4 @@
-//! "Session: a setup, then requests, then 0x7F", the run's result, its lines, and the program around it.
+//! Sessions (R10): setup, requests and end field, the run's result, its lines, and the program around it.
 
 use crate::calls::Call;
 use crate::fields::{field, Fault, Part};
@@ -13,7 +13,7 @@ pub const LOOK: u8 = 0x22;
 pub const SETS: u8 = 0x23;
 pub const LAG: u8 = 0x24;
 pub const RESTART: u8 = 0x25;
-/// "put with a train: lane u8, train u8, mark u32, length u16" (document 02, l).
+/// R10.1: a put that names its train.
 pub const PUT_TRAIN: u8 = 0x26;
 pub const END: u8 = 0x7F;
 
@@ -28,7 +28,7 @@ const FIELDS: &Part = &[
     (END, &[0]),
 ];
 
-/// "why it stopped: end field, limit, or a refusal with its number and place".
+/// R10.11: the reason for the stop.
 #[derive(Clone, Copy, Debug, PartialEq, Eq)]
 pub enum Stop {
     End,
@@ -67,7 +67,7 @@ fn refused(fault: Fault, text: String) -> Outcome {
     Outcome { result, text, state: None }
 }
 
-/// A run on lent areas: "17, then 7, nothing written for either; then the setup".
+/// A run on lent areas: 17, then 7, which write nothing; then the setup (R10.4).
 pub fn run(session: &[u8], limit: u64, table: usize, table_size: usize, answers: usize) -> Outcome {
     if limit > LIMIT || (answers as u128) < BYTES_PER_LINE * (u128::from(limit) + 2) {
         return refused(Fault::at(refusal::RUN_AREA, 0), String::new());
@@ -88,7 +88,7 @@ pub fn walk(session: &[u8], limit: u64) -> Outcome {
     let mut text = format!("lanes {}\n", setup.lanes.len());
     let mut answered = 0;
     let stop = loop {
-        // "the limit is looked at before each field after the setup", the end field included.
+        // R10.7: before each field, the end field included.
         if answered == limit {
             break Stop::Limit;
         }

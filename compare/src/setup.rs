@@ -1,6 +1,5 @@
-//! "Setup: 0x01 (format, u16 = 1) first and once; one or more 0x10 (lane u8, weight u16, longest u16) with rising
-//! lane numbers; 0x7F, empty." And "field 0x11 (u8, 0 to 64) directly after 0x01; absent means 0" (document 02, d), format 2 (j),
-//! and "field 0x12 (lane u8) directly after that lane's 0x10 makes it shared" (l).
+//! Setups (R8): 0x01 with the format, perhaps 0x11 with the framing bytes, a 0x10 for each lane, by rising number, perhaps with a 0x12 behind it that makes the
+//! lane shared, and 0x7F.
 
 use crate::fields::{field, Fault, Field, Part};
 use crate::numbers::{refusal, *};
@@ -41,7 +40,7 @@ pub fn whole(input: &[u8]) -> Result<Setup, Fault> {
     Ok(setup)
 }
 
-/// The setup at the input's start, and where it ends. "In a session the setup's 0x7F does not close the input."
+/// The setup at the input's start, and where it ends: bytes may stand behind it, as in a session (R8.14).
 pub fn read(input: &[u8]) -> Result<(Setup, usize), Fault> {
     let mut format = 0;
     let mut framing = 0;

@@ -137,7 +137,7 @@ fn an_idle_lane_keeps_its_finish() {
     state.put(0, 1, 1500).unwrap();
     state.take().unwrap();
     let finish = 1_500 * 1_048_576;
-    assert_eq!(state.lag(0), Ok(1_536_000 - finish), "V minus the greater of F and V");
+    assert_eq!(state.lag(0), Ok(1_536_000 - finish), "V - max(F, V)");
     state.put(0, 2, 1500).unwrap();
     assert_eq!(i128::from(finish), state.lanes[0].start);
     assert_eq!(state.clock, 1_536_000, "R is 0, so V does not move");

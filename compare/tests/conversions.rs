@@ -12,7 +12,7 @@ use compare::rules::State;
 use compare::setup;
 use compare::slots;
 
-/// Document 01's session up to its sets, as it was kept: lane 0 holds 1/1000 and 3/500 from place 15 of its ring on, lane 1 holds 2/1000 at place 4. Each
+/// The first session (R16.3) up to its sets, as it was kept: lane 0 holds 1/1000 and 3/500 from place 15 of its ring on, lane 1 holds 2/1000 at place 4. Each
 /// stands in list 0 of its group. Words that meant nothing are all ones.
 const SESSION: &[(usize, u64)] = &[
     (0, 0),

@@ -1,4 +1,4 @@
-//! Document 01's own examples: "A session in full", with document 02's line of a put, and M1 to M8.
+//! The worked examples that came with what was asked: the first session (R16.1 to R16.5) and the numbers of R16.7 to R16.10.
 
 mod common;
 use common::*;

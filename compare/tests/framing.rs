@@ -1,4 +1,4 @@
-//! Framing (document 02, d): where the field may stand, and what its number changes, worked by hand.
+//! Framing (R1.6, R8.8): where the field may stand, and what its number changes, worked by hand.
 
 mod common;
 use common::*;
@@ -116,7 +116,7 @@ fn clocks_go_by_the_charged_length() {
 #[test]
 fn margins() {
     assert_eq!([margin(0), margin(1), margin(64)], [1_536_000, 1_537_024, 1_601_536]);
-    // "R above V - 2s - 1,024 (1,500 + h)": lane 0 holds from S = 0 on.
+    // R6.6, the lower end of R: lane 0 holds from S = 0 on.
     let mut state = framed(64, &[(0, 512, 1_500)]);
     state.put(0, 1, 1_000).unwrap();
     let two_slots = 2 << 22;

@@ -1,4 +1,4 @@
-//! Settings with editions (document 02, k): offers answered by hand, tables with a waiting page, and the laws over lists with offers.
+//! Settings with editions (R19): offers answered by hand, tables with a waiting page, and the laws over lists with offers.
 
 mod common;
 
@@ -27,7 +27,7 @@ fn page(edition: u16, setup: &Setup) -> Vec<u8> {
     [field(0x40, &edition.to_be_bytes()), field(0x41, &inner), field(0x7F, &[])].concat()
 }
 
-/// Weights 512 and 256, as in document 01's session, and the plan that comes over the air: lane 1 gone, lane 5 new, four framing bytes.
+/// Weights 512 and 256, as in the first session (R16.1), and the plan that comes over the air: lane 1 gone, lane 5 new, four framing bytes.
 fn unit() -> State {
     fresh(&[(0, 512, 1_500), (1, 256, 1_500)])
 }

@@ -10,7 +10,7 @@ fn lane(number: u8, weight: u16, longest: u16) -> LanePlan {
     LanePlan { number, weight, longest, shared: false }
 }
 
-/// Document 01's setup.
+/// The first session's setup (R16.1).
 const SESSION: &[u8] = b"\x01\0\x02\0\x01\x10\0\x05\0\x02\0\x05\xDC\x10\0\x05\x01\x01\0\x05\xDC\x7F\0\0";
 
 #[test]

@@ -9,7 +9,7 @@ fn refused(number: u8, place: u64) -> Stop {
     Stop::Refused(Fault { number, place })
 }
 
-/// The walk over document 01's setup (24 bytes) and these fields.
+/// The walk over the first session's setup (R16.1, 24 bytes) and these fields.
 fn requests(fields: &[&[u8]], limit: u64) -> (String, u64, Stop) {
     let outcome = walk(&[two_lanes(), fields.concat()].concat(), limit);
     assert_eq!(outcome.result.written, outcome.text.len() as u64);

@@ -25,7 +25,7 @@ const fn free_but(quarter: u32, length: u64) -> u64 {
     FREE & !(0xFFFF << (16 * quarter)) | (length - 1) << (16 * quarter)
 }
 
-/// Document 01's session up to its sets, word by word: lane 0 holds 1/1000 and 3/500 from place 63 of its ring on, lane 1 holds 2/1000 at place 4. Each
+/// The first session (R16.3) up to its sets, word by word: lane 0 holds 1/1000 and 3/500 from place 63 of its ring on, lane 1 holds 2/1000 at place 4. Each
 /// stands in list 0 of its group. Words that mean nothing are all ones.
 const SESSION: &[(usize, u64)] = &[
     (0, 0),
@@ -245,7 +245,7 @@ fn words_that_mean_nothing() {
     }
 }
 
-/// The laws' own account of "A good table" and this one agree on contents of every kind.
+/// The laws' own account of a good table and this one agree on contents of every kind.
 #[test]
 fn two_accounts_of_a_good_table() {
     let mut rng = Rng::new(11);

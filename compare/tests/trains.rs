@@ -1,4 +1,4 @@
-//! Several trains in one lane (document 02, l): turns, deficits, refusals, lines and tables, worked by hand.
+//! Several trains in one lane (R18): turns, deficits, refusals, lines and tables, worked by hand.
 
 mod common;
 use common::*;
@@ -280,7 +280,7 @@ fn the_words_of_a_shared_lane() {
 #[test]
 fn each_condition_on_both_sides() {
     assert_eq!(broken(|_| {}), []);
-    // The train in turn: its first record's length or more, below twice the longest.
+    // R18.8: both ends of the deficit of the train in turn.
     assert_eq!(with_train(5, number_of(7, 3, 100)), []);
     assert_eq!(with_train(5, number_of(7, 3, 99)), [Clause::TurnCovers]);
     assert_eq!(with_train(5, number_of(7, 3, 199)), []);

@@ -1,4 +1,4 @@
-//! Reads a session from standard input and prints what document 01 says the unit's program prints.
+//! Reads a session from standard input and prints what the unit's program must print for it (R10).
 
 use std::io::{self, Read, Write};
 

@@ -3,7 +3,7 @@
 //!
 //! - the converter's answer is that of the rules, 7 first; the old bytes stay, and for a refusal the new ones too;
 //! - a converted table is good and holds what the old one holds, with turns as far as a call compares them; bytes past its size stay;
-//! - takes one after another answer from both tables alike before the old one's first 10, and from the new one as today's rules say.
+//! - takes in a row have the same answers from both tables up to the old one's first 10 (R7.6), and from the new one those of today's rules.
 
 use super::{answer, draw, Converter, Refused};
 use crate::calls::Taken;

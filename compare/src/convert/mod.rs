@@ -1,5 +1,5 @@
-//! Tables of 16 places taken over as tables of 64 (document 02, g), worked plainly: the old bytes are read as contents, and the contents are written in
-//! today's layout. Written from the document, the readings in docs/DECISIONS.md and docs/TABLE.md.
+//! Tables of 16 places taken over as tables of 64 (R7), worked plainly: the old bytes are read as contents, and the contents are written in
+//! today's layout. Made from the papers, the readings in docs/DECISIONS.md and docs/TABLE.md.
 //!
 //! - [`slips`] — the same with one mistake, for the comparison to find
 //! - [`draw`] — old tables: from calls of that time, at the edges of what was good, damaged, and no tables at all

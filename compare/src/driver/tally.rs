@@ -42,7 +42,7 @@ pub struct Tally {
     pub sessions_ended: u64,
     /// Settings pages given to `offer` one after another, beside those of the lists.
     pub pages: u64,
-    /// Tables that no call made, how many of them were good, and how many broke each clause of "A good table" and no other.
+    /// Tables that no call made, how many of them were good, and how many broke each clause of a good table and no other.
     pub tables: u64,
     pub tables_good: u64,
     pub broken_alone: Vec<u64>,

@@ -1,4 +1,4 @@
-//! Tables that no call made: contents at the edges of "A good table", words and bits changed, and noise; in today's layout or in the one before it.
+//! Tables that no call made: contents at the edges of what is good (R6), words and bits changed, and noise; in today's layout or in the one before it.
 
 use super::{offers, setups, trains};
 use crate::layout::*;

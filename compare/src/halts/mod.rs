@@ -1,5 +1,5 @@
-//! The small halt (document 02, n), a second time: which setups and which tables are its own, and its calls, which are the plain rules' on those. Written from
-//! the document and the readings in docs/DECISIONS.md.
+//! The small halt (R20), a second time: which setups and which tables are its own, and its calls, which are the plain rules' on those. Made from
+//! the papers and the readings in docs/DECISIONS.md.
 //!
 //! - [`slips`] — the same with one mistake, for the comparison to find
 //! - [`draw`] — setups that are the halt's, beside it or another's, and tables of them
@@ -20,14 +20,14 @@ use crate::numbers::refusal;
 use crate::rules::State;
 use crate::setup::{self, LanePlan, Setup};
 
-/// "lanes 0 to 3 only: weights 512, 256, 128, 128, longest 256 for all, ... not shared".
+/// R20.1
 pub const LANES: [LanePlan; 4] = [lane(0, 512), lane(1, 256), lane(2, 128), lane(3, 128)];
 
 const fn lane(number: u8, weight: u16) -> LanePlan {
     LanePlan { number, weight, longest: 256, shared: false }
 }
 
-/// "with O = 0, lane 0 waiting sees fewer than 2,304 bytes, each lane of 128 fewer than 8,448"; of lane 1 the same sum gives 4,352.
+/// R20.5: a lane that is busy and sends nothing sees fewer bytes than this.
 pub const SEES_BELOW: [u64; 4] = [2_304, 4_352, 8_448, 8_448];
 
 /// The halt's calls. Those that only read get their table for writing too, so that a write would be seen.
@@ -37,12 +37,12 @@ pub trait Halt {
     fn answer(&mut self, table: &mut [u8], call: &Call) -> Answer;
 }
 
-/// "accepts this setup, in either format, and no other": the plan decides, not its bytes.
+/// R20.2: the plan decides, not its bytes.
 pub fn own(framing: u8, lanes: impl Iterator<Item = LanePlan>) -> bool {
     framing == 0 && lanes.eq(LANES)
 }
 
-/// What making answers on so many bytes: 7, "the setup's own first, then 90 for a good setup that isn't this one".
+/// What making answers on so many bytes: 7, then what is wrong with the setup, then 90 if it is another one (R20.2).
 pub fn makes(input: &[u8], length: usize) -> Result<Setup, Refused> {
     if length < TABLE_SIZE {
         return Err(Refused::at(refusal::TABLE_SHORT.into(), 0));
@@ -54,7 +54,7 @@ pub fn makes(input: &[u8], length: usize) -> Result<Setup, Refused> {
     }
 }
 
-/// What a table of the halt's holds: "a table of another setup or with a waiting page gives 10", beside one that is not good. Any edition may have been taken.
+/// R20.3: what a table of the halt's holds; any other gives 10, as one that is not good does. Any edition may have been taken.
 pub fn held(table: &[u8]) -> Option<State> {
     let state = layout::read(table).good()?;
     (state.page.is_none() && own(state.framing, plans(&state))).then_some(state)

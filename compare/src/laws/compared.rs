@@ -1,6 +1,5 @@
-//! Two busy lanes compared (document 02, i): for lanes a and b that both hold a record before a stretch and after each call in it,
-//! c O of a less c O of b is below 4 slots of a, 4 slots of b and twice 1,024 (1,500 + h); and the tighter figure, with the setup's greatest longest in place
-//! of 1,500. O counts charged bytes.
+//! Two busy lanes compared (R15.10): for lanes a and b that are both busy in a stretch c O of a less c O of b is below 4 slots of a, 4 slots of b and twice M;
+//! and the tighter figure, with the setup's greatest longest in place of 1,500. O counts charged bytes.
 //!
 //! With W = c O counted from the list's beginning and D = W of a - W of b, the claim is D(end) - D(begin) < bound. So it holds of all stretches exactly if
 //! it holds, at each point, against the least D since both lanes hold: one number a pair. A take moves D of those pairs alone that the served lane is in, so

@@ -1,4 +1,4 @@
-//! Settings with editions (document 02, k), from calls and answers alone: an offer is answered by what the answers before it say, and the setup in force is that
+//! Settings with editions (R19), from calls and answers alone: an offer is answered by what the answers before it say, and the setup in force is that
 //! of the page last accepted by the last point at which no lane held a record; before any, the one that the table was made with.
 
 use crate::calls::{Answer, Call};

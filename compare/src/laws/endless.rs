@@ -1,5 +1,5 @@
-//! Document 02, h: every answer "is the one that an endless clock with no refusal 14 and no upper edge on V would give; for an idle lane the compared number
-//! is the greater of F and V". A twin with numbers of 128 bits answers the same calls and never takes its clock back.
+//! The clock without an end (R5.4, R5.5): answers are those of a clock that is never taken back and that nothing bounds; times stand beside its times, an idle
+//! lane's by max(F, V). A twin with numbers of 128 bits answers the same calls and never takes its clock back.
 
 use crate::calls::{Answer, Call};
 use crate::numbers::CLOCK_EARLY;

@@ -1,6 +1,5 @@
-//! Demand 3: for a lane that holds a record before a stretch and after each call in it,
-//! 1,024 T is below c O + 4 slots + 1,024 (1,500 + h); and the tighter figure, 1,024 times the setup's greatest longest
-//! plus h. T and O count charged bytes.
+//! Demand 3 (R15.8, R15.9): for a lane that is busy in a stretch 1,024 T is below c O + 4 slots + M; and the tighter
+//! figure, with 1,024 times the setup's greatest longest plus h in place of M. T and O count charged bytes.
 //!
 //! A stretch runs from one point between calls to a later one, and the lane holds a record at every point of it.
 //! With X = 1,024 T - c O counted from the list's beginning, the claim is X(end) - X(begin) < bound. So it holds of
@@ -22,7 +21,7 @@ struct Watch {
     /// The tighter bound, and demand 3's own.
     bound: i64,
     plain: i64,
-    /// "more puts to it were accepted than records of it handed out by take"
+    /// R15.6: accepted puts to the lane, less the takes that named it.
     held: u64,
     x: i64,
     /// The least X at the points since the lane began to hold.
@@ -41,7 +40,7 @@ pub struct Fairness {
 }
 
 impl Fairness {
-    /// "c and the slot come from the setup."
+    /// R15.5: c and the slot are the setup's.
     pub fn new(fresh: &State) -> Fairness {
         let (tight, plain) = (units(tighter(fresh)), units(margin(fresh.framing)));
         assert!(tight <= plain, "the tighter figure gives demand 3's");
@@ -106,7 +105,7 @@ impl Fairness {
                     watch.least = watch.least.min(watch.x);
                 }
             }
-            // "Refused calls and looks add nothing."
+            // R15.7: nothing else sends.
             _ => {}
         }
         Ok(())

@@ -1,5 +1,4 @@
-//! "No table made by these calls from a fresh one is ever found not good": the clauses of "A good table" that speak
-//! of the contents and not of the layout.
+//! Calls from a fresh table lead to good tables only (R6.13): those clauses of R6 that speak of the contents and not of the layout.
 
 use crate::numbers::*;
 use crate::rules::{Lane, State, Trains, Waiting};
@@ -66,8 +65,7 @@ fn times_broken(lane: &Lane, clock: i128, framing: u8) -> Option<&'static str> {
     None
 }
 
-/// "In a good table an empty train's is 0; the train in turn has its first record's length or more, below twice the longest; any other has less than its
-/// first record's." And the round has each train that holds records once.
+/// R18.8: deficits by the train's first record and the longest, and a round that has each train with records once.
 fn of_trains(trains: &Trains, longest: u64) -> Option<&'static str> {
     for (number, train) in (0..).zip(&trains.trains) {
         let named = trains.round.iter().filter(|train| **train == number).count();

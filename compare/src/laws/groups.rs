@@ -1,5 +1,5 @@
-//! "The four words ... part the groups that hold records. The first set bit of the eligible-ready word is the chosen
-//! lane's group, and finishes never fall along that word."
+//! The group sets (R4.6 to R4.8): each holding group has its bit in one of the four words; the lowest bit of ER is the group that is served next; and from bit
+//! to bit of ER finishes do not fall.
 
 use crate::rules::State;
 

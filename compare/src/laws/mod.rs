@@ -8,7 +8,7 @@
 //! - [`editions`] — offers of settings pages, and which setup is in force; the laws that go by a setup begin anew with it
 //! - [`waits`] — how long one record waits, by the setup and the records ahead of it
 //! - [`groups`] — the four words part the groups, name the chosen lane's group, and are in order of finish
-//! - [`good`] — the clock's range and every other clause of "A good table"
+//! - [`good`] — the clock's range and every other clause of a good table (R6)
 //! - [`endless`] — every answer is that of a clock which is never taken back, and the clock is taken back in time
 //! - [`ratio`] — how near a list came to a bound
 

@@ -1,6 +1,5 @@
-//! Trains of a shared lane (document 02, l): "While two trains of a lane both hold records throughout, their bare bytes sent differ by at most three times the
-//! lane's longest." What is checked is stronger: while one train holds records throughout a stretch, no other of its lane is sent more than its bytes and three
-//! times the longest less 2, whether that one holds records throughout or comes and goes. Two trains that both hold records are two cases of it.
+//! Trains of a shared lane (R15.18). What is checked is its strongest form: while one train holds records throughout a stretch, no other of its lane is sent
+//! more than its bytes and three times the longest less 2, whether that one holds records throughout or comes and goes. Two trains that both hold records are two cases of it.
 //!
 //! With D = the other's bytes less the train's own, counted from the list's beginning, the claim is D(end) - D(begin) <= bound. So it holds of all stretches
 //! exactly if it holds, at each point, against the least D since the train last began to hold.

@@ -1,22 +1,22 @@
-//! The clauses of document 01's "A good table", with what is stored beside the contents, and what a reader says of a table's bytes.
+//! The clauses of a good table (docs/RULES.md, R6), with what is stored beside the contents, and what a reader says of a table's bytes.
 
 use crate::rules::State;
 
 #[derive(Clone, Copy, Debug, PartialEq, Eq)]
 pub enum Clause {
-    /// "it is long enough"
+    /// R6.2: as many bytes as the layout has.
     Long,
     /// The depth number, which tells this layout from the one before it.
     Depth,
     /// h: 0 to 64, and no other bit of its word.
     Framing,
-    /// "Lanes 1 to 64"
+    /// R1.1: at least one lane.
     Lanes,
-    /// "Weight w: 1 to 1,024"
+    /// R1.2: each weight,
     Weight,
-    /// "weights sum to at most 1,024"
+    /// and their sum.
     WeightSum,
-    /// "Longest record of a lane: 64 to 1,500 bytes."
+    /// R1.3
     Longest,
     /// The stored c.
     UnitsPerByte,
@@ -24,7 +24,7 @@ pub enum Clause {
     Group,
     /// No more records than a lane has room for.
     Records,
-    /// "each length 1 to the lane's longest"
+    /// R6.4: the length of each record.
     Length,
     /// In a lane that holds records the places without one have a length of 1 to the lane's longest too.
     Places,
@@ -34,29 +34,29 @@ pub enum Clause {
     TrainRecords,
     /// The round names each train that holds records once, nothing else, and nothing stands behind those.
     Round,
-    /// "In a good table an empty train's is 0"
+    /// R18.8: a train without records has no deficit;
     EmptyDeficit,
-    /// "the train in turn has its first record's length or more"
+    /// that of the train in turn covers its first record
     TurnCovers,
-    /// "below twice the longest"
+    /// and is less than two longest;
     TurnBelow,
-    /// "any other has less than its first record's"
+    /// that of each other does not cover its first record.
     OthersBelow,
     /// V below its end.
     Clock,
-    /// "S below V + 2s"
+    /// R6.6: S is less than two slots ahead of V,
     StartAhead,
-    /// R above V - 2s - 1,024 (1,500 + h)
+    /// and R less than two slots and M behind it.
     StartBehind,
-    /// "for an idle lane F below V + 2s"
+    /// R6.7: F of an idle lane is less than two slots ahead.
     FinishAhead,
-    /// "an eligible lane if any holds"
+    /// R6.8
     Eligible,
     /// What was taken off the clock is a multiple of 2^31 below 2^36.
     Back,
     /// Only groups 16 to 31 and lists 0 to 31 are marked; a marked group has a marked list, and a marked list a lane.
     Marks,
-    /// "a tie order": each holding lane stands once, in the list of its group and its S, and no other lane stands in one.
+    /// R6.9, R6.11: each holding lane stands once, in the list of its group and its S, and no other lane stands in one.
     Lists,
     /// The stored start of a group is the least R of its lanes.
     Starts,
@@ -64,9 +64,9 @@ pub enum Clause {
     LastEdition,
     /// and so has that of a page that waits,
     NewEdition,
-    /// "where its edition is above the last taken".
+    /// and the waiting one is the greater of the two (R19.11).
     EditionAbove,
-    /// "A page waits only while a record is held, in a good table too"
+    /// R19.11: while a page waits a lane holds.
     PageHeld,
     /// The waiting page's plan is within the numbers.
     PagePlan,
@@ -124,7 +124,7 @@ impl Clause {
         matches!(self, LastEdition | NewEdition | EditionAbove | PageHeld | PagePlan)
     }
 
-    /// Whether a call on a good table may leave one that breaks the clause: "a good table of other origin may lead to one that gives 10". What is
+    /// Whether a call on a good table may leave one that breaks the clause, as R6.13 allows where no call made the table. What is
     /// stored is never spoiled.
     pub fn may_be_lost(self) -> bool {
         use Clause::*;

@@ -1,4 +1,4 @@
-//! docs/TABLE.md read by itself: a lent table's words, what they mean, and which clauses of document 01's "A good table" they break. It shares nothing
+//! docs/TABLE.md read by itself: a lent table's words, what they mean, and which clauses of a good table (R6) they break. It shares nothing
 //! with the unit's own reading. The slot lists are in [`slots`](crate::slots).
 //!
 //! - [`clauses`] — the clauses, and what a reader says of bytes

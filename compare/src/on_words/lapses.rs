@@ -5,7 +5,7 @@ use crate::layout::{Clause, CLAUSES};
 #[derive(Clone, Copy, Debug, PartialEq, Eq)]
 pub enum Lapse {
     None,
-    /// A clause of "A good table" is not tested: a table that breaks it alone does not give 10.
+    /// A clause of the good table (R6) is not tested: a table that breaks it alone does not give 10.
     Untested(Clause),
     /// A table that gives 10 is written.
     RefusalWrites,

@@ -1,4 +1,4 @@
-//! Settings pages (document 02, k): a page read, written from the document and the readings in docs/DECISIONS.md.
+//! Settings pages (R19): a page read, made from the papers and the readings in docs/DECISIONS.md.
 //!
 //! - [`reader`] — the page's fields in order, and the setup inside
 //! - [`slips`] — the same reader, built otherwise, with one mistake, for the comparison to find

@@ -1,4 +1,4 @@
-//! Plans in lent bytes: a setup read into a plan area, and a plan area written as a setup (document 02, f), written from the two documents, the readings in
+//! Plans in lent bytes: a setup read into a plan area, and a plan area written as a setup (R9), made from the two papers, the readings in
 //! docs/DECISIONS.md and the words that `include/zenfrosta.h` lists.
 //!
 //! - [`words`] — a plan in the words of an area and back; the bytes of a setup; the two calls

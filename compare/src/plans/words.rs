@@ -54,7 +54,7 @@ pub fn plan(area: &[u8]) -> Option<Setup> {
     (!lanes.is_empty() && sum <= WEIGHT_SUM).then_some(Setup { format, framing, lanes })
 }
 
-/// "lane fields always five bytes long, framing field only where h isn't 0", 0x12 behind a shared lane's.
+/// R9.2: every lane field with its longest, 0x11 unless h is 0, and 0x12 behind the field of a shared lane.
 pub fn bytes(setup: &Setup) -> Vec<u8> {
     let mut bytes = vec![FORMAT, 0, 2];
     bytes.extend(setup.format.to_be_bytes());

@@ -1,10 +1,10 @@
-//! A clock that is taken back (document 02, h), and one that never is.
+//! A clock that is taken back (R5), and one that never is.
 
 use super::State;
 use crate::calls::{Answer, Call};
 use crate::numbers::*;
 
-/// K, "the largest multiple of 2^31 not above V - 2^33", where V is 2^61 or more; else nothing.
+/// R5.1: K, where V is 2^61 or more; else nothing.
 pub fn taken_off(clock: i128) -> i128 {
     if clock < CLOCK_FAR {
         return 0;
@@ -14,7 +14,7 @@ pub fn taken_off(clock: i128) -> i128 {
 }
 
 impl State {
-    /// Takes so much off V and every S and F; "an idle lane's F below K becomes 0".
+    /// R5.2: takes so much off V and every S and F; an idle lane's F stops at 0.
     pub fn lower(&mut self, off: i128) {
         if off == 0 {
             // Most puts: no lane is gone through, with a remainder of 128 bits each.

@@ -1,4 +1,4 @@
-//! Settings pages that are offered (document 02, k): in force at once, or when the last record is handed out.
+//! Settings pages that are offered (R19): in force at once, or when the last record is handed out.
 
 use super::State;
 use crate::calls::Answer;
@@ -6,13 +6,13 @@ use crate::numbers::refusal;
 use crate::pages::{reader, Page};
 
 impl State {
-    /// "Refusals: 10, then setup numbers with places counted from the page's start ..., then 60 edition not above the last one taken or waiting".
+    /// R14.49: 10, what is wrong in the page, 60.
     pub fn offer(&mut self, page: &[u8]) -> Answer {
         match reader::read(page) {
             Err(fault) => Answer::Unread(fault),
             Ok(page) if page.edition <= self.newest() => Answer::No(refusal::OLD_EDITION),
             Ok(page) => {
-                // "A page offered while one waits replaces it."
+                // R19.8: in place of one that waited.
                 self.page = Some(page);
                 if self.settle() {
                     Answer::InForce
@@ -28,7 +28,7 @@ impl State {
         self.page.as_ref().map_or(0, |page| page.edition).max(self.edition)
     }
 
-    /// "A page waits only while a record is held ...; then it replaces the setup with a fresh table." Whether one does now.
+    /// R19.9: with no lane holding, the page that waits comes into force, with a fresh table. Whether one does now.
     pub(super) fn settle(&mut self) -> bool {
         if self.holding().next().is_some() {
             return false;

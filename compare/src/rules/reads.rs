@@ -5,9 +5,9 @@ use crate::calls::{Answer, Call};
 use crate::numbers::refusal;
 
 impl State {
-    /// The four words: eligible ready, ineligible ready, eligible blocked, ineligible blocked.
+    /// R4.4: the words ER, IR, EB and IB.
     pub fn sets(&self) -> [u64; 4] {
-        // A group's start and finish: the least R and the least R + 2s of its lanes that hold records.
+        // R4.1: a group's start and finish.
         let mut groups: [Option<(i128, i128)>; 32] = [None; 32];
         for lane in self.holding() {
             let (start, finish) = (lane.rounded_start, lane.rounded_finish());
@@ -34,7 +34,7 @@ impl State {
         words
     }
 
-    /// "Lag of a lane is V minus S ...; for an idle lane V minus the greater of F and V."
+    /// R3.18
     pub fn lag(&self, number: u8) -> Result<i64, u8> {
         let lane = self.lane(number).ok_or(refusal::NO_SUCH_LANE)?;
         let from = if lane.holds() { lane.start } else { lane.finish.max(self.clock) };

@@ -1,4 +1,4 @@
-//! What waits in a lane: one queue, or in a shared lane the queues of its trains, served by deficit round robin (document 02, l).
+//! What waits in a lane: one queue, or in a shared lane the queues of its trains, served by deficit round robin (R18).
 
 use super::Record;
 use crate::numbers::{refusal, DEPTH, TRAINS, TRAIN_DEPTH};
@@ -11,7 +11,7 @@ pub struct Train {
     pub queue: VecDeque<Record>,
 }
 
-/// The trains by number, and "the round": those that hold records in the order of their turns. The first one is in turn, and its first record is the lane's.
+/// The trains by number, and the round: those that hold records in the order of their turns. The first one is in turn, and its first record is the lane's.
 #[derive(Clone, Debug, PartialEq, Eq)]
 pub struct Trains {
     pub trains: Vec<Train>,
@@ -78,12 +78,12 @@ impl Waiting {
         }
     }
 
-    /// "70 train over 7 or, in a lane not shared, over 0".
+    /// R18.2, R18.3: else 70.
     pub fn has_train(&self, train: u8) -> Result<(), u8> {
         self.queue(train).map(|_| ()).ok_or(refusal::NO_TRAIN)
     }
 
-    /// Room for one more record of a train that there is: 13, or "71 train's queue full in place of 13 in a shared lane".
+    /// Room for one more record of a train that there is: else 13, and 71 in a shared lane (R3.4).
     pub fn has_room(&self, train: u8) -> Result<(), u8> {
         match self {
             Waiting::Own(queue) if queue.len() >= DEPTH => Err(refusal::LANE_FULL),
@@ -118,14 +118,14 @@ impl Trains {
         if queue.len() > 1 {
             return;
         }
-        // "a train that starts joins the end of the round"; the lane needs a first record if it is the only one.
+        // R18.5: it goes behind the others, and if there are none its turn begins.
         self.round.push_back(train);
         if self.round.len() == 1 {
             self.turn(longest);
         }
     }
 
-    /// "a turn adds the lane's longest to the train's deficit".
+    /// R18.6
     fn turn(&mut self, longest: u64) {
         if let Some(train) = self.round.front() {
             self.trains[usize::from(*train)].deficit += longest;
@@ -138,14 +138,14 @@ impl Trains {
         let gone = train.queue.pop_front().map_or(0, |record| record.length);
         train.deficit -= gone;
         match train.queue.front() {
-            // "a train that empties loses its deficit"
+            // R18.7: left with no record,
             None => {
                 train.deficit = 0;
                 self.round.pop_front();
             }
-            // "sends while the deficit covers its first record"
+            // with what covers its next one, so that it stays in turn,
             Some(next) if next.length <= train.deficit => return,
-            // "and keeps the rest"
+            // or with too little, which it takes to the end of the round.
             Some(_) => self.round.rotate_left(1),
         }
         self.turn(longest);

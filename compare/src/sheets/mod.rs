@@ -1,4 +1,4 @@
-//! The office's text sheet (document 02, m): a sheet read into a plan area, and a plan area written as a sheet, written from the document, the readings in
+//! The office's text sheet (R12): a sheet read into a plan area, and a plan area written as a sheet, made from the papers, the readings in
 //! docs/DECISIONS.md and the words that `include/zenfrosta.h` lists.
 //!
 //! - [`text`] — a sheet read, line by line, and written; the two calls

@@ -1,4 +1,4 @@
-//! The slips that a stand-in can be told to make: document 01's "Plausible slips" and more of their kind. The
+//! The slips that a stand-in can be told to make: those that come to mind first, and more of their kind. The
 //! comparison is worth something only if it finds every one.
 
 macro_rules! slips {
@@ -15,12 +15,12 @@ macro_rules! slips {
 }
 
 slips! {
-    // Document 01's own list.
-    /// Choosing by exact F in place of R + 2s.
+    // Those that come to mind first.
+    /// By F itself, not by the rounded finish.
     ExactFinish,
     /// Rounding c down.
     CostRoundedDown,
-    /// S = max(F, V) for a lane that still holds records.
+    /// V counts for the new S of a lane that holds, too.
     HoldingLaneTakesClock,
     /// An equal finish blocks, which sends ties to the higher group.
     EqualFinishBlocks,

@@ -29,7 +29,7 @@ pub fn lag(lane: u8) -> Vec<u8> {
     vec![0x24, 0, 1, lane]
 }
 
-/// Document 01's setup: lanes of weight 512 and 256, both with a longest of 1,500. 24 bytes.
+/// The first session's setup (R16.1): lanes of weight 512 and 256, both with a longest of 1,500. 24 bytes.
 pub fn two_lanes() -> Vec<u8> {
     [FORMAT, &lane(0, 512, 1500), &lane(1, 256, 1500), END].concat()
 }
