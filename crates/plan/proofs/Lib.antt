@@ -1,4 +1,6 @@
 pub mod Lists
+pub mod Held
+pub mod AtPlace
 pub mod Tags
 pub mod Judged
 pub mod Taken
