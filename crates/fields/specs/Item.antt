@@ -1,4 +1,4 @@
--- The field at a place of an input, by what the input knows. Setups, settings pages and the rest differ in that alone.
+-- The field at a place of an input, by what the input knows: setups and settings pages differ in that alone.
 --
 --   Item     a field, taken apart, with the place after it; or a refusal's number and place
 --   Known    what an input knows: its tags, the lengths that are right for them, and how a value is taken apart

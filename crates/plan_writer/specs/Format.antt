@@ -1,4 +1,4 @@
--- The bytes of a setup's fields, and the form in which setups are written (R9.6). What a field's bytes are read as is `itemAt` of the reader (crate `plan`,
+-- The bytes of a setup's fields, and the form in which setups are written (R9.6). What a field's bytes are read as is `setupItemAt` of the reader (crate `plan`,
 -- specs/Fields.antt); the fields themselves, and which of them make a setup (`setupFields`), are the reader's own.
 --
 --   fieldBytes   the bytes of a field: tag, length, value
