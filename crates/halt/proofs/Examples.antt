@@ -4,14 +4,15 @@ use mathlib.Core.Path.{refl, ap}
 use mathlib.Core.List.{List}
 use Rattle.rules.specs.State.{Setting, settingAt}
 use Rattle.fields.specs.Bytes.{big}
-use Rattle.plan.specs.Fields.{setupFieldOf, setupItemAt}
+use Rattle.fields.specs.Item.{itemAt}
+use Rattle.plan.specs.Fields.{setupFieldOf}
 use Rattle.plan.specs.Judge.{laneOutside, judgedAt}
 use Rattle.plan.specs.Read.{setupWalk, readPlan, readSetup}
 use Rattle.halt.specs.Halt.{haltSetup}
 use Rattle.halt.specs.Examples.{Shown}
 
 pub examples : Shown
-unfolding big setupFieldOf setupItemAt laneOutside judgedAt setupWalk readPlan readSetup haltSetup
+unfolding big setupFieldOf itemAt laneOutside judgedAt setupWalk readPlan readSetup haltSetup
 examples = record {
   format-1 = refl;
   format-2 = refl;

@@ -15,7 +15,8 @@ use Rattle.pages.specs.Carried.{WithoutOffers}
 use Rattle.pages.proofs.Carried.{without-offers}
 use Rattle.paged.specs.Paged.{EncodesDevice}
 use Rattle.fields.specs.Bytes.{big}
-use Rattle.plan.specs.Fields.{setupFieldOf, setupItemAt}
+use Rattle.fields.specs.Item.{itemAt}
+use Rattle.plan.specs.Fields.{setupFieldOf}
 use Rattle.plan.specs.Judge.{laneOutside, judgedAt}
 use Rattle.plan.specs.Read.{setupWalk, readPlan, readSetup}
 use Rattle.plan.specs.Examples.{twoLanes}
@@ -43,7 +44,7 @@ given gs calls P h t u es b ch same =
     (subst (λ (xs : List Event). P (replies xs) (s .clock) (s .lanes)) (sym events) h))
 
 pub marked : Marked
-unfolding rules acceptedTo readSetup readPlan setupWalk judgedAt setupItemAt setupFieldOf laneOutside big
+unfolding rules acceptedTo readSetup readPlan setupWalk judgedAt itemAt setupFieldOf laneOutside big
 marked =
     record {
       session = refl;

@@ -6,7 +6,7 @@
 --
 -- Assumes nothing.
 use Prim.Native.Nat.{ℕ, _+_, _≤_, _<_}
-use mathlib.Core.Path.{_≡_, refl, sym, ap, subst, _∙_}
+use mathlib.Core.Path.{_≡_, refl, ap, subst, _∙_}
 use mathlib.Core.Bool.{Bool, true, false}
 use mathlib.Core.List.{List, [], _∷_}
 use mathlib.Core.Option.{Option, some}
@@ -18,15 +18,16 @@ use lib.Dec.{eqb}
 use lib.ListN.{length, drop, length-drop}
 use lib.Seq.{length-take-le}
 use Rattle.fields.specs.Bytes.{byteAt, big}
+use Rattle.fields.specs.Item.{wholeField, badField}
+use Rattle.fields.proofs.Item.{stands}
 use Rattle.units.specs.Plain.{if_then_else_}
 use Rattle.rules.specs.State.{Setting}
 use Rattle.plan.specs.Read.{readSetup, setupRefused, setupRead}
-use Rattle.page.specs.Fields.{wholePageField, badPageField, pageFieldOf, pageItemAt}
+use Rattle.page.specs.Fields.{pageFieldOf, pageItemAt}
 use Rattle.page.specs.Read.{PageReply, pageRead, pageRefused, pastSkipped, ended, endAt, valueAt, moved, inside, pageSettled, settingsAt, pageBegun, readPage}
 use Rattle.page.specs.declared.parse.PageField.{PageField}
 use Rattle.page.specs.declared.parse.PageField.the-variants.{Edition, Settings, Skipped, End}
 use Rattle.page.proofs.parse.PageField as field
-use Rattle.page.proofs.Stands.{stands}
 
 -- ---- what a field is not
 
@@ -42,21 +43,21 @@ not-edition f o n e = miss (1 ∷ 2 ∷ 3 ∷ []) 0 tt (subst (λ (g : PageField
 -- ---- 0x7F
 
 module _ (s : List ℕ) (at : ℕ) (r : PageReply) where
-  pub end-bad : (n : ℕ) (p : Option ℕ) → pageItemAt s at ≡ badPageField n p → endAt s at r ≡ pageRefused n p
+  pub end-bad : (n : ℕ) (p : Option ℕ) → pageItemAt s at ≡ badField n p → endAt s at r ≡ pageRefused n p
   unfolding endAt
   end-bad n p h = ap (ended s at r) h
 
-  other-end : (f : PageField) (m : ℕ) → (f ≡ End → ⊥) → ended s at r (wholePageField f m) ≡ pageRefused 4 (some at)
+  other-end : (f : PageField) (m : ℕ) → (f ≡ End → ⊥) → ended s at r (wholeField f m) ≡ pageRefused 4 (some at)
   other-end (Edition e) m isnt = refl
   other-end (Settings v n) m isnt = refl
   other-end Skipped m isnt = refl
   other-end End m isnt = absurd (isnt refl)
 
-  pub end-other : (f : PageField) (m : ℕ) → pageItemAt s at ≡ wholePageField f m → (f ≡ End → ⊥) → endAt s at r ≡ pageRefused 4 (some at)
+  pub end-other : (f : PageField) (m : ℕ) → pageItemAt s at ≡ wholeField f m → (f ≡ End → ⊥) → endAt s at r ≡ pageRefused 4 (some at)
   unfolding endAt
   end-other f m h isnt = ap (ended s at r) h ∙ other-end f m isnt
 
-  module _ (m : ℕ) (h : pageItemAt s at ≡ wholePageField End m) where
+  module _ (m : ℕ) (h : pageItemAt s at ≡ wholeField End m) where
     pub end-more : m < length s → endAt s at r ≡ pageRefused 4 (some m)
     unfolding endAt
     end-more l = ap (ended s at r) h ∙ simp (lt-ltb m (length s) l)
@@ -80,10 +81,10 @@ module _ (s : List ℕ) (at : ℕ) where
   by-tag x k v n false false true h = absurd (let z : _≡_ {A = ℕ} 0 1 = cc in omega arith)
   by-tag x k v n false false false h = absurd (let z : _≡_ {A = ℕ} 0 1 = cc in omega arith)
 
-  pub value-fits : (v n m : ℕ) → pageItemAt s at ≡ wholePageField (Settings v n) m → Value s at v n m
+  pub value-fits : (v n m : ℕ) → pageItemAt s at ≡ wholeField (Settings v n) m → Value s at v n m
   unfolding pageFieldOf
   value-fits v n m h =
-      let k = stands s at (Settings v n) m h in
+      let k = stands h in
       let t = byteAt s at in
       let w = by-tag (at + 3) (big s (at + 1) 2) v n (eqb t 64) (eqb t 65) (eqb t 127) (k .field) in
       record { start = w .0; end = omega (arith, w .0, w .1, k .after); fits = omega (arith, k .after, k .fits) }
@@ -93,21 +94,21 @@ unfolding valueAt
 value-length {s} {at} {v} {n} w = length-take-le n (drop v s) (omega (arith, w .end, w .fits, length-drop v s))
 
 module _ (s : List ℕ) (e at : ℕ) where
-  pub settings-bad : (n : ℕ) (p : Option ℕ) → pageItemAt s at ≡ badPageField n p → settingsAt s e at ≡ pageRefused n p
+  pub settings-bad : (n : ℕ) (p : Option ℕ) → pageItemAt s at ≡ badField n p → settingsAt s e at ≡ pageRefused n p
   unfolding settingsAt
   settings-bad n p h = ap (pageSettled s e at) h
 
-  other-settings : (f : PageField) (m : ℕ) → ((v n : ℕ) → f ≡ Settings v n → ⊥) → pageSettled s e at (wholePageField f m) ≡ pageRefused 4 (some at)
+  other-settings : (f : PageField) (m : ℕ) → ((v n : ℕ) → f ≡ Settings v n → ⊥) → pageSettled s e at (wholeField f m) ≡ pageRefused 4 (some at)
   other-settings (Edition x) m isnt = refl
   other-settings (Settings v n) m isnt = absurd (isnt v n refl)
   other-settings Skipped m isnt = refl
   other-settings End m isnt = refl
 
-  pub settings-other : (f : PageField) (m : ℕ) → pageItemAt s at ≡ wholePageField f m → ((v n : ℕ) → f ≡ Settings v n → ⊥) → settingsAt s e at ≡ pageRefused 4 (some at)
+  pub settings-other : (f : PageField) (m : ℕ) → pageItemAt s at ≡ wholeField f m → ((v n : ℕ) → f ≡ Settings v n → ⊥) → settingsAt s e at ≡ pageRefused 4 (some at)
   unfolding settingsAt
   settings-other f m h isnt = ap (pageSettled s e at) h ∙ other-settings f m isnt
 
-  module _ (v n m : ℕ) (h : pageItemAt s at ≡ wholePageField (Settings v n) m) where
+  module _ (v n m : ℕ) (h : pageItemAt s at ≡ wholeField (Settings v n) m) where
     pub settings-whole : settingsAt s e at ≡ inside s e v m (readSetup (valueAt s v n))
     unfolding settingsAt
     settings-whole = ap (pageSettled s e at) h
@@ -121,20 +122,20 @@ module _ (s : List ℕ) (e at : ℕ) where
 -- ---- the page
 
 module _ (s : List ℕ) where
-  pub page-bad : (n : ℕ) (p : Option ℕ) → pageItemAt s 0 ≡ badPageField n p → readPage s ≡ pageRefused n p
+  pub page-bad : (n : ℕ) (p : Option ℕ) → pageItemAt s 0 ≡ badField n p → readPage s ≡ pageRefused n p
   unfolding readPage
   page-bad n p h = ap (pageBegun s) h
 
-  other-first : (f : PageField) (m : ℕ) → ((e : ℕ) → f ≡ Edition e → ⊥) → pageBegun s (wholePageField f m) ≡ pageRefused 4 (some 0)
+  other-first : (f : PageField) (m : ℕ) → ((e : ℕ) → f ≡ Edition e → ⊥) → pageBegun s (wholeField f m) ≡ pageRefused 4 (some 0)
   other-first (Edition e) m isnt = absurd (isnt e refl)
   other-first (Settings v n) m isnt = refl
   other-first Skipped m isnt = refl
   other-first End m isnt = refl
 
-  pub page-other : (f : PageField) (m : ℕ) → pageItemAt s 0 ≡ wholePageField f m → ((e : ℕ) → f ≡ Edition e → ⊥) → readPage s ≡ pageRefused 4 (some 0)
+  pub page-other : (f : PageField) (m : ℕ) → pageItemAt s 0 ≡ wholeField f m → ((e : ℕ) → f ≡ Edition e → ⊥) → readPage s ≡ pageRefused 4 (some 0)
   unfolding readPage
   page-other f m h isnt = ap (pageBegun s) h ∙ other-first f m isnt
 
-  pub page-begun : (e m : ℕ) → pageItemAt s 0 ≡ wholePageField (Edition e) m → readPage s ≡ settingsAt s e (pastSkipped s m)
+  pub page-begun : (e m : ℕ) → pageItemAt s 0 ≡ wholeField (Edition e) m → readPage s ≡ settingsAt s e (pastSkipped s m)
   unfolding readPage
   page-begun e m h = ap (pageBegun s) h

@@ -4,7 +4,7 @@
 --   skip-back     what is passed over is skipped fields
 --
 -- Assumes nothing.
-use Prim.Native.Nat.{ℕ, zero, suc, _+_, _*_, _/_, _%_, _≤_, _<_}
+use Prim.Native.Nat.{ℕ, zero, suc, _+_, _≤_, _<_}
 use mathlib.Core.Path.{_≡_, refl, sym, ap, _∙_}
 use mathlib.Core.Bool.{Bool, true, false, _||_}
 use mathlib.Core.List.{List, [], _∷_, _++_, append-assoc}
@@ -13,17 +13,18 @@ use borrow.Author.Tests.{eqb-true, leb-true}
 use lib.Dec.{eqb, leb}
 use lib.ListN.{length, take, drop, take-append-drop, length-drop}
 use lib.Seq.{drop-cons, drop-drop, length-take-le}
-use Rattle.fields.specs.Bytes.{byteAt, big}
+use Rattle.fields.specs.Bytes.{byteAt, big, two, asField, Bytes}
 use Rattle.fields.proofs.Numbers.{big-two}
+use Rattle.fields.specs.Item.{wholeField, badField}
+use Rattle.fields.proofs.Item.{Stands, stands}
 use Rattle.units.specs.Plain.{if_then_else_}
 use Rattle.plan.proofs.Inside.{true-false}
-use Rattle.page.specs.Fields.{PageItem, wholePageField, badPageField, pageFieldOf, pageItemAt}
+use Rattle.page.specs.Fields.{pageKnown, PageItem, pageFieldOf, pageItemAt}
 use Rattle.page.specs.Read.{skipWalk, pastSkipped, valueAt}
-use Rattle.page.specs.Form.{Bytes, two, pageFieldBytes, Extra, AllSkippable, extraBytes}
+use Rattle.page.specs.Form.{Extra, AllSkippable, extraBytes}
 use Rattle.page.specs.declared.parse.PageField.{PageField}
 use Rattle.page.specs.declared.parse.PageField.the-variants.{Edition, Settings, Skipped, End}
 use Rattle.page.proofs.Skips.{passed}
-use Rattle.page.proofs.Stands.{Stands, stands}
 
 differ : {A : Type 0} → _≡_ {A = ℕ} 0 1 → A
 differ z = absurd (omega arith)
@@ -68,7 +69,7 @@ by-tests s t n x f false false false true p q r u k h = record {
 }
 by-tests s t n x f false false false false p q r u k h = true-false (sym k)
 
-pub tag-is : (s : List ℕ) (at : ℕ) (f : PageField) (m : ℕ) → Stands s at f m → Tag (byteAt s at) (big s (at + 1) 2) (at + 3) f
+pub tag-is : (s : List ℕ) (at : ℕ) (f : PageField) (m : ℕ) → Stands pageKnown s at f m → Tag (byteAt s at) (big s (at + 1) 2) (at + 3) f
 unfolding pageFieldOf
 tag-is s at f m st =
     let t = byteAt s at in
@@ -101,7 +102,7 @@ module _ (s : List ℕ) (bytes : Bytes s) (at : ℕ) where
       ∙ ap (λ (k : ℕ). byteAt s j ∷ byteAt s (j + 1) ∷ drop k s) f
       ∙ ap (λ (l : List ℕ). l ++ drop (j + 2) s) (sym (two-back j))
 
-  module _ (f : PageField) (m : ℕ) (st : Stands s at f m) where
+  module _ (f : PageField) (m : ℕ) (st : Stands pageKnown s at f m) where
     abbrev value : List ℕ
     value = valueAt s (at + 3) n
 
@@ -118,7 +119,7 @@ module _ (s : List ℕ) (bytes : Bytes s) (at : ℕ) where
         sym (take-append-drop n (drop (at + 3) s))
         ∙ ap (λ (l : List ℕ). take n (drop (at + 3) s) ++ l) (drop-drop n (at + 3) s ∙ ap (λ (k : ℕ). drop k s) (st .after))
 
-    pub field-bytes : drop at s ≡ pageFieldBytes (byteAt s at) value ++ drop m s
+    pub field-bytes : drop at s ≡ asField (byteAt s at) value ++ drop m s
     field-bytes =
         let e : suc at ≡ at + 1 = omega arith in
         let g : at + 1 + 2 ≡ at + 3 = omega arith in
@@ -138,27 +139,27 @@ none-passed : (s : List ℕ) (at : ℕ) → Passed s at at
 unfolding AllSkippable extraBytes
 none-passed s at = record { extras = []; all = tt; bytes = refl }
 
-one-passed : (s : List ℕ) → Bytes s → (at m p : ℕ) → pageItemAt s at ≡ wholePageField Skipped m → Passed s m p → Passed s at p
+one-passed : (s : List ℕ) → Bytes s → (at m p : ℕ) → pageItemAt s at ≡ wholeField Skipped m → Passed s m p → Passed s at p
 unfolding AllSkippable extraBytes
 one-passed s b at m p i q =
-    let st = stands s at Skipped m i in
+    let st = stands i in
     let x : Extra = record { tag = byteAt s at; value = valueAt s (at + 3) (big s (at + 1) 2) } in
     record {
       extras = x ∷ q .extras;
       all = (record { high = tag-is s at Skipped m st .skipped refl; short = value-short s b at Skipped m st }, q .all);
       bytes =
           field-bytes s b at Skipped m st
-          ∙ ap (λ (l : List ℕ). pageFieldBytes (x .tag) (x .value) ++ l) (q .bytes)
-          ∙ sym (append-assoc (pageFieldBytes (x .tag) (x .value)) (extraBytes (q .extras)) (drop p s));
+          ∙ ap (λ (l : List ℕ). asField (x .tag) (x .value) ++ l) (q .bytes)
+          ∙ sym (append-assoc (asField (x .tag) (x .value)) (extraBytes (q .extras)) (drop p s));
     }
 
 module _ (s : List ℕ) (b : Bytes s) where
   passing : (turns at : ℕ) (more : (m : ℕ) → Passed s m (skipWalk turns s m)) (i : PageItem) → pageItemAt s at ≡ i → Passed s at (passed turns s at i)
-  passing turns at more (badPageField n p) i = none-passed s at
-  passing turns at more (wholePageField (Edition e) m) i = none-passed s at
-  passing turns at more (wholePageField (Settings v n) m) i = none-passed s at
-  passing turns at more (wholePageField Skipped m) i = one-passed s b at m (skipWalk turns s m) i (more m)
-  passing turns at more (wholePageField End m) i = none-passed s at
+  passing turns at more (badField n p) i = none-passed s at
+  passing turns at more (wholeField (Edition e) m) i = none-passed s at
+  passing turns at more (wholeField (Settings v n) m) i = none-passed s at
+  passing turns at more (wholeField Skipped m) i = one-passed s b at m (skipWalk turns s m) i (more m)
+  passing turns at more (wholeField End m) i = none-passed s at
 
   skip-turns : (turns at : ℕ) → Passed s at (skipWalk turns s at)
   unfolding skipWalk

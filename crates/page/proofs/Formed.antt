@@ -5,28 +5,28 @@
 -- Assumes nothing.
 use Prim.Native.Nat.{ℕ, _+_, _<_}
 use mathlib.Core.Path.{_≡_, refl, sym, ap, _∙_}
-use mathlib.Core.List.{List, [], _∷_, _++_}
+use mathlib.Core.List.{List, [], _++_}
 use native.Mathlib.Omega.{arith}
 use borrow.Author.Tests.{eqb-true}
-use lib.ListN.{length, take, drop, drop-of-length-le}
+use lib.ListN.{take, drop, drop-of-length-le}
 use lib.Seq.{take-at}
-use Rattle.fields.specs.Bytes.{byteAt, big}
+use Rattle.fields.specs.Bytes.{byteAt, big, two, asField, Bytes}
 use Rattle.fields.proofs.Numbers.{big-two}
+use Rattle.fields.proofs.Item.{Stands, stands}
 use Rattle.rules.specs.State.{Setting}
-use Rattle.plan.specs.Read.{readSetup, setupRead}
+use Rattle.plan.specs.Read.{setupRead}
 use Rattle.plan.proofs.Accepted.{accepted-whole}
-use Rattle.page.specs.Fields.{pageFits, pageFieldOf}
+use Rattle.page.specs.Fields.{pageKnown}
 use Rattle.page.specs.Read.{pageRead, pastSkipped, valueAt, readPage}
-use Rattle.page.specs.Form.{Bytes, two, pageFieldBytes, extraBytes, uptoSetup, pageBytes, AcceptedPage}
+use Rattle.page.specs.Form.{extraBytes, uptoSetup, AcceptedPage}
 use Rattle.page.specs.declared.parse.PageField.the-variants.{Edition, Settings, End}
 use Rattle.page.proofs.Tags.{fitting-edition, fitting-end, field-edition}
-use Rattle.page.proofs.Stands.{Stands, stands}
 use Rattle.page.proofs.Answers.{value-fits, value-length}
 use Rattle.page.proofs.Parts.{Parts, parts}
 use Rattle.page.proofs.Back.{tag-is, two-drop, size-high, field-bytes, skip-back}
 
 -- 0x40, by its bytes
-module _ (s : List ℕ) (b : Bytes s) (at e m : ℕ) (st : Stands s at (Edition e) m) where
+module _ (s : List ℕ) (b : Bytes s) (at e m : ℕ) (st : Stands pageKnown s at (Edition e) m) where
   tag : byteAt s at ≡ 64
   tag = tag-is s at (Edition e) m st .edition e refl
 
@@ -49,29 +49,29 @@ module _ (s : List ℕ) (b : Bytes s) (at e m : ℕ) (st : Stands s at (Edition 
       ∙ take-at (two (big s (at + 3) 2)) (drop (at + 3 + 2) s) 2 refl
       ∙ ap two number
 
-  pub edition-bytes : drop at s ≡ pageFieldBytes 64 (two e) ++ drop m s
+  pub edition-bytes : drop at s ≡ asField 64 (two e) ++ drop m s
   edition-bytes =
       field-bytes s b at (Edition e) m st
-      ∙ ap (λ (t : ℕ). pageFieldBytes t (valueAt s (at + 3) (big s (at + 1) 2)) ++ drop m s) tag
-      ∙ ap (λ (l : List ℕ). pageFieldBytes 64 l ++ drop m s) value
+      ∙ ap (λ (t : ℕ). asField t (valueAt s (at + 3) (big s (at + 1) 2)) ++ drop m s) tag
+      ∙ ap (λ (l : List ℕ). asField 64 l ++ drop m s) value
 
 -- 0x41
-module _ (s : List ℕ) (b : Bytes s) (at v n m : ℕ) (st : Stands s at (Settings v n) m) (start : at + 3 ≡ v) (end : v + n ≡ m) where
+module _ (s : List ℕ) (b : Bytes s) (at v n m : ℕ) (st : Stands pageKnown s at (Settings v n) m) (start : at + 3 ≡ v) (end : v + n ≡ m) where
   long : big s (at + 1) 2 ≡ n
   long = omega (arith, st .after, start, end)
 
   pub settings-high : n < 65536
   settings-high = omega (arith, long, size-high s b at)
 
-  pub settings-bytes : drop at s ≡ pageFieldBytes 65 (valueAt s v n) ++ drop m s
+  pub settings-bytes : drop at s ≡ asField 65 (valueAt s v n) ++ drop m s
   settings-bytes =
       field-bytes s b at (Settings v n) m st
-      ∙ ap (λ (t : ℕ). pageFieldBytes t (valueAt s (at + 3) (big s (at + 1) 2)) ++ drop m s) (tag-is s at (Settings v n) m st .settings v n refl)
-      ∙ ap (λ (k : ℕ). pageFieldBytes 65 (valueAt s k (big s (at + 1) 2)) ++ drop m s) start
-      ∙ ap (λ (k : ℕ). pageFieldBytes 65 (valueAt s v k) ++ drop m s) long
+      ∙ ap (λ (t : ℕ). asField t (valueAt s (at + 3) (big s (at + 1) 2)) ++ drop m s) (tag-is s at (Settings v n) m st .settings v n refl)
+      ∙ ap (λ (k : ℕ). asField 65 (valueAt s k (big s (at + 1) 2)) ++ drop m s) start
+      ∙ ap (λ (k : ℕ). asField 65 (valueAt s v k) ++ drop m s) long
 
 -- 0x7F
-module _ (s : List ℕ) (b : Bytes s) (at m : ℕ) (st : Stands s at End m) where
+module _ (s : List ℕ) (b : Bytes s) (at m : ℕ) (st : Stands pageKnown s at End m) where
   end-tag : byteAt s at ≡ 127
   end-tag = tag-is s at End m st .end refl
 
@@ -82,11 +82,11 @@ module _ (s : List ℕ) (b : Bytes s) (at m : ℕ) (st : Stands s at End m) wher
   unfolding valueAt
   nothing = ap (λ (k : ℕ). take k (drop (at + 3) s)) empty
 
-  pub end-bytes : drop at s ≡ pageFieldBytes 127 [] ++ drop m s
+  pub end-bytes : drop at s ≡ asField 127 [] ++ drop m s
   end-bytes =
       field-bytes s b at End m st
-      ∙ ap (λ (t : ℕ). pageFieldBytes t (valueAt s (at + 3) (big s (at + 1) 2)) ++ drop m s) end-tag
-      ∙ ap (λ (l : List ℕ). pageFieldBytes 127 l ++ drop m s) nothing
+      ∙ ap (λ (t : ℕ). asField t (valueAt s (at + 3) (big s (at + 1) 2)) ++ drop m s) end-tag
+      ∙ ap (λ (l : List ℕ). asField 127 l ++ drop m s) nothing
 
 module _ (s : List ℕ) (b : Bytes s) (e v : ℕ) (gs : List Setting) (n : ℕ) (p : Parts s e v gs n) where
   abbrev setup : List ℕ
@@ -99,23 +99,23 @@ module _ (s : List ℕ) (b : Bytes s) (e v : ℕ) (gs : List Setting) (n : ℕ) 
       let ys = skip-back s b (p .next₂) in
       let at₂ = pastSkipped s (p .next₁) in
       let at₃ = pastSkipped s (p .next₂) in
-      let st₁ = stands s 0 (Edition e) (p .next₁) (p .first) in
-      let st₂ = stands s at₂ (Settings (p .value) (p .size)) (p .next₂) (p .second) in
-      let st₃ = stands s at₃ End (p .next₃) (p .third) in
+      let st₁ = stands (p .first) in
+      let st₂ = stands (p .second) in
+      let st₃ = stands (p .third) in
       let w = value-fits s at₂ (p .value) (p .size) (p .next₂) (p .second) in
-      let last : drop at₃ s ≡ pageFieldBytes 127 [] = end-bytes s b at₃ (p .next₃) st₃ ∙ ap (λ (l : List ℕ). pageFieldBytes 127 [] ++ l) (drop-of-length-le s (p .closes)) in
-      let third : drop (p .next₂) s ≡ extraBytes (ys .extras) ++ pageFieldBytes 127 [] = ys .bytes ∙ ap (λ (l : List ℕ). extraBytes (ys .extras) ++ l) last in
-      let second : drop at₂ s ≡ pageFieldBytes 65 setup ++ (extraBytes (ys .extras) ++ pageFieldBytes 127 []) =
-      settings-bytes s b at₂ (p .value) (p .size) (p .next₂) st₂ (w .start) (w .end) ∙ ap (λ (l : List ℕ). pageFieldBytes 65 setup ++ l) third
+      let last : drop at₃ s ≡ asField 127 [] = end-bytes s b at₃ (p .next₃) st₃ ∙ ap (λ (l : List ℕ). asField 127 [] ++ l) (drop-of-length-le s (p .closes)) in
+      let third : drop (p .next₂) s ≡ extraBytes (ys .extras) ++ asField 127 [] = ys .bytes ∙ ap (λ (l : List ℕ). extraBytes (ys .extras) ++ l) last in
+      let second : drop at₂ s ≡ asField 65 setup ++ (extraBytes (ys .extras) ++ asField 127 []) =
+      settings-bytes s b at₂ (p .value) (p .size) (p .next₂) st₂ (w .start) (w .end) ∙ ap (λ (l : List ℕ). asField 65 setup ++ l) third
       in
-      let first : drop (p .next₁) s ≡ extraBytes (xs .extras) ++ (pageFieldBytes 65 setup ++ (extraBytes (ys .extras) ++ pageFieldBytes 127 [])) =
+      let first : drop (p .next₁) s ≡ extraBytes (xs .extras) ++ (asField 65 setup ++ (extraBytes (ys .extras) ++ asField 127 [])) =
       xs .bytes ∙ ap (λ (l : List ℕ). extraBytes (xs .extras) ++ l) second
       in
       record {
         between = xs .extras;
         setup = setup;
         after = ys .extras;
-        is = edition-bytes s b 0 e (p .next₁) st₁ ∙ ap (λ (l : List ℕ). pageFieldBytes 64 (two e) ++ l) first;
+        is = edition-bytes s b 0 e (p .next₁) st₁ ∙ ap (λ (l : List ℕ). asField 64 (two e) ++ l) first;
         edition-high = edition-high s b 0 e (p .next₁) st₁;
         skips-between = xs .all;
         short = omega (arith, value-length w, settings-high s b at₂ (p .value) (p .size) (p .next₂) st₂ (w .start) (w .end));

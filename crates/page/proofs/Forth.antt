@@ -5,18 +5,20 @@
 --   page-reads    a whole page: read, if its setup is
 --
 -- Assumes nothing.
-use Prim.Native.Nat.{ℕ, zero, suc, _+_, _-_, _≤_, _<_}
-use mathlib.Core.Path.{_≡_, refl, sym, ap, _∙_}
+use Prim.Native.Nat.{ℕ, _+_, _-_, _≤_, _<_}
+use mathlib.Core.Path.{_≡_, refl, ap, _∙_}
 use mathlib.Core.List.{List, [], _∷_, _++_, append-assoc}
 use mathlib.Core.Option.{Option}
 use native.Mathlib.Omega.{arith}
 use lib.ListN.{length, drop, length-append}
+use Rattle.fields.specs.Bytes.{two, asField}
+use Rattle.fields.specs.Item.{wholeField}
 use Rattle.rules.specs.State.{Setting}
 use Rattle.plan.specs.Read.{readSetup, setupRefused, setupRead}
-use Rattle.page.specs.Fields.{PageItem, wholePageField, pageItemAt}
-use Rattle.page.specs.Read.{PageReply, pageRead, pageRefused, skipWalk, pastSkipped, endAt, valueAt, moved, inside, settingsAt, readPage}
-use Rattle.page.specs.Form.{two, pageFieldBytes, Extra, AllSkippable, extraBytes, uptoSetup, pageBytes, AcceptedPage}
-use Rattle.page.specs.declared.parse.PageField.the-variants.{Settings, Skipped, End}
+use Rattle.page.specs.Fields.{PageItem, pageItemAt}
+use Rattle.page.specs.Read.{PageReply, pageRead, pageRefused, skipWalk, pastSkipped, endAt, moved, inside, settingsAt, readPage}
+use Rattle.page.specs.Form.{Extra, AllSkippable, extraBytes, uptoSetup, pageBytes, AcceptedPage}
+use Rattle.page.specs.declared.parse.PageField.the-variants.{Settings}
 use Rattle.page.proofs.Skips.{Stops, stopped, turn}
 use Rattle.page.proofs.Answers.{end-closed, settings-whole, page-begun}
 use Rattle.page.proofs.Bytes.{stood, rest-from, edition-item, settings-item, skipped-item, end-item}
@@ -29,11 +31,11 @@ unfolding AllSkippable extraBytes
 skips turns s at [] rest p i all h e low j stop = let q : at ≡ p = omega (arith, e) in ap (skipWalk turns s) q ∙ stopped turns s p i j stop
 skips turns s at (x ∷ xs) rest p i all h e low j stop =
     let b = all .0 in
-    let f : drop at s ≡ pageFieldBytes (x .tag) (x .value) ++ (extraBytes xs ++ rest) = h ∙ append-assoc (pageFieldBytes (x .tag) (x .value)) (extraBytes xs) rest in
+    let f : drop at s ≡ asField (x .tag) (x .value) ++ (extraBytes xs ++ rest) = h ∙ append-assoc (asField (x .tag) (x .value)) (extraBytes xs) rest in
     let st = stood s at (x .tag) (x .value) (extraBytes xs ++ rest) (b .short) f in
     let m = at + 3 + length (x .value) in
     let here = skipped-item s at (x .tag) (x .value) (extraBytes xs ++ rest) (b .high) (b .short) f in
-    let size : m + length (extraBytes xs) ≡ p = omega (arith, e, length-append (pageFieldBytes (x .tag) (x .value)) (extraBytes xs)) in
+    let size : m + length (extraBytes xs) ≡ p = omega (arith, e, length-append (asField (x .tag) (x .value)) (extraBytes xs)) in
     turn turns s at m (omega (arith, low, st .long)) here
     ∙ skips (turns - 1) s m xs rest p i (all .1) (st .follows) size (omega (arith, low, st .long)) j stop
 
@@ -49,7 +51,7 @@ module _ (e : ℕ) (xs : List Extra) (setup rest : List ℕ) (high : e < 65536) 
   page = uptoSetup e xs setup rest
 
   abbrev body : List ℕ
-  body = pageFieldBytes 65 setup ++ rest
+  body = asField 65 setup ++ rest
 
   -- where 0x41 stands, and where its value ends
   abbrev pub at : ℕ
@@ -58,7 +60,7 @@ module _ (e : ℕ) (xs : List Extra) (setup rest : List ℕ) (high : e < 65536) 
   abbrev pub end : ℕ
   end = at + 3 + length setup
 
-  first : drop 0 page ≡ pageFieldBytes 64 (two e) ++ (extraBytes xs ++ body)
+  first : drop 0 page ≡ asField 64 (two e) ++ (extraBytes xs ++ body)
   unfolding uptoSetup
   first = refl
 
@@ -68,7 +70,7 @@ module _ (e : ℕ) (xs : List Extra) (setup rest : List ℕ) (high : e < 65536) 
   here : drop at page ≡ body
   here = rest-from page (extraBytes xs ++ body) 5 behind-first (extraBytes xs) body at refl refl
 
-  second : pageItemAt page at ≡ wholePageField (Settings (at + 3) (length setup)) end
+  second : pageItemAt page at ≡ wholeField (Settings (at + 3) (length setup)) end
   second = settings-item page at setup rest short here
 
   pub behind-setup : drop end page ≡ rest
@@ -96,7 +98,7 @@ module _ (e : ℕ) (xs : List Extra) (setup : List ℕ) (ys : List Extra) (high 
   full = pageBytes e xs setup ys
 
   abbrev tail : List ℕ
-  tail = extraBytes ys ++ pageFieldBytes 127 []
+  tail = extraBytes ys ++ asField 127 []
 
   abbrev last : ℕ
   last = end e xs setup tail high all short + length (extraBytes ys)
@@ -104,14 +106,14 @@ module _ (e : ℕ) (xs : List Extra) (setup : List ℕ) (ys : List Extra) (high 
   behind : drop (end e xs setup tail high all short) full ≡ tail
   behind = behind-setup e xs setup tail high all short
 
-  third : drop last full ≡ pageFieldBytes 127 [] ++ []
-  third = rest-from full tail (end e xs setup tail high all short) behind (extraBytes ys) (pageFieldBytes 127 []) last refl refl
+  third : drop last full ≡ asField 127 [] ++ []
+  third = rest-from full tail (end e xs setup tail high all short) behind (extraBytes ys) (asField 127 []) last refl refl
 
   ends : (r : PageReply) → endAt full (pastSkipped full (end e xs setup tail high all short)) r ≡ r
   ends r =
       let item = end-item full last [] third in
       let st = stood full last 127 [] [] (omega arith) third in
-      ap (λ (p : ℕ). endAt full p r) (skip-bytes full (end e xs setup tail high all short) ys (pageFieldBytes 127 []) last _ all′ behind refl item (λ turns. refl))
+      ap (λ (p : ℕ). endAt full p r) (skip-bytes full (end e xs setup tail high all short) ys (asField 127 []) last _ all′ behind refl item (λ turns. refl))
       ∙ end-closed full last r (last + 3 + 0) item (omega (arith, st .long))
 
   pub page-reads : (v : ℕ) (gs : List Setting) (n p : ℕ) → readSetup setup ≡ setupRead v gs n p → readPage full ≡ pageRead e v gs n

@@ -1,6 +1,4 @@
 pub mod Tags
-pub mod Items
-pub mod Stands
 pub mod Skips
 pub mod Refusals
 pub mod Answers

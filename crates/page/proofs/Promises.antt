@@ -3,11 +3,12 @@ use Prim.Native.Nat.{ℕ, _<_}
 use mathlib.Core.Path.{_≡_, refl, sym, ap, _∙_}
 use mathlib.Core.List.{List, [], _++_}
 use lib.ListN.{length}
+use Rattle.fields.specs.Bytes.{asField}
 use Rattle.rules.specs.State.{Setting}
 use Rattle.plan.specs.Read.{readSetup, settings, SetupReply, setupRefused, setupRead}
 use Rattle.plan.proofs.Accepted.{accepted-whole}
 use Rattle.page.specs.Read.{pageRead, readPage, pageCame, pageReply}
-use Rattle.page.specs.Form.{Extra, AllSkippable, extraBytes, pageFieldBytes, pageBytes, PageWithin}
+use Rattle.page.specs.Form.{Extra, AllSkippable, extraBytes, pageBytes, PageWithin}
 use Rattle.page.specs.declared.Reading.{Reading}
 use Rattle.page.specs.declared.Outcome.the-variants.{Read}
 use Rattle.page.specs.Promises.{ReadsExactly, WithoutSkipped, PagesWithin, SetupDecides, RefusesInside}
@@ -25,7 +26,7 @@ module _ (d : ℕ) (setup : List ℕ) (high : d < 65536) (short : length setup <
     (a : AllSkippable xs) (b : AllSkippable ys) (a′ : AllSkippable xs′) (b′ : AllSkippable ys′) (e v : ℕ) (gs : List Setting) (n : ℕ) where
   by-setup : (r : SetupReply) → readSetup setup ≡ r → readPage (pageBytes d xs setup ys) ≡ pageRead e v gs n → readPage (pageBytes d xs′ setup ys′) ≡ pageRead e v gs n
   by-setup (setupRefused k p) j h =
-      refused-read (sym (upto-refused d xs setup (extraBytes ys ++ pageFieldBytes 127 []) high a short k p j) ∙ h)
+      refused-read (sym (upto-refused d xs setup (extraBytes ys ++ asField 127 []) high a short k p j) ∙ h)
   by-setup (setupRead w fs k p) j h = page-reads d xs′ setup ys′ high a′ short b′ w fs k p j ∙ sym (page-reads d xs setup ys high a short b w fs k p j) ∙ h
 
   same-read : readPage (pageBytes d xs setup ys) ≡ pageRead e v gs n → readPage (pageBytes d xs′ setup ys′) ≡ pageRead e v gs n

@@ -9,11 +9,12 @@ use mathlib.Core.Path.{_≡_, refl, sym, ap, _∙_}
 use mathlib.Core.List.{List}
 use native.Mathlib.Omega.{arith}
 use lib.ListN.{length}
+use Rattle.fields.specs.Item.{wholeField, badField}
+use Rattle.fields.proofs.Item.{stands}
 use Rattle.units.specs.Plain.{if_then_else_}
-use Rattle.page.specs.Fields.{PageItem, wholePageField, badPageField, pageItemAt}
+use Rattle.page.specs.Fields.{PageItem, pageItemAt}
 use Rattle.page.specs.Read.{isSkipped, skipWalk, pastSkipped}
 use Rattle.page.specs.declared.parse.PageField.the-variants.{Skipped}
-use Rattle.page.proofs.Stands.{stands}
 
 pub record Standing (s : List ℕ) (at p : ℕ) : Type 0 where
   pub turns : ℕ
@@ -23,8 +24,8 @@ pub record Standing (s : List ℕ) (at p : ℕ) : Type 0 where
 -- one turn of `skipWalk`, as a function of what stands at its place
 abbrev pub passed : ℕ → List ℕ → ℕ → PageItem → ℕ
 passed turns s at i = elim i [
-  | badPageField n p ↦ at
-  | wholePageField f next ↦ if isSkipped f then skipWalk turns s next else at
+  | badField n p ↦ at
+  | wholeField f next ↦ if isSkipped f then skipWalk turns s next else at
 ]
 
 -- a field at which the walk stops, whatever follows
@@ -37,7 +38,7 @@ stopped zero s p i e stop = refl
 stopped (suc turns) s p i e stop = ap (passed turns s p) e ∙ stop turns
 
 -- one turn over a skipped field
-pub turn : (turns : ℕ) (s : List ℕ) (p m : ℕ) → 0 < turns → pageItemAt s p ≡ wholePageField Skipped m → skipWalk turns s p ≡ skipWalk (turns - 1) s m
+pub turn : (turns : ℕ) (s : List ℕ) (p m : ℕ) → 0 < turns → pageItemAt s p ≡ wholeField Skipped m → skipWalk turns s p ≡ skipWalk (turns - 1) s m
 unfolding skipWalk
 turn zero s p m h e = absurd (omega (arith, h))
 turn (suc turns) s p m h e =
@@ -52,9 +53,9 @@ module _ (s : List ℕ) (at p : ℕ) (st : Standing s at p) where
   pub stand-stop : (i : PageItem) → pageItemAt s p ≡ i → Stops s p i → p ≡ pastSkipped s at
   stand-stop i e stop = sym (stopped (st .turns) s p i e stop) ∙ st .same
 
-  module _ (m : ℕ) (e : pageItemAt s p ≡ wholePageField Skipped m) where
+  module _ (m : ℕ) (e : pageItemAt s p ≡ wholeField Skipped m) where
     pub moves : (p < m) × (m ≤ length s)
-    moves = let k = stands s p Skipped m e in omega (arith, k .after, k .fits)
+    moves = let k = stands e in omega (arith, k .after, k .fits)
 
     pub stand-next : Standing s at m
     stand-next = record {

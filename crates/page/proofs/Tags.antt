@@ -18,9 +18,6 @@ module _ (t : ℕ) where
   pub known-settings : t ≡ 65 → pageTag t ≡ true
   known-settings e = rw e
 
-  pub known-end : t ≡ 127 → pageTag t ≡ true
-  known-end e = rw e
-
   pub known-skipped : 128 ≤ t → pageTag t ≡ true
   known-skipped h = simp (ne-eqb t 64 (λ e. omega (arith, e)), ne-eqb t 65 (λ e. omega (arith, e)), ne-eqb t 127 (λ e. omega (arith, e)), le-leb 128 t h)
 

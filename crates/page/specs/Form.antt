@@ -1,7 +1,5 @@
 -- The form of a page, byte for byte, and what a page that is read is. specs/Promises.antt says that exactly these pages are read.
 --
---   Bytes            the elements of an input are bytes
---   pageFieldBytes   a field: tag, length, value
 --   Extra            a field that is skipped; Skippable: it may be; extraBytes: some of them, one after another
 --   uptoSetup        a page as far as its 0x41, that among it; pageBytes: a whole page
 --   AcceptedPage     the rule for a page that is read
@@ -9,31 +7,20 @@
 --   RefusedPage      the rule for a refusal
 --
 -- Assumes nothing.
-use Prim.Native.Nat.{ℕ, _/_, _%_, _≤_, _<_}
+use Prim.Native.Nat.{ℕ, _≤_, _<_}
 use mathlib.Core.Path.{_≡_}
 use mathlib.Core.Bool.{true}
 use mathlib.Core.List.{List, [], _∷_, _++_}
 use mathlib.Core.Option.{Option, some}
 use lib.ListN.{length}
-use Rattle.fields.specs.Bytes.{byteAt}
+use Rattle.fields.specs.Bytes.{two, asField}
 use Rattle.rules.specs.State.{Setting}
 use Rattle.rules.specs.Setup.{Setup}
 use Rattle.plan.specs.Judge.{knownFormat}
 use Rattle.plan.specs.Read.{readSetup, setupRead}
 use Rattle.plan.specs.Accepted.{present, setupRefusals, among}
 
--- As those of any lent slice are.
-abbrev pub Bytes : List ℕ → Type 0
-Bytes s = (i : ℕ) → byteAt s i < 256
-
 -- ---- bytes
-
--- A number of two bytes, high byte first.
-abbrev pub two : ℕ → List ℕ
-two n = n / 256 ∷ n % 256 ∷ []
-
-abbrev pub pageFieldBytes : ℕ → List ℕ → List ℕ
-pageFieldBytes tag value = tag ∷ (two (length value) ++ value)
 
 -- R19.2
 pub record Extra : Type 0 where
@@ -52,15 +39,15 @@ AllSkippable (x ∷ xs) = Skippable x × AllSkippable xs
 -- R19.2
 unfoldable pub extraBytes : List Extra → List ℕ
 extraBytes [] = []
-extraBytes (x ∷ xs) = pageFieldBytes (x .tag) (x .value) ++ extraBytes xs
+extraBytes (x ∷ xs) = asField (x .tag) (x .value) ++ extraBytes xs
 
 -- 0x40 with the edition, fields that are skipped, 0x41 with a setup, and whatever follows ..
 unfoldable pub uptoSetup : ℕ → List Extra → List ℕ → List ℕ → List ℕ
-uptoSetup edition xs setup rest = pageFieldBytes 64 (two edition) ++ (extraBytes xs ++ (pageFieldBytes 65 setup ++ rest))
+uptoSetup edition xs setup rest = asField 64 (two edition) ++ (extraBytes xs ++ (asField 65 setup ++ rest))
 
 -- R19.1: .. which in a page is fields that are skipped, and 0x7F.
 abbrev pub pageBytes : ℕ → List Extra → List ℕ → List Extra → List ℕ
-pageBytes edition xs setup ys = uptoSetup edition xs setup (extraBytes ys ++ pageFieldBytes 127 [])
+pageBytes edition xs setup ys = uptoSetup edition xs setup (extraBytes ys ++ asField 127 [])
 
 -- ---- what is read, and what is refused
 

@@ -12,10 +12,11 @@ use mathlib.Core.Path.{_≡_}
 use mathlib.Core.List.{List, []}
 use mathlib.Core.Option.{Option}
 use lib.ListN.{length}
+use Rattle.fields.specs.Bytes.{Bytes}
 use Rattle.rules.specs.State.{Setting}
 use Rattle.plan.specs.Read.{readSetup, setupRefused}
 use Rattle.page.specs.Read.{pageRead, pageRefused, moved, readPage}
-use Rattle.page.specs.Form.{Bytes, Extra, AllSkippable, extraBytes, uptoSetup, pageBytes, AcceptedPage, PageWithin, RefusedPage}
+use Rattle.page.specs.Form.{Extra, AllSkippable, extraBytes, uptoSetup, pageBytes, AcceptedPage, PageWithin, RefusedPage}
 
 -- R19.1
 unfoldable pub ReadsExactly : Type 0

@@ -17,12 +17,13 @@ use mathlib.Core.List.{List}
 use mathlib.Core.Option.{Option, some, none}
 use lib.Dec.{ltb}
 use lib.ListN.{length, take, drop}
+use Rattle.fields.specs.Item.{wholeField, badField}
 use Rattle.units.specs.Plain.{if_then_else_}
 use Rattle.rules.specs.State.{Setting}
 use Rattle.rules.specs.Reads.{number, placeOf}
 use Rattle.plan.specs.Read.{readSetup, settings, SetupReply, setupRefused, setupRead}
 use Rattle.plan.specs.declared.Plan.{Plan}
-use Rattle.page.specs.Fields.{PageItem, wholePageField, badPageField, pageItemAt}
+use Rattle.page.specs.Fields.{PageItem, pageItemAt}
 use Rattle.page.specs.declared.Reading.{Reading}
 use Rattle.page.specs.declared.Outcome.{Outcome}
 use Rattle.page.specs.declared.Outcome.the-variants.{Read, Refused}
@@ -49,8 +50,8 @@ isSkipped End = false
 unfoldable pub skipWalk : ℕ → List ℕ → ℕ → ℕ
 skipWalk zero s at = at
 skipWalk (suc turns) s at = elim (pageItemAt s at) [
-  | badPageField n p ↦ at
-  | wholePageField f next ↦ if isSkipped f then skipWalk turns s next else at
+  | badField n p ↦ at
+  | wholeField f next ↦ if isSkipped f then skipWalk turns s next else at
 ]
 
 unfoldable pub pastSkipped : List ℕ → ℕ → ℕ
@@ -63,11 +64,11 @@ abbrev pub pageClosed : List ℕ → ℕ → PageReply → PageReply
 pageClosed s next r = if ltb next (length s) then pageRefused 4 (some next) else r
 
 abbrev pub ended : List ℕ → ℕ → PageReply → PageItem → PageReply
-ended s at r (badPageField n p) = pageRefused n p
-ended s at r (wholePageField (Edition e) next) = pageRefused 4 (some at)
-ended s at r (wholePageField (Settings value n) next) = pageRefused 4 (some at)
-ended s at r (wholePageField Skipped next) = pageRefused 4 (some at)
-ended s at r (wholePageField End next) = pageClosed s next r
+ended s at r (badField n p) = pageRefused n p
+ended s at r (wholeField (Edition e) next) = pageRefused 4 (some at)
+ended s at r (wholeField (Settings value n) next) = pageRefused 4 (some at)
+ended s at r (wholeField Skipped next) = pageRefused 4 (some at)
+ended s at r (wholeField End next) = pageClosed s next r
 
 -- R19.3, R19.4
 unfoldable pub endAt : List ℕ → ℕ → PageReply → PageReply
@@ -90,11 +91,11 @@ inside s edition value next (setupRefused n place) = pageRefused n (moved value 
 inside s edition value next (setupRead format gs n end) = endAt s (pastSkipped s next) (pageRead edition format gs n)
 
 abbrev pub pageSettled : List ℕ → ℕ → ℕ → PageItem → PageReply
-pageSettled s edition at (badPageField n p) = pageRefused n p
-pageSettled s edition at (wholePageField (Edition e) next) = pageRefused 4 (some at)
-pageSettled s edition at (wholePageField (Settings value n) next) = inside s edition value next (readSetup (valueAt s value n))
-pageSettled s edition at (wholePageField Skipped next) = pageRefused 4 (some at)
-pageSettled s edition at (wholePageField End next) = pageRefused 4 (some at)
+pageSettled s edition at (badField n p) = pageRefused n p
+pageSettled s edition at (wholeField (Edition e) next) = pageRefused 4 (some at)
+pageSettled s edition at (wholeField (Settings value n) next) = inside s edition value next (readSetup (valueAt s value n))
+pageSettled s edition at (wholeField Skipped next) = pageRefused 4 (some at)
+pageSettled s edition at (wholeField End next) = pageRefused 4 (some at)
 
 -- R19.3, R19.4
 unfoldable pub settingsAt : List ℕ → ℕ → ℕ → PageReply
@@ -103,11 +104,11 @@ settingsAt s edition at = pageSettled s edition at (pageItemAt s at)
 -- ---- 0x40, and the whole page
 
 abbrev pub pageBegun : List ℕ → PageItem → PageReply
-pageBegun s (badPageField n p) = pageRefused n p
-pageBegun s (wholePageField (Edition e) next) = settingsAt s e (pastSkipped s next)
-pageBegun s (wholePageField (Settings value n) next) = pageRefused 4 (some 0)
-pageBegun s (wholePageField Skipped next) = pageRefused 4 (some 0)
-pageBegun s (wholePageField End next) = pageRefused 4 (some 0)
+pageBegun s (badField n p) = pageRefused n p
+pageBegun s (wholeField (Edition e) next) = settingsAt s e (pastSkipped s next)
+pageBegun s (wholeField (Settings value n) next) = pageRefused 4 (some 0)
+pageBegun s (wholeField Skipped next) = pageRefused 4 (some 0)
+pageBegun s (wholeField End next) = pageRefused 4 (some 0)
 
 -- R14.48, R19.3, R19.4: 0x40, 0x41 and 0x7F, in that order and once each; between two of them any fields of 0x80 and above are passed over.
 unfoldable pub readPage : List ℕ → PageReply

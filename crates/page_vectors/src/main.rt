@@ -10,69 +10,27 @@
 // vectors.py writes the frames and what is expected of them.
 ghost use Prim.Native.Nat.{_≤_, _<_};
 ghost use lib.ListN.{length};
-use libc::STDOUT_FILENO;
-use lines::Place;
 use page::Outcome;
 use page::Reading;
-use plan::Lane;
-use plan::Plan;
-use rules::Refusal;
+use printed_plan::number;
+use printed_plan::word;
 
 // The number of a page's bytes stands before it.
 const FRAME: usize = 2;
-
-fn print_number(before: &[u8], n: u64) {
-    io::write_all(STDOUT_FILENO, before);
-    io::print_decimal(STDOUT_FILENO, n);
-}
-
-fn print_place(p: Place) {
-    match p {
-        Place::At(at) => print_number(b" ", at as u64),
-        Place::Nowhere => {}
-    }
-}
-
-fn print_refused(x: Refusal) {
-    print_number(b"no ", lines::number(x));
-    print_place(lines::place_of(x));
-}
-
-fn print_lane(k: usize, l: Lane) {
-    if l.weight != 0 {
-        print_number(b" ", k as u64);
-        print_number(b"/", l.weight as u64);
-        print_number(b"/", l.longest as u64);
-        print_number(b"/", l.framing as u64);
-        if l.shared {
-            io::write_all(STDOUT_FILENO, b"/shared");
-        }
-    }
-}
-
-fn print_plan(p: Plan) {
-    print_number(b", format ", p.format as u64);
-    print_number(b", lanes ", p.count as u64);
-    io::write_all(STDOUT_FILENO, b",");
-    let lanes = p.lanes;
-    let mut k: usize = 0;
-    while k < 64 {
-        print_lane(k, lanes[k]);
-        k += 1;
-    }
-}
 
 fn print_reading(r: Reading) {
     let outcome = r.outcome;
     match outcome {
         Outcome::Read(edition) => {
-            print_number(b"edition ", edition as u64);
             let p = r.plan;
-            print_plan(p)
+            number(b"edition ", edition as u64);
+            number(b", format ", p.format as u64);
+            number(b", lanes ", p.count as u64);
+            printed_plan::lanes(p)
         }
-        Outcome::Refused(x) => print_refused(x),
+        Outcome::Refused(x) => printed_plan::refusal(x),
     }
-    io::write_all(STDOUT_FILENO, b"\n");
+    word(b"\n");
 }
 
 // The frame at a place. Answers where the next one begins.

@@ -17,7 +17,8 @@ use lib.ListN.{length}
 use Rattle.units.specs.Plain.{if_then_else_}
 use Rattle.rules.specs.State.{Setting}
 use Rattle.rules.proofs.Figures.{framing-bound, framed-by}
-use Rattle.plan.specs.Fields.{SetupItem, wholeField, badField}
+use Rattle.fields.specs.Item.{wholeField, badField}
+use Rattle.plan.specs.Fields.{SetupItem}
 use Rattle.plan.specs.Judge.{knownFormat, judgedAt, seenAfter}
 use Rattle.plan.specs.Read.{SetupReply, setupRead, setupRefused, nothingSeen, noLanes, placed, setupWalk, readPlan, setupClosed, readSetup, settings, setupCame, setupReply}
 use Rattle.plan.specs.Accepted.{Laid, framed, framedBy, placedAll, sharedBehind, fieldsOf, PlanWithin}
@@ -28,7 +29,7 @@ use Rattle.plan.specs.declared.parse.SetupField.{SetupField}
 use Rattle.plan.specs.declared.parse.SetupField.the-variants.{Format, Lane, Framing, Shared, End}
 use Rattle.plan.proofs.Turn.{turned}
 use Rattle.plan.proofs.Inside.{true-false, format-known, framing-small}
-use Rattle.plan.proofs.Stands.{Taken, is-taken}
+use Rattle.plan.proofs.Taken.{Taken, is-taken}
 use Rattle.plan.proofs.Sound.{Sound, sound-first, sound-after}
 use Rattle.plan.proofs.Rest.{Rest, shares, rest, rest-lane, refused-read}
 

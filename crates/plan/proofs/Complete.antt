@@ -13,9 +13,10 @@ use borrow.Author.Tests.{le-leb, le-ltb, eq-eqb, ne-eqb}
 use lib.ListN.{length, set, length-set}
 use lib.Seq.{getD-set-same, set-set}
 use Rattle.rules.specs.State.{Setting, noSetting, settingAt}
-use Rattle.plan.specs.Fields.{SetupItem, wholeField, setupItemAt}
+use Rattle.fields.specs.Item.{wholeField}
+use Rattle.plan.specs.Fields.{setupItemAt}
 use Rattle.plan.specs.Judge.{given, longestOf, longestRight, mostFraming, misplaced, Inside, over, judgedAt, seenAfter}
-use Rattle.plan.specs.Read.{SetupReply, setupRead, nothingSeen, noLanes, asShared, placed, setupWalk, readPlan}
+use Rattle.plan.specs.Read.{SetupReply, setupRead, nothingSeen, noLanes, asShared, setupWalk, readPlan}
 use Rattle.plan.specs.Accepted.{Laid, LaneFields, Rising, LaneWithin, LanesWithin, weighed, givenBy, framed, framedBy, placedAll, sharedBehind, fieldsOf, AcceptedSetup}
 use Rattle.plan.specs.declared.judge.Fault.the-variants.{NoFault}
 use Rattle.plan.specs.declared.judge.Seen.{Seen}
@@ -26,7 +27,7 @@ use Rattle.plan.specs.declared.parse.SetupField.{SetupField}
 use Rattle.plan.specs.declared.parse.SetupField.the-variants.{Format, Lane, Framing, Shared, End}
 use Rattle.plan.proofs.Turn.{turned}
 use Rattle.plan.proofs.Judged.{outside-none, judged-whole}
-use Rattle.plan.proofs.Stands.{stands}
+use Rattle.fields.proofs.Item.{stands}
 
 inside : (l : LaneField) → LaneWithin l → Inside (Lane l)
 inside l w =
@@ -43,9 +44,9 @@ module _ (s : List ℕ) where
   turn : (turns : ℕ) (seen : Seen) (gs : List Setting) (at : ℕ) (f : SetupField) (m : ℕ) (r : SetupReply) → length s - at ≤ turns → setupItemAt s at ≡ wholeField f m → judgedAt seen s at ≡ wholeField f m
       → ((less : ℕ) → length s - m ≤ less → turned less s seen gs (wholeField f m) ≡ r) → setupWalk turns s seen gs at ≡ r
   unfolding setupWalk
-  turn zero seen gs at f m r low i j go = absurd (omega (arith, low, stands s at f m i .fits))
+  turn zero seen gs at f m r low i j go = absurd (omega (arith, low, stands i .fits))
   turn (suc turns) seen gs at f m r low i j go =
-      let st = stands s at f m i in
+      let st = stands i in
       ap (turned turns s seen gs) j ∙ go turns (omega (arith, low, st .after, st .fits))
 
   -- 0x12 behind the 0x10 of its lane, or none

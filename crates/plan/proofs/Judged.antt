@@ -7,7 +7,8 @@ use mathlib.Core.List.{List}
 use mathlib.Core.Option.{Option, some}
 use borrow.Author.Tests.{le-leb, lt-leb}
 use lib.Dec.{leb}
-use Rattle.plan.specs.Fields.{wholeField, badField, setupItemAt}
+use Rattle.fields.specs.Item.{wholeField, badField}
+use Rattle.plan.specs.Fields.{setupItemAt}
 use Rattle.plan.specs.Judge.{longestRight, lastLane, within, misplaced, laneOutside, outside, Inside, over, faulted, judged, judgedAt}
 use Rattle.plan.specs.declared.judge.Fault.{Fault}
 use Rattle.plan.specs.declared.judge.Fault.the-variants.{NoFault, BadLane, BadWeight, BadLongest}

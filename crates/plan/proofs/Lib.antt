@@ -1,8 +1,9 @@
 pub mod Lists
+pub mod Held
+pub mod AtPlace
 pub mod Tags
-pub mod Items
 pub mod Judged
-pub mod Stands
+pub mod Taken
 pub mod Inside
 pub mod Offsets
 pub mod Shown

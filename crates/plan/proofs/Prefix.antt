@@ -8,16 +8,17 @@ use mathlib.Core.Path.{_≡_, refl, sym, subst, ap, _∙_}
 use mathlib.Core.Bool.{Bool, true, false}
 use mathlib.Core.List.{List}
 use native.Mathlib.Omega.{arith}
-use borrow.Author.Tests.{eqb-true, eqb-false, le-leb}
+use borrow.Author.Tests.{eqb-true, eqb-false}
 use lib.Dec.{eqb}
 use lib.ListN.{length, getD, take, length-take}
 use lib.Seq.{getD-take}
 use Rattle.fields.specs.Bytes.{byteAt, big}
 use Rattle.fields.proofs.Numbers.{big-same}
-use Rattle.fields.proofs.Header.{header-whole}
+use Rattle.fields.proofs.Item.{Stands, item-by}
 use Rattle.units.specs.Plain.{if_then_else_}
 use Rattle.rules.specs.State.{Setting}
-use Rattle.plan.specs.Fields.{SetupItem, wholeField, badField, ends, setupTag, setupFits, longestAt, laneFieldAt, setupFieldOf, setupItemAt}
+use Rattle.fields.specs.Item.{wholeField, badField}
+use Rattle.plan.specs.Fields.{SetupItem, ends, setupTag, setupFits, setupKnown, longestAt, laneFieldAt, setupFieldOf, setupItemAt}
 use Rattle.plan.specs.Judge.{judgedAt, seenAfter}
 use Rattle.plan.specs.Read.{setupRead, nothingSeen, noLanes, placed, setupWalk, readPlan}
 use Rattle.plan.specs.declared.judge.Seen.{Seen}
@@ -27,9 +28,8 @@ use Rattle.plan.specs.declared.parse.SetupField.{SetupField}
 use Rattle.plan.specs.declared.parse.SetupField.the-variants.{Format, Lane, Framing, Shared, End}
 use Rattle.plan.proofs.Turn.{turned}
 use Rattle.plan.proofs.Tags.{lane-long, lane-three}
-use Rattle.plan.proofs.Items.{item-whole}
 use Rattle.plan.proofs.Judged.{judged-whole}
-use Rattle.plan.proofs.Stands.{Stands, is-taken}
+use Rattle.plan.proofs.Taken.{is-taken}
 use Rattle.plan.proofs.Rest.{refused-read}
 use Rattle.plan.proofs.Accepted.{accepted}
 
@@ -75,22 +75,17 @@ module _ (s t : List ℕ) (v n : ℕ) (same : Same s t v (v + n)) where
 
 -- ---- a field
 
-pub item-same : (s t : List ℕ) (at : ℕ) (f : SetupField) (m : ℕ) → Stands s at f m → Same s t at m → m ≤ length t → setupItemAt t at ≡ wholeField f m
+pub item-same : (s t : List ℕ) (at : ℕ) (f : SetupField) (m : ℕ) → Stands setupKnown s at f m → Same s t at m → m ≤ length t → setupItemAt t at ≡ wholeField f m
 item-same s t at f m h same fits =
     let tag : byteAt s at ≡ byteAt t at = same at (omega arith) (omega (arith, h .after)) in
     let size : big s (at + 1) 2 ≡ big t (at + 1) 2 = big-same s t 2 (at + 1) (λ i a b. same i (omega arith) (omega (arith, h .after))) in
-    let known-t : setupTag (byteAt t at) ≡ true = sym (ap setupTag tag) ∙ h .tag in
     let fit-s : setupFits (byteAt t at) (big s (at + 1) 2) ≡ true = subst (λ (k : ℕ). setupFits k (big s (at + 1) 2) ≡ true) tag (h .size) in
-    let fit-t : setupFits (byteAt t at) (big t (at + 1) 2) ≡ true = subst (λ (k : ℕ). setupFits (byteAt t at) k ≡ true) size fit-s in
     let n = big s (at + 1) 2 in
     let value : setupFieldOf s (byteAt t at) (at + 3) n ≡ setupFieldOf t (byteAt t at) (at + 3) n =
     value-same s t (at + 3) n (λ i a b. same i (omega arith) (omega (arith, h .after))) (byteAt t at) fit-s
     in
-    item-whole t at (byteAt t at) (at + 3) (big t (at + 1) 2) (header-whole t at (omega (arith, h .after))) known-t fit-t
-    (le-leb (at + 3 + big t (at + 1) 2) (length t) (omega (arith, h .after)))
-    ∙ ap (λ (k : ℕ). wholeField (setupFieldOf t (byteAt t at) (at + 3) k) (at + 3 + k)) (sym size)
-    ∙ ap (λ (g : SetupField). wholeField g (at + 3 + n)) (sym value ∙ ap (λ (k : ℕ). setupFieldOf s k (at + 3) n) (sym tag) ∙ h .field)
-    ∙ ap (wholeField f) (h .after)
+    item-by setupKnown t at (byteAt t at) n refl (sym size) (sym (ap setupTag tag) ∙ h .tag) fit-s (omega (arith, h .after))
+    (sym value ∙ ap (λ (k : ℕ). setupFieldOf s k (at + 3) n) (sym tag) ∙ h .field) (h .after)
 
 -- ---- the walk
 

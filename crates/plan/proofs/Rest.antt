@@ -14,7 +14,8 @@ use borrow.Author.Tests.{eqb-false}
 use lib.ListN.{length, set}
 use lib.Seq.{getD-set-same, set-set}
 use Rattle.rules.specs.State.{Setting, noSetting, settingAt}
-use Rattle.plan.specs.Fields.{SetupItem, wholeField, badField}
+use Rattle.fields.specs.Item.{wholeField, badField}
+use Rattle.plan.specs.Fields.{SetupItem}
 use Rattle.plan.specs.Judge.{given, judgedAt, seenAfter}
 use Rattle.plan.specs.Read.{setupRead, setupRefused, asShared, placed, setupWalk}
 use Rattle.plan.specs.Accepted.{Laid, LaneFields, Rising, LanesWithin, weighed, givenBy, placedAll, sharedBehind, fieldsOf}
@@ -24,7 +25,7 @@ use Rattle.plan.specs.declared.parse.SetupField.{SetupField}
 use Rattle.plan.specs.declared.parse.SetupField.the-variants.{Format, Lane, Framing, Shared, End}
 use Rattle.plan.proofs.Turn.{turned}
 use Rattle.plan.proofs.Inside.{true-false, lane-number, in-numbers, is-rising, is-laned, is-last}
-use Rattle.plan.proofs.Stands.{Taken, is-taken}
+use Rattle.plan.proofs.Taken.{Taken, is-taken}
 use Rattle.plan.proofs.Sound.{Sound, sound-after}
 
 pub refused-read : {A : Type 0} {n : ℕ} {p : Option ℕ} {v : ℕ} {gs : List Setting} {k m : ℕ} → setupRefused n p ≡ setupRead v gs k m → A

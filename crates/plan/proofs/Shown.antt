@@ -13,8 +13,9 @@ use mathlib.Core.Logic.{⊎-elim}
 use native.Mathlib.Omega.{arith}
 use lib.Dec.{leb, ltb, eqb}
 use Rattle.fields.specs.Bytes.{byteAt, big}
+use Rattle.fields.proofs.Item.{Stands}
 use Rattle.units.specs.Plain.{if_then_else_}
-use Rattle.plan.specs.Fields.{laneFieldAt, longestAt, setupFieldOf}
+use Rattle.plan.specs.Fields.{setupKnown, laneFieldAt, longestAt, setupFieldOf}
 use Rattle.plan.specs.Judge.{knownFormat, longestRight, lastLane, mostFraming, within, laneOutside, outside, over, faults, offset}
 use Rattle.plan.specs.Accepted.{wrongAt}
 use Rattle.plan.specs.declared.judge.Fault.{Fault}
@@ -26,7 +27,6 @@ use Rattle.plan.specs.declared.parse.SetupField.the-variants.{Format, La
 use Rattle.plan.proofs.Inside.{true-false}
 use Rattle.plan.proofs.Offsets.{short-right}
 use Rattle.plan.proofs.Tags.{lane-size, longest-long}
-use Rattle.plan.proofs.Stands.{Stands}
 
 abbrev numberIn : Option (ℕ × ℕ) → ℕ
 numberIn none = 0
@@ -80,7 +80,7 @@ module _ (s : List ℕ) (at n : ℕ) where
   own-shows false false false true h = refl
   own-shows false false false false h = refl
 
-module _ (s : List ℕ) (at : ℕ) (f : SetupField) (m : ℕ) (k : Stands s at f m) where
+module _ (s : List ℕ) (at : ℕ) (f : SetupField) (m : ℕ) (k : Stands setupKnown s at f m) where
   abbrev t : ℕ
   t = byteAt s at
 

@@ -3,7 +3,8 @@ use Prim.Native.Nat.{ℕ}
 use mathlib.Core.List.{List}
 use Rattle.units.specs.Plain.{if_then_else_}
 use Rattle.rules.specs.State.{Setting}
-use Rattle.plan.specs.Fields.{SetupItem, wholeField, badField, ends}
+use Rattle.fields.specs.Item.{wholeField, badField}
+use Rattle.plan.specs.Fields.{SetupItem, ends}
 use Rattle.plan.specs.Judge.{seenAfter}
 use Rattle.plan.specs.Read.{SetupReply, setupRead, setupRefused, placed, setupWalk}
 use Rattle.plan.specs.declared.judge.Seen.{Seen}

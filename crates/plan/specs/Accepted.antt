@@ -29,7 +29,8 @@ use Rattle.fields.specs.Bytes.{byteAt, big}
 use Rattle.units.specs.Plain.{if_then_else_, sum}
 use Rattle.rules.specs.State.{Setting}
 use Rattle.rules.specs.Setup.{Setup, InNumbers, weights}
-use Rattle.plan.specs.Fields.{wholeField, setupItemAt}
+use Rattle.fields.specs.Item.{wholeField}
+use Rattle.plan.specs.Fields.{setupItemAt}
 use Rattle.plan.specs.Judge.{knownFormat, longestOf, given, lastLane, mostFraming, within}
 use Rattle.plan.specs.Read.{noLanes}
 use Rattle.plan.specs.declared.parse.LaneField.{LaneField}

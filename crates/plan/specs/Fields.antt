@@ -1,24 +1,20 @@
 -- One field of a setup (docs/RULES.md, R8), and the refusals 1 to 3.
 --
---   SetupItem      a field, taken apart, with the place after it; or a refusal's number and place
 --   setupTag       the tags of a setup
 --   setupFits      the lengths that are right for a tag
 --   setupFieldOf   a value, taken apart by its tag
+--   setupKnown     what a setup knows: these three
 --   ends           whether a field is 0x7F
---   setupItemAt    what stands at a place of a setup
+--   setupItemAt    what stands at a place of a setup, a `SetupItem`
 --   setupItemOf    the code's answer as a `SetupItem`
 --
 -- Assumes nothing.
 use Prim.Native.Nat.{ℕ, _+_}
-use mathlib.Core.Bool.{Bool, true, false, not, _||_}
+use mathlib.Core.Bool.{Bool, true, false, _||_}
 use mathlib.Core.List.{List}
-use mathlib.Core.Option.{Option, some}
-use lib.Dec.{leb, eqb}
-use lib.ListN.{length}
+use lib.Dec.{eqb}
 use Rattle.fields.specs.Bytes.{byteAt, big}
-use Rattle.fields.specs.Header.{headerAt}
-use Rattle.fields.specs.declared.Field.{Field}
-use Rattle.fields.specs.declared.Field.the-variants.{Nothing, Cut, Header}
+use Rattle.fields.specs.Item.{Item, wholeField, badField, Known, itemAt}
 use Rattle.units.specs.Plain.{if_then_else_}
 use Rattle.rules.specs.Reads.{number, placeOf}
 use Rattle.plan.specs.declared.parse.Longest.{Longest}
@@ -28,11 +24,6 @@ use Rattle.plan.specs.declared.parse.SetupField.{SetupField}
 use Rattle.plan.specs.declared.parse.SetupField.the-variants.{Format, Lane, Framing, Shared, End}
 use Rattle.plan.specs.declared.parse.Parsed.{Parsed}
 use Rattle.plan.specs.declared.parse.Parsed.the-variants.{Whole, Refused}
-
--- What stands at a place: a whole field, taken apart, with the place after it; or a refusal's number and its place.
-pub data SetupItem : Type 0 where
-  wholeField : SetupField → ℕ → SetupItem
-  badField : ℕ → Option ℕ → SetupItem
 
 -- R8.5, R14.3. The tags that this part knows: 0x01, 0x10, 0x11, 0x12 and 0x7F.
 abbrev pub setupTag : ℕ → Bool
@@ -59,6 +50,9 @@ setupFieldOf s tag at n =
     else (if eqb tag 17 then Framing (byteAt s at)
     else (if eqb tag 18 then Shared (byteAt s at) else End)))
 
+abbrev pub setupKnown : Known SetupField
+setupKnown = record { tag = setupTag; fits = setupFits; field = setupFieldOf }
+
 -- R8.12: 0x7F ends a setup.
 abbrev pub ends : SetupField → Bool
 ends (Format v) = false
@@ -67,18 +61,12 @@ ends (Framing h) = false
 ends (Shared k) = false
 ends End = true
 
--- R8.3, R8.4, R8.6, R14.2: what was read of the header decides first, then the tag, its length, and whether the value is whole.
-abbrev pub setupItemByHeader : List ℕ → ℕ → Field → SetupItem
-setupItemByHeader s at Nothing = badField 1 (some (length s))
-setupItemByHeader s at Cut = badField 1 (some at)
-setupItemByHeader s at (Header tag value n) =
-    if not (setupTag tag) then badField 2 (some at)
-    else (if not (setupFits tag n) then badField 3 (some at)
-    else (if not (leb (value + n) (length s)) then badField 1 (some at) else wholeField (setupFieldOf s tag value n) (value + n)))
+abbrev pub SetupItem : Type 0
+SetupItem = Item SetupField
 
--- R8.4
-unfoldable pub setupItemAt : List ℕ → ℕ → SetupItem
-setupItemAt s at = setupItemByHeader s at (headerAt s at)
+-- R8.3, R8.4, R8.6: as in every input, by what a setup knows.
+abbrev pub setupItemAt : List ℕ → ℕ → SetupItem
+setupItemAt = itemAt setupKnown
 
 -- The code's answer, its refusal by number.
 abbrev pub setupItemOf : Parsed → SetupItem

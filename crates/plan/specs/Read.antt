@@ -16,7 +16,8 @@ use lib.ListN.{length, set, replicate}
 use Rattle.units.specs.Plain.{if_then_else_}
 use Rattle.rules.specs.State.{Setting, noSetting, settingAt}
 use Rattle.rules.specs.Reads.{number, placeOf}
-use Rattle.plan.specs.Fields.{SetupItem, wholeField, badField, ends}
+use Rattle.fields.specs.Item.{wholeField, badField}
+use Rattle.plan.specs.Fields.{ends}
 use Rattle.plan.specs.Judge.{given, judgedAt, seenAfter}
 use Rattle.plan.specs.declared.Lane as lane
 use Rattle.plan.specs.declared.Plan.{Plan}

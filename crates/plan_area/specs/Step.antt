@@ -13,12 +13,12 @@ use mathlib.Core.Path.{_≡_}
 use mathlib.Core.List.{List, _++_}
 use mathlib.Core.Option.{Option, some}
 use lib.ListN.{length, drop, take}
+use Rattle.fields.specs.Bytes.{Bytes}
 use Rattle.words.specs.Words.{wordAt}
 use Rattle.rules.specs.Reads.{number, placeOf}
 use Rattle.plan.specs.Read.{readSetup, SetupReply, setupRefused, setupRead}
 use Rattle.plan_writer.specs.Format.{InForm}
 use Rattle.plan_writer.specs.Write.{setupBytes, setupSize, writtenSize, writeReply, notWritten}
-use Rattle.plan_writer.specs.RoundTrip.{Bytes}
 use Rattle.plan_writer.specs.declared.Written.{Written}
 use Rattle.plan_area.specs.Area.{areaSize, AreaRoom, planIn, ShowsPlan, AreaWithin}
 use Rattle.plan_area.specs.declared.Got.{Got}

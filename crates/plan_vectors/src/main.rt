@@ -12,13 +12,10 @@
 // vectors.py writes the vectors and the expected lines.
 ghost use Prim.Native.Nat.{_<_, _≤_};
 ghost use lib.ListN.{length};
-use libc::STDOUT_FILENO;
-use lines::Place;
-use plan::Lane;
 use plan::Outcome;
-use plan::Plan;
 use plan::Reading;
-use rules::Refusal;
+use printed_plan::number;
+use printed_plan::word;
 
 // Room for all vectors.
 const TEXT: usize = 131072;
@@ -143,57 +140,17 @@ fn read_line(text: &[u8], from: usize, bytes: &mut [u8]) -> Vector
     }
 }
 
-fn print_number(before: &[u8], n: u64) {
-    io::write_all(STDOUT_FILENO, before);
-    io::print_decimal(STDOUT_FILENO, n);
-}
-
-fn print_place(p: Place) {
-    match p {
-        Place::At(at) => print_number(b" ", at as u64),
-        Place::Nowhere => {}
-    }
-}
-
-fn print_refused(x: Refusal) {
-    print_number(b"no ", lines::number(x));
-    print_place(lines::place_of(x));
-}
-
-fn print_lane(k: usize, l: Lane) {
-    if l.weight != 0 {
-        print_number(b" ", k as u64);
-        print_number(b"/", l.weight as u64);
-        print_number(b"/", l.longest as u64);
-        print_number(b"/", l.framing as u64);
-        if l.shared {
-            io::write_all(STDOUT_FILENO, b"/shared");
-        }
-    }
-}
-
-fn print_plan(p: Plan, next: usize) {
-    print_number(b"lanes ", p.count as u64);
-    print_number(b" to ", next as u64);
-    io::write_all(STDOUT_FILENO, b",");
-    let lanes = p.lanes;
-    let mut k: usize = 0;
-    while k < 64 {
-        print_lane(k, lanes[k]);
-        k += 1;
-    }
-}
-
 fn print_reading(r: Reading) {
     let outcome = r.outcome;
     match outcome {
         Outcome::Read(next) => {
             let p = r.plan;
-            print_number(b"format ", p.format as u64);
-            io::write_all(STDOUT_FILENO, b", ");
-            print_plan(p, next)
+            number(b"format ", p.format as u64);
+            number(b", lanes ", p.count as u64);
+            number(b" to ", next as u64);
+            printed_plan::lanes(p)
         }
-        Outcome::Refused(x) => print_refused(x),
+        Outcome::Refused(x) => printed_plan::refusal(x),
     }
 }
 
@@ -202,9 +159,9 @@ fn print_both(bytes: &[u8], n: usize, place: usize) {
     if n <= bytes.len() {
         let s = &bytes[..n];
         print_reading(plan::read_setup(s));
-        io::write_all(STDOUT_FILENO, b"; ");
+        word(b"; ");
         print_reading(plan::read_plan(s, place));
-        io::write_all(STDOUT_FILENO, b"\n");
+        word(b"\n");
     }
 }
 

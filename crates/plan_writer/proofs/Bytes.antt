@@ -4,25 +4,23 @@
 --   item-bytes   where the bytes of a field stand, the field is read
 --
 -- Assumes nothing.
-use Prim.Native.Nat.{ℕ, _+_, _*_, _≤_, _<_}
+use Prim.Native.Nat.{ℕ, _+_, _≤_, _<_}
 use mathlib.Core.Path.{_≡_, refl, sym, ap, subst, _∙_}
 use mathlib.Core.Bool.{true}
 use mathlib.Core.Logic.{inl, inr}
 use mathlib.Core.List.{List, _++_}
 use native.Mathlib.Omega.{arith}
-use borrow.Author.Tests.{le-leb}
-use lib.ListN.{length, getD, drop, length-drop}
-use lib.Seq.{getD-drop}
+use lib.ListN.{length, drop}
 use Rattle.fields.specs.Bytes.{byteAt, big}
-use Rattle.fields.proofs.Numbers.{big-two}
-use Rattle.fields.proofs.Header.{header-whole}
-use Rattle.plan.specs.Fields.{wholeField, setupTag, setupFits, laneFieldAt, setupFieldOf, setupItemAt}
+use Rattle.fields.proofs.Numbers.{byte-from, two-from, long-from}
+use Rattle.fields.proofs.Item.{item-by}
+use Rattle.fields.specs.Item.{wholeField}
+use Rattle.plan.specs.Fields.{setupTag, setupFits, setupKnown, laneFieldAt, setupFieldOf, setupItemAt}
 use Rattle.plan.specs.declared.parse.Longest.{Longest}
 use Rattle.plan.specs.declared.parse.Longest.the-variants.{Given, Default}
 use Rattle.plan.specs.declared.parse.LaneField.{LaneField}
 use Rattle.plan.specs.declared.parse.SetupField.{SetupField}
 use Rattle.plan.specs.declared.parse.SetupField.the-variants.{Format, Lane, Framing, Shared, End}
-use Rattle.plan.proofs.Items.{item-whole}
 use Rattle.plan.proofs.Tags.{known-is, field-format, field-lane, field-framing, field-shared, field-end}
 use Rattle.plan_writer.specs.Format.{fieldBytes}
 
@@ -37,27 +35,10 @@ Fits (Framing h) = h < 256
 Fits (Shared k) = k < 256
 Fits End = Unit
 
-module _ (s xs : List ℕ) (at : ℕ) (h : drop at s ≡ xs) where
-  byte-from : (i j : ℕ) → j ≡ at + i → byteAt s j ≡ getD xs i 0
-  byte-from i j e = ap (byteAt s) e ∙ sym (getD-drop at s i 0) ∙ ap (λ (l : List ℕ). getD l i 0) h
-
-  long-from : 0 < length xs → length s ≡ at + length xs
-  long-from p = omega (arith, length-drop at s, ap length h)
-
-  two-from : (i j : ℕ) → j ≡ at + i → big s j 2 ≡ getD xs i 0 * 256 + getD xs (i + 1) 0
-  two-from i j e = omega (arith, big-two s j, byte-from i j e, byte-from (i + 1) (j + 1) (omega arith))
-
 module _ (s : List ℕ) (at t n m : ℕ) (f : SetupField) (m-is : at + 3 + n ≡ m) where
   item-from : byteAt s at ≡ t → big s (at + 1) 2 ≡ n → setupTag t ≡ true → setupFits t n ≡ true → at + 3 + n ≤ length s → setupFieldOf s t (at + 3) n ≡ f
       → setupItemAt s at ≡ wholeField f m
-  item-from a b k g l e =
-      let known-t : setupTag (byteAt s at) ≡ true = ap setupTag a ∙ k in
-      let fit-t : setupFits (byteAt s at) (big s (at + 1) 2) ≡ true = ap (λ (x : ℕ). setupFits x (big s (at + 1) 2)) a ∙ ap (setupFits t) b ∙ g in
-      item-whole s at (byteAt s at) (at + 3) (big s (at + 1) 2) (header-whole s at (omega arith)) known-t fit-t (le-leb (at + 3 + big s (at + 1) 2) (length s) (omega (arith, b)))
-      ∙ ap (λ (x : ℕ). wholeField (setupFieldOf s x (at + 3) (big s (at + 1) 2)) (at + 3 + big s (at + 1) 2)) a
-      ∙ ap (λ (x : ℕ). wholeField (setupFieldOf s t (at + 3) x) (at + 3 + x)) b
-      ∙ ap (λ (x : SetupField). wholeField x (at + 3 + n)) e
-      ∙ ap (wholeField f) m-is
+  item-from a b k g l e = item-by setupKnown s at t n a b k g l e m-is
 
 module _ (s : List ℕ) (at : ℕ) (rest : List ℕ) where
   format-item : (v : ℕ) → v < 65536 → drop at s ≡ fieldBytes (Format v) ++ rest → setupItemAt s at ≡ wholeField (Format v) (at + 5)

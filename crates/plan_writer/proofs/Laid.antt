@@ -4,7 +4,7 @@
 --   laid-bytes    the bytes of fields lay them; bytes-laid: fields in the form that are laid have their bytes there
 --
 -- Nothing here names a kind of field. Assumes nothing.
-use Prim.Native.Nat.{ℕ, _+_, _≤_, _<_}
+use Prim.Native.Nat.{ℕ, _+_, _≤_}
 use mathlib.Core.Path.{_≡_, refl, sym, ap, subst, _∙_}
 use mathlib.Core.Bool.{Bool, true, false, _&&_}
 use mathlib.Core.List.{List, [], _∷_, _++_, append-assoc}
@@ -12,12 +12,12 @@ use native.Mathlib.Nat.{add-zero}
 use native.Mathlib.Omega.{arith}
 use lib.ListN.{length, drop, length-append}
 use lib.Seq.{drop-drop, drop-append-seam}
-use Rattle.fields.specs.Bytes.{byteAt}
-use Rattle.plan.specs.Fields.{wholeField}
+use Rattle.fields.specs.Bytes.{Bytes}
+use Rattle.fields.specs.Item.{wholeField}
 use Rattle.plan.specs.Accepted.{Laid}
 use Rattle.plan.specs.declared.parse.SetupField.{SetupField}
 use Rattle.plan.proofs.Inside.{true-false}
-use Rattle.plan.proofs.Stands.{stands}
+use Rattle.fields.proofs.Item.{stands}
 use Rattle.plan_writer.specs.Format.{fieldBytes, bytesOf, formed, allFormed}
 use Rattle.plan_writer.proofs.Bytes.{Fits, item-bytes}
 use Rattle.plan_writer.proofs.Standing.{stand-bytes}
@@ -27,13 +27,13 @@ use Rattle.plan_writer.proofs.Standing.{stand-bytes}
 past : (s : List ℕ) (at : ℕ) (fs : List SetupField) (p : ℕ) → Laid s at fs p → at ≤ p
 unfolding Laid
 past s at [] p h = omega (arith, h)
-past s at (f ∷ fs) p h = omega (arith, stands s at f (h .0) (h .1) .after, past s (h .0) fs p (h .2))
+past s at (f ∷ fs) p h = omega (arith, stands (h .1) .after, past s (h .0) fs p (h .2))
 
 pub one-layout : (s : List ℕ) (at : ℕ) (fs gs : List SetupField) (p : ℕ) → Laid s at fs p → Laid s at gs p → fs ≡ gs
 unfolding Laid
 one-layout s at [] [] p a b = refl
-one-layout s at [] (g ∷ gs) p a b = absurd (omega (arith, a, stands s at g (b .0) (b .1) .after, past s (b .0) gs p (b .2)))
-one-layout s at (f ∷ fs) [] p a b = absurd (omega (arith, b, stands s at f (a .0) (a .1) .after, past s (a .0) fs p (a .2)))
+one-layout s at [] (g ∷ gs) p a b = absurd (omega (arith, a, stands (b .1) .after, past s (b .0) gs p (b .2)))
+one-layout s at (f ∷ fs) [] p a b = absurd (omega (arith, b, stands (a .1) .after, past s (a .0) fs p (a .2)))
 one-layout s at (f ∷ fs) (g ∷ gs) p a b =
     let w : wholeField f (a .0) ≡ wholeField g (b .0) = sym (a .1) ∙ b .1 in
     let first : f ≡ g = cc in
@@ -64,11 +64,11 @@ and-true false b h = true-false (sym h)
 pub true-and : {a b : Bool} → a ≡ true → b ≡ true → (a && b) ≡ true
 true-and {a} {b} p q = ap (λ (x : Bool). x && b) p ∙ q
 
-pub bytes-laid : (s : List ℕ) → ((i : ℕ) → byteAt s i < 256) → (at : ℕ) (fs : List SetupField) (p : ℕ) → allFormed fs ≡ true → Laid s at fs p → drop at s ≡ bytesOf fs ++ drop p s
+pub bytes-laid : (s : List ℕ) → Bytes s → (at : ℕ) (fs : List SetupField) (p : ℕ) → allFormed fs ≡ true → Laid s at fs p → drop at s ≡ bytesOf fs ++ drop p s
 unfolding Laid bytesOf
 bytes-laid s b at [] p a h = ap (λ (k : ℕ). drop k s) h
 bytes-laid s b at (f ∷ fs) p a h =
     let both = and-true (formed f) (allFormed fs) a in
-    stand-bytes s b at f (h .0) (stands s at f (h .0) (h .1)) (both .0)
+    stand-bytes s b at f (h .0) (stands (h .1)) (both .0)
     ∙ ap (λ (l : List ℕ). fieldBytes f ++ l) (bytes-laid s b (h .0) fs p (both .1) (h .2))
     ∙ sym (append-assoc (fieldBytes f) (bytesOf fs) (drop p s))

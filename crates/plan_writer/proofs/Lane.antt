@@ -8,7 +8,7 @@
 use Prim.Native.Nat.{ℕ, _+_, _≤_, _<_, max}
 use mathlib.Core.Path.{_≡_, sym, ap, _∙_}
 use mathlib.Core.Bool.{Bool, true, false, not}
-use mathlib.Core.Logic.{_⊎_, inl, inr, ⊎-elim}
+use mathlib.Core.Logic.{inl, inr, ⊎-elim}
 use mathlib.Core.List.{List, map}
 use native.Mathlib.Numerals.{add-one}
 use native.Mathlib.Omega.{arith}
@@ -19,7 +19,6 @@ use Rattle.units.specs.Plain.{if_then_else_}
 use Rattle.rules.specs.State.{Setting, noSetting}
 use Rattle.rules.specs.Setup.{InNumbers, framingOf}
 use Rattle.plan.specs.Read.{settingOf}
-use Rattle.plan.specs.Accepted.{there}
 use Rattle.plan.specs.declared.Lane as plan
 use Rattle.plan_writer.specs.Write.{numbered, Either, Fitting, Tells, shareds}
 use Rattle.plan_writer.proofs.Framing.{fitting-each, fitting-framed}

@@ -16,6 +16,7 @@ use native.Mathlib.Omega.{arith}
 use lib.Dec.{ltb}
 use lib.ListN.{length, drop, take, replicate, length-append}
 use lib.Seq.{drop-length, take-at, take-all}
+use Rattle.fields.specs.Bytes.{Bytes}
 use Rattle.units.specs.Plain.{if_then_else_}
 use Rattle.rules.specs.State.{Setting, noSetting, settingAt}
 use Rattle.rules.specs.Setup.{framingOf}
@@ -30,7 +31,7 @@ use Rattle.plan.proofs.Complete.{complete}
 use Rattle.plan_writer.specs.Format.{fieldBytes, bytesOf, allFormed, InForm}
 use Rattle.plan_writer.specs.declared.Written.{Written}
 use Rattle.plan_writer.specs.Write.{Planned, Within, Fitting, laneFields, unlessZero, planFields, setupBytes, lanesBytes, framingBytes, setupSize, Writes}
-use Rattle.plan_writer.specs.RoundTrip.{Bytes, readAs}
+use Rattle.plan_writer.specs.RoundTrip.{readAs}
 use Rattle.plan_writer.proofs.Laid.{one-layout, AllFit, laid-bytes, bytes-laid}
 use Rattle.plan_writer.proofs.Lanes.{present-most, shareds-most, fields-number, fields-weigh, lanes-some, fields-rise, fields-within, fields-fit, fields-formed, fields-size}
 use Rattle.plan_writer.proofs.Placed.{placed-back, fields-back}

@@ -14,14 +14,14 @@ use borrow.Author.Tests.{eqb-true}
 use lib.Dec.{eqb}
 use lib.ListN.{length, drop}
 use lib.Seq.{drop-cons}
-use Rattle.fields.specs.Bytes.{byteAt, big}
+use Rattle.fields.specs.Bytes.{byteAt, big, Bytes}
 use Rattle.fields.proofs.Numbers.{big-two}
-use Rattle.plan.specs.Fields.{setupTag, setupFits, laneFieldAt, setupFieldOf}
+use Rattle.fields.proofs.Item.{Stands}
+use Rattle.plan.specs.Fields.{setupTag, setupFits, setupKnown, laneFieldAt, setupFieldOf}
 use Rattle.plan.specs.declared.parse.SetupField.{SetupField}
 use Rattle.plan.specs.declared.parse.SetupField.the-variants.{Format, Lane, Framing, Shared, End}
 use Rattle.plan.proofs.Inside.{true-false}
 use Rattle.plan.proofs.Tags.{fitting-format, fitting-framing, fitting-shared, fitting-end, lane-size, field-format, field-lane, field-framing, field-shared, field-end}
-use Rattle.plan.proofs.Stands.{Stands}
 use Rattle.plan_writer.specs.Format.{fieldBytes, formed}
 
 -- the n bytes from at + i on
@@ -41,7 +41,7 @@ drop-run s at i (suc n) h =
 cons : {x y : ℕ} {xs ys : List ℕ} → x ≡ y → xs ≡ ys → x ∷ xs ≡ y ∷ ys
 cons a b = cc
 
-module _ (s : List ℕ) (bytes : (i : ℕ) → byteAt s i < 256) (at : ℕ) where
+module _ (s : List ℕ) (bytes : Bytes s) (at : ℕ) where
   abbrev b : ℕ → ℕ
   b i = byteAt s (at + i)
 
@@ -107,7 +107,7 @@ module _ (s : List ℕ) (bytes : (i : ℕ) → byteAt s i < 256) (at : ℕ) wher
       go false false false false true p q r v u h = inr (inr (inr (inr (eqb-true t 127 u))))
       go false false false false false p q r v u h = true-false (sym h)
 
-  module _ (f : SetupField) (m : ℕ) (st : Stands s at f m) (form : formed f ≡ true) where
+  module _ (f : SetupField) (m : ℕ) (st : Stands setupKnown s at f m) (form : formed f ≡ true) where
     abbrev t : ℕ
     t = byteAt s at
 

@@ -1,19 +1,19 @@
--- The bytes of a setup's fields, and the form in which setups are written (R9.6). What a field's bytes are read as is `itemAt` of the reader (crate `plan`,
+-- The bytes of a setup's fields, and the form in which setups are written (R9.6). What a field's bytes are read as is `setupItemAt` of the reader (crate `plan`,
 -- specs/Fields.antt); the fields themselves, and which of them make a setup (`setupFields`), are the reader's own.
 --
---   two          a number of two bytes, high byte first
 --   fieldBytes   the bytes of a field: tag, length, value
 --   bytesOf      the bytes of fields, one after another
 --   formed       a field in the form that is written
 --   InForm       a setup whose fields are all in that form
 --
 -- Assumes nothing.
-use Prim.Native.Nat.{ℕ, _/_, _%_}
+use Prim.Native.Nat.{ℕ}
 use mathlib.Core.Path.{_≡_}
 use mathlib.Core.Bool.{Bool, true, false, not, _&&_}
 use mathlib.Core.List.{List, [], _∷_, _++_}
 use lib.Dec.{eqb}
 use lib.ListN.{length}
+use Rattle.fields.specs.Bytes.{two, asField}
 use Rattle.plan.specs.Accepted.{Laid}
 use Rattle.plan.specs.declared.parse.Longest.{Longest}
 use Rattle.plan.specs.declared.parse.Longest.the-variants.{Given, Default}
@@ -21,9 +21,6 @@ use Rattle.plan.specs.declared.parse.SetupField.{SetupField}
 use Rattle.plan.specs.declared.parse.SetupField.the-variants.{Format, Lane, Framing, Shared, End}
 
 -- ---- bytes
-
-abbrev pub two : ℕ → List ℕ
-two n = n / 256 ∷ n % 256 ∷ []
 
 abbrev pub tagOf : SetupField → ℕ
 tagOf (Format v) = 1
@@ -45,9 +42,8 @@ valueOf (Framing h) = h ∷ []
 valueOf (Shared k) = k ∷ []
 valueOf End = []
 
--- One byte of tag, two of length, the value.
 abbrev pub fieldBytes : SetupField → List ℕ
-fieldBytes f = tagOf f ∷ (two (length (valueOf f)) ++ valueOf f)
+fieldBytes f = asField (tagOf f) (valueOf f)
 
 unfoldable pub bytesOf : List SetupField → List ℕ
 bytesOf [] = []

@@ -13,7 +13,7 @@ use Prim.Native.Nat.{ℕ, _≤_, _<_}
 use mathlib.Core.Path.{_≡_}
 use mathlib.Core.List.{List, _++_}
 use lib.ListN.{length, drop, take}
-use Rattle.fields.specs.Bytes.{byteAt}
+use Rattle.fields.specs.Bytes.{Bytes}
 use Rattle.plan.specs.Read as r
 use Rattle.plan.specs.Read.{setupRead, readPlan, readSetup, setupReply}
 use Rattle.plan.specs.declared.Plan.{Plan}
@@ -22,10 +22,6 @@ use Rattle.plan.specs.declared.Outcome.the-variants.{Read}
 use Rattle.plan_writer.specs.Format.{InForm}
 use Rattle.plan_writer.specs.declared.Written.{Written}
 use Rattle.plan_writer.specs.Write.{Planned, planned, Within, setupBytes, setupSize, writtenSize, notWritten, writeReply, Writes}
-
--- the elements of an input are bytes, as those of any lent slice are
-abbrev pub Bytes : List ℕ → Type 0
-Bytes s = (i : ℕ) → byteAt s i < 256
 
 -- The reader's reply that is this plan, read as far as a place.
 abbrev pub readAs : Planned → ℕ → r.SetupReply

@@ -1,9 +1,10 @@
 -- The sessions of specs/Computed.antt, specs/EveryKind.antt and specs/Junction.antt, computed from the script's definition. Assumes nothing.
 use mathlib.Core.Path.{refl}
 use Rattle.fields.specs.Bytes.{big}
+use Rattle.fields.specs.Item.{itemAt}
 use Rattle.text.specs.Decimal.{digits, widthFrom, width, decimal, signed}
 use Rattle.rules.proofs.Computes.{rules}
-use Rattle.plan.specs.Fields.{setupFieldOf, setupItemAt}
+use Rattle.plan.specs.Fields.{setupFieldOf}
 use Rattle.plan.specs.Judge.{laneOutside, judgedAt}
 use Rattle.plan.specs.Read.{setupWalk, readPlan}
 use Rattle.lines.specs.Line.{spaced}
@@ -15,7 +16,7 @@ use Rattle.session.specs.Junction.{Junction}
 
 -- one name under which the script's definitions open
 unfoldable computes : Unit {0}
-unfolding rules big digits widthFrom width decimal signed setupFieldOf setupItemAt laneOutside judgedAt setupWalk readPlan spaced headAt callOf requestItemAt sessionWalk script
+unfolding rules big digits widthFrom width decimal signed setupFieldOf itemAt laneOutside judgedAt setupWalk readPlan spaced headAt callOf requestItemAt sessionWalk script
 computes = tt
 
 pub ten-lines : TenLines

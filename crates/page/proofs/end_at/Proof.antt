@@ -1,21 +1,22 @@
 -- `page::end_at` meets its contract. Assumes nothing.
 use borrow.Author.Needs.{needs}
 use mathlib.Core.Path.{_≡_, sym, ap, _∙_}
+use Rattle.fields.specs.Item.{wholeField}
 use Rattle.page.proofs.Answers.{not-end, end-bad, end-other, end-more, end-closed}
 use Rattle.page.proofs.end_at.Statement.{statement}
 use Rattle.page.proofs.end_at.Tie as tie
-use Rattle.page.specs.Fields.{wholePageField, pageItemAt, pageItemOf}
+use Rattle.page.specs.Fields.{pageItemAt, pageItemOf}
 use Rattle.page.specs.declared.parse.PageField.{PageField}
 use Rattle.page.specs.declared.parse.PageField.the-variants.{End}
 
 -- the field at the place, as it is taken apart
 field-is : (c : tie.After-field)
-    → pageItemAt (c .before .before .before .before .args .s .now) (c .before .before .before .before .args .at) ≡ wholePageField (c .field .given .0 .0) (c .field .given .0 .1 .0)
+    → pageItemAt (c .before .before .before .before .args .s .now) (c .before .before .before .before .args .at) ≡ wholeField (c .field .given .0 .0) (c .field .given .0 .1 .0)
 field-is c = sym (c .before .before .parsed-field .ensures) ∙ ap pageItemOf (c .field .given .1)
 
 end-is : (c : tie.After-enum-told)
-    → pageItemAt (c .before .before .before .before .before .before .before .args .s .now) (c .before .before .before .before .before .before .before .args .at) ≡ wholePageField End (c .before .before .before .field .given .0 .1 .0)
-end-is c = field-is (c .before .before .before) ∙ ap (λ (g : PageField). wholePageField g (c .before .before .before .field .given .0 .1 .0)) (c .enum-told .given .1)
+    → pageItemAt (c .before .before .before .before .before .before .before .args .s .now) (c .before .before .before .before .before .before .before .args .at) ≡ wholeField End (c .before .before .before .field .given .0 .1 .0)
+end-is c = field-is (c .before .before .before) ∙ ap (λ (g : PageField). wholeField g (c .before .before .before .field .given .0 .1 .0)) (c .enum-told .given .1)
 
 parsed-field-requires : tie.Need-parsed-field-requires
 parsed-field-requires c κs = search needs

@@ -4,10 +4,11 @@ use borrow.Author.Needs.{needs}
 use lib.ListN.{length}
 use mathlib.Core.Path.{_≡_, refl, sym, ap, _∙_}
 use native.Mathlib.Omega.{arith}
+use Rattle.fields.specs.Item.{wholeField}
 use Rattle.page.proofs.Skips.{Standing, stand-first, stand-stop, stand-next, moves}
 use Rattle.page.proofs.past_skipped.Statement.{statement}
 use Rattle.page.proofs.past_skipped.Tie as tie
-use Rattle.page.specs.Fields.{wholePageField, pageItemAt, pageItemOf}
+use Rattle.page.specs.Fields.{pageItemAt, pageItemOf}
 use Rattle.page.specs.declared.parse.PageField.{PageField}
 
 abbrev Inv-loop : tie.InvT-loop
@@ -18,8 +19,8 @@ abbrev μ-loop : tie.MeasureT-loop
 
 -- the field at the place, as it is taken apart
 field-is : (c : tie.After-field Inv-loop μ-loop) (f : PageField) → c .field .given .0 .0 ≡ f
-    → pageItemAt (c .before .before .before .before .before .args .s .now) (c .before .before .before .loop .p) ≡ wholePageField f (c .field .given .0 .1 .0)
-field-is c f e = sym (c .before .before .parsed-field .ensures) ∙ ap pageItemOf (c .field .given .1) ∙ ap (λ (g : PageField). wholePageField g (c .field .given .0 .1 .0)) e
+    → pageItemAt (c .before .before .before .before .before .args .s .now) (c .before .before .before .loop .p) ≡ wholeField f (c .field .given .0 .1 .0)
+field-is c f e = sym (c .before .before .parsed-field .ensures) ∙ ap pageItemOf (c .field .given .1) ∙ ap (λ (g : PageField). wholeField g (c .field .given .0 .1 .0)) e
 
 loop-holds : tie.Need-loop-holds Inv-loop μ-loop
 loop-holds c = stand-first _ _

@@ -2,21 +2,22 @@
 use borrow.Author.Needs.{needs}
 use mathlib.Core.Path.{_≡_, sym, ap, _∙_}
 use Prim.Native.Nat.{ℕ}
+use Rattle.fields.specs.Item.{wholeField}
 use Rattle.page.proofs.Answers.{not-edition, page-bad, page-other, page-begun}
 use Rattle.page.proofs.read_page.Statement.{statement}
 use Rattle.page.proofs.read_page.Tie as tie
-use Rattle.page.specs.Fields.{wholePageField, pageItemAt, pageItemOf}
+use Rattle.page.specs.Fields.{pageItemAt, pageItemOf}
 use Rattle.page.specs.Read.{settingsAt}
 use Rattle.page.specs.declared.parse.PageField.{PageField}
 use Rattle.page.specs.declared.parse.PageField.the-variants.{Edition}
 
 -- the first field, as it is taken apart
-field-is : (c : tie.After-field) → pageItemAt (c .before .before .before .before .args .s .now) 0 ≡ wholePageField (c .field .given .0 .0) (c .field .given .0 .1 .0)
+field-is : (c : tie.After-field) → pageItemAt (c .before .before .before .before .args .s .now) 0 ≡ wholeField (c .field .given .0 .0) (c .field .given .0 .1 .0)
 field-is c = sym (c .before .before .parsed-field .ensures) ∙ ap pageItemOf (c .field .given .1)
 
 edition-is : (c : tie.After-field2)
-    → pageItemAt (c .before .before .before .before .before .before .before .args .s .now) 0 ≡ wholePageField (Edition (c .field2 .given .0 .0)) (c .before .before .before .field .given .0 .1 .0)
-edition-is c = field-is (c .before .before .before) ∙ ap (λ (g : PageField). wholePageField g (c .before .before .before .field .given .0 .1 .0)) (c .field2 .given .1)
+    → pageItemAt (c .before .before .before .before .before .before .before .args .s .now) 0 ≡ wholeField (Edition (c .field2 .given .0 .0)) (c .before .before .before .field .given .0 .1 .0)
+edition-is c = field-is (c .before .before .before) ∙ ap (λ (g : PageField). wholeField g (c .before .before .before .field .given .0 .1 .0)) (c .field2 .given .1)
 
 parsed-field-requires : tie.Need-parsed-field-requires
 parsed-field-requires c κs = search needs

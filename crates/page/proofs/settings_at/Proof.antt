@@ -4,11 +4,12 @@ use borrow.Author.Needs.{needs}
 use lib.ListN.{take, drop}
 use mathlib.Core.Path.{_≡_, sym, ap, _∙_}
 use native.Mathlib.Omega.{arith}
+use Rattle.fields.specs.Item.{wholeField}
 use Rattle.page.proofs.Answers.{Value, value-fits, value-length, not-settings, settings-bad, settings-other, settings-refused, settings-read}
 use Rattle.page.proofs.Refusals.{setup-refused}
 use Rattle.page.proofs.settings_at.Statement.{statement}
 use Rattle.page.proofs.settings_at.Tie as tie
-use Rattle.page.specs.Fields.{wholePageField, pageItemAt, pageItemOf}
+use Rattle.page.specs.Fields.{pageItemAt, pageItemOf}
 use Rattle.page.specs.Read.{pageRead, pageRefused, endAt, valueAt, distance}
 use Rattle.page.specs.declared.parse.PageField.the-variants.{Settings}
 use Rattle.page.specs.declared.parse.PageField.{PageField}
@@ -17,12 +18,12 @@ use Rattle.rules.specs.Reads.{number, placeOf}
 
 -- the field at the place, as it is taken apart
 field-is : (c : tie.After-field)
-    → pageItemAt (c .before .before .before .before .args .s .now) (c .before .before .before .before .args .at) ≡ wholePageField (c .field .given .0 .0) (c .field .given .0 .1 .0)
+    → pageItemAt (c .before .before .before .before .args .s .now) (c .before .before .before .before .args .at) ≡ wholeField (c .field .given .0 .0) (c .field .given .0 .1 .0)
 field-is c = sym (c .before .before .parsed-field .ensures) ∙ ap pageItemOf (c .field .given .1)
 
 settings-is : (c : tie.After-field2)
-    → pageItemAt (c .before .before .before .before .before .before .before .args .s .now) (c .before .before .before .before .before .before .before .args .at) ≡ wholePageField (Settings (c .field2 .given .0 .0) (c .field2 .given .0 .1 .0)) (c .before .before .before .field .given .0 .1 .0)
-settings-is c = field-is (c .before .before .before) ∙ ap (λ (g : PageField). wholePageField g (c .before .before .before .field .given .0 .1 .0)) (c .field2 .given .1)
+    → pageItemAt (c .before .before .before .before .before .before .before .args .s .now) (c .before .before .before .before .before .before .before .args .at) ≡ wholeField (Settings (c .field2 .given .0 .0) (c .field2 .given .0 .1 .0)) (c .before .before .before .field .given .0 .1 .0)
+settings-is c = field-is (c .before .before .before) ∙ ap (λ (g : PageField). wholeField g (c .before .before .before .field .given .0 .1 .0)) (c .field2 .given .1)
 
 -- where its value stands
 value-is : (c : tie.After-known-told3)

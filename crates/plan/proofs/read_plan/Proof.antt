@@ -5,12 +5,14 @@ use lib.ListN.{length}
 use mathlib.Core.List.{map}
 use mathlib.Core.Path.{_≡_, sym, ap, _∙_}
 use native.Mathlib.Omega.{arith}
-use Rattle.plan.proofs.Stands.{behind-item, is-taken}
+use Rattle.fields.proofs.Item.{behind-item}
+use Rattle.plan.proofs.Taken.{is-taken}
 use Rattle.plan.proofs.Sound.{numbered}
 use Rattle.plan.proofs.Walks.{Standing, stand-first, stand-no, taken-here, moves, stand-end, stand-next}
 use Rattle.plan.proofs.read_plan.Statement.{statement}
 use Rattle.plan.proofs.read_plan.Tie as tie
-use Rattle.plan.specs.Fields.{setupItemOf, wholeField}
+use Rattle.fields.specs.Item.{wholeField}
+use Rattle.plan.specs.Fields.{setupItemOf}
 use Rattle.plan.specs.Judge.{judgedAt}
 use Rattle.plan.specs.Read.{settingOf}
 
@@ -30,7 +32,7 @@ moved-is : (c : tie.After-next-at Inv-loop μ-loop)
     → judgedAt (c .before .before .before .before .before .loop .seen) (c .before .before .before .before .before .before .before .before .args .s .now) (c .before .before .before .before .before .loop .p) ≡ wholeField (c .before .before .field .given .0 .0) (c .next-at .result)
 moved-is c =
     let f = field-is (c .before .before) in
-    f ∙ ap (wholeField (c .before .before .field .given .0 .0)) (sym (c .next-at .ensures ∙ behind-item _ _ _ _ (is-taken _ _ _ _ _ f .item)))
+    f ∙ ap (wholeField (c .before .before .field .given .0 .0)) (sym (c .next-at .ensures ∙ behind-item _ _ _ _ _ (is-taken _ _ _ _ _ f .item)))
 
 no-lanes-requires : tie.Need-no-lanes-requires Inv-loop μ-loop
 no-lanes-requires c κs = search needs

@@ -15,11 +15,11 @@ read-setup-requires c κs = search needs
 print-reading-requires : tie.Need-print-reading-requires
 print-reading-requires c κs = search needs
 
-slice-aggregate-write-all : tie.Need-slice-aggregate-write-all
-slice-aggregate-write-all c = search needs
+slice-aggregate-word : tie.Need-slice-aggregate-word
+slice-aggregate-word c = search needs
 
-write-all-requires : tie.Need-write-all-requires
-write-all-requires c κs = search needs
+word-requires : tie.Need-word-requires
+word-requires c κs = search needs
 
 read-plan-requires : tie.Need-read-plan-requires
 read-plan-requires c κs = search needs
@@ -27,11 +27,11 @@ read-plan-requires c κs = search needs
 print-reading-requires-2 : tie.Need-print-reading-requires-2
 print-reading-requires-2 c κs = search needs
 
-slice-aggregate-write-all-2 : tie.Need-slice-aggregate-write-all-2
-slice-aggregate-write-all-2 c = search needs
+slice-aggregate-word-2 : tie.Need-slice-aggregate-word-2
+slice-aggregate-word-2 c = search needs
 
-write-all-requires-2 : tie.Need-write-all-requires-2
-write-all-requires-2 c κs = search needs
+word-requires-2 : tie.Need-word-requires-2
+word-requires-2 c κs = search needs
 
 returns : tie.Need-returns
 returns c = search needs
@@ -46,11 +46,11 @@ print-both-spec =
     slice-aggregate-s
     read-setup-requires
     print-reading-requires
-    slice-aggregate-write-all
-    write-all-requires
+    slice-aggregate-word
+    word-requires
     read-plan-requires
     print-reading-requires-2
-    slice-aggregate-write-all-2
-    write-all-requires-2
+    slice-aggregate-word-2
+    word-requires-2
     returns
     returns-2)

@@ -11,10 +11,6 @@ use Rattle.plan_writer.proofs.Writing.{lane-least, both-stored, own-sto
 use borrow.Author.Needs.{needs}
 use Rattle.plan_writer.proofs.put_fields.Statement.{statement}
 use Rattle.plan_writer.proofs.put_fields.Tie as tie
-use Rattle.plan_writer.proofs.put_fields.Reads as reads
-use Rattle.plan_writer.proofs.put_fields.Lts as lts
-use Rattle.plan_writer.proofs.put_lane.Reads as put-lane-reads
-use Rattle.plan_writer.proofs.put_shared.Reads as put-shared-reads
 
 put-lane-requires : tie.Need-put-lane-requires
 put-lane-requires c κs = let s = c .before .before in (omega (arith, s .pre .0, lane-least (settingOf (s .args .l))), s .pre .1, s .pre .2, s .pre .3)

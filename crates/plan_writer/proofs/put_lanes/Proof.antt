@@ -1,13 +1,9 @@
 use Prim.Native.Nat.{_-_}
 use borrow.Author.Needs.{needs}
 use mathlib.Core.Logic.{⊎-elim}
-use native.Mathlib.Omega.{arith}
 use Rattle.plan_writer.proofs.Writing.{Laying, lay-none, lay-numbers, lay-room, lay-more, lay-skip, lay-all}
 use Rattle.plan_writer.proofs.put_lanes.Statement.{statement}
 use Rattle.plan_writer.proofs.put_lanes.Tie as tie
-use Rattle.plan_writer.proofs.put_lanes.Reads as reads
-use Rattle.plan_writer.proofs.put_lanes.Lts as lts
-use Rattle.plan_writer.proofs.put_fields.Reads as put-fields-reads
 
 abbrev Inv-loop : tie.InvT-loop
 Inv-loop a₀ at lanes p₀ k₀ a p k = Laying a₀ at lanes a p k

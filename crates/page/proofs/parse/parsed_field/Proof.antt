@@ -9,7 +9,7 @@ use mathlib.Core.Path.{_≡_, sym, _∙_}
 use native.Mathlib.Omega.{arith}
 use Rattle.fields.specs.Header.{headerAt}
 use Rattle.fields.specs.declared.Field.the-variants.{Header}
-use Rattle.page.proofs.Items.{item-none, item-header-cut, item-unknown, item-wrong, item-cut, item-whole}
+use Rattle.fields.proofs.Item.{item-none, item-header-cut, item-unknown, item-wrong, item-cut, item-whole}
 use Rattle.page.proofs.parse.parsed_field.Statement.{statement}
 use Rattle.page.proofs.parse.parsed_field.Tie as tie
 use Rattle.page.specs.Fields.{pageTag, pageFits}
@@ -44,19 +44,19 @@ known-requires : tie.Need-known-requires
 known-requires c κs = search needs
 
 returns : tie.Need-returns
-returns c = sym (item-unknown _ _ _ _ _ (header-is (c .before .before .before)) (sym (c .before .known .ensures) ∙ not-true (c .before .known .result) (c .if1 .taken)))
+returns c = sym (item-unknown _ _ _ _ _ _ (header-is (c .before .before .before)) (sym (c .before .known .ensures) ∙ not-true (c .before .known .result) (c .if1 .taken)))
 
 fitting-requires : tie.Need-fitting-requires
 fitting-requires c κs = search needs
 
 returns-2 : tie.Need-returns-2
-returns-2 c = sym (item-wrong _ _ _ _ _ (header-is (c .before .before .before .before .before)) (known-is (c .before .before)) (sym (c .before .fitting .ensures) ∙ not-true (c .before .fitting .result) (c .if2 .taken)))
+returns-2 c = sym (item-wrong _ _ _ _ _ _ (header-is (c .before .before .before .before .before)) (known-is (c .before .before)) (sym (c .before .fitting .ensures) ∙ not-true (c .before .fitting .result) (c .if2 .taken)))
 
 fits-requires : tie.Need-fits-requires
 fits-requires c κs = search needs
 
 returns-3 : tie.Need-returns-3
-returns-3 c = sym (item-cut _ _ _ _ _ (header-is (c .before .before .before .before .before .before .before)) (known-is (c .before .before .before .before)) (fitting-is (c .before .before)) (sym (c .before .fits2 .ensures) ∙ not-true (c .before .fits2 .result) (c .if3 .taken)))
+returns-3 c = sym (item-cut _ _ _ _ _ _ (header-is (c .before .before .before .before .before .before .before)) (known-is (c .before .before .before .before)) (fitting-is (c .before .before)) (sym (c .before .fits2 .ensures) ∙ not-true (c .before .fits2 .result) (c .if3 .taken)))
 
 field-of-requires : tie.Need-field-of-requires
 field-of-requires c κs = (fitting-is (c .before .before), leb-true _ _ (fits-is c))
@@ -65,13 +65,13 @@ add-t17 : tie.Need-add-t17
 add-t17 c = let g = c .before .before .before .before .before .before .before .before .tag .given .0 in omega (arith, leb-true (g .1 .0 + g .1 .1 .0) (length (c .before .before .before .before .before .before .before .before .before .before .before .before .args .s .now)) (fits-is (c .before)))
 
 returns-4 : tie.Need-returns-4
-returns-4 c = sym (item-none _ _ (sym (c .before .before .field-at .ensures) ∙ c .enum-told .given .1))
+returns-4 c = sym (item-none _ _ _ (sym (c .before .before .field-at .ensures) ∙ c .enum-told .given .1))
 
 returns-5 : tie.Need-returns-5
-returns-5 c = sym (item-header-cut _ _ (sym (c .before .before .field-at .ensures) ∙ c .enum-told2 .given .1))
+returns-5 c = sym (item-header-cut _ _ _ (sym (c .before .before .field-at .ensures) ∙ c .enum-told2 .given .1))
 
 returns-6 : tie.Need-returns-6
-returns-6 c = rw (c .field-of .ensures) (sym (item-whole _ _ _ _ _ (header-is (c .before .before .before .before .before .before .before .before)) (known-is (c .before .before .before .before .before)) (fitting-is (c .before .before .before)) (fits-is (c .before))))
+returns-6 c = rw (c .field-of .ensures) (sym (item-whole _ _ _ _ _ _ (header-is (c .before .before .before .before .before .before .before .before)) (known-is (c .before .before .before .before .before)) (fitting-is (c .before .before .before)) (fits-is (c .before))))
 
 pub parsed-field-spec : {M : Type 1} → statement M
 parsed-field-spec =

@@ -3,8 +3,9 @@ use Prim.Native.Nat.{ℕ}
 use mathlib.Core.Path.{_≡_, sym, ap, _∙_}
 use Rattle.plan.proofs.Judged.{judged-no, judged-misplaced, judged-faults}
 use Rattle.plan.proofs.Offsets.{outside-in, over-in, fits}
-use Rattle.plan.proofs.Stands.{stands}
-use Rattle.plan.specs.Fields.{SetupItem, setupItemOf, wholeField, setupItemAt}
+use Rattle.fields.proofs.Item.{stands}
+use Rattle.fields.specs.Item.{wholeField}
+use Rattle.plan.specs.Fields.{SetupItem, setupItemOf, setupItemAt}
 use Rattle.plan.specs.Judge.{outside, over, faulted}
 use Rattle.plan.specs.declared.judge.Fault.{Fault}
 use borrow.Author.Needs.{needs}
@@ -46,7 +47,7 @@ faulted-requires c κs =
     let k = c .before .before .before .before in
     let a = k .before .before .before .before .args in
     fits (a .at) (k .parsed .given .0 .1 .0) (c .over .result) (over (a .seen) (k .parsed .given .0 .0)) (c .over .ensures)
-    (over-in (a .s .now) (a .at) (k .parsed .given .0 .0) (k .parsed .given .0 .1 .0) (stands _ _ _ _ (item-is k)) (a .seen))
+    (over-in (a .s .now) (a .at) (k .parsed .given .0 .0) (k .parsed .given .0 .1 .0) (stands (item-is k)) (a .seen))
 
 outside-requires : tie.Need-outside-requires
 outside-requires c κs = search needs
@@ -56,7 +57,7 @@ faulted-requires-2 c κs =
     let k = c .before .before .before .before .before .before in
     let a = k .before .before .before .before .args in
     fits (a .at) (k .parsed .given .0 .1 .0) (c .outside .result) (outside (k .parsed .given .0 .0)) (c .outside .ensures)
-    (outside-in (a .s .now) (a .at) (k .parsed .given .0 .0) (k .parsed .given .0 .1 .0) (stands _ _ _ _ (item-is k)))
+    (outside-in (a .s .now) (a .at) (k .parsed .given .0 .0) (k .parsed .given .0 .1 .0) (stands (item-is k)))
 
 returns-3 : tie.Need-returns-3
 returns-3 c =

@@ -4,8 +4,6 @@ use Rattle.plan.specs.Judge.{misplaced}
 use borrow.Author.Needs.{needs}
 use Rattle.plan.proofs.judge.misplaced.Statement.{statement}
 use Rattle.plan.proofs.judge.misplaced.Tie as tie
-use Rattle.plan.proofs.judge.misplaced.Reads as reads
-use Rattle.plan.proofs.judge.misplaced.Lts as lts
 
 -- src/judge.rt:132:34
 enum-told : tie.Need-enum-told
