@@ -13,7 +13,8 @@ use Rattle.words.specs.Bits.{bit}
 use Rattle.words.proofs.Bits.{bit-above}
 use Rattle.units.specs.Plain.{if_then_else_, anyBelow}
 use Rattle.waiting.specs.Waiting.{GoodWaiting, first, held, isShared}
-use Rattle.waiting.proofs.Laws.{good-nothing, shared-nothing, held-hand}
+use Rattle.waiting.proofs.Laws.{good-nothing, held-hand}
+use Rattle.waiting.proofs.Sharing.{shared-nothing}
 use Rattle.rules.specs.State.{Rec, Setting, settingAt, clockEdge, Lane, State, group, laneAt, some?, firstOf, holds, eligible, noSetting, setupOf}
 use Rattle.rules.specs.Setup.{InNumbers, Setup, weights}
 use Rattle.rules.specs.Good.{Times}
