@@ -1,5 +1,4 @@
--- Every call of the endless rules keeps the invariant.
--- Assumes nothing.
+-- Every call of the endless rules keeps the invariant. Assumes nothing.
 use Prim.Native.Nat.{ℕ, _+_, _*_, _^_, _≤_, _<_}
 use native.Mathlib.Omega.{arith}
 use native.Mathlib.Nat.{le-refl}
