@@ -43,7 +43,8 @@ use Rattle.engine.specs.Turns.{Holds, Reaching, Settled}
 use Rattle.engine.specs.Does.{Serves}
 use Rattle.engine.proofs.Ends.{lanes-same, known-holds}
 use Rattle.table.proofs.Lists.{cells-apart, solid-stays, agrees-stay, past-stays, past-rings}
-use Rattle.engine.proofs.Serving.{At, f, x, is-first, holds-k, finish-small, served-busy, entry-is, lanes-after, sound-after, inside, solid-after, agrees₁, first₁, start₁}
+use Rattle.engine.proofs.Serving.{At, f, x, is-first, holds-k, finish-small, served-busy, entry-is, lanes-after, sound-after, inside}
+use Rattle.engine.proofs.ServingLists.{solid-after, agrees₁, first₁, start₁}
 
 -- ---- where the clock settles
 

@@ -7,6 +7,7 @@ pub mod Putting
 pub mod Signed
 pub mod Replies
 pub mod Serving
+pub mod ServingLists
 pub mod Handing
 pub mod Appending
 pub mod LagRange

@@ -1,15 +1,14 @@
 -- The chosen lane before and after its first record is taken out of its ring. Assumes nothing.
 use mathlib.Core.Path.{_≡_, refl, sym, ap, subst, _∙_}
-use mathlib.Core.Bool.{Bool, true, false, false≢true}
+use mathlib.Core.Bool.{true, false≢true}
 use mathlib.Core.Option.{Option, none, some}
-use Prim.Native.Nat.{ℕ, suc, _+_, _*_, _/_, _%_, _^_, _≤_, _<_}
-use mathlib.Core.List.{List, [], _∷_}
+use Prim.Native.Nat.{ℕ, suc, _+_, _*_, _^_, _≤_, _<_}
+use mathlib.Core.List.{List}
 use native.Mathlib.Omega.{arith}
 use lib.Dec.{ltb}
 use lib.ListN.{length, getD, set}
 use borrow.Author.Tests.{lt-ltb, le-ltb}
 use Rattle.units.specs.Numbers.{lineRate}
-use Rattle.units.specs.Plain.{times, without}
 use Rattle.waiting.specs.Waiting.{Waiting, GoodWaiting, first, held}
 use Rattle.waiting.proofs.Laws.{first-fits, good-hand, held-hand, held-none}
 use Rattle.rules.specs.State.{Rec, Setting, Lane, State, noLane, charge, rate, startR, some?, firstOf, holds, laneAt}
@@ -24,26 +23,21 @@ use Rattle.rules.proofs.Lane.{charge-slot}
 use Rattle.rules.proofs.Figures.{longest-at, slot-at}
 use Rattle.rules.proofs.Serve.{served-ind}
 use Rattle.rules.proofs.Queues.{held-inside, served-waiting}
-use Rattle.table.specs.Layout.{Behind, cells, rowAt}
+use Rattle.table.specs.Layout.{cells, rowAt}
 use Rattle.table.specs.Means.{givenOf, meant, Sound}
 use Rattle.table.specs.declared.LaneRow.{LaneRow}
-use Rattle.table.proofs.Few.{few-good, room-held}
 use Rattle.table.proofs.Rows.{holds-present}
 use Rattle.queue.specs.Queue.{waiting, First, Takes}
 use Rattle.queue.specs.declared.Item.{Item}
 use Rattle.choice.proofs.Held.{held-small}
 use Rattle.engine.proofs.RowIs.{RowIs, row-is}
 use Rattle.engine.proofs.Replies.{Found, found}
-use Rattle.slot_lists.specs.Lists.{backAt, listAt, startAt, listOf, Solid}
-use Rattle.filing.specs.Filing.{headOf, sift, inList, Agrees}
-use Rattle.filing.proofs.Sift.{length-sift, sift-without, without-none, times-sift}
-use Rattle.filing.proofs.Moves.{stands, elsewhere}
+use Rattle.slot_lists.specs.Lists.{backAt, listAt, startAt, listOf}
+use Rattle.filing.specs.Filing.{headOf}
+use Rattle.filing.proofs.Moves.{stands}
 use Rattle.filing.proofs.KeepsTake.{old-in}
-use Rattle.lane_moves.specs.Moves.{Rooms}
 use Rattle.engine.specs.Turns.{Holds}
-use Rattle.table.proofs.Lists.{back-stays, lists-stay, starts-stay, solid-stays, agrees-stay}
 
--- lane k is chosen, and stands first in the list of group g's start r
 pub record At (t : List ℕ) (s : State) (g r k : ℕ) : Type 0 where
   pub holds : Holds t s
   pub good : Good s
@@ -141,9 +135,6 @@ module _ (t : List ℕ) (s : State) (g r k : ℕ) (a : At t s g r k) where
         ap (λ (y : State). y .lanes) (taken .leaves .state) ∙ ap (λ (l : Lane). set (meant t .lanes) k (served l)) same-lane
         ∙ ap (λ (ls : List Lane). set ls k new) (h .lanes)
 
-    bytes-stay : Behind t t₁
-    bytes-stay = taken .leaves .rest
-
     pub sound-after : Sound t₁
     sound-after =
         record {
@@ -181,36 +172,3 @@ module _ (t : List ℕ) (s : State) (g r k : ℕ) (a : At t s g r k) where
         go : (o : Option Rec) → first (behind (laneAt s k)) ≡ o → ltb 1 n ≡ holds new
         go none q = le-ltb 1 n (omega (arith, many, held-none (laneAt s k .given .longest) (behind (laneAt s k)) good q)) ∙ sym (more ∙ ap some? q)
         go (some y) q = lt-ltb 1 n (omega (arith, many, held-hand (laneAt s k .given .longest) (behind (laneAt s k)) y good q)) ∙ sym (more ∙ ap some? q)
-
-    pub solid-after : Solid t₁
-    solid-after = solid-stays t t₁ bytes-stay (h .solid)
-
-    pub agrees₁ : Agrees (backAt t₁) (listAt t₁) (startAt t₁) s
-    agrees₁ = agrees-stay t t₁ bytes-stay s (h .agrees)
-
-    same-list : listOf t₁ g r ≡ listOf t g r
-    same-list = ap (λ (b : ℕ). (r + b) / 2 ^ g % 32) (back-stays t t₁ bytes-stay)
-
-    pub first₁ : headOf (listAt t₁ g (listOf t₁ g r)) ≡ some k
-    first₁ = ap (λ (b : ℕ). headOf (listAt t₁ g b)) same-list ∙ ap headOf (lists-stay t t₁ bytes-stay g (listOf t g r) (a .high) (omega arith)) ∙ a .first
-
-    pub start₁ : startAt t₁ g ≡ some r
-    start₁ = starts-stay t t₁ bytes-stay g (a .high) ∙ a .start
-
-    pub some-after : 0 < length (listAt t₁ g (listOf t₁ g r))
-    some-after = go (listAt t₁ g (listOf t₁ g r)) first₁
-      where
-        go : (l : List ℕ) → headOf l ≡ some k → 0 < length l
-        go [] q = let z : _≡_ {A = ℕ} 0 1 = cc in absurd (omega arith)
-        go (y ∷ ys) q = omega arith
-
-    pub rooms-after : (c : ℕ) → c < 32 → Rooms t₁ g (listOf t₁ g r) c
-    rooms-after c hc = (
-      omega (arith, ap length (agrees₁ .filed g (listOf t₁ g r) (a .low) (a .high) (omega arith)), length-sift (λ j. inList (backAt t₁) g (listOf t₁ g r) (laneAt s j)) (s .order), few-good s (a .good)),
-      λ ne.
-          let p : ℕ → Bool = λ j. inList (backAt t₁) g c (laneAt s j) in
-          let out : p k ≡ false = elsewhere (backAt t₁) g (listOf t₁ g r) g c (laneAt s k) (old-in (backAt t₁) (solid-after .back-whole) s (a .good) (listAt t₁) (startAt t₁) agrees₁ k g r (a .low) (a .high) start₁ first₁ x is-first) (λ u v. ne v) in
-          let none-k : times k (sift p (s .order)) ≡ 0 = times-sift p k (s .order) ∙ simp out in
-          let same : sift p (without k (s .order)) ≡ sift p (s .order) = sift-without p k (s .order) ∙ without-none k (sift p (s .order)) none-k in
-          omega (arith, ap length (agrees₁ .filed g c (a .low) (a .high) hc), ap length same, length-sift p (without k (s .order)), room-held s (a .good) k holds-k),
-    )

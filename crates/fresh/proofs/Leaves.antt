@@ -19,7 +19,8 @@ use Rattle.table.proofs.Stores.{length-cells, now-then, behind-refl}
 use Rattle.table.proofs.Footprint.{lane-is}
 use Rattle.table.proofs.Leave.{meant-now, leave-lane, leaves-then}
 use Rattle.table.proofs.Next.{bit-present, bit-absent}
-use Rattle.table.proofs.Rows.{retimed, outside-row, row-put, lane-put, given-row, lane-absent, weight-present, waiting-none}
+use Rattle.table.proofs.Untouched.{outside-row}
+use Rattle.table.proofs.Rows.{retimed, row-put, lane-put, given-row, lane-absent, weight-present, waiting-none}
 use Rattle.table.proofs.Timed.{timed-idle}
 use Rattle.fresh.specs.Makes.{SettingWord, restedTo}
 use Rattle.fresh.proofs.States.{rested-none, rested-at, rested-more, rested-next}

@@ -16,10 +16,11 @@ use Rattle.good.specs.Pass.{FoundSays}
 use Rattle.good.specs.Table.{GoodTable}
 use Rattle.good.specs.declared.Found.{Found}
 use Rattle.good.proofs.Kept.{today}
-use Rattle.good.proofs.Told.{Told, Means, found-told, told-found, told-fine, told-framing}
+use Rattle.good.proofs.Told.{Told, Means, told-fine, told-framing}
+use Rattle.good.proofs.FoundTold.{found-told, told-found}
 
 module _ (t : List ℕ) where
-  means : Means t (laneOf (cells t)) (meant t)
+  means : Means t (today (cells t)) (meant t)
   unfolding stateOf
   means = record { lanes = refl; order = refl }
 
@@ -30,7 +31,7 @@ module _ (t : List ℕ) where
     pub whole-good : Room t → v < clockEdge → getD (cells t) depthWord 0 ≡ laneDepth → getD (cells t) framingWord 0 ≤ 64
         → (0 < f .weights) × (f .weights ≤ 1024) × (0 < f .held → f .eligible ≡ true) × Stored t (f .held) → GoodTable t
     whole-good room end deep framed q =
-        let x = found-told t (today (cells t)) (meant t) means (LaneGood v (cells t)) v clock (λ k g. g .fine) f s end framed (q .0) (q .1) (q .2) (q .3) in
+        let x = found-told means (LaneGood v (cells t)) v clock (λ k g. g .fine) f s end framed (q .0) (q .1) (q .2) (q .3) in
         record {
           room = room;
           good = x .good;
@@ -39,18 +40,18 @@ module _ (t : List ℕ) where
         }
 
     pub good-found : GoodTable t → (0 < f .weights) × (f .weights ≤ 1024) × (0 < f .held → f .eligible ≡ true) × Stored t (f .held)
-    good-found g = told-found t (today (cells t)) (meant t) means (LaneGood v (cells t)) v clock (λ k g. g .fine) f s (told g)
+    good-found g = told-found means (LaneGood v (cells t)) v clock (λ k g. g .fine) f s (told g)
 
   -- a good table's lanes are good
   pub good-lanes : (v : ℕ) → v ≡ meant t .clock → GoodTable t → (k : ℕ) → k < 64 → presentAt (cells t) k ≡ true → LaneGood v (cells t) k
   good-lanes v clock g k h p =
       record {
-        fine = subst (λ (v : ℕ). LaneFine v (rowAt (cells t) k) (laneOf (cells t) k)) (sym clock) (told-fine t (today (cells t)) (meant t) means (told g) k h p);
+        fine = subst (λ (v : ℕ). LaneFine v (rowAt (cells t) k) (laneOf (cells t) k)) (sym clock) (told-fine means (told g) k h p);
         housed = g .beside .housed k h p;
       }
 
   pub good-framing : GoodTable t → getD (cells t) framingWord 0 ≤ 64
-  good-framing g = told-framing t (today (cells t)) (meant t) means (told g)
+  good-framing g = told-framing means (told g)
 
 pub says-iff : {P Q : Type 0} (b : Bool) → (P → Q) → (Q → P) → Says b P → Says b Q
 says-iff true f g s = f s

@@ -23,27 +23,37 @@ no-start : (o : Option ℕ) (q : ℕ) → o ≡ none → o ≡ some q → ⊥
 no-start o q a b = let z : _≡_ {A = ℕ} 0 1 = cc in omega arith
 
 module _ (starts : ℕ → Option ℕ) where
+  -- what is so of the starts of the groups below n is so of more, where those between have none
+  below-on : (P : ℕ → ℕ → Type 0) (n m : ℕ) → ((i : ℕ) → n ≤ i → i < m → starts i ≡ none)
+      → ((i q : ℕ) → 16 ≤ i → i ≤ 31 → i < n → starts i ≡ some q → P i q) → (i q : ℕ) → 16 ≤ i → i ≤ 31 → i < m → starts i ≡ some q → P i q
+  below-on P n m nil h i q x y lt e = elim (decLt i n) [ yes d ↦ h i q x y d e | no d ↦ absurd (no-start (starts i) q (nil i (omega arith) lt) e) ]
+
   module _ (v : ℕ) where
     pub leads-none : (f : Front) → f .finish ≡ never → Leads starts v 0 f
     leads-none f e = inl (e, λ i q x y h p. absurd (omega arith))
 
+    -- the group in the lead, of more groups
+    still : (n m : ℕ) (f : Front) → n ≤ m → LeadsAt starts v n f → ((i q : ℕ) → 16 ≤ i → i ≤ 31 → i < m → starts i ≡ some q → q ≤ v → f .finish ≤ q + 2 * 2 ^ i)
+        → ((i q : ℕ) → 16 ≤ i → i ≤ 31 → i < m → starts i ≡ some q → q ≤ v → f .finish ≡ q + 2 * 2 ^ i → f .group ≤ i) → Leads starts v m f
+    still n m f le l finish lowest =
+        inr (record {
+          low = l .low;
+          high = l .high;
+          below = omega (arith, l .below);
+          from = l .from;
+          start = l .start;
+          small = l .small;
+          sum = l .sum;
+          reached = l .reached;
+          finish = finish;
+          lowest = lowest;
+        })
+
     -- groups without a start change nothing
     pub leads-on : (n m : ℕ) (f : Front) → ((i : ℕ) → n ≤ i → i < m → starts i ≡ none) → n ≤ m → Leads starts v n f → Leads starts v m f
-    leads-on n m f nil le (inl (e, h)) =
-        inl (e, λ i q x y lt p. elim (decLt i n) [ yes d ↦ h i q x y d p | no d ↦ absurd (no-start (starts i) q (nil i (omega arith) lt) p) ])
+    leads-on n m f nil le (inl (e, h)) = inl (e, below-on (λ i q. v < q) n m nil h)
     leads-on n m f nil le (inr h) =
-        inr (record {
-          low = h .low;
-          high = h .high;
-          below = omega (arith, h .below);
-          from = h .from;
-          start = h .start;
-          small = h .small;
-          sum = h .sum;
-          reached = h .reached;
-          finish = λ i q x y lt e s. elim (decLt i n) [ yes p ↦ h .finish i q x y p e s | no p ↦ absurd (no-start (starts i) q (nil i (omega arith) lt) e) ];
-          lowest = λ i q x y lt e s z. elim (decLt i n) [ yes p ↦ h .lowest i q x y p e s z | no p ↦ absurd (no-start (starts i) q (nil i (omega arith) lt) e) ];
-        })
+        still n m f le h (below-on (λ i q. q ≤ v → f .finish ≤ q + 2 * 2 ^ i) n m nil (h .finish)) (below-on (λ i q. q ≤ v → f .finish ≡ q + 2 * 2 ^ i → f .group ≤ i) n m nil (h .lowest))
 
     -- one group more
     module _ (g r : ℕ) (lo : 16 ≤ g) (hi : g ≤ 31) (small : r < 2 ^ 63) (here : starts g ≡ some r) where
@@ -57,21 +67,15 @@ module _ (starts : ℕ → Option ℕ) where
           (λ (ne : i ≡ g → ⊥). old i q x y (omega (arith, ne)) e)
           (eq-or-ne i g)
 
+      -- the lead stays where it is, over g too
+      passes : (f : Front) → (l : LeadsAt starts v g f) → (r ≤ v → f .finish ≤ r + 2 * 2 ^ g) → Leads starts v (g + 1) f
+      passes f l le =
+          still g (g + 1) f (omega arith) l (one-more (λ i q. q ≤ v → f .finish ≤ q + 2 * 2 ^ i) le (l .finish))
+          (one-more (λ i q. q ≤ v → f .finish ≡ q + 2 * 2 ^ i → f .group ≤ i) (λ s z. omega (arith, l .below)) (l .lowest))
+
       late : (f : Front) → v < r → Leads starts v g f → Leads starts v (g + 1) f
       late f h (inl (e, l)) = inl (e, one-more (λ i q. v < q) h l)
-      late f h (inr l) =
-          inr (record {
-            low = l .low;
-            high = l .high;
-            below = omega (arith, l .below);
-            from = l .from;
-            start = l .start;
-            small = l .small;
-            sum = l .sum;
-            reached = l .reached;
-            finish = λ i q x y lt e. one-more (λ i q. q ≤ v → f .finish ≤ q + 2 * 2 ^ i) (λ s. absurd (omega arith)) (λ i q x y lt e. l .finish i q x y lt e) i q x y lt e;
-            lowest = λ i q x y lt e. one-more (λ i q. q ≤ v → f .finish ≡ q + 2 * 2 ^ i → f .group ≤ i) (λ s z. absurd (omega arith)) (λ i q x y lt e. l .lowest i q x y lt e) i q x y lt e;
-          })
+      late f h (inr l) = passes f l (λ s. absurd (omega arith))
 
       -- it takes the lead
       lead : r ≤ v → ((i q : ℕ) → 16 ≤ i → i ≤ 31 → i < g → starts i ≡ some q → q ≤ v → r + 2 * 2 ^ g < q + 2 * 2 ^ i) → Leads starts v (g + 1) (front g r)
@@ -87,22 +91,6 @@ module _ (starts : ℕ → Option ℕ) where
             reached = h;
             finish = λ i q x y lt e. one-more (λ i q. q ≤ v → r + 2 * 2 ^ g ≤ q + 2 * 2 ^ i) (λ s. omega arith) (λ i q x y lt e s. omega (arith, l i q x y lt e s)) i q x y lt e;
             lowest = λ i q x y lt e. one-more (λ i q. q ≤ v → r + 2 * 2 ^ g ≡ q + 2 * 2 ^ i → g ≤ i) (λ s z. omega arith) (λ i q x y lt e s z. absurd (omega (arith, l i q x y lt e s))) i q x y lt e;
-          })
-
-      -- or it does not
-      keep : (f : Front) → f .finish ≤ r + 2 * 2 ^ g → LeadsAt starts v g f → Leads starts v (g + 1) f
-      keep f le l =
-          inr (record {
-            low = l .low;
-            high = l .high;
-            below = omega (arith, l .below);
-            from = l .from;
-            start = l .start;
-            small = l .small;
-            sum = l .sum;
-            reached = l .reached;
-            finish = λ i q x y lt e. one-more (λ i q. q ≤ v → f .finish ≤ q + 2 * 2 ^ i) (λ s. le) (λ i q x y lt e. l .finish i q x y lt e) i q x y lt e;
-            lowest = λ i q x y lt e. one-more (λ i q. q ≤ v → f .finish ≡ q + 2 * 2 ^ i → f .group ≤ i) (λ s z. omega (arith, l .below)) (λ i q x y lt e. l .lowest i q x y lt e) i q x y lt e;
           })
 
       far : r + 2 * 2 ^ g < never
@@ -123,7 +111,7 @@ module _ (starts : ℕ → Option ℕ) where
 
           stay : f .finish ≤ r + 2 * 2 ^ g → Leads starts v g f → Leads starts v (g + 1) f
           stay d (inl (e, h)) = absurd (omega (arith, e, far))
-          stay d (inr h) = keep f d h
+          stay d (inr h) = passes f h (λ s. d)
 
   -- ---- the least start
 
@@ -132,7 +120,7 @@ module _ (starts : ℕ → Option ℕ) where
 
   pub earliest-on : (n m r : ℕ) → ((i : ℕ) → n ≤ i → i < m → starts i ≡ none) → n ≤ m → Earliest starts n r → Earliest starts m r
   earliest-on n m r nil le (inl (e, h)) =
-      inl (e, λ i q x y lt p. elim (decLt i n) [ yes d ↦ h i q x y d p | no d ↦ no-start (starts i) q (nil i (omega arith) lt) p ])
+      inl (e, below-on (λ i q. ⊥) n m nil h)
   earliest-on n m r nil le (inr h) =
       inr (record {
         at = h .at;
@@ -140,7 +128,7 @@ module _ (starts : ℕ → Option ℕ) where
         high = h .high;
         start = h .start;
         small = h .small;
-        bound = λ i q x y lt e. elim (decLt i n) [ yes p ↦ h .bound i q x y p e | no p ↦ absurd (no-start (starts i) q (nil i (omega arith) lt) e) ];
+        bound = below-on (λ i q. r ≤ q) n m nil (h .bound);
       })
 
   module _ (g r : ℕ) (lo : 16 ≤ g) (hi : g ≤ 31) (small : r < 2 ^ 63) (here : starts g ≡ some r) where
@@ -172,7 +160,7 @@ module _ (starts : ℕ → Option ℕ) (v : ℕ) where
   late-none i q x y h e = absurd (omega arith)
 
   pub late-on : (n m : ℕ) → ((i : ℕ) → n ≤ i → i < m → starts i ≡ none) → n ≤ m → Late starts v n → Late starts v m
-  late-on n m nil le h i q x y lt e = elim (decLt i n) [ yes d ↦ h i q x y d e | no d ↦ absurd (no-start (starts i) q (nil i (omega arith) lt) e) ]
+  late-on n m nil le h = below-on starts (λ i q. v < q) n m nil h
 
   pub late-more : (g r : ℕ) → starts g ≡ some r → v < r → Late starts v g → Late starts v (g + 1)
   late-more g r here h l i q x y lt e =

@@ -1,7 +1,7 @@
 -- The walk over a group's lists. Assumes nothing.
 use mathlib.Core.Path.{_≡_, sym, ap, subst}
 use mathlib.Core.Logic.{⊎-elim}
-use Prim.Native.Nat.{ℕ, suc, _+_, _-_, _%_, _^_, _≤_, _<_}
+use Prim.Native.Nat.{ℕ, suc, _+_, _^_, _≤_, _<_}
 use mathlib.Core.List.{List, []}
 use native.Mathlib.Numerals.{add-one}
 use native.Mathlib.Omega.{arith}
@@ -16,8 +16,7 @@ use Rattle.table.specs.Means.{Next}
 use Rattle.slot_lists.specs.Lists.{mapWord, ringNumber}
 use Rattle.filing.specs.Filing.{flat}
 use Rattle.filing.proofs.Flat.{flat-skip, times-more, times-part}
-use Rattle.lists_test.specs.declared.Met.{Met}
-use Rattle.lists_test.specs.Stored.{RingFine, startSlot, listSlot, GroupFine, ringIn, NotYet, Adds, RingSays}
+use Rattle.lists_test.specs.Stored.{RingFine, listSlot, GroupFine, ringIn, NotYet, Adds}
 use Rattle.lists_test.proofs.WordBits.{bit-under}
 
 module _ (t : List ℕ) (g : ℕ) where
@@ -78,14 +77,6 @@ module _ (t : List ℕ) (g : ℕ) where
     walk-all b met w end narrow =
         let same : flat b (ringIn t g) ≡ flat 32 (ringIn t g) = flat-skip 32 b (ringIn t g) (omega arith) (λ i p q. ring-out i (λ e. omega (arith, bit-under 32 i map narrow e))) in
         (λ c h e. w .fine c (omega arith) e, λ k. omega (arith, w .adds k, ap (times k) same))
-
--- ---- the code's own numbers
-
-pub ring-said : (t : List ℕ) (g b n slot met : ℕ) (r : Met) → n ≡ ringNumber g b → slot ≡ startSlot t g
-    → RingSays t n g (slot + (b + 32 - slot % 32) % 32) met r → RingSays t (ringNumber g b) g (listSlot t g b) met r
-ring-said t g b n slot met r en es h =
-    subst (λ (x : ℕ). RingSays t (ringNumber g b) g (x + (b + 32 - x % 32) % 32) met r) es
-    (subst (λ (x : ℕ). RingSays t x g (slot + (b + 32 - slot % 32) % 32) met r) en h)
 
 pub next-word : (m m′ b c : ℕ) → m ≡ m′ → Next m b c → Next m′ b c
 next-word m m′ b c e n = subst (λ (x : ℕ). Next x b c) e n

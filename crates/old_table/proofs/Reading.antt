@@ -74,6 +74,6 @@ old w = record {
   time = old-time w;
 }
 
-pub old-means : (t : List ℕ) → Means t (oldLane (cells t)) (oldMeant t)
+pub old-means : (t : List ℕ) → Means t (old (cells t)) (oldMeant t)
 unfolding oldMeant
 old-means t = record { lanes = refl; order = refl }

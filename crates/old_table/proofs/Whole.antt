@@ -16,7 +16,8 @@ use Rattle.lane_test.proofs.Lane.{fine-made, fine-waiting, fine-time}
 use Rattle.good.specs.Pass.{FoundSays}
 use Rattle.good.specs.declared.Found.{Found}
 use Rattle.good.proofs.Kept.{waiting-kept}
-use Rattle.good.proofs.Told.{Told, each-lane, found-told, told-found, told-fine, told-framing, lane-of}
+use Rattle.good.proofs.Told.{Told, lane-of, each-lane, told-fine, told-framing}
+use Rattle.good.proofs.FoundTold.{found-told, told-found}
 use Rattle.old_table.specs.Old.{oldSize, oldRowAt, oldQueue, oldLane, oldMeant, OldTable}
 use Rattle.old_table.specs.Tested.{OldLaneGood}
 use Rattle.old_table.proofs.Reading.{old, old-means, length-queue}
@@ -61,36 +62,36 @@ held-none = omega arith
 
 module _ (t : List ℕ) where
   told : OldTable t → Told t (oldRowAt (cells t)) (oldMeant t)
-  told g = record { good = g .good .good; rows = g .agrees .rows; paced = λ k h p n. g .agrees .paced k h p; counted = λ k h p. ap (λ (l : Lane). held (l .waiting)) (lane-of t (old (cells t)) (oldMeant t) (old-means t) k h) ∙ held-is (cells t) k p; solid = g .agrees .solid; agrees = g .agrees .lists }
+  told g = record { good = g .good .good; rows = g .agrees .rows; paced = λ k h p n. g .agrees .paced k h p; counted = λ k h p. ap (λ (l : Lane). held (l .waiting)) (lane-of (old-means t) k h) ∙ held-is (cells t) k p; solid = g .agrees .solid; agrees = g .agrees .lists }
 
   module _ (v : ℕ) (f : Found) (clock : v ≡ getD (cells t) clockWord 0) (s : FoundSays v (cells t) (oldLane (cells t)) (OldLaneGood v (cells t)) 64 f) where
     pub whole-old : oldSize ≤ length t → v < oldEdge → getD (cells t) framingWord 0 ≤ 64
         → (0 < f .weights) × (f .weights ≤ 1024) × (0 < f .held → f .eligible ≡ true) × Stored t (f .held) → OldTable t
     whole-old room end framed q =
-        let x = found-told t (old (cells t)) (oldMeant t) (old-means t) (OldLaneGood v (cells t)) v (clock ∙ clock-is t) (λ k g. g .fine) f s (omega arith) framed (q .0) (q .1) (q .2) (q .3) in
+        let x = found-told (old-means t) (OldLaneGood v (cells t)) v (clock ∙ clock-is t) (λ k g. g .fine) f s (omega arith) framed (q .0) (q .1) (q .2) (q .3) in
         record {
           room = room;
           good = record {
             good = x .good;
-            room = each-lane t (old (cells t)) (oldMeant t) (old-means t) (λ (l : Lane). held (l .waiting) ≤ oldDepth) held-none (λ k h p. omega (arith, held-is (cells t) k p, s .lanes k h p .room));
+            room = each-lane (old-means t) (λ (l : Lane). held (l .waiting) ≤ oldDepth) held-none (λ k h p. omega (arith, held-is (cells t) k p, s .lanes k h p .room));
             clock = omega (arith, clock, clock-is t);
           };
           agrees = record { rows = x .rows; paced = λ k h p. s .lanes k h p .paced; solid = x .solid; lists = x .agrees };
         }
 
     pub old-found : OldTable t → (0 < f .weights) × (f .weights ≤ 1024) × (0 < f .held → f .eligible ≡ true) × Stored t (f .held)
-    old-found g = told-found t (old (cells t)) (oldMeant t) (old-means t) (OldLaneGood v (cells t)) v (clock ∙ clock-is t) (λ k g. g .fine) f s (told g)
+    old-found g = told-found (old-means t) (OldLaneGood v (cells t)) v (clock ∙ clock-is t) (λ k g. g .fine) f s (told g)
 
   pub old-lanes : (v : ℕ) → v ≡ getD (cells t) clockWord 0 → OldTable t → (k : ℕ) → k < 64 → presentAt (cells t) k ≡ true → OldLaneGood v (cells t) k
   old-lanes v clock g k h p =
       record {
-        fine = subst (λ (v : ℕ). LaneFine v (oldRowAt (cells t) k) (oldLane (cells t) k)) (sym (clock ∙ clock-is t)) (told-fine t (old (cells t)) (oldMeant t) (old-means t) (told g) k h p);
+        fine = subst (λ (v : ℕ). LaneFine v (oldRowAt (cells t) k) (oldLane (cells t) k)) (sym (clock ∙ clock-is t)) (told-fine (old-means t) (told g) k h p);
         paced = g .agrees .paced k h p;
-        room = omega (arith, held-is (cells t) k p, g .good .room k, ap (λ (l : Lane). held (l .waiting)) (lane-of t (old (cells t)) (oldMeant t) (old-means t) k h));
+        room = omega (arith, held-is (cells t) k p, g .good .room k, ap (λ (l : Lane). held (l .waiting)) (lane-of (old-means t) k h));
       }
 
   pub old-framed : OldTable t → getD (cells t) framingWord 0 ≤ 64
-  old-framed g = told-framing t (old (cells t)) (oldMeant t) (old-means t) (told g)
+  old-framed g = told-framing (old-means t) (told g)
 
   pub old-clock : OldTable t → getD (cells t) clockWord 0 < oldEdge
   old-clock g = omega (arith, clock-is t, g .good .clock)

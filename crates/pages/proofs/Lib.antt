@@ -6,6 +6,7 @@ pub mod Stretch
 pub mod Fair
 pub mod Answers
 pub mod Ahead
+pub mod OneRecord
 pub mod Waits
 pub mod MoreWaits
 pub mod OneCall

@@ -23,7 +23,8 @@ use Rattle.table.specs.declared.LaneRow.{LaneRow}
 use Rattle.table.proofs.Stores.{length-cells, behind-then}
 use Rattle.table.proofs.Footprint.{lane-is}
 use Rattle.table.proofs.Leave.{leave-lane}
-use Rattle.table.proofs.Rows.{retimed, row-same, present-same, row-put, outside-trans, outside-row, lane-put, housed-put, lane-present, given-row, waiting-row, waiting-none, waiting-shared, waiting-held}
+use Rattle.table.proofs.Untouched.{row-same, present-same, outside-trans, outside-row}
+use Rattle.table.proofs.Rows.{retimed, row-put, lane-put, housed-put, lane-present, given-row, waiting-row, waiting-none, waiting-shared, waiting-held}
 use Rattle.queue.specs.Queue.{waiting, Ready, Moved}
 
 -- ---- then the row is stored, with the clock word x and n records from the place h on

@@ -1,6 +1,9 @@
 pub mod Ring
 pub mod Trains
+pub mod Handed
 pub mod Moves
+pub mod Entering
+pub mod Turning
 pub mod Lane
 pub mod Appending
 pub mod Waking

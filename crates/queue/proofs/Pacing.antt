@@ -43,25 +43,38 @@ module _ (t : List ℕ) (k x : ℕ) (e : Rec) (s : Sound t) (hk : k < 64) (wakes
   none-held : rowAt w k .count ≡ 0
   none-held = idle-row w (inARow (listAt t)) k hk present (s .beside) (good-row w (inARow (listAt t)) k hk present (wakes .good)) (wakes .idle)
 
-  module _ (t₀ : List ℕ) (l : LaneRow) (el : l ≡ rowAt w k) (p : Pace) (ps : Paces (givenOf l) p) (rate : p .rate .0 ≤ 2 ^ 20) (high : p .group ≤ 31)
-      (len : length t₀ ≡ length t) (n : Now t t₀ (putPace w k (p .rate .0) (p .group))) where
-    left : Leaves t t₀ (meant t)
-    left = pace-leaves t t₀ k (p .rate .0) (p .group) hk (omega arith) (omega arith) none-held n
+-- c and group as `wake` stores them
+pub record Paced (t : List ℕ) (k x : ℕ) (e : Rec) (t₀ : List ℕ) : Type 0 where
+  pub sound : Sound t
+  pub small : k < 64
+  pub wakes : Wakes (meant t) k x e
+  pub row : LaneRow
+  pub row-is : row ≡ rowAt (cells t) k
+  pub pace : Pace
+  pub paces : Paces (givenOf row) pace
+  pub rate : pace .rate .0 ≤ 2 ^ 20
+  pub high : pace .group ≤ 31
+  pub size : length t₀ ≡ length t
+  pub now : Now t t₀ (putPace (cells t) k (pace .rate .0) (pace .group))
 
-    paces : Paces (givenOf (rowAt w k)) p
-    paces = subst (λ (l : LaneRow). Paces (givenOf l) p) el ps
+module _ {t : List ℕ} {k x : ℕ} {e : Rec} {t₀ : List ℕ} (a : Paced t k x e t₀) where
+  left : Leaves t t₀ (meant t)
+  left = pace-leaves t t₀ k (a .pace .rate .0) (a .pace .group) (a .small) (omega (arith, a .rate)) (omega (arith, a .high)) (none-held t k x e (a .sound) (a .small) (a .wakes)) (a .now)
 
-    pub paced-here : RowPaced (rowAt (cells t₀) k)
-    paced-here = rw (n .words, row-paced w k (p .rate .0) (p .group) (length-cells t) hk (omega arith) (omega arith)) (record { rated = paces .rated; grouped = paces .grouped })
+  paces : Paces (givenOf (rowAt (cells t) k)) (a .pace)
+  paces = subst (λ (l : LaneRow). Paces (givenOf l) (a .pace)) (a .row-is) (a .paces)
 
-    pub sound-here : Sound t₀
-    sound-here = sound-after s left len
+  pub paced-here : RowPaced (rowAt (cells t₀) k)
+  paced-here = rw (a .now .words, row-paced (cells t) k (a .pace .rate .0) (a .pace .group) (length-cells t) (a .small) (omega (arith, a .rate)) (omega (arith, a .high))) (record { rated = paces .rated; grouped = paces .grouped })
 
-    pub wakes-here : Wakes (meant t₀) k x e
-    wakes-here = subst (λ (y : State). Wakes y k x e) (sym (left .state)) wakes
+  pub sound-here : Sound t₀
+  sound-here = sound-after (a .sound) left (a .size)
 
-    pub wake-whole : (t′ : List ℕ) → Leaves t₀ t′ (withLane (meant t₀) k (woken (meant t₀ .clock) (laneAt (meant t₀) k) e)) → Leaves t t′ (withLane (meant t) k (woken (meant t .clock) (laneAt (meant t) k) e))
-    wake-whole t′ b = leaves-then left (subst (λ (y : State). Leaves t₀ t′ (withLane y k (woken (y .clock) (laneAt y k) e))) (left .state) b)
+  pub wakes-here : Wakes (meant t₀) k x e
+  wakes-here = subst (λ (y : State). Wakes y k x e) (sym (left .state)) (a .wakes)
 
-    pub wake-group : p .group ≡ group (laneAt (meant t) k .given)
-    wake-group = paces .grouped ∙ ap group (sym (ap (λ (y : Lane). y .given) (lane-is w (inARow (listAt t)) k hk) ∙ given-row w k present))
+  pub wake-whole : (t′ : List ℕ) → Leaves t₀ t′ (withLane (meant t₀) k (woken (meant t₀ .clock) (laneAt (meant t₀) k) e)) → Leaves t t′ (withLane (meant t) k (woken (meant t .clock) (laneAt (meant t) k) e))
+  wake-whole t′ b = leaves-then left (subst (λ (y : State). Leaves t₀ t′ (withLane y k (woken (y .clock) (laneAt y k) e))) (left .state) b)
+
+  pub wake-group : a .pace .group ≡ group (laneAt (meant t) k .given)
+  wake-group = paces .grouped ∙ ap group (sym (ap (λ (y : Lane). y .given) (lane-is (cells t) (inARow (listAt t)) k (a .small)) ∙ given-row (cells t) k (present t k x e (a .sound) (a .small) (a .wakes))))

@@ -1,33 +1,31 @@
 -- From the stores of a train's number, the round's number and a record to the shared lane that they leave. Assumes nothing.
 use mathlib.Core.Path.{_≡_, refl, sym, ap, subst, _∙_}
-use mathlib.Core.Bool.{Bool, true, false}
 use mathlib.Core.Logic.{⊎-elim}
-use Prim.Native.Nat.{ℕ, _+_, _*_, _/_, _%_, _^_, _≤_, _<_}
+use Prim.Native.Nat.{ℕ, _+_, _*_, _^_, _<_}
 use mathlib.Core.List.{List}
 use native.Mathlib.Omega.{arith}
-use lib.ListN.{length, getD, set, length-set}
+use lib.ListN.{length, set, length-set}
 use lib.Seq.{getD-set-same, getD-set-other}
 use Rattle.words.proofs.Runs.{eq-or-ne}
-use Rattle.rounds.specs.Round.{Rec, Shared, empty, put, handOut}
+use Rattle.rounds.specs.Round.{Shared, empty, put}
 use Rattle.turns.specs.Turns as turns
-use Rattle.turns.specs.Turns.{headOf, countOf, deficitOf, namedOf, turnOf, sharedOf, with, begun, Ordered, Light, Puts, HandsOut}
+use Rattle.turns.specs.Turns.{headOf, countOf, sharedOf, with, Ordered, Light, Puts}
 use Rattle.turns.specs.declared.Change.{Change}
 use Rattle.turns.proofs.Train.{parts, with-same, with-other, shared-same, shared-but, shared-none}
-use Rattle.table.specs.Layout.{CELLS, laneWord, roundWord, roundAt, lengthCell, markCell, trainsCell, lengthsCell, placeOf, entryAt, putEntry, trainPlace, trainNumber, putTrain, clearCells}
+use Rattle.table.specs.Layout.{CELLS, roundWord, roundAt, lengthCell, markCell, trainsCell, placeOf, entryAt, putEntry, trainPlace, trainNumber, putTrain, clearCells}
 use Rattle.table.specs.Means.{recOf, recAt, sharedAt}
 use Rattle.table.specs.declared.Entry.{Entry}
 use Rattle.table.proofs.Entries.{Fits, entry-kept, entry-same, entry-other, put-other, train-kept, train-apart, length-train, train-same, train-other, train-cleared, clear-other, length-clear}
 use Rattle.table.proofs.Footprint.{Outside}
-use Rattle.table.proofs.Rows.{SameRows, outside-trans, outside-round, outside-train, rows-train, rows-round}
+use Rattle.table.proofs.Untouched.{SameRows, outside-trans, outside-round, outside-train, rows-train, rows-round}
 
--- a light number is small
 pub light-small : (t : ℕ) → Light t → t < 2 ^ 20
 light-small t l = omega (arith, parts t, l .0, l .1)
 
 -- ---- one store
 
 module _ (w : List ℕ) (k : ℕ) (hk : k < 64) (size : length w ≡ CELLS) where
-  numbers-put : (j n : ℕ) → j < 8 → n < 2 ^ 32 → (f : ℕ → ℕ) → ((i : ℕ) → i < 8 → trainNumber w k i ≡ f i) → (i : ℕ) → i < 8 → trainNumber (putTrain w k j n) k i ≡ with f j n i
+  pub numbers-put : (j n : ℕ) → j < 8 → n < 2 ^ 32 → (f : ℕ → ℕ) → ((i : ℕ) → i < 8 → trainNumber w k i ≡ f i) → (i : ℕ) → i < 8 → trainNumber (putTrain w k j n) k i ≡ with f j n i
   numbers-put j n hj fits f h i hi =
       ⊎-elim
       (λ (e : i ≡ j). subst (λ (x : ℕ). trainNumber (putTrain w k j n) k x ≡ with f j n x) (sym e) (train-same w k j hk hj size n fits ∙ sym (with-same f j n)))
@@ -43,11 +41,11 @@ module _ (w : List ℕ) (k : ℕ) (hk : k < 64) (size : length w ≡ CELLS) wher
   places-round : (v i : ℕ) → entryAt (set w (roundWord k) v) (placeOf k i) ≡ entryAt w (placeOf k i)
   places-round v i = entry-kept w (set w (roundWord k) v) (placeOf k i) (getD-set-other w (roundWord k) (lengthCell (placeOf k i)) v 0 (omega arith)) (getD-set-other w (roundWord k) (markCell (placeOf k i)) v 0 (omega arith))
 
-  places-train : (j n i : ℕ) → j < 8 → entryAt (putTrain w k j n) (placeOf k i) ≡ entryAt w (placeOf k i)
+  pub places-train : (j n i : ℕ) → j < 8 → entryAt (putTrain w k j n) (placeOf k i) ≡ entryAt w (placeOf k i)
   places-train j n i hj =
       entry-kept w (putTrain w k j n) (placeOf k i) (train-apart w k j n (lengthCell (placeOf k i)) (λ e. omega arith)) (train-apart w k j n (markCell (placeOf k i)) (λ e. omega arith))
 
-  round-train : (j n : ℕ) → j < 8 → roundAt (putTrain w k j n) k ≡ roundAt w k
+  pub round-train : (j n : ℕ) → j < 8 → roundAt (putTrain w k j n) k ≡ roundAt w k
   round-train j n hj = train-apart w k j n (roundWord k) (λ e. omega arith)
 
 -- ---- a train's number and the round's
@@ -145,83 +143,3 @@ module _ (w : List ℕ) (k : ℕ) (hk : k < 64) (size : length w ≡ CELLS) wher
       shared-same (recAt bare-words k) (recAt bare-words k) (trainNumber bare-words k) (λ (i : ℕ). 0) (roundAt bare-words k) (λ q h. refl) bare-numbers
       ∙ ap (sharedOf (recAt bare-words k) (λ (i : ℕ). 0)) bare-round
       ∙ shared-none (recAt bare-words k)
-
--- ---- the first record handed out
-
-module _ (w : List ℕ) (k L n next : ℕ) (c : Change) (hk : k < 64) (size : length w ≡ CELLS) (short : L ≤ 1500)
-    (turn : turnOf (roundAt w k) < 8) (light : (i : ℕ) → i < 8 → Light (trainNumber w k i))
-    (first-length : recAt w k (turns.placeOf (turnOf (roundAt w k)) (headOf (trainNumber w k (turnOf (roundAt w k))))) .len ≡ n)
-    (next-length : recAt w k (turns.placeOf (turnOf (roundAt w k)) (headOf (trainNumber w k (turnOf (roundAt w k))) + 1)) .len ≡ next)
-    (hands : HandsOut (trainNumber w k (turnOf (roundAt w k))) (roundAt w k) n next c) where
-  abbrev j : ℕ
-  j = turnOf (roundAt w k)
-
-  abbrev ts : ℕ → ℕ
-  ts = with (trainNumber w k) j (c .train)
-
-  abbrev pub handed : List ℕ
-  handed = both w k j (c .train) (c .round) hk turn size (omega (arith, hands .small))
-
-  handed-size : length handed ≡ CELLS
-  handed-size = both-size w k j (c .train) (c .round) hk turn size (omega (arith, hands .small))
-
-  handed-numbers : (i : ℕ) → i < 8 → trainNumber handed k i ≡ ts i
-  handed-numbers = both-numbers w k j (c .train) (c .round) hk turn size (omega (arith, hands .small))
-
-  handed-round : roundAt handed k ≡ c .round
-  handed-round = both-round w k j (c .train) (c .round) hk turn size (omega (arith, hands .small))
-
-  ts-small : (i : ℕ) → i < 8 → ts i < 2 ^ 20
-  ts-small i hi =
-      ⊎-elim
-      (λ (e : i ≡ j). subst (λ (x : ℕ). ts x < 2 ^ 20) (sym e) (omega (arith, hands .small, with-same (trainNumber w k) j (c .train))))
-      (λ (ne : i ≡ j → ⊥). omega (arith, with-other (trainNumber w k) j (c .train) i ne, light-small (trainNumber w k i) (light i hi)))
-      (eq-or-ne i j)
-
-  -- a turn that begins finds a small number
-  pub begins-small : (i m : ℕ) → i < 8 → m ≡ trainNumber handed k i → m + 128 * L < 2 ^ 32
-  begins-small i m hi e = omega (arith, handed-numbers i hi, ts-small i hi)
-
-  same-records : (u : List ℕ) → ((i : ℕ) → entryAt u (placeOf k i) ≡ entryAt w (placeOf k i)) → (q : ℕ) → q < 64 → recAt u k q ≡ recAt w k q
-  unfolding recAt
-  same-records u h q b = ap recOf (h q)
-
-  -- words with these numbers are those of the lane after it
-  left : (b : Bool) → c .begins ≡ b → (u : List ℕ) → ((i : ℕ) → entryAt u (placeOf k i) ≡ entryAt w (placeOf k i)) → roundAt u k ≡ c .round
-      → ((i : ℕ) → i < 8 → trainNumber u k i ≡ begun L b ts (c .round) i) → sharedAt u k ≡ handOut L (sharedAt w k)
-  unfolding sharedAt
-  left b q u places round numbers =
-      shared-same (recAt u k) (recAt w k) (trainNumber u k) (begun L b ts (c .round)) (roundAt u k) (same-records u places) numbers
-      ∙ ap (sharedOf (recAt w k) (begun L b ts (c .round))) round
-      ∙ ap (λ (x : Bool). sharedOf (recAt w k) (begun L x ts (c .round)) (c .round)) (sym q)
-      ∙ hands .lane L (recAt w k) (trainNumber w k) refl first-length next-length
-
-  pub handed-shared : c .begins ≡ false → sharedAt handed k ≡ handOut L (sharedAt w k)
-  unfolding begun
-  handed-shared q = left false q handed (both-place w k j (c .train) (c .round) hk turn size (omega (arith, hands .small))) handed-round handed-numbers
-
-  module _ (i m : ℕ) (begins : c .begins ≡ true) (ei : i ≡ turnOf (c .round)) (em : m ≡ trainNumber handed k i) where
-    hi : i < 8
-    hi = omega (arith, hands .turn begins)
-
-    abbrev pub begun-words : List ℕ
-    begun-words = putTrain handed k i (m + 128 * L)
-
-    number-is : m + 128 * L ≡ ts (turnOf (c .round)) + 128 * L
-    number-is = ap (λ (x : ℕ). x + 128 * L) (em ∙ handed-numbers i hi ∙ ap ts ei)
-
-    begun-numbers : (x : ℕ) → x < 8 → trainNumber begun-words k x ≡ begun L true ts (c .round) x
-    unfolding begun
-    begun-numbers x hx =
-        numbers-put handed k hk handed-size i (m + 128 * L) hi (begins-small i m hi em) ts handed-numbers x hx
-        ∙ ap (λ (y : ℕ). with ts y (m + 128 * L) x) ei
-        ∙ ap (λ (y : ℕ). with ts (turnOf (c .round)) y x) number-is
-
-    pub begun-place : (x : ℕ) → entryAt begun-words (placeOf k x) ≡ entryAt w (placeOf k x)
-    begun-place x = places-train handed k hk handed-size i (m + 128 * L) x hi ∙ both-place w k j (c .train) (c .round) hk turn size (omega (arith, hands .small)) x
-
-    pub begun-round : roundAt begun-words k ≡ c .round
-    begun-round = round-train handed k hk handed-size i (m + 128 * L) hi ∙ handed-round
-
-    pub begun-shared : sharedAt begun-words k ≡ handOut L (sharedAt w k)
-    begun-shared = left true begins begun-words begun-place begun-round begun-numbers

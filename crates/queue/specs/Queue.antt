@@ -30,7 +30,7 @@ use Rattle.table.specs.Layout.{Now, Behind, cells, placeOf, entryAt, roundWord,
 use Rattle.table.specs.Means.{recAt, ringOf, sharedAt, waitingOf, meant, PlacesFit, Leaves, withLane}
 use Rattle.table.specs.declared.LaneRow.{LaneRow}
 use Rattle.table.proofs.Footprint.{Outside}
-use Rattle.table.proofs.Rows.{SameRows}
+use Rattle.table.proofs.Untouched.{SameRows}
 use Rattle.waiting.specs.Waiting as waits
 use Rattle.queue.specs.declared.Item.{Item}
 use Rattle.queue.specs.declared.FirstPlace.{FirstPlace}

@@ -12,6 +12,7 @@ use borrow.Author.Tests.{leb-true, le-leb, ltb-true, lt-ltb, eqb-true, eq-eqb, n
 use Rattle.units.specs.Plain.{if_then_else_, times}
 use Rattle.waiting.specs.Waiting.{nothing, isShared, waitingTest}
 use Rattle.waiting.proofs.Laws as waiting
+use Rattle.waiting.proofs.Sharing as sharing
 use Rattle.rules.specs.State.{clockEdge, noSetting, Lane, noLane, State, slot, firstOf, holds, eligible, laneAt, setupOf, anyHolds}
 use Rattle.rules.specs.Setup.{Setup}
 use Rattle.rules.specs.Good.{Good}
@@ -26,7 +27,7 @@ idle-true v =
     simp (
       waiting.good-test 0 (nothing false) (waiting.good-nothing 0 false),
       lt-ltb 0 (v + 2 * slot noSetting) (omega (arith, slot-pos noSetting)),
-      true-kind (isShared (nothing false)) false (waiting.shared-nothing false),
+      true-kind (isShared (nothing false)) false (sharing.shared-nothing false),
     )
 
 eligible-some : (v : ℕ) (ls : List Lane) → anyEligible v ls ≡ true → (k : ℕ) × (eligible v (getD ls k noLane) ≡ true)

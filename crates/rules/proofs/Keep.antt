@@ -1,5 +1,4 @@
--- Every call of the endless rules keeps the invariant.
--- Assumes nothing.
+-- Every call of the endless rules keeps the invariant. Assumes nothing.
 use Prim.Native.Nat.{ℕ, _+_, _*_, _^_, _≤_, _<_}
 use native.Mathlib.Omega.{arith}
 use native.Mathlib.Nat.{le-refl}
@@ -20,7 +19,8 @@ use Rattle.rules.proofs.Bools.{if-ind, and-parts, or-parts}
 use Rattle.rules.proofs.Lists.{set-all, getD-map}
 use Rattle.rules.proofs.Claim.{Inv, weightOf}
 use Rattle.rules.proofs.Serve.{serve-inv}
-use Rattle.rules.proofs.Moves.{Sound, MayEnter, jump, wake, append}
+use Rattle.rules.proofs.Jump.{jump}
+use Rattle.rules.proofs.Moves.{Sound, MayEnter, wake, append}
 use Rattle.rules.proofs.Bounds.{SetupOk, fresh-inv}
 use Rattle.rules.proofs.Lowest.{Low, lowest, none-holds}
 use Rattle.rules.proofs.Chosen.{Choice, chosen}

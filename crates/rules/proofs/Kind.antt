@@ -1,22 +1,19 @@
 -- A lane is kept as its setting says, shared or not, whatever the clocks are. Assumes nothing.
 use Prim.Native.Nat.{ℕ}
 use mathlib.Core.Path.{_≡_, sym, subst, _∙_}
-use mathlib.Core.Bool.{not, _&&_}
 use mathlib.Core.Option.{Option, none, some}
-use mathlib.Core.List.{List, [], _∷_}
-use lib.Dec.{ltb}
-use lib.ListN.{set}
+use mathlib.Core.List.{List}
 use Rattle.waiting.specs.Waiting.{isShared}
-use Rattle.waiting.proofs.Laws.{shared-nothing, shared-enter, shared-hand}
-use Rattle.rules.specs.State.{Rec, Setting, noSetting, settingAt, setupOf, Lane, noLane, State, startR, holds, laneAt, anyHolds}
-use Rattle.rules.specs.Calls.{Pick, Call, Outcome, put, take, look, sets, lag, restart, putRefusal, shifted, appended, woken, accept, putOf, doPut, served, serve, picked, takeOf, doTake, doLook, doSets, idle, fresh, doRestart, step}
+use Rattle.waiting.proofs.Sharing.{shared-nothing, shared-enter, shared-hand}
+use Rattle.rules.specs.State.{Rec, Setting, settingAt, Lane, noLane, State, holds, laneAt}
+use Rattle.rules.specs.Calls.{Pick, Call, putRefusal, shifted, appended, woken, accept, putOf, served, serve, picked, takeOf, idle, fresh, step}
 use Rattle.rules.specs.Runs.{after}
 use Rattle.rules.proofs.Bools.{if-ind}
 use Rattle.rules.proofs.Lists.{set-all}
 use Rattle.rules.proofs.Serve.{served-ind}
 use Rattle.rules.proofs.Bounds.{idle-at}
 use Rattle.rules.proofs.Shift.{shifted-given, shifted-waiting}
-use Rattle.rules.proofs.Keep.{look-same, lag-same}
+use Rattle.rules.proofs.EachCall.{each-call, each-run}
 
 abbrev pub Kind : Lane → Type 0
 Kind l = isShared (l .waiting) ≡ l .given .shared
@@ -49,15 +46,7 @@ unfolding fresh idle
 fresh-kind gs k = subst Kind (sym (idle-at gs k)) (shared-nothing ((settingAt gs k) .shared))
 
 pub step-kind : (s : State) (c : Call) → AllKind s → AllKind ((step s c) .state)
-unfolding step doPut doTake doLook doSets doRestart
-step-kind s (put j k m n) w = put-kind s j (record { train = k; mark = m; len = n }) (putRefusal s j (record { train = k; mark = m; len = n })) w
-step-kind s take w = take-kind s (picked s) w
-step-kind s look w = subst AllKind (sym (look-same s (picked s))) w
-step-kind s sets w = w
-step-kind s (lag j) w = subst AllKind (sym (lag-same s j)) w
-step-kind s restart w = if-ind (λ (o : Outcome). AllKind (o .state)) (anyHolds (s .lanes)) _ _ (λ e. w) (λ e. fresh-kind (setupOf s))
+step-kind = each-call AllKind fresh-kind (λ s j r w. put-kind s j r (putRefusal s j r) w) (λ s w. take-kind s (picked s) w)
 
 pub kind-run : (s : State) (cs : List Call) → AllKind s → AllKind (after s cs)
-unfolding after
-kind-run s [] w = w
-kind-run s (c ∷ cs) w = kind-run ((step s c) .state) cs (step-kind s c w)
+kind-run = each-run AllKind fresh-kind (λ s j r w. put-kind s j r (putRefusal s j r) w) (λ s w. take-kind s (picked s) w)

@@ -3,12 +3,14 @@ pub mod Lists
 pub mod Lane
 pub mod Claim
 pub mod Serve
+pub mod Jump
 pub mod Moves
 pub mod Bounds
 pub mod Lowest
 pub mod Chosen
 pub mod Keep
 pub mod Shift
+pub mod EachCall
 pub mod Sound
 pub mod Kind
 pub mod Further

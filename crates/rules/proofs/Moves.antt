@@ -5,7 +5,7 @@ use native.Mathlib.Nat.{le-of-eq, sub-self}
 use mathlib.Core.Path.{_≡_, refl, sym, subst, ap, _∙_}
 use mathlib.Core.Bool.{Bool, true, false, not, _&&_, false≢true}
 use mathlib.Core.Logic.{_⊎_, inl, inr}
-use mathlib.Core.List.{List, [], _∷_}
+use mathlib.Core.List.{List}
 use mathlib.Core.Option.{Option, none, some}
 use lib.Dec.{T, leb}
 use lib.ListN.{getD, set}
@@ -13,34 +13,13 @@ use borrow.Author.Tests.{leb-true, le-leb}
 use Rattle.units.specs.Plain.{if_then_else_, sum}
 use Rattle.waiting.specs.Waiting.{GoodWaiting}
 use Rattle.waiting.proofs.Laws.{Enters, first-enter, first-stays, good-enter}
-use Rattle.rules.specs.State.{Setting, Lane, Rec, slot, startR, finishR, firstOf, holds, some?, noLane}
+use Rattle.rules.specs.State.{Lane, Rec, slot, finishR, firstOf, holds, some?, noLane}
 use Rattle.rules.specs.Calls.{woken, appended, idle}
-use Rattle.units.proofs.Round.{round-le, lt-round-slot}
+use Rattle.units.proofs.Round.{lt-round-slot}
 use Rattle.rules.proofs.Bools.{if-ind}
 use Rattle.rules.proofs.Lists.{sum-set, set-all, any-or-none}
 use Rattle.rules.proofs.Lane.{slot-pos}
-use Rattle.rules.proofs.Claim.{from, from-ge, from-held, claim, spread, weightOf, Queued, LaneOk, Inv, in-range, same-weights}
-use Rattle.rules.proofs.Serve.{later-ok}
-
--- ---- the jump: the clock moves up to u, and no holding lane has its rounded start before u
-
-module _ (M v : ℕ) (ls : List Lane) (inv : Inv M v ls) (u : ℕ) (up : v ≤ u)
-    (behind : (k : ℕ) → holds (getD ls k noLane) ≡ true → u ≤ startR (getD ls k noLane))
-  where
-    jump-starts : (D k : ℕ) → u ≤ D → u ≤ from u D (getD ls k noLane)
-    jump-starts D k p =
-        from-ge u D u (getD ls k noLane)
-        (λ e d. omega (arith, behind k e, round-le (slot ((getD ls k noLane) .given)) ((getD ls k noLane) .start)))
-        p (λ e. omega arith)
-
-    pub jump : Inv M u ls
-    jump = record {
-      weights = inv .weights;
-      ok = λ k. later-ok M v u (getD ls k noLane) up (inv .ok k);
-      due = λ D k e h.
-          let p : u ≤ D = omega (arith, behind k e) in
-          omega (arith, spread u D u ls (inv .weights) (λ i. jump-starts D i p));
-    }
+use Rattle.rules.proofs.Claim.{from, from-ge, from-held, claim, spread, weightOf, LaneOk, Inv, in-range, same-weights}
 
 -- ---- a put on an idle lane
 

@@ -11,7 +11,8 @@ use borrow.Author.Tests.{eqb-true, eq-eqb}
 use Rattle.units.specs.Plain.{if_then_else_, sum}
 use Rattle.rounds.specs.Round.{trainCount}
 use Rattle.waiting.specs.Waiting.{bare}
-use Rattle.waiting.proofs.Laws.{first-fits, first-train, first-known}
+use Rattle.waiting.proofs.Laws.{first-fits}
+use Rattle.waiting.proofs.Sharing.{first-train, first-known}
 use Rattle.rules.specs.State.{Rec, Setting, settingAt, State, charge, laneAt, anyHolds}
 use Rattle.rules.specs.Calls.{Call, put, take, look, sets, lag, restart, Outcome, putRefusal, putOf, doPut, Pick, picked, takeOf, doTake, lookOf, doLook, doSets, doLag, doRestart, step}
 use Rattle.rules.specs.Runs.{Event, after, trace, Moving, sentIn, ofLane, sentOf, ofTrain}

@@ -18,7 +18,7 @@ use Rattle.rounds.proofs.Lists.{same-or}
 use Rattle.rounds.proofs.Figure.{worth, ofTrain-bytes}
 use Rattle.rounds.proofs.Others.{bytes-append}
 use Rattle.waiting.specs.Waiting.{bare}
-use Rattle.waiting.proofs.Laws.{known-inside}
+use Rattle.waiting.proofs.Sharing.{known-inside}
 use Rattle.rules.specs.State.{Rec, Setting, settingAt, State, charge, rate, slot, laneAt}
 use Rattle.rules.specs.Setup.{Setup}
 use Rattle.rules.specs.Calls.{Call, accepted, putRefusal, putOf, doPut, fresh, step}

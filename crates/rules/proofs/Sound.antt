@@ -1,14 +1,12 @@
 -- What waits in each lane stays good, whatever the clocks are. Assumes nothing.
 use Prim.Native.Nat.{ℕ}
-use mathlib.Core.Path.{_≡_, sym, subst}
-use mathlib.Core.Bool.{not, _&&_}
+use mathlib.Core.Path.{sym, subst}
 use mathlib.Core.Option.{Option, none, some}
-use mathlib.Core.List.{List, [], _∷_}
-use lib.Dec.{ltb}
-use lib.ListN.{getD, set}
+use mathlib.Core.List.{List}
+use lib.ListN.{getD}
 use Rattle.waiting.proofs.Laws.{good-nothing, good-enter, good-hand}
-use Rattle.rules.specs.State.{Rec, Setting, setupOf, Lane, noLane, State, startR, holds, laneAt, anyHolds, noSetting}
-use Rattle.rules.specs.Calls.{Pick, Call, Outcome, put, take, look, sets, lag, restart, putRefusal, shifted, appended, woken, accept, putOf, doPut, served, serve, picked, takeOf, doTake, doLook, doSets, idle, fresh, doRestart, step}
+use Rattle.rules.specs.State.{Rec, Setting, noLane, State, holds, laneAt, noSetting}
+use Rattle.rules.specs.Calls.{Pick, Call, putRefusal, shifted, appended, woken, accept, putOf, served, serve, picked, takeOf, idle, fresh, step}
 use Rattle.rules.specs.Runs.{after}
 use Rattle.rules.proofs.Bools.{if-ind}
 use Rattle.rules.proofs.Lists.{set-all}
@@ -16,7 +14,8 @@ use Rattle.rules.proofs.Serve.{served-ind}
 use Rattle.rules.proofs.Moves.{Sound}
 use Rattle.rules.proofs.Bounds.{idle-at}
 use Rattle.rules.proofs.Shift.{shifted-sound, shifted-allowed}
-use Rattle.rules.proofs.Keep.{AllSound, Allowed, allowed-enters, PutOk, put-ok, look-same, lag-same}
+use Rattle.rules.proofs.Keep.{AllSound, Allowed, allowed-enters, PutOk, put-ok}
+use Rattle.rules.proofs.EachCall.{each-call, each-run}
 
 take-sound : (s : State) (o : Option Pick) → AllSound s → AllSound ((takeOf s o) .state)
 unfolding takeOf serve
@@ -43,15 +42,7 @@ unfolding fresh idle
 fresh-sound gs k = subst Sound (sym (idle-at gs k)) (good-nothing _ ((getD gs k noSetting) .shared))
 
 pub step-sound : (s : State) (c : Call) → AllSound s → AllSound ((step s c) .state)
-unfolding step doPut doTake doLook doSets doRestart
-step-sound s (put j k m n) w = put-sound s j (record { train = k; mark = m; len = n }) (putRefusal s j (record { train = k; mark = m; len = n })) (put-ok s j (record { train = k; mark = m; len = n })) w
-step-sound s take w = take-sound s (picked s) w
-step-sound s look w = subst AllSound (sym (look-same s (picked s))) w
-step-sound s sets w = w
-step-sound s (lag j) w = subst AllSound (sym (lag-same s j)) w
-step-sound s restart w = if-ind (λ (o : Outcome). AllSound (o .state)) (anyHolds (s .lanes)) _ _ (λ e. w) (λ e. fresh-sound (setupOf s))
+step-sound = each-call AllSound fresh-sound (λ s j r w. put-sound s j r (putRefusal s j r) (put-ok s j r) w) (λ s w. take-sound s (picked s) w)
 
 pub sound-run : (s : State) (cs : List Call) → AllSound s → AllSound (after s cs)
-unfolding after
-sound-run s [] w = w
-sound-run s (c ∷ cs) w = sound-run ((step s c) .state) cs (step-sound s c w)
+sound-run = each-run AllSound fresh-sound (λ s j r w. put-sound s j r (putRefusal s j r) (put-ok s j r) w) (λ s w. take-sound s (picked s) w)

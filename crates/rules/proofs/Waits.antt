@@ -11,7 +11,8 @@ use mathlib.Core.List.{List, [], _∷_, _++_, append-assoc}
 use lib.ListN.{length, drop, length-append}
 use Rattle.rounds.specs.Round as round
 use Rattle.waiting.specs.Waiting.{isShared, bare}
-use Rattle.waiting.proofs.Laws.{queue-none, held-hand, known-train}
+use Rattle.waiting.proofs.Laws.{queue-none, held-hand}
+use Rattle.waiting.proofs.Sharing.{known-train}
 use Rattle.rules.specs.State.{Rec, Setting, settingAt, Lane, State, charge, rate, slot, firstOf, laneAt}
 use Rattle.rules.specs.Setup.{Setup, longestCharge, framingOf, margin}
 use Rattle.rules.specs.Calls.{Call, put, accepted, putRefusal, putOf, doPut, fresh, step}

@@ -12,7 +12,8 @@ use Rattle.pages.specs.Offers.{DeviceEvent, ofRules, inForce}
 use Rattle.pages.specs.Claims.{FairPages, Demand3Pages, FairTightPages}
 use Rattle.pages.specs.Waits.{InTurnPages, WaitsPages, WaitsByPages, OutByPages, WaitsSharedPages, OutBySharedPages, WaitsFromPages, WaitsFromByPages, OutByTakesPages}
 use Rattle.pages.proofs.Fair.{demand3-pages, tight-pages}
-use Rattle.pages.proofs.Waits.{out-more-of, in-turn-pages, waits-pages, waits-by-pages, out-by-pages}
+use Rattle.pages.proofs.OneRecord.{out-more-of}
+use Rattle.pages.proofs.Waits.{in-turn-pages, waits-pages, waits-by-pages, out-by-pages}
 use Rattle.pages.proofs.MoreWaits.{waits-shared-pages, out-by-shared-pages, waits-from-pages, waits-from-by-pages, out-by-takes-pages}
 use Rattle.scheduler.specs.Chain.{callsOf, Led}
 use Rattle.scheduler.specs.Waits.{asAsked, byCostliest, InTurnCalls, NthCalls, WaitsCalls, WaitsByCalls, OutByCalls, OutByTakesCalls, WaitsSharedCalls, OutBySharedCalls, WaitsFromCalls, WaitsFromByCalls, Bounded, Waiting}

@@ -4,6 +4,7 @@ pub mod Places
 pub mod Footprint
 pub mod Lists
 pub mod Leave
+pub mod Untouched
 pub mod Rows
 pub mod Timed
 pub mod Few

@@ -1,18 +1,17 @@
--- The chosen record handed out. Assumes nothing.
-use Prim.Native.Nat.{ℕ, zero, suc, _+_, _-_, _*_, _/_, _%_, _^_, _≤_, _<_}
+-- The chosen record handed out: what becomes of the lane. Assumes nothing.
+use Prim.Native.Nat.{ℕ, suc, _+_, _-_, _*_, _/_, _%_, _^_, _≤_, _<_}
 use native.Mathlib.Omega.{arith}
 use mathlib.Core.Path.{_≡_, refl, sym, ap, subst, _∙_}
-use mathlib.Core.Bool.{Bool, true, false, not, false≢true}
+use mathlib.Core.Bool.{true, false, false≢true}
 use mathlib.Core.List.{List, [], _∷_, _++_}
-use lib.Dec.{leb, eqb}
-use lib.ListN.{length, getD, set}
-use borrow.Author.Tests.{le-leb, lt-leb, eq-eqb, ne-eqb}
-use Rattle.units.specs.Plain.{if_then_else_, times}
-use Rattle.rounds.specs.Round.{Rec, Train, Shared, noTrain, raised, begin, handOf, handIn, handOut}
+use lib.ListN.{length, set}
+use borrow.Author.Tests.{le-leb, lt-leb, eq-eqb}
+use Rattle.units.specs.Plain.{times}
+use Rattle.rounds.specs.Round.{Rec, Train, noTrain, begin, handOf, handIn, handOut}
 use Rattle.rounds.proofs.Lists.{times-append}
 use Rattle.turns.specs.Turns.{headOf, countOf, deficitOf, placeOf, ringOf, trainOf, trainsOf, sharedOf, fours, namedOf, orderOf, roundOf, turnOf, Ordered, Known, Light, with, begun, HandsOut}
-use Rattle.turns.proofs.Round.{round-made, ordered-made, round-cons, rest-fits, ordered-rest, round-rest, named-rest, ordered-turned, round-turned, named-turned, turned-small}
-use Rattle.turns.proofs.Train.{parts, ring-none, ring-cons, train-made, trains-with, train-is, begin-is, not-begun}
+use Rattle.turns.proofs.Round.{round-cons, ordered-rest, round-rest, named-rest, ordered-turned, round-turned, named-turned}
+use Rattle.turns.proofs.Train.{ring-none, ring-cons, train-made, trains-with, train-is, begin-is, not-begun}
 
 module _ (t r : ℕ) (light : Light t) (some-held : 0 < countOf t) (o : Ordered r) (known : Known r) (m : ℕ) (named : namedOf r ≡ suc m) where
   abbrev k : ℕ
@@ -138,10 +137,10 @@ module _ (t r : ℕ) (light : Light t) (some-held : 0 < countOf t) (o : Ordered 
   -- ---- what it leaves
 
   module _ (length next : ℕ) where
-    hands-last-none : countOf t ≡ 1 → m ≡ 0 → HandsOut t r length next (record { train = h; round = left; begins = false })
+    pub hands-last-none : countOf t ≡ 1 → m ≡ 0 → HandsOut t r length next (record { train = h; round = left; begins = false })
     hands-last-none one z = record { lane = λ L at ts is a b. last-none L at ts is one z; ordered = ordered-rest r m o named; small = omega arith; turn = λ q. absurd (false≢true q) }
 
-    hands-last-some : (n : ℕ) → countOf t ≡ 1 → m ≡ suc n → HandsOut t r length next (record { train = h; round = left; begins = true })
+    pub hands-last-some : (n : ℕ) → countOf t ≡ 1 → m ≡ suc n → HandsOut t r length next (record { train = h; round = left; begins = true })
     hands-last-some n one z = record { lane = λ L at ts is a b. last-some L at ts is one n z; ordered = ordered-rest r m o named; small = omega arith; turn = λ q. left-turn n z }
 
     module _ (c : ℕ) (more : countOf t ≡ suc (suc c)) where
@@ -157,7 +156,7 @@ module _ (t r : ℕ) (light : Light t) (some-held : 0 < countOf t) (o : Ordered 
       next-place : (at : ℕ → Rec) → at (placeOf k (headOf t + 1)) .len ≡ next → at (placeOf k h) .len ≡ next
       next-place at q = let p : placeOf k h ≡ placeOf k (headOf t + 1) = omega arith in ap (λ (i : ℕ). at i .len) p ∙ q
 
-      hands-stays : next ≤ d → HandsOut t r length next (record { train = fewer; round = r; begins = false })
+      pub hands-stays : next ≤ d → HandsOut t r length next (record { train = fewer; round = r; begins = false })
       hands-stays p = record {
         lane = λ L at ts is a b. stays-lane L at ts is c more d (ap (λ (y : ℕ). deficitOf t - y) (sym a)) (omega (arith, next-place at b));
         ordered = o;
@@ -165,60 +164,10 @@ module _ (t r : ℕ) (light : Light t) (some-held : 0 < countOf t) (o : Ordered 
         turn = λ q. absurd (false≢true q);
       }
 
-      hands-goes : d < next → HandsOut t r length next (record { train = fewer; round = turned; begins = true })
+      pub hands-goes : d < next → HandsOut t r length next (record { train = fewer; round = turned; begins = true })
       hands-goes p = record {
         lane = λ L at ts is a b. goes-lane L at ts is c more d (ap (λ (y : ℕ). deficitOf t - y) (sym a)) (omega (arith, next-place at b));
         ordered = ordered-turned r m o named;
         small = small-x;
         turn = λ q. turned-turn;
       }
-
--- ---- in the code's own terms
-
-module _ (t r length next : ℕ) (light : Light t) (some-held : 0 < countOf t) (o : Ordered r) (known : Known r) (some-named : 0 < namedOf r) where
-  abbrev before : ℕ
-  before = namedOf r - 1
-
-  named-is : namedOf r ≡ suc before
-  named-is = omega arith
-
-  head-is : (t + 1) % 8 ≡ (headOf t + 1) % 8
-  head-is = omega arith
-
-  pub worth-small : (w : ℕ) → w ≡ 16 ^ before → orderOf r / 16 + turnOf r * w < 2 ^ 32
-  worth-small w q = rw q (turned-small r before o named-is)
-
-  pub does-last : countOf t ≡ 1 → HandsOut t r length next (record { train = (t + 1) % 8; round = orderOf r / 16 + 2 ^ 32 * (namedOf r - 1); begins = not (eqb (namedOf r) 1) })
-  does-last one = rw head-is (go before refl)
-    where
-      go : (n : ℕ) → before ≡ n → HandsOut t r length next (record { train = (headOf t + 1) % 8; round = orderOf r / 16 + 2 ^ 32 * before; begins = not (eqb (namedOf r) 1) })
-      go zero z = rw (eq-eqb (namedOf r) 1 (omega arith)) (hands-last-none t r light some-held o known before named-is length next one z)
-      go (suc n) z = rw (ne-eqb (namedOf r) 1 (λ q. omega arith)) (hands-last-some t r light some-held o known before named-is length next n one z)
-
-  module _ (not-one : countOf t ≡ 1 → ⊥) where
-    abbrev fewer′ : ℕ
-    fewer′ = (t + 1) % 8 + 8 * (countOf t - 1) + 128 * (deficitOf t - length)
-
-    many : countOf t ≡ suc (suc (countOf t - 2))
-    many = two (countOf t) some-held not-one
-      where
-        two : (n : ℕ) → 0 < n → (n ≡ 1 → ⊥) → n ≡ suc (suc (n - 2))
-        two zero p q = absurd (omega arith)
-        two (suc zero) p q = absurd (q refl)
-        two (suc (suc n)) p q = omega arith
-
-    fewer-is : (headOf t + 1) % 8 + 8 * suc (countOf t - 2) + 128 * (deficitOf t - length) ≡ fewer′
-    fewer-is = let c : suc (countOf t - 2) ≡ countOf t - 1 = omega (arith, many) in rw (head-is, c)
-
-    pub does-stay : next ≤ deficitOf t - length → HandsOut t r length next (record { train = fewer′; round = r; begins = false })
-    does-stay p =
-        subst (λ (x : ℕ). HandsOut t r length next (record { train = x; round = r; begins = false })) fewer-is
-        (hands-stays t r light some-held o known before named-is length next (countOf t - 2) many p)
-
-    pub does-go : (w : ℕ) → w ≡ 16 ^ before → deficitOf t - length < next
-        → HandsOut t r length next (record { train = fewer′; round = orderOf r / 16 + turnOf r * w + 2 ^ 32 * namedOf r; begins = true })
-    does-go w q p =
-        subst (λ (x : ℕ). HandsOut t r length next (record { train = fewer′; round = orderOf r / 16 + turnOf r * w + 2 ^ 32 * x; begins = true })) (sym named-is)
-        (rw q
-        (subst (λ (x : ℕ). HandsOut t r length next (record { train = x; round = orderOf r / 16 + turnOf r * 16 ^ before + 2 ^ 32 * suc before; begins = true })) fewer-is
-        (hands-goes t r light some-held o known before named-is length next (countOf t - 2) many p)))

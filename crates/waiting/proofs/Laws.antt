@@ -1,16 +1,16 @@
--- All that the rules know of what waits in a lane. Assumes nothing.
-use Prim.Native.Nat.{ℕ, zero, suc, _+_, _≤_, _<_}
+-- All that the rules know of what waits in a lane, but for who shares it (Sharing.antt). Assumes nothing.
+use Prim.Native.Nat.{ℕ, zero, suc, _≤_, _<_}
 use native.Mathlib.Omega.{arith}
 use mathlib.Core.Path.{_≡_, refl, sym, ap, _∙_}
-use mathlib.Core.Bool.{Bool, true, false, _&&_, false≢true}
-use mathlib.Core.List.{List, [], _∷_, _++_, append-nil}
+use mathlib.Core.Bool.{Bool, true, false, _&&_}
+use mathlib.Core.List.{List, [], _∷_, _++_}
 use mathlib.Core.Option.{Option, none, some}
 use lib.Dec.{leb, eqb}
 use lib.ListN.{length, length-append}
-use borrow.Author.Tests.{leb-true, leb-false, ltb-true, ltb-false, lt-ltb, le-leb, eq-eqb, ne-eqb}
+use borrow.Author.Tests.{leb-true, leb-false, ltb-true, le-leb, eq-eqb, ne-eqb}
 use Rattle.units.specs.Plain.{if_then_else_}
 use Rattle.rounds.specs.Round as round
-use Rattle.rounds.specs.Round.{Moving, Shared, noTrain, trainAt, trainCount, trainDepth, some?}
+use Rattle.rounds.specs.Round.{Moving, Shared, trainAt, trainCount, trainDepth}
 use Rattle.rounds.specs.Good.{Good}
 use Rattle.rounds.specs.Runs.{ofTrain}
 use Rattle.rounds.proofs.Keep as keep
@@ -18,7 +18,7 @@ use Rattle.rounds.proofs.Order as order
 use Rattle.rounds.proofs.Held as heldLaws
 use Rattle.rounds.proofs.Test as test
 use Rattle.rounds.proofs.Lists.{and-parts}
-use Rattle.waiting.specs.Waiting.{laneDepth, Rec, bare, Waiting, plain, shared, nothing, itemOf, isShared, head, tail, first, enter, handOut, held, queueOf, full, known, Lengths, GoodWaiting, lengthsTest, waitingTest}
+use Rattle.waiting.specs.Waiting.{laneDepth, Rec, bare, Waiting, plain, shared, nothing, itemOf, isShared, tail, first, enter, handOut, held, queueOf, full, known, Lengths, GoodWaiting, lengthsTest, waitingTest}
 
 -- what an accepted record has
 pub record Enters (L : ℕ) (w : Waiting) (r : Rec) : Type 0 where
@@ -27,10 +27,10 @@ pub record Enters (L : ℕ) (w : Waiting) (r : Rec) : Type 0 where
   pub fits : r .len ≤ L
   pub room : full w (r .train) ≡ false
 
-clash {ℓ} : {A : Type 0} {P : Type ℓ} (x : A) → none ≡ some x → P
+pub clash {ℓ} : {A : Type 0} {P : Type ℓ} (x : A) → none ≡ some x → P
 clash x e = let z : _≡_ {A = ℕ} 0 1 = cc in absurd (omega arith)
 
-some-inj : (x y : Rec) → some x ≡ some y → x ≡ y
+pub some-inj : (x y : Rec) → some x ≡ some y → x ≡ y
 some-inj x y e = cc
 
 -- a shared lane's choice, taken apart
@@ -190,44 +190,3 @@ good-test L (plain q) g = simp (le-leb (length q) laneDepth (g .0), go q (g .1))
     go [] l = refl
     go (r ∷ rs) l = simp (le-leb 1 (r .len) (l .0), le-leb (r .len) L (l .1), go rs (l .2))
 good-test L (shared s) g = test.good-test L s g
-
--- ---- a lane is shared or not for good
-
-pub shared-nothing : (b : Bool) → isShared (nothing b) ≡ b
-unfolding isShared
-shared-nothing false = refl
-shared-nothing true = refl
-
-pub shared-enter : (L : ℕ) (w : Waiting) (r : Rec) → isShared (enter L w r) ≡ isShared w
-unfolding isShared enter
-shared-enter L (plain q) r = refl
-shared-enter L (shared s) r = refl
-
-pub shared-hand : (L : ℕ) (w : Waiting) → isShared (handOut L w) ≡ isShared w
-unfolding isShared handOut
-shared-hand L (plain q) = refl
-shared-hand L (shared s) = refl
-
--- ---- a lane that is not shared has the train 0 alone
-
-pub first-train : (w : Waiting) (x : Rec) → isShared w ≡ false → first w ≡ some x → x .train ≡ 0
-unfolding isShared
-first-train (plain []) x u e = clash x e
-first-train (plain (y ∷ ys)) x u e = sym (ap (λ (z : Rec). z .train) (some-inj _ x e))
-first-train (shared s) x u e = absurd (false≢true (sym u))
-
-pub known-train : (w : Waiting) (t : ℕ) → isShared w ≡ false → known w t ≡ true → t ≡ 0
-unfolding isShared known
-known-train (plain q) t u e = omega (arith, leb-true t 0 e)
-known-train (shared s) t u e = absurd (false≢true (sym u))
-
--- and a shared one those of its number
-pub first-known : (L : ℕ) (w : Waiting) (x : Rec) → GoodWaiting L w → first w ≡ some x → x .train < trainCount
-unfolding GoodWaiting isShared
-first-known L (plain q) x g e = omega (arith, first-train (plain q) x refl e)
-first-known L (shared s) x g e = heldLaws.first-inside L s (moved x) g (item-some (round.first s) x e)
-
-pub known-inside : (w : Waiting) (t : ℕ) → known w t ≡ true → t < trainCount
-unfolding known
-known-inside (plain q) t e = omega (arith, leb-true t 0 e)
-known-inside (shared s) t e = ltb-true t trainCount e

@@ -17,7 +17,8 @@ use Rattle.rounds.proofs.Figure.{worth, ofTrain-bytes}
 use Rattle.rounds.proofs.Under.{hand-under, put-under}
 use Rattle.rounds.proofs.Others.{range-any}
 use Rattle.waiting.specs.Waiting.{Rec, bare, Waiting, plain, shared, isShared, first, enter, handOut, queueOf, Lengths, GoodWaiting}
-use Rattle.waiting.proofs.Laws.{moved, item-some, first-train}
+use Rattle.waiting.proofs.Laws.{moved, item-some}
+use Rattle.waiting.proofs.Sharing.{first-train}
 
 unfoldable pub upOf : ℕ → ℕ → ℕ → Waiting → ℕ
 upOf L a b (plain q) = 0

@@ -10,7 +10,7 @@
 --   full          no room for a record of a train
 --   GoodWaiting   what the rule for a good table asks of it; waitingTest: the same as a test
 --
--- L is the lane's longest record. proofs/Laws.antt has all that the rules know of these. Assumes nothing.
+-- L is the lane's longest record. proofs/Laws.antt and Sharing.antt have all that the rules know of these. Assumes nothing.
 use Prim.Native.Nat.{ℕ, zero, suc, _≤_}
 use mathlib.Core.Bool.{Bool, true, false, _&&_}
 use mathlib.Core.List.{List, [], _∷_, _++_}

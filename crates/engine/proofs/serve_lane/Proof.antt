@@ -4,7 +4,8 @@ use native.Mathlib.Omega.{arith}
 use Rattle.table.specs.Means.{meant}
 use Rattle.choice.proofs.Held.{start-early}
 use Rattle.engine.proofs.RowIs.{row-rate}
-use Rattle.engine.proofs.Serving.{lane-holds, lane-small, lane-good, lane-finish, finish-small, lane-row, short, time-is, finish-is, more-is, solid-after, some-after, rooms-after, start₁, start-reached}
+use Rattle.engine.proofs.Serving.{lane-holds, lane-small, lane-good, lane-finish, finish-small, lane-row, short, time-is, finish-is, more-is, start-reached}
+use Rattle.engine.proofs.ServingLists.{solid-after, some-after, rooms-after, start₁}
 use Rattle.engine.proofs.Handing.{sound₂, early₂, start-now, handed, at-chosen}
 use borrow.Author.Needs.{needs}
 use Rattle.engine.proofs.serve_lane.Statement.{statement}

@@ -1,64 +1,42 @@
--- `settled_clock` meets its contract. Assumes nothing.
-use Prim.Native.Nat.{ℕ, _+_, _-_, _^_, _≤_, _<_}
-use mathlib.Core.Path.{_≡_, refl, sym, ap, subst, _∙_}
-use mathlib.Core.Option.{none}
+-- `settled_clock` meets its contract. The loop's invariant: of the groups met so far the least start is found, and each is after v. Assumes nothing.
+use Prim.Native.Nat.{ℕ}
+use mathlib.Core.Path.{refl, sym, subst}
 use native.Mathlib.Omega.{arith}
 use borrow.Author.Needs.{needs}
-use lib.Count.{trailingZeros}
-use Rattle.slot_lists.specs.Lists.{groupsAt, startAt}
+use Rattle.slot_lists.specs.Lists.{startAt}
 use Rattle.groups.specs.Front.{Earliest, stays}
 use Rattle.groups.proofs.Laws.{Late, late-none, late-on, late-more, earliest-none, earliest-on, earliest-more, settles-none, settles-some}
-use Rattle.groups.proofs.Walk.{Left, left-all, next-small, on, present, absent, left-less, less, none-left, no-start-at, start-word, group-bounds}
+use Rattle.groups.proofs.Walk.{Walked, walked-none, no-more, group-small, group-bounds, group-start, group-on, none-between, rest-less, walked-on}
 use Rattle.groups.proofs.settled_clock.Statement.{statement}
 use Rattle.groups.proofs.settled_clock.Tie as tie
-use Rattle.groups.proofs.settled_clock.Reads as reads
-use Rattle.groups.proofs.settled_clock.Lts as lts
-use Rattle.groups.proofs.earlier.Reads as earlier-reads
-use Rattle.words.proofs.word.Reads as word-reads
 
 abbrev Inv-loop : tie.InvT-loop
-Inv-loop t v found₀ left₀ found left =
-    (n : ℕ) × Left (groupsAt t) left n × (left < 2 ^ 64) × (n ≤ 64) × Earliest (startAt t) n found × Late (startAt t) v n
+Inv-loop t v found₀ left₀ found left = Walked t left (λ (n : ℕ). Earliest (startAt t) n found × Late (startAt t) v n)
 
 abbrev μ-loop : tie.MeasureT-loop
-μ-loop t v found₀ left₀ found left =
-    left
+μ-loop t v found₀ left₀ found left = left
 
 word-requires : tie.Need-word-requires Inv-loop μ-loop
 word-requires c κs = search needs
 
 loop-holds : tie.Need-loop-holds Inv-loop μ-loop
-loop-holds c =
-    let s = c .before .before in
-    let t = s .args .t .now in
-    (0, subst (λ (x : ℕ). Left (groupsAt t) x 0) (sym (c .word .ensures)) (left-all (groupsAt t)), omega (arith, c .word .ensures, s .pre .1 .high), omega arith, earliest-none (startAt t), late-none (startAt t) (s .args .v))
+loop-holds c = let s = c .before .before in walked-none (s .pre .1) (c .word .ensures) (earliest-none _, late-none _ (s .args .v))
 
 cast-word : tie.Need-cast-word Inv-loop μ-loop
-cast-word c =
-    let w = c .before .loop in
-    omega (arith, next-small (groupsAt (c .before .before .before .before .args .t .now)) (w .left) (w .inv .0) (w .inv .1) (c .loop-test .taken) (w .inv .2))
+cast-word c = omega (arith, group-small (c .before .loop .inv) (c .loop-test .taken))
 
 add-word : tie.Need-add-word Inv-loop μ-loop
-add-word c =
-    let w = c .before .loop in
-    omega (arith, next-small (groupsAt (c .before .before .before .before .args .t .now)) (w .left) (w .inv .0) (w .inv .1) (c .loop-test .taken) (w .inv .2))
+add-word c = omega (arith, group-small (c .before .loop .inv) (c .loop-test .taken))
 
 word-requires-2 : tie.Need-word-requires-2 Inv-loop μ-loop
-word-requires-2 c κs =
-    let s = c .before .before .before .before in
-    let w = c .before .loop in
-    let t = s .args .t .now in
-    let b = group-bounds t (groupsAt t) _ (s .pre .1) refl (present (groupsAt t) (w .left) (w .inv .0) (w .inv .1) (c .loop-test .taken) (w .inv .2)) in
-    omega (arith, s .pre .0, b .1)
+word-requires-2 c κs = let s = c .before .before .before .before in omega (arith, s .pre .0, group-bounds (c .before .loop .inv) (c .loop-test .taken) (s .pre .1) .1)
 
 returns : tie.Need-returns Inv-loop μ-loop
 returns c =
-    let s = c .before .before .before .before .before .before in
-    let w = c .before .before .before .loop in
-    let t = s .args .t .now in
-    let p = present (groupsAt t) (w .left) (w .inv .0) (w .inv .1) (c .before .before .loop-test .taken) (w .inv .2) in
-    let b = group-bounds t (groupsAt t) _ (s .pre .1) refl p in
-    stays _ _ (b .0) (b .1) (start-word t (groupsAt t) _ _ refl p (c .before .word2 .ensures)) (c .if1 .taken) refl
+    let w = c .before .before .before .loop .inv in
+    let some = c .before .before .loop-test .taken in
+    let b = group-bounds w some (c .before .before .before .before .before .before .pre .1) in
+    stays _ _ (b .0) (b .1) (group-start w some (c .before .word2 .ensures)) (c .if1 .taken) refl
 
 earlier-requires : tie.Need-earlier-requires Inv-loop μ-loop
 earlier-requires c κs = search needs
@@ -67,45 +45,36 @@ sub-left : tie.Need-sub-left Inv-loop μ-loop
 sub-left c = omega (arith, c .before .before .before .loop-test .taken)
 
 loop-less : tie.Need-loop-less Inv-loop μ-loop
-loop-less c =
-    let w = c .before .before .before .before .loop in
-    less (groupsAt (c .before .before .before .before .before .before .before .args .t .now)) (w .left) (w .inv .0) (w .inv .1) (c .before .before .before .loop-test .taken) (w .inv .2)
+loop-less c = rest-less (c .before .before .before .before .loop .inv) (c .before .before .before .loop-test .taken)
 
 loop-again : tie.Need-loop-again Inv-loop μ-loop
 loop-again c =
     let s = c .before .before .before .before .before .before .before in
-    let w = c .before .before .before .before .loop in
-    let t = s .args .t .now in
-    let g = groupsAt t in
-    let l = w .inv .1 in
-    let more-left = c .before .before .before .loop-test .taken in
-    let fits = w .inv .2 in
-    let n = w .inv .0 in
-    let small = next-small g (w .left) n l more-left fits in
-    let p = present g (w .left) n l more-left fits in
-    let b = group-bounds t g _ (s .pre .1) refl p in
-    let here = start-word t g _ _ refl p (c .before .before .word2 .ensures) in
-    let nil : (i : ℕ) → n ≤ i → i < trailingZeros 64 (w .left) → startAt t i ≡ none = λ i x y. no-start-at t g i refl (absent g (w .left) n l more-left fits i x y) in
-    let up = on g (w .left) n l more-left fits in
-    let upto = earliest-on (startAt t) n _ _ nil up (w .inv .4) in
-    let more = earliest-more (startAt t) _ _ (b .0) (b .1) (s .pre .2 _ _ (b .0) (b .1) here) here (w .found) upto in
-    (trailingZeros 64 (w .left) + 1, left-less g (w .left) n l more-left fits, omega (arith, fits, less g (w .left) n l more-left fits), omega (arith, small), subst (Earliest (startAt t) _) (sym (c .earlier .ensures)) more, late-more (startAt t) (s .args .v) _ _ here (c .before .if1 .left) (late-on (startAt t) (s .args .v) n _ nil up (w .inv .5)))
+    let l = c .before .before .before .before .loop in
+    let w = l .inv in
+    let some = c .before .before .before .loop-test .taken in
+    let starts = startAt (s .args .t .now) in
+    let b = group-bounds w some (s .pre .1) in
+    let here = group-start w some (c .before .before .word2 .ensures) in
+    let upto = earliest-on starts (w .n) _ _ (none-between w some) (group-on w some) (w .told .0) in
+    let more = earliest-more starts _ _ (b .0) (b .1) (s .pre .2 _ _ (b .0) (b .1) here) here (l .found) upto in
+    let after = late-more starts (s .args .v) _ _ here (c .before .if1 .left) (late-on starts (s .args .v) (w .n) _ (none-between w some) (group-on w some) (w .told .1)) in
+    walked-on w some (subst (Earliest starts _) (sym (c .earlier .ensures)) more, after)
 
 returns-2 : tie.Need-returns-2 Inv-loop μ-loop
 returns-2 c =
     let s = c .before .before .before .before .before in
-    let w = c .before .before .loop in
-    let t = s .args .t .now in
-    let nil : (i : ℕ) → w .inv .0 ≤ i → i < 64 → startAt t i ≡ none = λ i x y. no-start-at t (groupsAt t) i refl (none-left (groupsAt t) (w .left) (w .inv .0) (w .inv .1) (c .before .loop-test .left) i x) in
-    settles-none (startAt t) (s .args .v) _ (c .if2 .taken) (earliest-on (startAt t) (w .inv .0) 64 _ nil (w .inv .3) (w .inv .4))
+    let w = c .before .before .loop .inv in
+    let starts = startAt (s .args .t .now) in
+    settles-none starts (s .args .v) _ (c .if2 .taken) (earliest-on starts (w .n) 64 _ (no-more w (c .before .loop-test .left)) (w .ends) (w .told .0))
 
 returns-3 : tie.Need-returns-3 Inv-loop μ-loop
 returns-3 c =
     let s = c .before .before .before .before .before in
-    let w = c .before .before .loop in
-    let t = s .args .t .now in
-    let nil : (i : ℕ) → w .inv .0 ≤ i → i < 64 → startAt t i ≡ none = λ i x y. no-start-at t (groupsAt t) i refl (none-left (groupsAt t) (w .left) (w .inv .0) (w .inv .1) (c .before .loop-test .left) i x) in
-    settles-some (startAt t) (s .args .v) _ (c .if2 .left) (earliest-on (startAt t) (w .inv .0) 64 _ nil (w .inv .3) (w .inv .4)) (late-on (startAt t) (s .args .v) (w .inv .0) 64 nil (w .inv .3) (w .inv .5))
+    let w = c .before .before .loop .inv in
+    let starts = startAt (s .args .t .now) in
+    let nil = no-more w (c .before .loop-test .left) in
+    settles-some starts (s .args .v) _ (c .if2 .left) (earliest-on starts (w .n) 64 _ nil (w .ends) (w .told .0)) (late-on starts (s .args .v) (w .n) 64 nil (w .ends) (w .told .1))
 
 pub settled-clock-spec : {M : Type 1} → statement M
 settled-clock-spec =

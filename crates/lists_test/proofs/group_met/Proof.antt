@@ -1,29 +1,18 @@
-use Rattle.lists_test.proofs.ListWalk.{ring-said, next-word}
-use Rattle.lists_test.specs.declared.Met.{Met}
-use Rattle.lists_test.specs.declared.Met.the-variants.{Bad, Lanes}
-use mathlib.Core.Path.{_≡_, sym, ap, subst, _∙_}
-use mathlib.Core.List.{List}
-use Prim.Native.Nat.{ℕ, _+_, _-_, _*_, _/_, _%_, _^_, _≤_, _<_}
-use native.Mathlib.Nat.{mod-eq-of-lt, div-mul-le-self, mul-le-mul-left}
+-- `group_met` meets its contract. The loop's invariant: the lists below b are walked, and b is the next that has lanes, or past the last. Assumes nothing.
+use mathlib.Core.Path.{_≡_, ap}
+use Prim.Native.Nat.{ℕ, _-_, _/_, _^_, _<_}
 use native.Mathlib.Omega.{arith}
-use lib.Pow.{pow-mono, shr-le}
+use lib.Pow.{shr-le}
 use Rattle.words.specs.Bits.{bit}
 use Rattle.words.specs.Words.{wordAt}
-use Rattle.slot_lists.specs.Lists.{backAt, mapWord, startWord, ringNumber}
-use Rattle.lists_test.specs.Stored.{startSlot, listSlot, RingSays, GroupSays}
-use Rattle.lists_test.proofs.ListWalk.{Walked, walk-none, walk-next, walk-step, walk-bad, walk-all}
+use Rattle.slot_lists.specs.Lists.{mapWord}
+use Rattle.lists_test.specs.Stored.{RingSays, GroupSays}
+use Rattle.lists_test.proofs.ListWalk.{Walked, walk-none, walk-next, walk-step, walk-bad, walk-all, next-word}
+use Rattle.lists_test.proofs.GroupWords.{slot-small, not-whole, not-first, ring-told, group-fine}
 use Rattle.lists_test.proofs.WordBits.{bit-under}
 use borrow.Author.Needs.{needs}
 use Rattle.lists_test.proofs.group_met.Statement.{statement}
 use Rattle.lists_test.proofs.group_met.Tie as tie
-
--- the slot of the start, by the words that were read
-slot-is : (t : List ℕ) (g start back : ℕ) → start ≡ wordAt t (startWord g) → back ≡ backAt t → start / 2 ^ g + back / 2 ^ g ≡ startSlot t g
-slot-is t g start back a b = ap (λ (x : ℕ). x / 2 ^ g + back / 2 ^ g) a ∙ ap (λ (x : ℕ). wordAt t (startWord g) / 2 ^ g + x / 2 ^ g) b
-
--- no sum of slots is near the end of a word
-slot-small : (g start back : ℕ) → 16 ≤ g → start < 2 ^ 64 → back < 2 ^ 36 → start / 2 ^ g + back / 2 ^ g < 2 ^ 63
-slot-small g start back lo a b = omega (arith, div-mul-le-self start (2 ^ g), mul-le-mul-left (start / 2 ^ g) (pow-mono {i = 16} {j = g} lo), shr-le back g)
 
 abbrev Inv-loop : tie.InvT-loop
 Inv-loop t g back before map start own base slot first met₀ b₀ met b = Walked t g before b met × (b < 64 → bit b (wordAt t (mapWord g)) ≡ 1)
@@ -55,10 +44,9 @@ shl-if2 c = search needs
 
 returns-2 : tie.Need-returns-2 Inv-loop μ-loop
 unfolding GroupSays
-returns-2 c = let g = c .before .before .before .before .before .args .g in
-    let e = c .before .before .word2 .ensures in
-    let fits : c .before .before .word2 .result < 2 ^ 64 = omega (arith, c .before .before .word2 .ok) in
-    λ fine new. c .if2 .taken (subst (λ (x : ℕ). x < 2 ^ 64 → x / 2 ^ g * 2 ^ g % 2 ^ 64 ≡ x) (sym e) (λ h. ap (λ (y : ℕ). y % 2 ^ 64) (fine .whole) ∙ mod-eq-of-lt h) fits)
+returns-2 c =
+    let s = c .before .before .before .before .before in
+    λ fine new. not-whole (s .args .t .now) (s .args .g) _ _ (s .args .back) (c .before .before .before .word .ensures) (c .before .before .word2 .ensures) (s .pre .3) (omega (arith, c .before .before .word2 .ok)) (c .if2 .taken) fine
 
 shr-base : tie.Need-shr-base Inv-loop μ-loop
 shr-base c = search needs
@@ -81,12 +69,7 @@ returns-3 : tie.Need-returns-3 Inv-loop μ-loop
 unfolding GroupSays
 returns-3 c =
     let s = c .before .before .before .before .before .before in
-    let t = s .args .t .now in
-    let g = s .args .g in
-    let start = c .before .before .before .word2 .result in
-    let at = slot-is t g start (s .args .back) (c .before .before .before .word2 .ensures) (s .pre .3) in
-    let m : bit (startSlot t g % 32) (wordAt t (mapWord g)) ≡ 0 = subst (λ (x : ℕ). bit (x % 32) (wordAt t (mapWord g)) ≡ 0) at (subst (λ (y : ℕ). bit ((start / 2 ^ g + s .args .back / 2 ^ g) % 32) y ≡ 0) (c .before .before .before .before .word .ensures) (c .if3 .taken)) in
-    λ fine new. omega (arith, m, fine .first)
+    λ fine new. not-first (s .args .t .now) (s .args .g) _ _ (s .args .back) (c .before .before .before .before .word .ensures) (c .before .before .before .word2 .ensures) (s .pre .3) (c .if3 .taken) fine
 
 next-present-requires : tie.Need-next-present-requires Inv-loop μ-loop
 next-present-requires c κs = search needs
@@ -126,12 +109,14 @@ enum-told c = search needs
 
 returns-4 : tie.Need-returns-4 Inv-loop μ-loop
 unfolding GroupSays RingSays
-returns-4 c = let s = c .before .before .before .before .before .before .before .before .before .before .before .before .before in
+returns-4 c =
+    let s = c .before .before .before .before .before .before .before .before .before .before .before .before .before in
     let w = c .before .before .before .before .before .loop in
     let has = w .inv .1 (c .before .before .before .before .loop-test .taken) in
-    let narrow : wordAt (s .args .t .now) (mapWord (s .args .g)) < 2 ^ 32 = omega (arith, c .before .before .before .before .before .before .before .before .before .if1 .left, c .before .before .before .before .before .before .before .before .before .before .before .word .ensures) in
-    let said = ring-said (s .args .t .now) (s .args .g) (w .b) _ _ (w .met) (c .before .before .ring-met .result) (c .before .before .before .ring-number .ensures .0) (slot-is (s .args .t .now) (s .args .g) _ (s .args .back) (c .before .before .before .before .before .before .before .before .before .before .word2 .ensures) (s .pre .3)) (c .before .before .ring-met .ensures) in
-    walk-bad _ _ _ _ _ (w .inv .0) (bit-under 32 _ _ narrow has) has (subst (λ (r : Met). RingSays (s .args .t .now) (ringNumber (s .args .g) (w .b)) (s .args .g) (listSlot (s .args .t .now) (s .args .g) (w .b)) (w .met) r) (c .enum-told .given .1) said)
+    let map = c .before .before .before .before .before .before .before .before .before .before .before .word .ensures in
+    let narrow : wordAt (s .args .t .now) (mapWord (s .args .g)) < 2 ^ 32 = omega (arith, c .before .before .before .before .before .before .before .before .before .if1 .left, map) in
+    walk-bad _ _ _ _ _ (w .inv .0) (bit-under 32 _ _ narrow has) has
+    (ring-told (s .args .t .now) (s .args .g) _ _ (s .args .back) map (c .before .before .before .before .before .before .before .before .before .before .word2 .ensures) (s .pre .3) (w .b) _ (w .met) (c .before .before .ring-met .result) _ (c .before .before .before .ring-number .ensures .0) (c .before .before .ring-met .ensures) (c .enum-told .given .1))
 
 enum-known-r : tie.Need-enum-known-r Inv-loop μ-loop
 enum-known-r c = search needs
@@ -147,37 +132,25 @@ loop-less c = search needs
 
 loop-again : tie.Need-loop-again Inv-loop μ-loop
 unfolding RingSays
-loop-again c = let s = c .before .before .before .before .before .before .before .before .before .before .before .before .before .before .before in
+loop-again c =
+    let s = c .before .before .before .before .before .before .before .before .before .before .before .before .before .before .before in
     let w = c .before .before .before .before .before .before .before .loop in
     let has = w .inv .1 (c .before .before .before .before .before .before .loop-test .taken) in
-    let narrow : wordAt (s .args .t .now) (mapWord (s .args .g)) < 2 ^ 32 = omega (arith, c .before .before .before .before .before .before .before .before .before .before .before .if1 .left, c .before .before .before .before .before .before .before .before .before .before .before .before .before .word .ensures) in
-    let said = ring-said (s .args .t .now) (s .args .g) (w .b) _ _ (w .met) (c .before .before .before .before .ring-met .result) (c .before .before .before .before .before .ring-number .ensures .0) (slot-is (s .args .t .now) (s .args .g) _ (s .args .back) (c .before .before .before .before .before .before .before .before .before .before .before .before .word2 .ensures) (s .pre .3)) (c .before .before .before .before .ring-met .ensures) in
-    let fine = subst (λ (r : Met). RingSays (s .args .t .now) (ringNumber (s .args .g) (w .b)) (s .args .g) (listSlot (s .args .t .now) (s .args .g) (w .b)) (w .met) r) (c .before .before .r .given .1) said in
-    let n = next-word _ _ _ _ (c .before .before .before .before .before .before .before .before .before .before .before .before .before .word .ensures) (c .next-present2 .ensures) in
+    let map = c .before .before .before .before .before .before .before .before .before .before .before .before .before .word .ensures in
+    let narrow : wordAt (s .args .t .now) (mapWord (s .args .g)) < 2 ^ 32 = omega (arith, c .before .before .before .before .before .before .before .before .before .before .before .if1 .left, map) in
+    let fine = ring-told (s .args .t .now) (s .args .g) _ _ (s .args .back) map (c .before .before .before .before .before .before .before .before .before .before .before .before .word2 .ensures) (s .pre .3) (w .b) _ (w .met) (c .before .before .before .before .ring-met .result) _ (c .before .before .before .before .before .ring-number .ensures .0) (c .before .before .before .before .ring-met .ensures) (c .before .before .r .given .1) in
+    let n = next-word _ _ _ _ map (c .next-present2 .ensures) in
     (walk-next _ _ _ _ _ _ (walk-step _ _ _ _ _ (w .inv .0) (bit-under 32 _ _ narrow has) has _ (fine .0) (fine .1)) n, n .present)
 
 returns-5 : tie.Need-returns-5 Inv-loop μ-loop
 unfolding GroupSays
-returns-5 c = let s = c .before .before .before .before .before .before .before .before .before in
-    let w = c .before .loop in
-    let g = s .args .g in
-    let t = s .args .t .now in
-    let narrow : wordAt t (mapWord g) < 2 ^ 32 = omega (arith, c .before .before .before .before .before .if1 .left, c .before .before .before .before .before .before .before .word .ensures) in
-    let all = walk-all _ _ _ _ _ (w .inv .0) (c .loop-test .left) narrow in
-    let start = c .before .before .before .before .before .before .word2 .result in
-    let fits : start < 2 ^ 64 = omega (arith, c .before .before .before .before .before .before .word2 .ok) in
-    let below : start / 2 ^ g * 2 ^ g < 2 ^ 64 = omega (arith, div-mul-le-self start (2 ^ g)) in
-    let whole : start / 2 ^ g * 2 ^ g ≡ start = sym (mod-eq-of-lt below) ∙ c .before .before .before .before .if2 .left in
-    let at = slot-is t g start (s .args .back) (c .before .before .before .before .before .before .word2 .ensures) (s .pre .3) in
-    let first : bit ((start / 2 ^ g + s .args .back / 2 ^ g) % 32) (c .before .before .before .before .before .before .before .word .result) ≡ 1 = omega (arith, c .before .before .before .if3 .left) in (
-      record {
-        narrow = narrow;
-        whole = subst (λ (x : ℕ). x / 2 ^ g * 2 ^ g ≡ x) (c .before .before .before .before .before .before .word2 .ensures) whole;
-        first = subst (λ (x : ℕ). bit (x % 32) (wordAt t (mapWord g)) ≡ 1) at (subst (λ (y : ℕ). bit ((start / 2 ^ g + s .args .back / 2 ^ g) % 32) y ≡ 1) (c .before .before .before .before .before .before .before .word .ensures) first);
-        rings = all .0;
-      },
-      all .1,
-    )
+returns-5 c =
+    let s = c .before .before .before .before .before .before .before .before .before in
+    let map = c .before .before .before .before .before .before .before .word .ensures in
+    let start = c .before .before .before .before .before .before .word2 in
+    let narrow : wordAt (s .args .t .now) (mapWord (s .args .g)) < 2 ^ 32 = omega (arith, c .before .before .before .before .before .if1 .left, map) in
+    let all = walk-all _ _ _ _ _ (c .before .loop .inv .0) (c .loop-test .left) narrow in
+    (group-fine (s .args .t .now) (s .args .g) _ _ (s .args .back) map (start .ensures) (s .pre .3) narrow (omega (arith, start .ok)) (c .before .before .before .before .if2 .left) (omega (arith, c .before .before .before .if3 .left)) (all .0), all .1)
 
 pub group-met-spec : {M : Type 1} → statement M
 group-met-spec =

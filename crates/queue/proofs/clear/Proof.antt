@@ -1,6 +1,6 @@
 use mathlib.Core.Path.{_≡_}
 use mathlib.Core.Bool.{false}
-use Rattle.queue.proofs.Moves.{cleared-plain, cleared-trains}
+use Rattle.queue.proofs.Entering.{cleared-plain, cleared-trains}
 use borrow.Author.Needs.{needs}
 use Rattle.queue.proofs.clear.Statement.{statement}
 use Rattle.queue.proofs.clear.Tie as tie

@@ -2,7 +2,7 @@ use mathlib.Core.Path.{_≡_}
 use mathlib.Core.Bool.{true, false}
 use native.Mathlib.Omega.{arith}
 use Rattle.table.proofs.Entries.{Fits}
-use Rattle.queue.proofs.Moves.{entryOf, entered-plain, entered-train}
+use Rattle.queue.proofs.Entering.{entryOf, entered-plain, entered-train}
 use borrow.Author.Needs.{needs}
 use Rattle.queue.proofs.enter.Statement.{statement}
 use Rattle.queue.proofs.enter.Tie as tie

@@ -4,7 +4,7 @@ use native.Mathlib.Omega.{arith}
 use Rattle.table.specs.Layout.{cells}
 use Rattle.table.proofs.Stores.{now-then}
 use Rattle.queue.proofs.Taking.{turn-below}
-use Rattle.queue.proofs.Moves.{hands-of, next-of, hand-ready, both-now, turned-same, turned-fits, turned-begun}
+use Rattle.queue.proofs.Turning.{hands-of, next-of, hand-ready, both-now, turned-same, turned-fits, turned-begun}
 use borrow.Author.Needs.{needs}
 use Rattle.queue.proofs.turn.Statement.{statement}
 use Rattle.queue.proofs.turn.Tie as tie

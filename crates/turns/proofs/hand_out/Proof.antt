@@ -1,5 +1,5 @@
 use native.Mathlib.Omega.{arith}
-use Rattle.turns.proofs.Handing.{does-last, does-stay, does-go, worth-small}
+use Rattle.turns.proofs.HandingCode.{does-last, does-stay, does-go, worth-small}
 use borrow.Author.Needs.{needs}
 use Rattle.turns.proofs.hand_out.Statement.{statement}
 use Rattle.turns.proofs.hand_out.Tie as tie

@@ -58,24 +58,6 @@ goes-on c = ⊎-elim (λ w. w .3 ∙ c .before .before .before .before .fields .
 fields-holds : tie.Need-fields-holds Inv-loop μ-loop Inv-fields μ-fields
 fields-holds c = (stands-first _ _ _ _ _ _ (c .before .before .before .pre .0), refl, refl)
 
-quick-at-requires : tie.Need-quick-at-requires Inv-loop μ-loop Inv-fields μ-fields
-quick-at-requires c κs = search needs
-
-enum-known-whole : tie.Need-enum-known-whole Inv-loop μ-loop Inv-fields μ-fields
-enum-known-whole c = search needs
-
-enum-told : tie.Need-enum-told Inv-loop μ-loop Inv-fields μ-fields
-enum-told c = search needs
-
-head-at-requires : tie.Need-head-at-requires Inv-loop μ-loop Inv-fields μ-fields
-head-at-requires c κs = search needs
-
-enum-known-x : tie.Need-enum-known-x Inv-loop μ-loop Inv-fields μ-fields
-enum-known-x c = search needs
-
-enum-known-tag : tie.Need-enum-known-tag Inv-loop μ-loop Inv-fields μ-fields
-enum-known-tag c = search needs
-
 loop-holds : tie.Need-loop-holds Inv-loop μ-loop Inv-fields μ-fields
 loop-holds c = (read-none _ _ _ (head-whole _ _ _ _ (head-is c)) (head-short _ _ _ _ (head-is c)), refl)
 
@@ -90,9 +72,6 @@ mul-value c = omega (arith, read-fits (c .before .before .loop .inv .0) (small (
 
 shared-slice-read-wide : tie.Need-shared-slice-read-wide Inv-loop μ-loop Inv-fields μ-fields
 shared-slice-read-wide c = omega (arith, c .before .if2 .left)
-
-wide-requires : tie.Need-wide-requires Inv-loop μ-loop Inv-fields μ-fields
-wide-requires c κs = search needs
 
 add-value : tie.Need-add-value Inv-loop μ-loop Inv-fields μ-fields
 add-value c = omega (arith, read-fits (c .before .before .before .before .loop .inv .0) (small (c .before .before .before .before .before .before .before .before .before .before .before .before .before .before)) (c .before .before .before .loop-test .taken), c .wide .ensures .1)
@@ -112,12 +91,6 @@ add-next c = omega (arith, whole c)
 add-next-2 : tie.Need-add-next-2 Inv-loop μ-loop Inv-fields μ-fields
 add-next-2 c = omega (arith, whole c)
 
-closed-requires : tie.Need-closed-requires Inv-loop μ-loop Inv-fields μ-fields
-closed-requires c κs = search needs
-
-request-of-requires : tie.Need-request-of-requires Inv-loop μ-loop Inv-fields μ-fields
-request-of-requires c κs = search needs
-
 answer-requires : tie.Need-answer-requires Inv-loop μ-loop Inv-fields μ-fields
 answer-requires c κs =
     let f = c .before .before .before .before .before .before .fields in
@@ -133,23 +106,11 @@ fields-again c =
     let f = c .before .before .before .before .before .before .before .before .before .before .before .fields in
     (stands-next (f .inv .0) (c .before .before .before .before .before .before .before .before .before .if1 .taken) _ _ (found (c .before .before .before .before .before .before .before)) (c .before .before .before .before .answer .ensures), goes-on (c .before .before .before .before .before .before .before), c .before .before .before .before .answer .kept .0 ∙ f .inv .2)
 
-same-length : tie.Need-same-length Inv-loop μ-loop Inv-fields μ-fields
-same-length c = c .before .before .fields .inv .2
-
-same-length-2 : tie.Need-same-length-2 Inv-loop μ-loop Inv-fields μ-fields
-same-length-2 c = same-area (c .before .before .fields .inv .0)
-
 returns : tie.Need-returns Inv-loop μ-loop Inv-fields μ-fields
 returns c =
     let f = c .before .before .fields in
     let s = c .before .before .before .before .before .before in
     rw (f .inv .1) (stops (f .inv .0) Limit (walk-limit _ _ _ _ _ _ (c .if1 .left)) (omega (arith, text-most (f .inv .0) (s .pre .2), f .inv .0 .few)))
-
-same-length-3 : tie.Need-same-length-3 Inv-loop μ-loop Inv-fields μ-fields
-same-length-3 c = c .before .before .before .before .before .before .before .before .before .fields .inv .2
-
-same-length-4 : tie.Need-same-length-4 Inv-loop μ-loop Inv-fields μ-fields
-same-length-4 c = same-area (c .before .before .before .before .before .before .before .before .before .fields .inv .0)
 
 returns-2 : tie.Need-returns-2 Inv-loop μ-loop Inv-fields μ-fields
 returns-2 c =
@@ -160,12 +121,6 @@ returns-2 c =
     (walk-bad _ _ _ _ _ _ e _ _ (item-wrong _ _ _ _ (sym (c .before .before .before .head-at .ensures) ∙ ap headIs (c .before .x .given .1))))
     (omega (arith, text-most (f .inv .0) (s .pre .2), e))
 
-same-length-5 : tie.Need-same-length-5 Inv-loop μ-loop Inv-fields μ-fields
-same-length-5 c = c .before .before .before .before .before .before .before .before .before .before .before .before .fields .inv .2
-
-same-length-6 : tie.Need-same-length-6 Inv-loop μ-loop Inv-fields μ-fields
-same-length-6 c = same-area (c .before .before .before .before .before .before .before .before .before .before .before .before .fields .inv .0)
-
 returns-3 : tie.Need-returns-3 Inv-loop μ-loop Inv-fields μ-fields
 returns-3 c =
     let f = c .before .before .before .before .before .before .before .before .before .before .before .before .fields in
@@ -174,12 +129,6 @@ returns-3 c =
     stops (f .inv .0) (Refused (Cut (f .at)))
     (walk-bad _ _ _ _ _ _ e _ _ (item-cut _ _ _ _ (head-is (c .before .before .before)) (omega (arith, c .if2 .taken, c .before .loop-test .taken))))
     (omega (arith, text-most (f .inv .0) (s .pre .2), e))
-
-same-length-7 : tie.Need-same-length-7 Inv-loop μ-loop Inv-fields μ-fields
-same-length-7 c = c .before .before .before .before .before .before .before .before .before .before .before .before .before .fields .inv .2
-
-same-length-8 : tie.Need-same-length-8 Inv-loop μ-loop Inv-fields μ-fields
-same-length-8 c = same-area (c .before .before .before .before .before .before .before .before .before .before .before .before .before .fields .inv .0)
 
 returns-4 : tie.Need-returns-4 Inv-loop μ-loop Inv-fields μ-fields
 returns-4 c =
@@ -199,38 +148,38 @@ walk-spec =
     Inv-fields
     μ-fields
     fields-holds
-    quick-at-requires
-    enum-known-whole
-    enum-told
-    head-at-requires
-    enum-known-x
-    enum-known-tag
+    (λ c κs. search needs)
+    (λ c. search needs)
+    (λ c. search needs)
+    (λ c κs. search needs)
+    (λ c. search needs)
+    (λ c. search needs)
     loop-holds
     add-p
     add-p-2
     mul-value
     shared-slice-read-wide
-    wide-requires
+    (λ c κs. search needs)
     add-value
     add-i
     loop-less
     loop-again
     add-next
     add-next-2
-    closed-requires
-    request-of-requires
+    (λ c κs. search needs)
+    (λ c κs. search needs)
     answer-requires
     fields-less
     fields-again
-    same-length
-    same-length-2
+    (λ c. c .before .before .fields .inv .2)
+    (λ c. same-area (c .before .before .fields .inv .0))
     returns
-    same-length-3
-    same-length-4
+    (λ c. c .before .before .before .before .before .before .before .before .before .fields .inv .2)
+    (λ c. same-area (c .before .before .before .before .before .before .before .before .before .fields .inv .0))
     returns-2
-    same-length-5
-    same-length-6
+    (λ c. c .before .before .before .before .before .before .before .before .before .before .before .before .fields .inv .2)
+    (λ c. same-area (c .before .before .before .before .before .before .before .before .before .before .before .before .fields .inv .0))
     returns-3
-    same-length-7
-    same-length-8
+    (λ c. c .before .before .before .before .before .before .before .before .before .before .before .before .before .fields .inv .2)
+    (λ c. same-area (c .before .before .before .before .before .before .before .before .before .before .before .before .before .fields .inv .0))
     returns-4)

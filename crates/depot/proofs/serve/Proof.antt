@@ -1,12 +1,9 @@
--- `serve_sheet` meets its contract. Assumes nothing.
+-- `serve` meets its contract. Assumes nothing.
 use mathlib.Core.Path.{sym}
 use lib.Seq.{length-take-le}
 use borrow.Author.Needs.{needs}
-use Rattle.depot.proofs.serve_sheet.Statement.{statement}
-use Rattle.depot.proofs.serve_sheet.Tie as tie
-
-slice-aggregate-alone : tie.Need-slice-aggregate-alone
-slice-aggregate-alone c = search needs
+use Rattle.depot.proofs.serve.Statement.{statement}
+use Rattle.depot.proofs.serve.Tie as tie
 
 alone-requires : tie.Need-alone-requires
 alone-requires c κs = search needs
@@ -26,20 +23,20 @@ returns-2 c = search needs
 array-share-prefix-input : tie.Need-array-share-prefix-input
 array-share-prefix-input c = search needs
 
-slice-aggregate-sheet-of-setup : tie.Need-slice-aggregate-sheet-of-setup
-slice-aggregate-sheet-of-setup c = search needs
+slice-aggregate-print : tie.Need-slice-aggregate-print
+slice-aggregate-print c = search needs
 
-slice-aggregate-sheet-of-setup-2 : tie.Need-slice-aggregate-sheet-of-setup-2
-slice-aggregate-sheet-of-setup-2 c = search needs
+slice-aggregate-print-2 : tie.Need-slice-aggregate-print-2
+slice-aggregate-print-2 c = search needs
 
-sheet-of-setup-requires : tie.Need-sheet-of-setup-requires
-sheet-of-setup-requires c κs = search needs
+print-requires : tie.Need-print-requires
+print-requires c κs = search needs
 
 array-share-prefix-out : tie.Need-array-share-prefix-out
 array-share-prefix-out c = search needs
 
 slice-aggregate-write-output : tie.Need-slice-aggregate-write-output
-slice-aggregate-write-output c = sym (length-take-le (c .before .before .sheet-of-setup .result) (c .before .before .sheet-of-setup .last .1 .0) (c .before .before .sheet-of-setup .ensures .within))
+slice-aggregate-write-output c = sym (length-take-le (c .before .before .print .result) (c .before .before .print .last .1 .0) (c .before .before .print .ensures .within))
 
 write-output-requires : tie.Need-write-output-requires
 write-output-requires c κs = search needs
@@ -47,20 +44,19 @@ write-output-requires c κs = search needs
 returns-3 : tie.Need-returns-3
 returns-3 c = search needs
 
-pub serve-sheet-spec : {M : Type 1} → statement M
-serve-sheet-spec =
+pub serve-spec : {M : Type 1} → statement M
+serve-spec =
     tie.close
     (tie.spec
-    slice-aggregate-alone
     alone-requires
     returns
     slice-aggregate-read-input
     read-input-requires
     returns-2
     array-share-prefix-input
-    slice-aggregate-sheet-of-setup
-    slice-aggregate-sheet-of-setup-2
-    sheet-of-setup-requires
+    slice-aggregate-print
+    slice-aggregate-print-2
+    print-requires
     array-share-prefix-out
     slice-aggregate-write-output
     write-output-requires
