@@ -44,19 +44,19 @@ use Rattle.sheet_writer.specs.declared.Written.the-variants as sheet-told
 use Rattle.sheet_writer.specs.declared.Unwritten as sheet-unwritten
 use Rattle.sheet_writer.proofs.Calls.{bare-or-not}
 use Rattle.sheet_writer.proofs.Most.{sheet-most}
-use Rattle.depot.specs.Prints.{setupText, sheetText, asSetup, asSheet, Prints}
+use Rattle.depot.specs.Prints.{setupText, sheetText, asSetup, asSheet, PrintsText}
 
-pub prints-line : (text a a′ : List ℕ) (n : ℕ) → Line a a′ 0 text n → 64 ≤ length a → Prints text a a′ n
+pub prints-line : (text a a′ : List ℕ) (n : ℕ) → Line a a′ 0 text n → 64 ≤ length a → PrintsText text a a′ n
 prints-line text a a′ n l m =
     let e : a′ ≡ text ++ drop (length text) a = l .wrote .is ∙ stored-first a text (length text) refl (omega (arith, l .most, m)) in
     let f : n ≡ length text = l .wrote .past ∙ zero-add _ in
     record { is = e; size = f; within = omega (arith, ap length e, length-append text (drop (length text) a), f) }
 
 -- the same text
-as-text : (x y a a′ : List ℕ) (n : ℕ) → x ≡ y → Prints y a a′ n → Prints x a a′ n
-as-text x y a a′ n e p = subst (λ (t : List ℕ). Prints t a a′ n) (sym e) p
+as-text : (x y a a′ : List ℕ) (n : ℕ) → x ≡ y → PrintsText y a a′ n → PrintsText x a a′ n
+as-text x y a a′ n e p = subst (λ (t : List ℕ). PrintsText t a a′ n) (sym e) p
 
-front : (text a a′ : List ℕ) (n : ℕ) → n ≡ length text → a′ ≡ text ++ drop n a → Prints text a a′ n
+front : (text a a′ : List ℕ) (n : ℕ) → n ≡ length text → a′ ≡ text ++ drop n a → PrintsText text a a′ n
 front text a a′ n f e =
     let g : a′ ≡ text ++ drop (length text) a = e ∙ ap (λ (k : ℕ). text ++ drop k a) f in
     record { is = g; size = f; within = omega (arith, ap length g, length-append text (drop (length text) a), f) }
@@ -66,10 +66,10 @@ size-refused h = absurd (let z : _≡_ {A = ℕ} 0 1 = cc in omega arith)
 
 module _ (s a a′ : List ℕ) (n : ℕ) where
   module _ (long : 32768 < length s) (l : Line a a′ 0 (noLine 18 none) n) (m : 1024 ≤ length a) where
-    pub setup-long : Prints (asSetup s) a a′ n
+    pub setup-long : PrintsText (asSetup s) a a′ n
     setup-long = as-text (asSetup s) (noLine 18 none) a a′ n (rw (lt-ltb 32768 (length s) long)) (prints-line (noLine 18 none) a a′ n l (omega (arith, m)))
 
-    pub sheet-long : Prints (asSheet s) a a′ n
+    pub sheet-long : PrintsText (asSheet s) a a′ n
     sheet-long = as-text (asSheet s) (noLine 18 none) a a′ n (rw (lt-ltb 32768 (length s) long)) (prints-line (noLine 18 none) a a′ n l (omega (arith, m)))
 
 module _ (s a : List ℕ) (few : length s ≤ 32768) (room : 1024 ≤ length a) (r : Reading) where
@@ -81,7 +81,7 @@ module _ (s a : List ℕ) (few : length s ≤ 32768) (room : 1024 ≤ length a) 
     short-setup : asSetup s ≡ setupText (readSheet s)
     short-setup = rw (le-ltb 32768 (length s) few)
 
-    pub setup-refused : (x : Refusal) → r .outcome ≡ outcome.Refused x → (a′ : List ℕ) (n : ℕ) → Line a a′ 0 (noLine (number x) (placeOf x)) n → Prints (asSetup s) a a′ n
+    pub setup-refused : (x : Refusal) → r .outcome ≡ outcome.Refused x → (a′ : List ℕ) (n : ℕ) → Line a a′ 0 (noLine (number x) (placeOf x)) n → PrintsText (asSetup s) a a′ n
     setup-refused x o a′ n l =
         as-text (asSetup s) (noLine (number x) (placeOf x)) a a′ n (short-setup ∙ ap setupText (sym (sym (ap (setupCame (r .plan)) o) ∙ e))) (prints-line (noLine (number x) (placeOf x)) a a′ n l (omega (arith, room)))
 
@@ -97,7 +97,7 @@ module _ (s a : List ℕ) (few : length s ≤ 32768) (room : 1024 ≤ length a) 
           let w₁ : setup.Writes p a answer a′ = subst (λ (y : List Setting). setup.Writes (record { format = r .plan .format; lanes = y; count = r .plan .count }) a answer a′) (numbered-all (settings (r .plan)) (within .setup .size)) w in
           w₁ .written within (omega (arith, size-most p within, room))
 
-      pub setup-written : (n : ℕ) → answer ≡ setup-told.Size n → Prints (asSetup s) a a′ n
+      pub setup-written : (n : ℕ) → answer ≡ setup-told.Size n → PrintsText (asSetup s) a a′ n
       setup-written n t =
           let q : setup.writtenSize n ≡ setup.writtenSize (setup.setupSize p) = sym (ap setup.writeReply t) ∙ done .0 in
           let n-is : n ≡ setup.setupSize p = cc in
@@ -111,7 +111,7 @@ module _ (s a : List ℕ) (few : length s ≤ 32768) (room : 1024 ≤ length a) 
     short-sheet : asSheet s ≡ sheetText (readSetup s)
     short-sheet = rw (le-ltb 32768 (length s) few)
 
-    pub sheet-refused : (x : Refusal) → r .outcome ≡ outcome.Refused x → (a′ : List ℕ) (n : ℕ) → Line a a′ 0 (noLine (number x) (placeOf x)) n → Prints (asSheet s) a a′ n
+    pub sheet-refused : (x : Refusal) → r .outcome ≡ outcome.Refused x → (a′ : List ℕ) (n : ℕ) → Line a a′ 0 (noLine (number x) (placeOf x)) n → PrintsText (asSheet s) a a′ n
     sheet-refused x o a′ n l =
         as-text (asSheet s) (noLine (number x) (placeOf x)) a a′ n (short-sheet ∙ ap sheetText (sym (sym (ap (setupCame (r .plan)) o) ∙ e))) (prints-line (noLine (number x) (placeOf x)) a a′ n l (omega (arith, room)))
 
@@ -134,7 +134,7 @@ module _ (s a : List ℕ) (few : length s ≤ 32768) (room : 1024 ≤ length a) 
       text-framed : (Bare p → ⊥) → asSheet s ≡ noLine 82 none
       text-framed b = short-sheet ∙ ap sheetText setup-is ∙ rw (ne-eqb (framingOf (p .lanes) + shareds (p .lanes)) 0 (λ z. b (omega (arith, z), omega (arith, z))))
 
-      pub sheet-written : (n : ℕ) → answer ≡ sheet-told.Size n → Prints (asSheet s) a a′ n
+      pub sheet-written : (n : ℕ) → answer ≡ sheet-told.Size n → PrintsText (asSheet s) a a′ n
       sheet-written n t =
           ⊎-elim
           (λ (b : Bare p).
@@ -145,7 +145,7 @@ module _ (s a : List ℕ) (few : length s ≤ 32768) (room : 1024 ≤ length a) 
           (λ (b : Bare p → ⊥). size-refused (sym (ap sheetWriteReply t) ∙ writes .no-sheet setup-within b .0))
           (bare-or-not p)
 
-      pub sheet-framed : (x : sheet-unwritten.Unwritten) → answer ≡ sheet-told.Refused x → (a″ : List ℕ) (n : ℕ) → Line a′ a″ 0 (noLine 82 none) n → Prints (asSheet s) a a″ n
+      pub sheet-framed : (x : sheet-unwritten.Unwritten) → answer ≡ sheet-told.Refused x → (a″ : List ℕ) (n : ℕ) → Line a′ a″ 0 (noLine 82 none) n → PrintsText (asSheet s) a a″ n
       sheet-framed x t a″ n l =
           ⊎-elim
           (λ (b : Bare p). size-refused (sym (writes .written setup-within b fits .0) ∙ ap sheetWriteReply t))

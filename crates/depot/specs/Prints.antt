@@ -1,8 +1,8 @@
 -- What the depot's two programs print (R12.11).
 --
---   asSetup   for a sheet: its plan as a setup, or the line of a refusal
---   asSheet   for a setup: its plan as a sheet, or the line of a refusal
---   Prints    a text stands at the front of the lent bytes, and the bytes past it stay
+--   asSetup      for a sheet: its plan as a setup, or the line of a refusal
+--   asSheet      for a setup: its plan as a sheet, or the line of a refusal
+--   PrintsText   a text stands at the front of the lent bytes, and the bytes past it stay
 --
 -- Assumes nothing.
 use Prim.Native.Nat.{ℕ, _+_, _≤_}
@@ -36,7 +36,7 @@ asSetup s = if ltb 32768 (length s) then noLine 18 none else setupText (readShee
 abbrev pub asSheet : List ℕ → List ℕ
 asSheet s = if ltb 32768 (length s) then noLine 18 none else sheetText (readSetup s)
 
-pub record Prints (text a a′ : List ℕ) (n : ℕ) : Type 0 where
+pub record PrintsText (text a a′ : List ℕ) (n : ℕ) : Type 0 where
   pub is : a′ ≡ text ++ drop (length text) a
   pub size : n ≡ length text
   pub within : n ≤ length a′

@@ -5,7 +5,7 @@
 // and output, of which no contract can speak.
 ghost use Prim.Native.Nat.{_≤_};
 ghost use lib.ListN.{length};
-ghost use Rattle.depot.specs.Prints.{asSetup, asSheet, Prints};
+ghost use Rattle.depot.specs.Prints.{asSetup, asSheet, PrintsText};
 use plan::Outcome;
 use rules::Refusal;
 
@@ -21,7 +21,7 @@ pub const ROOM: usize = 1024;
 // Writes what a sheet is as a setup, or the line of its refusal; how many bytes.
 pub fn setup_of_sheet(input: &[u8], out: &mut [u8]) -> usize
     requires { ⌜ 1024 ≤ length (now out) ⌝ }
-    ensures { λ r. ⌜ Prints (asSetup (now (input .entry))) (now (out .entry)) (now (out .exit)) r ⌝ }
+    ensures { λ r. ⌜ PrintsText (asSetup (now (input .entry))) (now (out .entry)) (now (out .exit)) r ⌝ }
 {
     if input.len() > MOST_INPUT {
         return lines::put_no(out, 0, Refusal::InputLong);
@@ -44,7 +44,7 @@ pub fn setup_of_sheet(input: &[u8], out: &mut [u8]) -> usize
 // Writes what a setup is as a sheet, or the line of its refusal; how many bytes.
 pub fn sheet_of_setup(input: &[u8], out: &mut [u8]) -> usize
     requires { ⌜ 1024 ≤ length (now out) ⌝ }
-    ensures { λ r. ⌜ Prints (asSheet (now (input .entry))) (now (out .entry)) (now (out .exit)) r ⌝ }
+    ensures { λ r. ⌜ PrintsText (asSheet (now (input .entry))) (now (out .entry)) (now (out .exit)) r ⌝ }
 {
     if input.len() > MOST_INPUT {
         return lines::put_no(out, 0, Refusal::InputLong);

@@ -16,7 +16,7 @@ use Rattle.rules.specs.State.{Rec, Setting, Lane, State, noLane, charge, rate, 
 use Rattle.rules.specs.Choice.{choose}
 use Rattle.rules.specs.Calls.{behind, served}
 use Rattle.rules.specs.Good.{Times, Good}
-use Rattle.rules.specs.BySets.{laneOf}
+use Rattle.rules.specs.BySets.{candidateLane}
 use Rattle.rules.specs.Sets.{inGroup}
 use Rattle.rules.proofs.Lowest.{LowOf, LowestOf}
 use Rattle.rules.proofs.GroupRule.{is-in-group, group-low}
@@ -35,7 +35,7 @@ use Rattle.choice.proofs.Held.{held-small}
 use Rattle.engine.proofs.RowIs.{RowIs, row-is}
 use Rattle.engine.proofs.Replies.{Found, found}
 use Rattle.slot_lists.specs.Lists.{backAt, listAt, startAt, listOf, Solid}
-use Rattle.filing.specs.Filing.{headOf, sift, inList, Agrees}
+use Rattle.filing.specs.Filing.{frontOf, sift, inList, Agrees}
 use Rattle.filing.proofs.Sift.{length-sift, sift-without, without-none, times-sift}
 use Rattle.filing.proofs.Moves.{stands, elsewhere}
 use Rattle.filing.proofs.KeepsTake.{old-in}
@@ -50,8 +50,8 @@ pub record At (t : List ℕ) (s : State) (g r k : ℕ) : Type 0 where
   pub low : 16 ≤ g
   pub high : g ≤ 31
   pub start : startAt t g ≡ some r
-  pub first : headOf (listAt t g (listOf t g r)) ≡ some k
-  pub lane : laneOf (choose s) ≡ some k
+  pub first : frontOf (listAt t g (listOf t g r)) ≡ some k
+  pub lane : candidateLane (choose s) ≡ some k
 
 pub served-busy : (l : Lane) → holds (served l) ≡ true → (served l) .start ≡ l .finish
 served-busy l = served-ind (λ (m : Lane). holds m ≡ true → m .start ≡ l .finish) l (λ e t. absurd (false≢true (sym (ap some? e) ∙ t))) (λ r e t. refl)
@@ -191,8 +191,8 @@ module _ (t : List ℕ) (s : State) (g r k : ℕ) (a : At t s g r k) where
     same-list : listOf t₁ g r ≡ listOf t g r
     same-list = ap (λ (b : ℕ). (r + b) / 2 ^ g % 32) (back-stays t t₁ bytes-stay)
 
-    pub first₁ : headOf (listAt t₁ g (listOf t₁ g r)) ≡ some k
-    first₁ = ap (λ (b : ℕ). headOf (listAt t₁ g b)) same-list ∙ ap headOf (lists-stay t t₁ bytes-stay g (listOf t g r) (a .high) (omega arith)) ∙ a .first
+    pub first₁ : frontOf (listAt t₁ g (listOf t₁ g r)) ≡ some k
+    first₁ = ap (λ (b : ℕ). frontOf (listAt t₁ g b)) same-list ∙ ap frontOf (lists-stay t t₁ bytes-stay g (listOf t g r) (a .high) (omega arith)) ∙ a .first
 
     pub start₁ : startAt t₁ g ≡ some r
     start₁ = starts-stay t t₁ bytes-stay g (a .high) ∙ a .start
@@ -200,7 +200,7 @@ module _ (t : List ℕ) (s : State) (g r k : ℕ) (a : At t s g r k) where
     pub some-after : 0 < length (listAt t₁ g (listOf t₁ g r))
     some-after = go (listAt t₁ g (listOf t₁ g r)) first₁
       where
-        go : (l : List ℕ) → headOf l ≡ some k → 0 < length l
+        go : (l : List ℕ) → frontOf l ≡ some k → 0 < length l
         go [] q = let z : _≡_ {A = ℕ} 0 1 = cc in absurd (omega arith)
         go (y ∷ ys) q = omega arith
 

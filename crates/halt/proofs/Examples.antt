@@ -8,9 +8,9 @@ use Rattle.plan.specs.Fields.{setupFieldOf, setupItemAt}
 use Rattle.plan.specs.Judge.{laneOutside, judgedAt}
 use Rattle.plan.specs.Read.{setupWalk, readPlan, readSetup}
 use Rattle.halt.specs.Halt.{haltSetup}
-use Rattle.halt.specs.Examples.{Shown}
+use Rattle.halt.specs.Examples.{HaltShown}
 
-pub examples : Shown
+pub examples : HaltShown
 unfolding big setupFieldOf setupItemAt laneOutside judgedAt setupWalk readPlan readSetup haltSetup
 examples = record {
   format-1 = refl;

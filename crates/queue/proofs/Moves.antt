@@ -9,17 +9,17 @@ use lib.ListN.{length, set}
 use Rattle.words.proofs.Runs.{eq-or-ne}
 use Rattle.rounds.specs.Round as round
 use Rattle.rounds.specs.Round.{empty}
-use Rattle.rounds.specs.Good.{Good}
+use Rattle.rounds.specs.Good.{GoodShared}
 use Rattle.rounds.proofs.Held.{put-held, none-empty}
 use Rattle.turns.specs.Turns as turns
-use Rattle.turns.specs.Turns.{headOf, countOf, deficitOf, namedOf, turnOf, sharedOf, Ordered, Known, Light, HandsOut}
+use Rattle.turns.specs.Turns.{headOf, countOf, deficitOf, namedOf, turnOf, sharedOf, Ordered, Known, Light, HandsOutTurn}
 use Rattle.turns.specs.declared.Change.{Change}
 use Rattle.turns.proofs.Train.{length-trains}
 use Rattle.turns.proofs.Good.{good-known, good-light, turn-known, turn-count, turn-covers}
 use Rattle.waiting.specs.Waiting.{Waiting, plain, shared, enter, handOut, tail}
 use Rattle.rules.specs.State.{laneDepth}
-use Rattle.table.specs.Layout.{CELLS, Now, cells, lengthsCell, lengthWords, trainsCell, lengthCell, placeOf, roundWord, roundAt, entryAt, putEntry, clearCells, trainNumber, putTrain}
-use Rattle.table.specs.Means.{recAt, ringOf, sharedAt, waitingOf, RowPaced, PlacesFit, Housed}
+use Rattle.table.specs.Layout.{CELLS, Now, cells, lengthsCell, lengthWords, trainsCell, lengthCell, placeInLane, roundWord, roundAt, entryAt, putEntry, clearCells, trainNumber, putTrain}
+use Rattle.table.specs.Means.{recAt, laneRing, sharedAt, waitingOf, RowPaced, PlacesFit, Housed}
 use Rattle.table.specs.declared.Entry.{Entry}
 use Rattle.table.specs.declared.LaneRow.{LaneRow}
 use Rattle.table.proofs.Stores.{length-cells, behind-refl, behind-then}
@@ -27,7 +27,7 @@ use Rattle.table.proofs.Entries.{Fits, entry-same, entry-other, clear-same, dig
 use Rattle.table.proofs.Footprint.{Outside}
 use Rattle.table.proofs.Agrees.{paced-retimed}
 use Rattle.table.proofs.Rows.{retimed, SameRows, outside-trans, outside-place, outside-cleared, outside-trains, outside-round, outside-train, rows-place, rows-cleared, rows-round, rows-train, waiting-plain, waiting-shared, waiting-none}
-use Rattle.queue.specs.Queue.{waiting, bare, Ready, Joins, Moved, Entered, Cleared, Chosen, Turned}
+use Rattle.queue.specs.Queue.{waiting, bareItem, Ready, Joins, Moved, Entered, Cleared, Chosen, Turned}
 use Rattle.queue.specs.declared.Item.{Item}
 use Rattle.queue.proofs.Ring.{ring-snoc}
 use Rattle.queue.proofs.Trains.{both, both-size, both-outside, both-rows, both-round, both-place, entered-shared, entered-ordered, bare-words, bare-numbers, bare-round, bare-place, bare-shared, handed, handed-shared, begins-small, begun-place, begun-round, begun-shared}
@@ -52,24 +52,24 @@ moved-then {t} {u} {v} {k} a b =
 -- ---- places within the lane's numbers
 
 module _ (w : List ℕ) (k : ℕ) (l : LaneRow) (hk : k < 64) (size : length w ≡ CELLS) where
-  pub places-one : (i : ℕ) (e : Entry) → Fits e → e .length .0 ≤ l .longest .0 → PlacesFit w k l → PlacesFit (putEntry w (placeOf k i) e) k l
+  pub places-one : (i : ℕ) (e : Entry) → Fits e → e .length .0 ≤ l .longest .0 → PlacesFit w k l → PlacesFit (putEntry w (placeInLane k i) e) k l
   places-one i e f le others j hj =
       ⊎-elim
-      (λ (q : placeOf k j ≡ placeOf k i). rw (q, entry-same w (placeOf k i) (omega arith) size e f) le)
-      (λ (ne : placeOf k j ≡ placeOf k i → ⊥). rw (entry-other w (placeOf k i) (omega arith) size e f (placeOf k j) (omega arith) ne) (others j hj))
-      (eq-or-ne (placeOf k j) (placeOf k i))
+      (λ (q : placeInLane k j ≡ placeInLane k i). rw (q, entry-same w (placeInLane k i) (omega arith) size e f) le)
+      (λ (ne : placeInLane k j ≡ placeInLane k i → ⊥). rw (entry-other w (placeInLane k i) (omega arith) size e f (placeInLane k j) (omega arith) ne) (others j hj))
+      (eq-or-ne (placeInLane k j) (placeInLane k i))
 
   -- cleared places are
   pub places-cleared : 0 < l .longest .0 → PlacesFit (clearCells w (lengthsCell + lengthWords * k) lengthWords) k l
   unfolding entryAt
   places-cleared some i hi =
-      rw (clear-same w (lengthsCell + lengthWords * k) lengthWords (lengthCell (placeOf k i)) (omega arith) (omega arith) (omega arith), digit-none 16 (placeOf k i % 4)) some
+      rw (clear-same w (lengthsCell + lengthWords * k) lengthWords (lengthCell (placeInLane k i)) (omega arith) (omega arith) (omega arith), digit-none 16 (placeInLane k i % 4)) some
 
 -- ---- what waits
 
 -- a row with n records, by its kind
 module _ (w : List ℕ) (k x h n : ℕ) (l : LaneRow) where
-  plain-is : l .shared ≡ false → waitingOf w k (retimed l x h n) ≡ plain (ringOf w k h n)
+  plain-is : l .shared ≡ false → waitingOf w k (retimed l x h n) ≡ plain (laneRing w k h n)
   plain-is e = waiting-plain w k (retimed l x h n) e
 
   shared-is : l .shared ≡ true → 0 < n → waitingOf w k (retimed l x h n) ≡ shared (sharedAt w k)
@@ -82,7 +82,7 @@ by-kind false f g = g refl
 -- one record more; a shared lane's words, before it, tell of the records that its row counts
 module _ (t t₁ : List ℕ) (k : ℕ) (l : LaneRow) (e : Item) (en : Entered t t₁ k l e)
     (is : l .shared ≡ true → waitingOf (cells t) k l ≡ shared (sharedAt (cells t) k))
-    (counted : l .shared ≡ true → round.held (sharedAt (cells t) k) ≡ l .count) where
+    (counted : l .shared ≡ true → round.sharedHeld (sharedAt (cells t) k) ≡ l .count) where
   pub entered-waits : (x : ℕ) → waitingOf (cells t₁) k (retimed l x (l .head) (l .count + 1)) ≡ enter (l .longest .0) (waitingOf (cells t) k l) (waiting e)
   unfolding enter
   entered-waits x =
@@ -97,17 +97,17 @@ module _ (t t₁ : List ℕ) (k : ℕ) (l : LaneRow) (e : Item) (en : Entered t 
         paced = paced-retimed l x (l .head) (l .count + 1) paced;
         places = en .fits f;
         trains = λ q. record {
-          counted = ap round.held (en .shared q) ∙ put-held (l .longest .0) (sharedAt (cells t) k) (e .train) (bare e) (omega (arith, small q, length-trains (trainNumber (cells t) k) (recAt (cells t) k))) ∙ omega (arith, counted q);
+          counted = ap round.sharedHeld (en .shared q) ∙ put-held (l .longest .0) (sharedAt (cells t) k) (e .train) (bareItem e) (omega (arith, small q, length-trains (trainNumber (cells t) k) (recAt (cells t) k))) ∙ omega (arith, counted q);
           ordered = en .ordered q;
         };
       }
 
 -- one record less
 module _ (t t₁ : List ℕ) (k h : ℕ) (l : LaneRow) (some : 0 < l .count)
-    (plain-ring : l .shared ≡ false → ringOf (cells t₁) k h (l .count - 1) ≡ tail (ringOf (cells t) k (l .head) (l .count)))
-    (shared-hand : l .shared ≡ true → sharedAt (cells t₁) k ≡ round.handOut (l .longest .0) (sharedAt (cells t) k))
-    (good : l .shared ≡ true → Good (l .longest .0) (sharedAt (cells t₁) k))
-    (counted : l .shared ≡ true → round.held (sharedAt (cells t₁) k) ≡ l .count - 1) where
+    (plain-ring : l .shared ≡ false → laneRing (cells t₁) k h (l .count - 1) ≡ tail (laneRing (cells t) k (l .head) (l .count)))
+    (shared-hand : l .shared ≡ true → sharedAt (cells t₁) k ≡ round.sharedHandOut (l .longest .0) (sharedAt (cells t) k))
+    (good : l .shared ≡ true → GoodShared (l .longest .0) (sharedAt (cells t₁) k))
+    (counted : l .shared ≡ true → round.sharedHeld (sharedAt (cells t₁) k) ≡ l .count - 1) where
   shared-left : l .shared ≡ true → (x n : ℕ) → l .count - 1 ≡ n → waitingOf (cells t₁) k (retimed l x h n) ≡ shared (sharedAt (cells t₁) k)
   shared-left q x zero e = waiting-none (cells t₁) k (retimed l x h 0) refl ∙ rw q (ap shared (sym (none-empty (l .longest .0) (sharedAt (cells t₁) k) (good q) (counted q ∙ e))))
   shared-left q x (suc n) e = shared-is (cells t₁) k x h (suc n) l q (omega arith)
@@ -129,10 +129,10 @@ entryOf e = record { mark = e .mark; length = e .length }
 
 -- into the ring
 pub entered-plain : (t t₁ : List ℕ) (k : ℕ) (l : LaneRow) (e : Item) → k < 64 → l .count < laneDepth → Fits (entryOf e) → e .length .0 ≤ l .longest .0 → l .shared ≡ false
-    → Now t t₁ (putEntry (cells t) (placeOf k (l .head + l .count)) (entryOf e)) → Entered t t₁ k l e
+    → Now t t₁ (putEntry (cells t) (placeInLane k (l .head + l .count)) (entryOf e)) → Entered t t₁ k l e
 entered-plain t t₁ k l e hk room f le kind n =
     record {
-      moved = moved-now t t₁ _ k n (outside-place (cells t) k (l .head + l .count) (entryOf e)) (rows-place (cells t) k (placeOf k (l .head + l .count)) (entryOf e));
+      moved = moved-now t t₁ _ k n (outside-place (cells t) k (l .head + l .count) (entryOf e)) (rows-place (cells t) k (placeInLane k (l .head + l .count)) (entryOf e));
       fits = λ p. rw (n .words) (places-one (cells t) k l hk (length-cells t) (l .head + l .count) (entryOf e) f le p);
       plain = λ q. rw (n .words) (ring-snoc (cells t) k (l .head) (l .count) (entryOf e) (length-cells t) hk room f);
       shared = λ q. absurd (false≢true (sym kind ∙ q));
@@ -141,15 +141,15 @@ entered-plain t t₁ k l e hk room f le kind n =
 
 -- behind the records of its train
 pub entered-train : (t t₀ t₁ : List ℕ) (k p : ℕ) (l : LaneRow) (e : Item) → k < 64 → p < 64 → Fits (entryOf e) → e .length .0 ≤ l .longest .0 → l .shared ≡ true → Ready (cells t) k (e .train)
-    → Joins t t₀ k (e .train) (l .longest .0) p → Now t₀ t₁ (putEntry (cells t₀) (placeOf k p) (entryOf e)) → Entered t t₁ k l e
+    → Joins t t₀ k (e .train) (l .longest .0) p → Now t₀ t₁ (putEntry (cells t₀) (placeInLane k p) (entryOf e)) → Entered t t₁ k l e
 entered-train t t₀ t₁ k p l e hk small f le kind y j n =
     let c = j .change in
     let size = length-cells t in
     let v = both (cells t) k (e .train) (c .train) (c .round) hk (y .train) size (j .puts .small) in
-    let u = putEntry v (placeOf k p) (entryOf e) in
-    let words : cells t₁ ≡ u = n .words ∙ ap (λ (x : List ℕ). putEntry x (placeOf k p) (entryOf e)) (j .now .words) in
+    let u = putEntry v (placeInLane k p) (entryOf e) in
+    let words : cells t₁ ≡ u = n .words ∙ ap (λ (x : List ℕ). putEntry x (placeInLane k p) (entryOf e)) (j .now .words) in
     let first : Moved t t₀ k = moved-now t t₀ v k (j .now) (both-outside (cells t) k (e .train) (c .train) (c .round) hk (y .train) size (j .puts .small)) (both-rows (cells t) k (e .train) (c .train) (c .round) hk (y .train) size (j .puts .small)) in
-    let second : Moved t₀ t₁ k = moved-now t₀ t₁ _ k n (outside-place (cells t₀) k p (entryOf e)) (rows-place (cells t₀) k (placeOf k p) (entryOf e)) in
+    let second : Moved t₀ t₁ k = moved-now t₀ t₁ _ k n (outside-place (cells t₀) k p (entryOf e)) (rows-place (cells t₀) k (placeInLane k p) (entryOf e)) in
     record {
       moved = moved-then first second;
       fits = λ h. rw words (places-one v k l hk (both-size (cells t) k (e .train) (c .train) (c .round) hk (y .train) size (j .puts .small)) p (entryOf e) f le
@@ -196,14 +196,14 @@ module _ (t t₀ : List ℕ) (k : ℕ) (l : LaneRow) (hk : k < 64) (some : 0 < l
 -- ---- what `turn` reads
 
 module _ (w : List ℕ) (k : ℕ) where
-  pub hands-of : (n next : ℕ) (c : Change) (r m : ℕ) → r ≡ roundAt w k → m ≡ trainNumber w k (turnOf r) → HandsOut m r n next c → HandsOut (trainNumber w k (turnOf (roundAt w k))) (roundAt w k) n next c
-  hands-of n next c r m er em h = subst (λ (y : ℕ). HandsOut (trainNumber w k (turnOf y)) y n next c) er (subst (λ (y : ℕ). HandsOut y r n next c) em h)
+  pub hands-of : (n next : ℕ) (c : Change) (r m : ℕ) → r ≡ roundAt w k → m ≡ trainNumber w k (turnOf r) → HandsOutTurn m r n next c → HandsOutTurn (trainNumber w k (turnOf (roundAt w k))) (roundAt w k) n next c
+  hands-of n next c r m er em h = subst (λ (y : ℕ). HandsOutTurn (trainNumber w k (turnOf y)) y n next c) er (subst (λ (y : ℕ). HandsOutTurn y r n next c) em h)
 
-  pub next-of : (r m : ℕ) (e : Entry) (p : ℕ) → r ≡ roundAt w k → m ≡ trainNumber w k (turnOf r) → e ≡ entryAt w (placeOf k p) → p ≡ turns.placeOf (turnOf r) (headOf m + 1)
-      → recAt w k (turns.placeOf (turnOf (roundAt w k)) (headOf (trainNumber w k (turnOf (roundAt w k))) + 1)) .len ≡ e .length .0
+  pub next-of : (r m : ℕ) (e : Entry) (p : ℕ) → r ≡ roundAt w k → m ≡ trainNumber w k (turnOf r) → e ≡ entryAt w (placeInLane k p) → p ≡ turns.placeInTrain (turnOf r) (headOf m + 1)
+      → recAt w k (turns.placeInTrain (turnOf (roundAt w k)) (headOf (trainNumber w k (turnOf (roundAt w k))) + 1)) .len ≡ e .length .0
   unfolding recAt
   next-of r m e p er em ee ep =
-      sym (ap (λ (x : Entry). x .length .0) (ee ∙ ap (λ (y : ℕ). entryAt w (placeOf k y)) (ep ∙ ap (λ (y : ℕ). turns.placeOf (turnOf r) (headOf y + 1)) em ∙ ap (λ (y : ℕ). turns.placeOf (turnOf y) (headOf (trainNumber w k (turnOf y)) + 1)) er)))
+      sym (ap (λ (x : Entry). x .length .0) (ee ∙ ap (λ (y : ℕ). entryAt w (placeInLane k y)) (ep ∙ ap (λ (y : ℕ). turns.placeInTrain (turnOf r) (headOf y + 1)) em ∙ ap (λ (y : ℕ). turns.placeInTrain (turnOf y) (headOf (trainNumber w k (turnOf y)) + 1)) er)))
 
   pub hand-ready : (L n r m : ℕ) → Chosen w k L n → L ≤ 1500 → r ≡ roundAt w k → m ≡ trainNumber w k (turnOf r)
       → Light m × (0 < countOf m) × (n ≤ deficitOf m) × Ordered r × Known r × (0 < namedOf r)
@@ -224,8 +224,8 @@ both-now t t₁ k r n v e a = subst (λ (y : ℕ). Now t t₁ (set (putTrain (ce
 -- ---- the stores of `turn`
 
 module _ (t t₁ : List ℕ) (k L n next : ℕ) (c : Change) (hk : k < 64) (short : L ≤ 1500) (ch : Chosen (cells t) k L n)
-    (next-length : recAt (cells t) k (turns.placeOf (turnOf (roundAt (cells t) k)) (headOf (trainNumber (cells t) k (turnOf (roundAt (cells t) k))) + 1)) .len ≡ next)
-    (hands : HandsOut (trainNumber (cells t) k (turnOf (roundAt (cells t) k))) (roundAt (cells t) k) n next c) where
+    (next-length : recAt (cells t) k (turns.placeInTrain (turnOf (roundAt (cells t) k)) (headOf (trainNumber (cells t) k (turnOf (roundAt (cells t) k))) + 1)) .len ≡ next)
+    (hands : HandsOutTurn (trainNumber (cells t) k (turnOf (roundAt (cells t) k))) (roundAt (cells t) k) n next c) where
   abbrev w : List ℕ
   w = cells t
 
@@ -250,7 +250,7 @@ module _ (t t₁ : List ℕ) (k L n next : ℕ) (c : Change) (hk : k < 64) (shor
   turned-same a q =
       record {
         moved = moved-both a;
-        places = λ i. ap (λ (x : List ℕ). entryAt x (placeOf k i)) (a .words) ∙ both-place w k (turnOf (roundAt w k)) (c .train) (c .round) hk turn-below size (omega (arith, hands .small)) i;
+        places = λ i. ap (λ (x : List ℕ). entryAt x (placeInLane k i)) (a .words) ∙ both-place w k (turnOf (roundAt w k)) (c .train) (c .round) hk turn-below size (omega (arith, hands .small)) i;
         shared = ap (λ (x : List ℕ). sharedAt x k) (a .words) ∙ handed-shared w k L n next c hk size short turn-below lights (ch .length) next-length hands q;
         ordered = rw (a .words, both-round w k (turnOf (roundAt w k)) (c .train) (c .round) hk turn-below size (omega (arith, hands .small))) (hands .ordered);
       }
@@ -267,7 +267,7 @@ module _ (t t₁ : List ℕ) (k L n next : ℕ) (c : Change) (hk : k < 64) (shor
         let words : cells t₂ ≡ putTrain u k i (m + 128 * L) = b .words ∙ ap (λ (x : List ℕ). putTrain x k i (m + 128 * L)) (a .words) in
         record {
           moved = moved-then (moved-both a) (moved-now t₁ t₂ _ k b (outside-train (cells t₁) k i (m + 128 * L) (omega (arith, hands .turn begins))) (rows-train (cells t₁) k i (m + 128 * L)));
-          places = λ x. ap (λ (y : List ℕ). entryAt y (placeOf k x)) words ∙ begun-place w k L n next c hk size short turn-below lights (ch .length) next-length hands i m begins ei number x;
+          places = λ x. ap (λ (y : List ℕ). entryAt y (placeInLane k x)) words ∙ begun-place w k L n next c hk size short turn-below lights (ch .length) next-length hands i m begins ei number x;
           shared = ap (λ (x : List ℕ). sharedAt x k) words ∙ begun-shared w k L n next c hk size short turn-below lights (ch .length) next-length hands i m begins ei number;
           ordered = rw (words, begun-round w k L n next c hk size short turn-below lights (ch .length) next-length hands i m begins ei number) (hands .ordered);
         }

@@ -8,9 +8,9 @@ use lib.Dec.{leb, eqb}
 use lib.ListN.{length, getD, set}
 use borrow.Author.Tests.{le-leb, lt-leb, eq-eqb, ne-eqb}
 use Rattle.units.specs.Plain.{if_then_else_, times}
-use Rattle.rounds.specs.Round.{Rec, Train, Shared, noTrain, raised, begin, handOf, handIn, handOut}
+use Rattle.rounds.specs.Round.{BareRec, Train, Shared, noTrain, raised, begin, handOf, handIn, sharedHandOut}
 use Rattle.rounds.proofs.Lists.{times-append}
-use Rattle.turns.specs.Turns.{headOf, countOf, deficitOf, placeOf, ringOf, trainOf, trainsOf, sharedOf, fours, namedOf, orderOf, roundOf, turnOf, Ordered, Known, Light, with, begun, HandsOut}
+use Rattle.turns.specs.Turns.{headOf, countOf, deficitOf, placeInTrain, trainRing, trainOf, trainsOf, sharedOf, fours, namedOf, orderOf, roundOf, turnOf, Ordered, Known, Light, with, begun, HandsOutTurn}
 use Rattle.turns.proofs.Round.{round-made, ordered-made, round-cons, rest-fits, ordered-rest, round-rest, named-rest, ordered-turned, round-turned, named-turned, turned-small}
 use Rattle.turns.proofs.Train.{parts, ring-none, ring-cons, train-made, trains-with, train-is, begin-is, not-begun}
 
@@ -55,12 +55,12 @@ module _ (t r : ℕ) (light : Light t) (some-held : 0 < countOf t) (o : Ordered 
   turned-turn : turnOf turned < 8
   turned-turn = turn-of turned m (ordered-turned r m o named) (named-turned r m o named) (λ i p. turned-known i (subst (λ (x : List ℕ). 0 < times i x) (round-turned r m o named) p))
 
-  module _ (L : ℕ) (at : ℕ → Rec) (ts : ℕ → ℕ) (is : ts k ≡ t) where
-    abbrev e : Rec
-    e = at (placeOf k (headOf t))
+  module _ (L : ℕ) (at : ℕ → BareRec) (ts : ℕ → ℕ) (is : ts k ≡ t) where
+    abbrev e : BareRec
+    e = at (placeInTrain k (headOf t))
 
-    handed-is : handOut L (sharedOf at ts r) ≡ handOf L (trainsOf at ts) k ks (deficitOf t) (ringOf at k (headOf t) (countOf t))
-    unfolding handOut handIn trainOf sharedOf
+    handed-is : sharedHandOut L (sharedOf at ts r) ≡ handOf L (trainsOf at ts) k ks (deficitOf t) (trainRing at k (headOf t) (countOf t))
+    unfolding sharedHandOut handIn trainOf sharedOf
     handed-is = rw (round-cons r m o named) (ap (λ (x : Train). handOf L (trainsOf at ts) k ks (x .deficit) (x .queue)) (train-is ts at k turn-small ∙ ap (trainOf at k) is))
 
     -- the only record: the train leaves the round
@@ -69,16 +69,16 @@ module _ (t r : ℕ) (light : Light t) (some-held : 0 < countOf t) (o : Ordered 
       last-trains =
           let number : h ≡ h + 8 * 0 + 128 * 0 = omega arith in
           trains-with ts at k h turn-small
-          ∙ ap (set (trainsOf at ts) k) (ap (trainOf at k) number ∙ train-made at k h 0 0 (omega arith) (omega arith) ∙ ap (λ (q : List Rec). record { deficit = 0; queue = q }) (ring-none at k h))
+          ∙ ap (set (trainsOf at ts) k) (ap (trainOf at k) number ∙ train-made at k h 0 0 (omega arith) (omega arith) ∙ ap (λ (q : List BareRec). record { deficit = 0; queue = q }) (ring-none at k h))
 
-      last-is : handOut L (sharedOf at ts r) ≡ begin L (trainsOf at (with ts k h)) ks
+      last-is : sharedHandOut L (sharedOf at ts r) ≡ begin L (trainsOf at (with ts k h)) ks
       unfolding handOf
       last-is =
           handed-is
-          ∙ ap (handOf L (trainsOf at ts) k ks (deficitOf t)) (ap (ringOf at k (headOf t)) one ∙ ring-cons at k (headOf t) 0 ∙ ap (λ (q : List Rec). e ∷ q) (ring-none at k h))
+          ∙ ap (handOf L (trainsOf at ts) k ks (deficitOf t)) (ap (trainRing at k (headOf t)) one ∙ ring-cons at k (headOf t) 0 ∙ ap (λ (q : List BareRec). e ∷ q) (ring-none at k h))
           ∙ ap (λ (x : List Train). begin L x ks) (sym last-trains)
 
-      last-none : m ≡ 0 → sharedOf at (begun L false (with ts k h) left) left ≡ handOut L (sharedOf at ts r)
+      last-none : m ≡ 0 → sharedOf at (begun L false (with ts k h) left) left ≡ sharedHandOut L (sharedOf at ts r)
       unfolding fours begin
       last-none z =
           not-begun (with ts k h) at L left
@@ -91,7 +91,7 @@ module _ (t r : ℕ) (light : Light t) (some-held : 0 < countOf t) (o : Ordered 
           over : begin L (trainsOf at (with ts k h)) [] ≡ record { trains = trainsOf at (with ts k h); round = [] }
           over = refl
 
-      last-some : (n : ℕ) → m ≡ suc n → sharedOf at (begun L true (with ts k h) left) left ≡ handOut L (sharedOf at ts r)
+      last-some : (n : ℕ) → m ≡ suc n → sharedOf at (begun L true (with ts k h) left) left ≡ sharedHandOut L (sharedOf at ts r)
       last-some n z =
           let cons : roundOf left ≡ turnOf left ∷ fours n (orderOf left / 16) = round-cons left n (ordered-rest r m o named) (named-rest r m o named ∙ z) in
           begin-is (with ts k h) at L left (turnOf left) (fours n (orderOf left / 16)) cons refl (left-turn n z)
@@ -103,18 +103,18 @@ module _ (t r : ℕ) (light : Light t) (some-held : 0 < countOf t) (o : Ordered 
       abbrev x : ℕ
       x = h + 8 * suc c + 128 * d
 
-      abbrev f : Rec
-      f = at (placeOf k h)
+      abbrev f : BareRec
+      f = at (placeInTrain k h)
 
-      queue-is : ringOf at k (headOf t) (countOf t) ≡ e ∷ f ∷ ringOf at k ((h + 1) % 8) c
-      queue-is = ap (ringOf at k (headOf t)) more ∙ ring-cons at k (headOf t) (suc c) ∙ ap (λ (q : List Rec). e ∷ q) (ring-cons at k h c)
+      queue-is : trainRing at k (headOf t) (countOf t) ≡ e ∷ f ∷ trainRing at k ((h + 1) % 8) c
+      queue-is = ap (trainRing at k (headOf t)) more ∙ ring-cons at k (headOf t) (suc c) ∙ ap (λ (q : List BareRec). e ∷ q) (ring-cons at k h c)
 
-      left-trains : trainsOf at (with ts k x) ≡ set (trainsOf at ts) k (record { deficit = deficitOf t - e .len; queue = f ∷ ringOf at k ((h + 1) % 8) c })
+      left-trains : trainsOf at (with ts k x) ≡ set (trainsOf at ts) k (record { deficit = deficitOf t - e .len; queue = f ∷ trainRing at k ((h + 1) % 8) c })
       left-trains =
           trains-with ts at k x turn-small
           ∙ ap (set (trainsOf at ts) k) (train-made at k h (suc c) d (omega arith) (omega (arith, light .0)) ∙ rw (d-is, ring-cons at k h c))
 
-      stays-lane : f .len ≤ d → sharedOf at (begun L false (with ts k x) r) r ≡ handOut L (sharedOf at ts r)
+      stays-lane : f .len ≤ d → sharedOf at (begun L false (with ts k x) r) r ≡ sharedHandOut L (sharedOf at ts r)
       unfolding handOf
       stays-lane p =
           not-begun (with ts k x) at L r
@@ -122,7 +122,7 @@ module _ (t r : ℕ) (light : Light t) (some-held : 0 < countOf t) (o : Ordered 
           ∙ ap (λ (y : List Train). record { trains = y; round = k ∷ ks }) left-trains
           ∙ sym (handed-is ∙ ap (handOf L (trainsOf at ts) k ks (deficitOf t)) queue-is ∙ simp (le-leb (f .len) (deficitOf t - e .len) (omega arith)))
 
-      goes-lane : d < f .len → sharedOf at (begun L true (with ts k x) turned) turned ≡ handOut L (sharedOf at ts r)
+      goes-lane : d < f .len → sharedOf at (begun L true (with ts k x) turned) turned ≡ sharedHandOut L (sharedOf at ts r)
       unfolding handOf
       goes-lane p =
           begin-round
@@ -138,10 +138,10 @@ module _ (t r : ℕ) (light : Light t) (some-held : 0 < countOf t) (o : Ordered 
   -- ---- what it leaves
 
   module _ (length next : ℕ) where
-    hands-last-none : countOf t ≡ 1 → m ≡ 0 → HandsOut t r length next (record { train = h; round = left; begins = false })
+    hands-last-none : countOf t ≡ 1 → m ≡ 0 → HandsOutTurn t r length next (record { train = h; round = left; begins = false })
     hands-last-none one z = record { lane = λ L at ts is a b. last-none L at ts is one z; ordered = ordered-rest r m o named; small = omega arith; turn = λ q. absurd (false≢true q) }
 
-    hands-last-some : (n : ℕ) → countOf t ≡ 1 → m ≡ suc n → HandsOut t r length next (record { train = h; round = left; begins = true })
+    hands-last-some : (n : ℕ) → countOf t ≡ 1 → m ≡ suc n → HandsOutTurn t r length next (record { train = h; round = left; begins = true })
     hands-last-some n one z = record { lane = λ L at ts is a b. last-some L at ts is one n z; ordered = ordered-rest r m o named; small = omega arith; turn = λ q. left-turn n z }
 
     module _ (c : ℕ) (more : countOf t ≡ suc (suc c)) where
@@ -154,10 +154,10 @@ module _ (t r : ℕ) (light : Light t) (some-held : 0 < countOf t) (o : Ordered 
       small-x : fewer < 2 ^ 20
       small-x = omega (arith, light .0, light .1)
 
-      next-place : (at : ℕ → Rec) → at (placeOf k (headOf t + 1)) .len ≡ next → at (placeOf k h) .len ≡ next
-      next-place at q = let p : placeOf k h ≡ placeOf k (headOf t + 1) = omega arith in ap (λ (i : ℕ). at i .len) p ∙ q
+      next-place : (at : ℕ → BareRec) → at (placeInTrain k (headOf t + 1)) .len ≡ next → at (placeInTrain k h) .len ≡ next
+      next-place at q = let p : placeInTrain k h ≡ placeInTrain k (headOf t + 1) = omega arith in ap (λ (i : ℕ). at i .len) p ∙ q
 
-      hands-stays : next ≤ d → HandsOut t r length next (record { train = fewer; round = r; begins = false })
+      hands-stays : next ≤ d → HandsOutTurn t r length next (record { train = fewer; round = r; begins = false })
       hands-stays p = record {
         lane = λ L at ts is a b. stays-lane L at ts is c more d (ap (λ (y : ℕ). deficitOf t - y) (sym a)) (omega (arith, next-place at b));
         ordered = o;
@@ -165,7 +165,7 @@ module _ (t r : ℕ) (light : Light t) (some-held : 0 < countOf t) (o : Ordered 
         turn = λ q. absurd (false≢true q);
       }
 
-      hands-goes : d < next → HandsOut t r length next (record { train = fewer; round = turned; begins = true })
+      hands-goes : d < next → HandsOutTurn t r length next (record { train = fewer; round = turned; begins = true })
       hands-goes p = record {
         lane = λ L at ts is a b. goes-lane L at ts is c more d (ap (λ (y : ℕ). deficitOf t - y) (sym a)) (omega (arith, next-place at b));
         ordered = ordered-turned r m o named;
@@ -188,10 +188,10 @@ module _ (t r length next : ℕ) (light : Light t) (some-held : 0 < countOf t) (
   pub worth-small : (w : ℕ) → w ≡ 16 ^ before → orderOf r / 16 + turnOf r * w < 2 ^ 32
   worth-small w q = rw q (turned-small r before o named-is)
 
-  pub does-last : countOf t ≡ 1 → HandsOut t r length next (record { train = (t + 1) % 8; round = orderOf r / 16 + 2 ^ 32 * (namedOf r - 1); begins = not (eqb (namedOf r) 1) })
+  pub does-last : countOf t ≡ 1 → HandsOutTurn t r length next (record { train = (t + 1) % 8; round = orderOf r / 16 + 2 ^ 32 * (namedOf r - 1); begins = not (eqb (namedOf r) 1) })
   does-last one = rw head-is (go before refl)
     where
-      go : (n : ℕ) → before ≡ n → HandsOut t r length next (record { train = (headOf t + 1) % 8; round = orderOf r / 16 + 2 ^ 32 * before; begins = not (eqb (namedOf r) 1) })
+      go : (n : ℕ) → before ≡ n → HandsOutTurn t r length next (record { train = (headOf t + 1) % 8; round = orderOf r / 16 + 2 ^ 32 * before; begins = not (eqb (namedOf r) 1) })
       go zero z = rw (eq-eqb (namedOf r) 1 (omega arith)) (hands-last-none t r light some-held o known before named-is length next one z)
       go (suc n) z = rw (ne-eqb (namedOf r) 1 (λ q. omega arith)) (hands-last-some t r light some-held o known before named-is length next n one z)
 
@@ -210,15 +210,15 @@ module _ (t r length next : ℕ) (light : Light t) (some-held : 0 < countOf t) (
     fewer-is : (headOf t + 1) % 8 + 8 * suc (countOf t - 2) + 128 * (deficitOf t - length) ≡ fewer′
     fewer-is = let c : suc (countOf t - 2) ≡ countOf t - 1 = omega (arith, many) in rw (head-is, c)
 
-    pub does-stay : next ≤ deficitOf t - length → HandsOut t r length next (record { train = fewer′; round = r; begins = false })
+    pub does-stay : next ≤ deficitOf t - length → HandsOutTurn t r length next (record { train = fewer′; round = r; begins = false })
     does-stay p =
-        subst (λ (x : ℕ). HandsOut t r length next (record { train = x; round = r; begins = false })) fewer-is
+        subst (λ (x : ℕ). HandsOutTurn t r length next (record { train = x; round = r; begins = false })) fewer-is
         (hands-stays t r light some-held o known before named-is length next (countOf t - 2) many p)
 
     pub does-go : (w : ℕ) → w ≡ 16 ^ before → deficitOf t - length < next
-        → HandsOut t r length next (record { train = fewer′; round = orderOf r / 16 + turnOf r * w + 2 ^ 32 * namedOf r; begins = true })
+        → HandsOutTurn t r length next (record { train = fewer′; round = orderOf r / 16 + turnOf r * w + 2 ^ 32 * namedOf r; begins = true })
     does-go w q p =
-        subst (λ (x : ℕ). HandsOut t r length next (record { train = fewer′; round = orderOf r / 16 + turnOf r * w + 2 ^ 32 * x; begins = true })) (sym named-is)
+        subst (λ (x : ℕ). HandsOutTurn t r length next (record { train = fewer′; round = orderOf r / 16 + turnOf r * w + 2 ^ 32 * x; begins = true })) (sym named-is)
         (rw q
-        (subst (λ (x : ℕ). HandsOut t r length next (record { train = x; round = orderOf r / 16 + turnOf r * 16 ^ before + 2 ^ 32 * suc before; begins = true })) fewer-is
+        (subst (λ (x : ℕ). HandsOutTurn t r length next (record { train = x; round = orderOf r / 16 + turnOf r * 16 ^ before + 2 ^ 32 * suc before; begins = true })) fewer-is
         (hands-goes t r light some-held o known before named-is length next (countOf t - 2) many p)))
