@@ -35,7 +35,7 @@ INNER_CALLS = {"plan::no_lanes", "plan_writer::line_framing", "plan_writer::shar
 CONTRACTS = [
     ("scheduler/Step", "Step"), ("scheduler/Make", "MakeStep"), ("scheduler/Step", "OfferStep"), ("session/Ran", "Ran"), ("console/Prints", "Prints"),
     ("convert/Converts", "Converts"), ("show/Shows", "Shows"), ("plan_writer/Write", "Writes"), ("plan_area/Step", "ReadStep"), ("plan_area/Step", "WriteStep"),
-    ("sheet_writer/Write", "WritesSheet"), ("sheet_area/Step", "SheetReadStep"), ("sheet_area/Step", "SheetWriteStep"), ("depot/Prints", "Prints"),
+    ("sheet_writer/Write", "WritesSheet"), ("sheet_area/Step", "SheetReadStep"), ("sheet_area/Step", "SheetWriteStep"), ("depot/Prints", "PrintsText"),
     ("journal/Step", "RecordStep"), ("journal/Step", "BoardStep"), ("journal/Step", "BeginStep"), ("journal/Step", "LineStep"),
     ("zenfrosta/Crossing", "CrossesCall"), ("zenfrosta/Crossing", "CrossesMaking"), ("zenfrosta/Crossing", "CrossesRun"), ("zenfrosta/Crossing", "CrossesOffer"),
     ("zenfrosta/Plans", "CrossesSetupRead"), ("zenfrosta/Plans", "CrossesSetupWrite"), ("zenfrosta/Board", "CrossesLine"), ("zenfrosta/Old", "CrossesConverting"), ("zenfrosta/Views", "CrossesView"),

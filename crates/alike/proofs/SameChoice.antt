@@ -13,7 +13,7 @@ use borrow.Author.Tests.{ltb-true, ltb-false}
 use Rattle.units.specs.Plain.{if_then_else_, place, times}
 use Rattle.rules.specs.State.{firstOf, Lane, noLane, State, group, slot, finishR, holds}
 use Rattle.rules.specs.Choice.{Candidate, choose}
-use Rattle.rules.proofs.BySets.{laneOf}
+use Rattle.rules.proofs.BySets.{candidateLane}
 use Rattle.rules.specs.Calls.{pickFirst, pickOf, picked}
 use Rattle.alike.specs.Alike.{Ties}
 use Rattle.rules.proofs.Lists.{set-cases}
@@ -77,13 +77,13 @@ module _ (v : ℕ) (ls : List Lane) (o o′ : List ℕ) (n : Names ls o) (n′ :
         not-before true e = absurd (omega (arith, ltb-true (place a o′) (place b o′) (sym (same a b ties) ∙ e), turn′))
         not-before false e = ltb-false (place a o) (place b o) e
 
-  same-lane : (x y : Option Candidate) → Choice v o 0 ls x → Choice v o′ 0 ls y → laneOf x ≡ laneOf y
+  same-lane : (x y : Option Candidate) → Choice v o 0 ls x → Choice v o′ 0 ls y → candidateLane x ≡ candidateLane y
   same-lane none none h i = refl
   same-lane none (some d) h i = absurd (false≢true (sym (h (i .at)) ∙ i .is))
   same-lane (some c) none h i = absurd (false≢true (sym (i (h .at)) ∙ h .is))
   same-lane (some c) (some d) h i = ap some (omega (arith, h .num, i .num, one c d h i))
 
-  same-pick : (x y : Option Candidate) → laneOf x ≡ laneOf y → pickOf s x ≡ pickOf t y
+  same-pick : (x y : Option Candidate) → candidateLane x ≡ candidateLane y → pickOf s x ≡ pickOf t y
   unfolding pickOf
   same-pick none none e = refl
   same-pick none (some d) e = let z : _≡_ {A = ℕ} 0 1 = cc in absurd (omega arith)

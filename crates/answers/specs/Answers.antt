@@ -12,7 +12,7 @@ use Rattle.rules.specs.State.{setupOf}
 use Rattle.rules.specs.Calls.{Call, step}
 use Rattle.rules.proofs.AlwaysGood.{Reached}
 use Rattle.table.specs.Layout.{SIZE, Room, cells}
-use Rattle.table.specs.Means.{meant, Beside, Listed}
+use Rattle.table.specs.Means.{meant, RowsFit, Listed}
 use Rattle.table.specs.Encodes.{Encodes}
 use Rattle.lines.specs.Line.{Line}
 use Rattle.answers.specs.Lines.{lineBy}
@@ -21,7 +21,7 @@ use Rattle.answers.specs.declared.Tally.{Tally}
 -- R6.14. `Reached` is what a fresh state has and every call keeps, and it gives `Good`.
 pub record Made (t : List ℕ) : Type 0 where
   pub room : Room t
-  pub beside : Beside (cells t)
+  pub beside : RowsFit (cells t)
   pub listed : Listed t
   pub reached : Reached (meant t)
 

@@ -19,7 +19,7 @@ use Rattle.filing.specs.Filing.{inARow, Agrees}
 use Rattle.filing.proofs.Flat.{flat-ext}
 use Rattle.filing.proofs.TakenBack.{start-above, shifted-agrees}
 use Rattle.table.specs.Layout.{Behind, cells}
-use Rattle.table.specs.Means.{Beside, stateOf, meant, Sound, Leaves, withClock}
+use Rattle.table.specs.Means.{RowsFit, stateOf, meant, Sound, Leaves, withClock}
 use Rattle.table.proofs.Stores.{behind-then}
 use Rattle.table.proofs.Leave.{leaves-then, sound-after}
 use Rattle.table.proofs.Lists.{cells-around, past-rings, back-stays, lists-stay, starts-stay, solid-stays}

@@ -15,7 +15,7 @@ use Rattle.rules.specs.Calls.{lowered}
 use Rattle.slot_lists.specs.Lists.{listAt}
 use Rattle.filing.specs.Filing.{inARow}
 use Rattle.table.specs.Layout.{CELLS, Now, cells, presentWord, framingWord, laneWord, roundWord, rowAt}
-use Rattle.table.specs.Means.{Next, presentAt, givenOf, waitingOf, timed, rowLane, laneOf, Housed, Beside, meant, Sound, Leaves, withLane}
+use Rattle.table.specs.Means.{Next, presentAt, givenOf, waitingOf, timedByWord, rowLane, laneOf, Housed, RowsFit, meant, Sound, Leaves, withLane}
 use Rattle.table.specs.declared.LaneRow.{LaneRow}
 use Rattle.table.proofs.Stores.{length-cells, behind-refl}
 use Rattle.table.proofs.Footprint.{Outside, lane-is, present-kept, waiting-kept, housed-kept}
@@ -39,11 +39,11 @@ lowered-by d g x q (some r) h =
     let e : x + charge g (r .len) * rate g - d ≡ x - d + charge g (r .len) * rate g = omega arith in
     rw e
 
-timed-lowered : (d : ℕ) (g : Setting) (x : ℕ) (q : Waiting) → (some? (first q) ≡ true → d ≤ x) → lowered d (timed g x q) ≡ timed g (x - d) q
-unfolding timed
+timed-lowered : (d : ℕ) (g : Setting) (x : ℕ) (q : Waiting) → (some? (first q) ≡ true → d ≤ x) → lowered d (timedByWord g x q) ≡ timedByWord g (x - d) q
+unfolding timedByWord
 timed-lowered d g x q h = lowered-by d g x q (first q) h
 
-timed-above : (g : Setting) (x d : ℕ) (q : Waiting) → NotBelow d (timed g x q) → some? (first q) ≡ true → d ≤ x
+timed-above : (g : Setting) (x d : ℕ) (q : Waiting) → NotBelow d (timedByWord g x q) → some? (first q) ≡ true → d ≤ x
 timed-above g x d q h e = omega (arith, h (ap (λ (z : Waiting). some? (first z)) (timed-waiting g x q) ∙ e), timed-start g x q e)
 
 -- ---- a store to it
@@ -68,11 +68,11 @@ module _ (w : List ℕ) (k x : ℕ) (len : length w ≡ CELLS) (hk : k < 64) whe
       waiting-kept w u k (λ j a b. other j (omega arith)) (λ j a b. other j (omega arith)) (λ j a b. other j (omega arith)) (other (roundWord k) (omega arith))
       (retimed (rowAt w k) x (rowAt w k .head) (rowAt w k .count))
 
-  lane-clock : presentAt w k ≡ true → laneOf u k ≡ timed (givenOf (rowAt w k)) x (waitingOf w k (rowAt w k))
+  lane-clock : presentAt w k ≡ true → laneOf u k ≡ timedByWord (givenOf (rowAt w k)) x (waitingOf w k (rowAt w k))
   unfolding laneOf rowLane
   lane-clock p = rw (present-kept w u k (other presentWord (omega arith)), p, row-clock, waiting-clock)
 
-  housed-clock : Beside w → presentAt u k ≡ true → 0 < rowAt u k .count → Housed u k (rowAt u k)
+  housed-clock : RowsFit w → presentAt u k ≡ true → 0 < rowAt u k .count → Housed u k (rowAt u k)
   housed-clock b p n =
       let held : 0 < rowAt w k .count = omega (arith, n, ap (λ (l : LaneRow). l .count) row-clock) in
       let before = b .housed k hk (sym (present-kept w u k (other presentWord (omega arith))) ∙ p) held in
@@ -88,11 +88,11 @@ lower-leaves t t′ k d y x hk weight above ey ex n =
     let l = rowAt w k in
     let p = weight-present w o k hk weight in
     let q = waitingOf w k l in
-    let lane : laneAt (meant t) k ≡ timed (givenOf l) (l .time .0) q = lane-is w o k hk ∙ lane-present w k p in
+    let lane : laneAt (meant t) k ≡ timedByWord (givenOf l) (l .time .0) q = lane-is w o k hk ∙ lane-present w k p in
     let low : some? (first q) ≡ true → d ≤ l .time .0 = timed-above (givenOf l) (l .time .0) d q (subst (NotBelow d) lane above) in
     let time : x ≡ l .time .0 - d = ex ∙ ap (λ (z : ℕ). z - d) ey in
     leave-lane t t′ (set w (laneWord k + 1) x) k (lowered d (laneAt (meant t) k)) hk n (outside w k x (length-cells t) hk)
-    (lane-clock w k x (length-cells t) hk p ∙ ap (λ (z : ℕ). timed (givenOf l) z q) time ∙ sym (timed-lowered d (givenOf l) (l .time .0) q low) ∙ ap (lowered d) (sym lane))
+    (lane-clock w k x (length-cells t) hk p ∙ ap (λ (z : ℕ). timedByWord (givenOf l) z q) time ∙ sym (timed-lowered d (givenOf l) (l .time .0) q low) ∙ ap (lowered d) (sym lane))
     (housed-clock w k x (length-cells t) hk)
 
 -- ---- the loop

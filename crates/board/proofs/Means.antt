@@ -13,22 +13,22 @@ use Rattle.words.proofs.Runs.{le-or-lt, eq-or-ne, length-tab, getD-tab}
 use Rattle.words.specs.Words.{wordAt}
 use Rattle.desk.specs.Board.{Handover, Board, lineAt, isOf, Fine}
 use Rattle.desk.proofs.Lines.{beyond}
-use Rattle.board.specs.Layout.{BoardRoom, trainWord, cellWord, ShowsBoard, lineOf, boardOf, wellFormed, Tells, Parted}
+use Rattle.board.specs.Layout.{BoardRoom, trainWord, cellWord, ShowsBoard, lineOfWords, boardOf, wellFormed, Tells, Parted}
 
-pub board-line : (t : List ℕ) (k : ℕ) → k < 64 → lineAt (boardOf t) k ≡ lineOf (wordAt t (k * 2)) (wordAt t (k * 2 + 1))
+pub board-line : (t : List ℕ) (k : ℕ) → k < 64 → lineAt (boardOf t) k ≡ lineOfWords (wordAt t (k * 2)) (wordAt t (k * 2 + 1))
 unfolding boardOf
-board-line t k h = getD-tab 64 k (λ i. lineOf (wordAt t (i * 2)) (wordAt t (i * 2 + 1))) none h
+board-line t k h = getD-tab 64 k (λ i. lineOfWords (wordAt t (i * 2)) (wordAt t (i * 2 + 1))) none h
 
 pub board-size : (t : List ℕ) → length (boardOf t) ≡ 64
 unfolding boardOf
-board-size t = length-tab 64 (λ i. lineOf (wordAt t (i * 2)) (wordAt t (i * 2 + 1)))
+board-size t = length-tab 64 (λ i. lineOfWords (wordAt t (i * 2)) (wordAt t (i * 2 + 1)))
 
 -- ---- two words
 
 pub record IsLine (a c : ℕ) : Type 0 where
-  pub train : trainWord (lineOf a c) ≡ a
-  pub cell : cellWord (lineOf a c) ≡ c
-  pub fine : (r : Handover) → lineOf a c ≡ some r → Fine r
+  pub train : trainWord (lineOfWords a c) ≡ a
+  pub cell : cellWord (lineOfWords a c) ≡ c
+  pub fine : (r : Handover) → lineOfWords a c ≡ some r → Fine r
 
 formed-cases : (a c : ℕ) → wellFormed a c ≡ true → ((c ≡ 0) × (a ≡ 0)) ⊎ ((65536 ≤ c) × (c < 131072)) ⊎ ((131072 ≤ c) × (c < 196608) × (4294967296 ≤ a))
 unfolding wellFormed
@@ -69,7 +69,7 @@ is-line a c w e =
 -- and back: the words of a line
 pub record OfLine (x : Option Handover) : Type 0 where
   pub formed : wellFormed (trainWord x) (cellWord x) ≡ true
-  pub back : lineOf (trainWord x) (cellWord x) ≡ x
+  pub back : lineOfWords (trainWord x) (cellWord x) ≡ x
 
 rec-ext : (r s : Handover) → r .train ≡ s .train → r .cell ≡ s .cell → r .kind ≡ s .kind → r .sequence ≡ s .sequence → r ≡ s
 rec-ext r s a b c d =

@@ -14,7 +14,7 @@ use Rattle.words.specs.Bits.{bit}
 use Rattle.words.proofs.Runs.{le-or-lt, eq-or-ne}
 use Rattle.words.proofs.Bits.{bit-add-same, bit-add-other}
 use Rattle.desk.specs.Board.{Handover, Board, lineAt, isOf, isFree}
-use Rattle.board.specs.Layout.{Marked, TrainOf, SeenBelow, SeenHere, recOf, wellFormed, Parted, Found}
+use Rattle.board.specs.Layout.{Marked, TrainOf, SeenBelow, SeenHere, handoverOf, wellFormed, Parted, Found}
 use Rattle.desk_line.specs.declared.Line.{Line}
 
 -- ---- two words
@@ -42,7 +42,7 @@ module _ (a c : ℕ) where
 
 -- ---- a line by value
 
-module _ (l : Line) (x : Option Handover) (e : recOf l ≡ x) where
+module _ (l : Line) (x : Option Handover) (e : handoverOf l ≡ x) where
   pub of-free : (u : ℕ) → l .kind ≡ 0 → false ≡ isOf u x
   of-free u z = rw (← e, eq-eqb (l .kind) 0 z)
 

@@ -1,20 +1,20 @@
 -- A board in bytes (R11.3): 64 lines of two words.
 --
---   boardSize              the fixed size of a board, in bytes
---   BoardRoom              the bytes have room for a board
---   trainWord, cellWord    the two words of a line
---   putLine                the bytes with one line changed
---   Written                a board is written in the bytes
---   ShowsBoard             the bytes show a board that the rules can make
---   recOf, lineOf          the line of a value; of two words
---   boardOf                the board that bytes mean
---   wellFormed             two words are a line: the test of 29, for one line
---   NoBoard, Tells         R11.4: the bytes show none; what the test of 29 says of bytes
---   Decided                bytes show a board or none
---   Found                  where a test first passes on the lines below n
---   Parted                 whether a line's train stands on no line below
---   Marked, TrainOf        a word with one more bit set; the train of a line
---   SeenBelow, SeenHere    the bits of the trains that the test has passed: of all, and of one line's train
+--   boardSize                 the fixed size of a board, in bytes
+--   BoardRoom                 the bytes have room for a board
+--   trainWord, cellWord       the two words of a line
+--   putLine                   the bytes with one line changed
+--   Written                   a board is written in the bytes
+--   ShowsBoard                the bytes show a board that the rules can make
+--   handoverOf, lineOfWords   the line of a value; of two words
+--   boardOf                   the board that bytes mean
+--   wellFormed                two words are a line: the test of 29, for one line
+--   NoBoard, Tells            R11.4: the bytes show none; what the test of 29 says of bytes
+--   Decided                   bytes show a board or none
+--   Found                     where a test first passes on the lines below n
+--   Parted                    whether a line's train stands on no line below
+--   Marked, TrainOf           a word with one more bit set; the train of a line
+--   SeenBelow, SeenHere       the bits of the trains that the test has passed: of all, and of one line's train
 --
 -- Assumes nothing.
 use Prim.Native.Nat.{ℕ, _+_, _*_, _/_, _%_, _≤_, _<_}
@@ -69,16 +69,16 @@ pub record ShowsBoard (t : List ℕ) (b : Board) : Type 0 where
 
 -- ---- what bytes mean
 
-abbrev pub recOf : Line → Option Handover
-recOf l = if eqb (l .kind) 0 then none else some (record { train = l .train; cell = l .cell; kind = l .kind; sequence = l .sequence })
+abbrev pub handoverOf : Line → Option Handover
+handoverOf l = if eqb (l .kind) 0 then none else some (record { train = l .train; cell = l .cell; kind = l .kind; sequence = l .sequence })
 
-abbrev pub lineOf : ℕ → ℕ → Option Handover
-lineOf a c =
+abbrev pub lineOfWords : ℕ → ℕ → Option Handover
+lineOfWords a c =
     if eqb (c / 65536 % 256) 0 then none
     else some (record { train = a % 4294967296; cell = c % 65536; kind = c / 65536 % 256; sequence = a / 4294967296 })
 
 unfoldable pub boardOf : List ℕ → Board
-boardOf t = tab 64 (λ k. lineOf (wordAt t (k * 2)) (wordAt t (k * 2 + 1)))
+boardOf t = tab 64 (λ k. lineOfWords (wordAt t (k * 2)) (wordAt t (k * 2 + 1)))
 
 -- ---- the test of 29
 

@@ -9,7 +9,7 @@ ghost use Prim.Native.Nat.{_+_, _*_, _/_, _%_, _^_, _<_, _≤_};
 ghost use lib.ListN.{length};
 ghost use Rattle.desk.specs.Board.{lineAt, isOf, isFree};
 ghost use Rattle.words.specs.Words.{wordAt, putWord};
-ghost use Rattle.board.specs.Layout.{BoardRoom, boardOf, recOf, wellFormed, Tells, Parted, Found, Marked, TrainOf, SeenHere};
+ghost use Rattle.board.specs.Layout.{BoardRoom, boardOf, handoverOf, wellFormed, Tells, Parted, Found, Marked, TrainOf, SeenHere};
 ghost use Rattle.words.specs.Bits.{bit};
 ghost use lib.Dec.{eqb};
 use desk_line::Line;
@@ -39,7 +39,7 @@ const SEEN: usize = 16;
 // Line `k`.
 pub fn line_at(t: &[u8], k: usize) -> Line
     requires { ⌜ BoardRoom (now t) × (k < 64) ⌝ }
-    ensures { λ r. ⌜ recOf r ≡ lineAt (boardOf (now (t .entry))) k ⌝ }
+    ensures { λ r. ⌜ handoverOf r ≡ lineAt (boardOf (now (t .entry))) k ⌝ }
 {
     let a = word(t, k * 2);
     let c = word(t, k * 2 + 1);

@@ -13,16 +13,16 @@ use Rattle.rules.specs.State.{Lane, State, laneAt}
 use Rattle.rules.specs.Choice.{choose}
 use Rattle.rules.specs.Sets.{inGroup, groupStart}
 use Rattle.rules.specs.Good.{Good}
-use Rattle.rules.specs.BySets.{laneOf}
+use Rattle.rules.specs.BySets.{candidateLane}
 use Rattle.rules.proofs.Lowest.{LowOf, LowestOf}
 use Rattle.rules.proofs.GroupRule.{in-group, group-low}
 use Rattle.choice.proofs.Held.{start-early}
 use Rattle.slot_lists.specs.Lists.{backAt, listAt, startAt, slotOf, listOf}
-use Rattle.filing.specs.Filing.{headOf, Whole, slotAt, Agrees, LeastGroup}
+use Rattle.filing.specs.Filing.{frontOf, Whole, slotAt, Agrees, LeastGroup, never}
 use Rattle.filing.proofs.Slots.{start-slot, window}
 use Rattle.filing.proofs.Starts.{in-list}
 use Rattle.filing.proofs.Choose.{choice-is, choice-none}
-use Rattle.groups.specs.Front.{never, LeadsAt, Leads}
+use Rattle.groups.specs.Front.{LeadsAt, Leads}
 use Rattle.groups.specs.declared.Front.{Front}
 
 -- the starts are small
@@ -45,10 +45,10 @@ module _ (t : List ℕ) (s : State) (good : Good s) (whole : Whole (backAt t)) (
       some-length (x ∷ xs) k h = omega arith
 
   module _ (v : ℕ) (clock : v ≡ s .clock) (f : Front) (l : Leads (startAt t) v 64 f) where
-    pub found-none : f .finish ≡ never → none ≡ laneOf (choose s)
+    pub found-none : f .finish ≡ never → none ≡ candidateLane (choose s)
     found-none e = go l
       where
-        go : Leads (startAt t) v 64 f → none ≡ laneOf (choose s)
+        go : Leads (startAt t) v 64 f → none ≡ candidateLane (choose s)
         go (inl (q, h)) = choice-none (backAt t) whole s good (listAt t) (startAt t) ag (λ i q lo hi z. omega (arith, h i q lo hi (omega arith) z, clock))
         go (inr h) = absurd (omega (arith, e, h .sum, h .small, pow-mono {i = f .group} {j = 31} (h .high)))
 
@@ -81,12 +81,12 @@ module _ (t : List ℕ) (s : State) (good : Good s) (whole : Whole (backAt t)) (
       pub list-some : 0 < length (listAt t (f .group) (listOf t (f .group) (h .from)))
       list-some = front-some (f .group) (h .from) (h .low) (h .high) (h .start)
 
-      pub found-head : (k : ℕ) → k ≡ getD (listAt t (f .group) (listOf t (f .group) (h .from))) 0 0 → headOf (listAt t (f .group) (listOf t (f .group) (h .from))) ≡ some k
+      pub found-head : (k : ℕ) → k ≡ getD (listAt t (f .group) (listOf t (f .group) (h .from))) 0 0 → frontOf (listAt t (f .group) (listOf t (f .group) (h .from))) ≡ some k
       found-head k e = head (listAt t (f .group) (listOf t (f .group) (h .from))) list-some e
         where
-          head : (l : List ℕ) → 0 < length l → k ≡ getD l 0 0 → headOf l ≡ some k
+          head : (l : List ℕ) → 0 < length l → k ≡ getD l 0 0 → frontOf l ≡ some k
           head [] n e = absurd (omega arith)
           head (x ∷ xs) n e = ap some (sym e)
 
-      pub found-lane : (k : ℕ) → k ≡ getD (listAt t (f .group) (listOf t (f .group) (h .from))) 0 0 → some k ≡ laneOf (choose s)
+      pub found-lane : (k : ℕ) → k ≡ getD (listAt t (f .group) (listOf t (f .group) (h .from))) 0 0 → some k ≡ candidateLane (choose s)
       found-lane k e = sym (found-head k e) ∙ choice-is (backAt t) whole s good (listAt t) (startAt t) ag (f .group) (h .from) least-group

@@ -18,7 +18,8 @@ use Rattle.units.specs.declared.Clock.{Clock}
 use Rattle.rules.specs.declared.SetWords.{SetWords}
 use Rattle.rules.proofs.Bools.{and-parts, not-passed}
 use Rattle.rules.proofs.Word.{word-lt}
-use Rattle.choice.specs.Sweep.{never, sortedInto, swept, Fits, AreWords}
+use Rattle.filing.specs.Filing.{never}
+use Rattle.choice.specs.Sweep.{sortedInto, swept, BitFits, AreWords}
 use Rattle.choice.specs.declared.Sweep.{Sweep}
 
 some-below : (p : ℕ → Bool) (n k : ℕ) → k < n → p k ≡ true → anyBelow p n ≡ true
@@ -95,7 +96,7 @@ module _ (v : ℕ) (ls : List Lane) where
   }
 
   -- so far no word has 33 bits
-  pub swept-fits : (i : ℕ) (a : Sweep) → Swept (suc i) a → i < groups → Fits (a .words) (2 ^ i)
+  pub swept-fits : (i : ℕ) (a : Sweep) → Swept (suc i) a → i < groups → BitFits (a .words) (2 ^ i)
   swept-fits i a h small =
       let p : 2 ^ i ≤ 2 ^ 31 = pow-mono {i = i} {j = 31} (omega arith) in
       record {

@@ -10,10 +10,10 @@ use mathlib.Core.Path.{_≡_}
 use mathlib.Core.List.{List}
 use mathlib.Core.Option.{none, some}
 use Rattle.rules.specs.Choice.{choose}
-use Rattle.rules.specs.BySets.{laneOf}
+use Rattle.rules.specs.BySets.{candidateLane}
 use Rattle.rules.specs.Good.{Good}
 use Rattle.slot_lists.specs.Lists.{listAt, startAt, listOf}
-use Rattle.filing.specs.Filing.{headOf}
+use Rattle.filing.specs.Filing.{frontOf}
 use Rattle.table.specs.Means.{meant, Sound, Listed}
 use Rattle.choice.specs.declared.Place.{Place}
 use Rattle.choice.specs.declared.Choice.{Choice}
@@ -25,12 +25,12 @@ pub record Known (t : List ℕ) : Type 0 where
   pub good : Good (meant t)
 
 pub record Standing (t : List ℕ) (p : Place) : Type 0 where
-  pub chosen : laneOf (choose (meant t)) ≡ some (p .lane)
+  pub chosen : candidateLane (choose (meant t)) ≡ some (p .lane)
   pub low : 16 ≤ p .group
   pub high : p .group ≤ 31
   pub start : startAt t (p .group) ≡ some (p .start)
-  pub first : headOf (listAt t (p .group) (listOf t (p .group) (p .start))) ≡ some (p .lane)
+  pub first : frontOf (listAt t (p .group) (listOf t (p .group) (p .start))) ≡ some (p .lane)
 
 abbrev pub ChoiceIs : List ℕ → Choice → Type 0
 ChoiceIs t (Serve p) = Standing t p
-ChoiceIs t Idle = none ≡ laneOf (choose (meant t))
+ChoiceIs t Idle = none ≡ candidateLane (choose (meant t))

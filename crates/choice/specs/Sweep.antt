@@ -1,6 +1,6 @@
 -- The four words of the group sets, group by group from the highest down.
 --
---   Fits         one bit more fits each word
+--   BitFits      one bit more fits each word
 --   sortedInto   a group's bit goes to one of the four words
 --   swept        one group more
 --   AreWords     the words are those of a state
@@ -16,12 +16,8 @@ use Rattle.rules.specs.Sets.{setWord, ready, ineligibleReady, eligibleBlocked, 
 use Rattle.rules.specs.declared.SetWords.{SetWords}
 use Rattle.choice.specs.declared.Sweep.{Sweep}
 
--- later than any finish of a good table: those are below 2 ^ 64 - 1
-abbrev pub never : ℕ
-never = 18446744073709551615
-
 -- one more bit fits each word
-pub record Fits (w : SetWords) (bit : ℕ) : Type 0 where
+pub record BitFits (w : SetWords) (bit : ℕ) : Type 0 where
   pub er : w .er + bit < 2 ^ 64
   pub ir : w .ir + bit < 2 ^ 64
   pub eb : w .eb + bit < 2 ^ 64

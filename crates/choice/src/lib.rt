@@ -9,7 +9,7 @@ ghost use mathlib.Core.Path.{_≡_};
 ghost use Prim.Native.Nat.{_≤_, _<_, _^_};
 ghost use Rattle.table.specs.Means.{meant};
 ghost use Rattle.choice.specs.Known.{Known, ChoiceIs};
-ghost use Rattle.choice.specs.Sweep.{sortedInto, swept, Fits, AreWords};
+ghost use Rattle.choice.specs.Sweep.{sortedInto, swept, BitFits, AreWords};
 use groups::NEVER;
 use groups::next_group;
 use rules::SetWords;
@@ -56,7 +56,7 @@ fn group_bit(i: u32) -> u64
 
 // Puts a group's bit into one of the four words.
 fn sorted(w: SetWords, bit: u64, eligible: bool, blocked: bool) -> SetWords
-    requires { ⌜ Fits w bit ⌝ }
+    requires { ⌜ BitFits w bit ⌝ }
     ensures { λ r. ⌜ r ≡ sortedInto w bit eligible blocked ⌝ }
 {
     let mut next = w;
@@ -76,7 +76,7 @@ fn sorted(w: SetWords, bit: u64, eligible: bool, blocked: bool) -> SetWords
 
 // Group `i`, whose start is `start`, at clock `v`.
 fn sweep_group(start: Clock, v: Clock, i: u32, a: Sweep) -> Sweep
-    requires { ⌜ (start .0 < 2 ^ 63) × (i ≤ 31) × Fits (a .words) (2 ^ i) ⌝ }
+    requires { ⌜ (start .0 < 2 ^ 63) × (i ≤ 31) × BitFits (a .words) (2 ^ i) ⌝ }
     ensures { λ r. ⌜ r ≡ swept (start .0) (v .0) i a ⌝ }
 {
     let finish = rounded_finish(start, i);

@@ -6,11 +6,11 @@ use native.Mathlib.Omega.{arith}
 use lib.ListN.{getD}
 use Rattle.words.specs.Runs.{tab, tabFrom}
 use Rattle.words.proofs.Runs.{tab-snoc}
-use Rattle.waiting.specs.Waiting.{Lengths}
-use Rattle.rounds.specs.Round.{Rec}
+use Rattle.rounds.specs.Good.{Lengths}
+use Rattle.rounds.specs.Round.{BareRec}
 use Rattle.rules.specs.State.{laneDepth}
-use Rattle.table.specs.Layout.{Now, cells, lengthsCell, lengthWords, placeOf, putEntry, clearCells}
-use Rattle.table.specs.Means.{recOf, ringOf}
+use Rattle.table.specs.Layout.{Now, cells, lengthsCell, lengthWords, placeInLane, putEntry, clearCells}
+use Rattle.table.specs.Means.{recOf, laneRing}
 use Rattle.table.specs.declared.LaneRow.{LaneRow}
 use Rattle.table.specs.declared.Entry.{Entry}
 use Rattle.table.proofs.Stores.{length-cells, behind-refl, behind-then}
@@ -23,7 +23,7 @@ use Rattle.convert.specs.Over.{Filled}
 
 module _ (old t : List ℕ) (k : ℕ) (hk : k < 64) (l : LaneRow) where
   pub filled-none : (u : List ℕ) → 0 < l .longest .0 → Now t u (clearCells (cells t) (lengthsCell + lengthWords * k) lengthWords) → Filled old t u k l 0
-  unfolding ringOf oldRing tab tabFrom
+  unfolding laneRing oldRing tab tabFrom
   filled-none u some n =
       record {
         kept = λ i q. rw (n .words) (clear-other (cells t) (lengthsCell + lengthWords * k) lengthWords i (q .0));
@@ -44,13 +44,13 @@ module _ (old t : List ℕ) (k : ℕ) (hk : k < 64) (l : LaneRow) where
   old-snoc n = tab-snoc n (λ i. recOf (oldEntryAt (cells old) k (l .head + i)))
 
   pub filled-more : (u v : List ℕ) (i : ℕ) (e : Entry) → i < laneDepth → e ≡ oldEntryAt (cells old) k (l .head + i) → Fits e → e .length .0 ≤ l .longest .0
-      → Filled old t u k l i → Now u v (putEntry (cells u) (placeOf k i) e) → Filled old t v k l (i + 1)
+      → Filled old t u k l i → Now u v (putEntry (cells u) (placeInLane k i) e) → Filled old t v k l (i + 1)
   filled-more u v i e small is fits le f n =
-      let ring : ringOf (putEntry (cells u) (placeOf k i) e) k 0 (i + 1) ≡ ringOf (cells u) k 0 i ++ recOf e ∷ [] =
-      subst (λ (j : ℕ). ringOf (putEntry (cells u) (placeOf k j) e) k 0 (i + 1) ≡ ringOf (cells u) k 0 i ++ recOf e ∷ []) (omega arith) (ring-snoc (cells u) k 0 i e (length-cells u) hk small fits) in
+      let ring : laneRing (putEntry (cells u) (placeInLane k i) e) k 0 (i + 1) ≡ laneRing (cells u) k 0 i ++ recOf e ∷ [] =
+      subst (λ (j : ℕ). laneRing (putEntry (cells u) (placeInLane k j) e) k 0 (i + 1) ≡ laneRing (cells u) k 0 i ++ recOf e ∷ []) (omega arith) (ring-snoc (cells u) k 0 i e (length-cells u) hk small fits) in
       record {
-        kept = λ j q. rw (n .words) (put-other (cells u) (placeOf k i) e j (λ x. q .0 (omega arith) (omega arith)) (λ x. q .1 (omega arith) (omega arith)) ∙ f .kept j q);
-        ring = rw (n .words) (ring ∙ ap (λ (x : List Rec). x ++ recOf e ∷ []) (f .ring) ∙ ap (λ (e : Entry). oldRing (cells old) k (l .head) i ++ recOf e ∷ []) is ∙ sym (old-snoc i));
+        kept = λ j q. rw (n .words) (put-other (cells u) (placeInLane k i) e j (λ x. q .0 (omega arith) (omega arith)) (λ x. q .1 (omega arith) (omega arith)) ∙ f .kept j q);
+        ring = rw (n .words) (ring ∙ ap (λ (x : List BareRec). x ++ recOf e ∷ []) (f .ring) ∙ ap (λ (e : Entry). oldRing (cells old) k (l .head) i ++ recOf e ∷ []) is ∙ sym (old-snoc i));
         places = rw (n .words) (places-one (cells u) k l hk (length-cells u) i e fits le (f .places));
         rest = behind-then (f .rest) (n .rest);
       }

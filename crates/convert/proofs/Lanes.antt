@@ -15,7 +15,7 @@ use Rattle.table.proofs.Footprint.{Outside, SameLane, others-kept, present-kept
 use Rattle.table.proofs.Rows.{lane-absent}
 use Rattle.old_table.specs.Old.{oldLane}
 use Rattle.old_table.proofs.Reading.{old-absent}
-use Rattle.convert.specs.Over.{Carried, LaneOver, Moved, Over}
+use Rattle.convert.specs.Over.{Carried, LaneOver, LaneMoved, Over}
 
 -- a lane that is not in the setup is nothing in either
 absent-over : (old t : List ℕ) (k : ℕ) → Carried old t → bit k (getD (cells old) presentWord 0) ≡ 0 → LaneOver old t k
@@ -31,7 +31,7 @@ pub over-none : (old t : List ℕ) (lanes k : ℕ) → lanes ≡ getD (cells old
 over-none old t lanes k e c x =
     record { carried = c; lanes = λ j h. absent-over old t j c (rw (← e) (x .absent j (omega arith) h)) }
 
-module _ (old t u : List ℕ) (k : ℕ) (hk : k < 64) (m : Moved old t u k) where
+module _ (old t u : List ℕ) (k : ℕ) (hk : k < 64) (m : LaneMoved old t u k) where
   outside : Outside (cells t) (cells u) k
   outside = record { kept = λ i a b c d. m .kept i (λ p q. a p (omega arith)) b c }
 

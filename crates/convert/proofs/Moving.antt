@@ -9,13 +9,14 @@ use lib.ListN.{length, getD, set}
 use lib.Seq.{getD-set-other}
 use Rattle.words.specs.Runs.{tab, tabFrom}
 use Rattle.units.proofs.PerByte.{rate-le}
-use Rattle.rounds.specs.Round.{Rec}
-use Rattle.waiting.specs.Waiting.{Waiting, plain, Lengths}
+use Rattle.rounds.specs.Round.{BareRec}
+use Rattle.rounds.specs.Good.{Lengths}
+use Rattle.waiting.specs.Waiting.{Waiting, plain}
 use Rattle.rules.specs.State.{Setting, laneDepth}
 use Rattle.rules.specs.Older.{oldDepth}
 use Rattle.parts.specs.Parts.{rowsFrom}
 use Rattle.table.specs.Layout.{Behind, Now, cells, presentWord, framingWord, laneWord, rowAt, putRow}
-use Rattle.table.specs.Means.{presentAt, ringOf, givenOf, waitingOf, timed, laneOf, RowAgrees, RowPaced, PlacesFit}
+use Rattle.table.specs.Means.{presentAt, laneRing, givenOf, waitingOf, timedByWord, laneOf, RowAgrees, RowPaced, PlacesFit}
 use Rattle.table.specs.declared.LaneRow.{LaneRow}
 use Rattle.table.proofs.Stores.{length-cells, behind-then}
 use Rattle.table.proofs.Footprint.{present-kept}
@@ -24,7 +25,7 @@ use Rattle.table.proofs.Rows.{retimed, row-put, lane-put, entry-put, waiting-pl
 use Rattle.old_table.specs.Old.{oldRowAt, oldRing, oldQueue, oldLane, OldTable}
 use Rattle.old_table.proofs.Reading.{old-present}
 use Rattle.old_table.proofs.Whole.{old-lanes, lane-lengths}
-use Rattle.convert.specs.Over.{Carried, NoPlace, LaneOver, Moved, unrolled}
+use Rattle.convert.specs.Over.{Carried, NoPlace, LaneOver, LaneMoved, unrolled}
 
 -- ---- what a good old table says of a lane's row
 
@@ -74,9 +75,9 @@ module _ (w u : List ℕ) (k : ℕ) (framing : getD u framingWord 0 ≡ getD w f
   paced-over = rw (framing, setting, rate-is, top-is) (record { rated = c .rated; grouped = c .grouped })
 
 -- an idle lane has no record in either ring
-pub none-over : (w u : List ℕ) (k h n : ℕ) → n ≡ 0 → ringOf u k 0 n ≡ oldRing w k h n
-unfolding ringOf oldRing tab tabFrom
-none-over w u k h n e = subst (λ (n : ℕ). ringOf u k 0 n ≡ oldRing w k h n) (sym e) refl
+pub none-over : (w u : List ℕ) (k h n : ℕ) → n ≡ 0 → laneRing u k 0 n ≡ oldRing w k h n
+unfolding laneRing oldRing tab tabFrom
+none-over w u k h n e = subst (λ (n : ℕ). laneRing u k 0 n ≡ oldRing w k h n) (sym e) refl
 
 -- ---- the row is stored, its records being in place
 
@@ -119,10 +120,10 @@ module _ (old : List ℕ) (k : ℕ) (hk : k < 64) (p : presentAt (cells old) k �
   unfolding oldRowAt
   plain-row = ap (λ (g : Setting). g .shared) given
 
-  waiting-over : ringOf w k 0 (r .count) ≡ oldRing (cells old) k (r .head) (r .count) → waitingOf w k row ≡ plain (oldQueue (cells old) k)
+  waiting-over : laneRing w k 0 (r .count) ≡ oldRing (cells old) k (r .head) (r .count) → waitingOf w k row ≡ plain (oldQueue (cells old) k)
   waiting-over ring = waiting-plain w k row plain-row ∙ ap plain ring
 
-  moved-row : ringOf w k 0 (r .count) ≡ oldRing (cells old) k (r .head) (r .count) → (0 < r .count → PlacesFit w k r) → Now u v (putRow w k (unrolled r x)) → Moved old t v k
+  moved-row : laneRing w k 0 (r .count) ≡ oldRing (cells old) k (r .head) (r .count) → (0 < r .count → PlacesFit w k r) → Now u v (putRow w k (unrolled r x)) → LaneMoved old t v k
   moved-row ring fit n =
       let words : cells v ≡ putRow w k row = n .words ∙ same-store in
       let stored : rowAt (putRow w k row) k ≡ row = row-put w k x 0 (r .count) (length-cells u) hk (omega arith) in
@@ -130,7 +131,7 @@ module _ (old : List ℕ) (k : ℕ) (hk : k < 64) (p : presentAt (cells old) k �
         kept = λ i b d e. rw words (row-apart i b ∙ kept i (d, e));
         over = record {
           lane = rw words
-              (lane-put w k x 0 (r .count) (length-cells u) hk (omega arith) here ∙ ap (λ (g : Setting). timed g x (waitingOf w k row)) given ∙ ap (timed (givenOf r) x) (waiting-over ring) ∙ sym (old-present (cells old) k p));
+              (lane-put w k x 0 (r .count) (length-cells u) hk (omega arith) here ∙ ap (λ (g : Setting). timedByWord g x (waitingOf w k row)) given ∙ ap (timedByWord (givenOf r) x) (waiting-over ring) ∙ sym (old-present (cells old) k p));
           housed = rw words
               (rw stored
               (λ q some.
@@ -143,6 +144,6 @@ module _ (old : List ℕ) (k : ℕ) (hk : k < 64) (p : presentAt (cells old) k �
         rest = behind-then rest (n .rest);
       }
 
-  pub moved : (l : LaneRow) → l ≡ r → ringOf w k 0 (l .count) ≡ oldRing (cells old) k (l .head) (l .count) → (0 < l .count → PlacesFit w k l) → Now u v (putRow w k (unrolled l (l .time .0))) → Moved old t v k
+  pub moved : (l : LaneRow) → l ≡ r → laneRing w k 0 (l .count) ≡ oldRing (cells old) k (l .head) (l .count) → (0 < l .count → PlacesFit w k l) → Now u v (putRow w k (unrolled l (l .time .0))) → LaneMoved old t v k
   moved l e =
-      subst (λ (l : LaneRow). ringOf w k 0 (l .count) ≡ oldRing (cells old) k (l .head) (l .count) → (0 < l .count → PlacesFit w k l) → Now u v (putRow w k (unrolled l (l .time .0))) → Moved old t v k) (sym e) moved-row
+      subst (λ (l : LaneRow). laneRing w k 0 (l .count) ≡ oldRing (cells old) k (l .head) (l .count) → (0 < l .count → PlacesFit w k l) → Now u v (putRow w k (unrolled l (l .time .0))) → LaneMoved old t v k) (sym e) moved-row

@@ -16,7 +16,7 @@ use Rattle.scheduler.specs.Step.{UnitStep}
 use Rattle.scheduler.proofs.Chains.{encoded-good}
 use Rattle.old_table.specs.Old.{oldMeant, OldTable, OldEncodes}
 use Rattle.convert.specs.Converts.{unpaged, TakenOver}
-use Rattle.convert.specs.Takes.{OldTakes, oldDone, oldThen, refuses, takes, Takes, done, then, UntilTen, SameTakes}
+use Rattle.convert.specs.Takes.{OldTakes, oldDone, oldThen, refuses, takes, TakeChain, done, then, UntilTen, SameTakes}
 
 -- the new bytes encode a unit with a state like the one that the old bytes mean
 pub record Along (t u : List ℕ) : Type 0 where
@@ -61,7 +61,7 @@ along-take t u t₁ u₁ p r g after y =
       };
     }
 
-along-takes : {t t′ u u′ : List ℕ} {rs qs : List Reply} → Along t u → OldTakes t rs t′ → Takes u qs u′ → UntilTen rs qs
+along-takes : {t t′ u u′ : List ℕ} {rs qs : List Reply} → Along t u → OldTakes t rs t′ → TakeChain u qs u′ → UntilTen rs qs
 unfolding UntilTen
 along-takes p oldDone new = tt
 along-takes p (oldThen x more) done = tt

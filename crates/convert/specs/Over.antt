@@ -1,12 +1,12 @@
 -- What the steps of the conversion leave. `old` are the bytes of the old table throughout.
 --
---   Copied     the first n bytes are the old table's, and those past the table are as they were
---   Carried    what both layouts keep in the same places is the old table's, and the depth number is today's
---   Filled     n records of lane k, which has the old row l, stand in its new ring from place 0 on
---   unrolled   an old row with another clock word, its ring begun at place 0
---   LaneOver   lane k means what it meant, and its records are housed
---   Moved      lane k is taken over, and no word but its clock word, its ring word and its places is changed
---   Over       the lanes below n are taken over
+--   Copied      the first n bytes are the old table's, and those past the table are as they were
+--   Carried     what both layouts keep in the same places is the old table's, and the depth number is today's
+--   Filled      n records of lane k, which has the old row l, stand in its new ring from place 0 on
+--   unrolled    an old row with another clock word, its ring begun at place 0
+--   LaneOver    lane k means what it meant, and its records are housed
+--   LaneMoved   lane k is taken over, and no word but its clock word, its ring word and its places is changed
+--   Over        the lanes below n are taken over
 --
 -- Assumes nothing.
 use mathlib.Core.Path.{_≡_}
@@ -19,7 +19,7 @@ use Rattle.parts.specs.Parts.{rowsFrom}
 use Rattle.rings.specs.Rings.{ringsEnd}
 use Rattle.slot_lists.specs.Lists.{listsFrom}
 use Rattle.table.specs.Layout.{SIZE, Behind, cells, depthWord, laneWord, lengthsCell, lengthWords, marksCell, markWords, rowAt}
-use Rattle.table.specs.Means.{presentAt, ringOf, PlacesFit, Housed, laneOf}
+use Rattle.table.specs.Means.{presentAt, laneRing, PlacesFit, Housed, laneOf}
 use Rattle.table.specs.declared.LaneRow.{LaneRow}
 use Rattle.old_table.specs.Old.{oldRing, oldLane}
 
@@ -39,7 +39,7 @@ NoPlace k i = ((lengthsCell + lengthWords * k ≤ i) → (i < lengthsCell + leng
 
 pub record Filled (old before after : List ℕ) (k : ℕ) (l : LaneRow) (n : ℕ) : Type 0 where
   pub kept : (i : ℕ) → NoPlace k i → getD (cells after) i 0 ≡ getD (cells before) i 0
-  pub ring : ringOf (cells after) k 0 n ≡ oldRing (cells old) k (l .head) n
+  pub ring : laneRing (cells after) k 0 n ≡ oldRing (cells old) k (l .head) n
   pub places : PlacesFit (cells after) k l
   pub rest : Behind before after
 
@@ -50,7 +50,7 @@ pub record LaneOver (old t : List ℕ) (k : ℕ) : Type 0 where
   pub lane : laneOf (cells t) k ≡ oldLane (cells old) k
   pub housed : presentAt (cells t) k ≡ true → 0 < rowAt (cells t) k .count → Housed (cells t) k (rowAt (cells t) k)
 
-pub record Moved (old before after : List ℕ) (k : ℕ) : Type 0 where
+pub record LaneMoved (old before after : List ℕ) (k : ℕ) : Type 0 where
   pub kept : (i : ℕ) → ((laneWord k + 1 ≤ i) → (i < laneWord k + 3) → ⊥) → ((lengthsCell + lengthWords * k ≤ i) → (i < lengthsCell + lengthWords * k + lengthWords) → ⊥) → ((marksCell + markWords * k ≤ i) → (i < marksCell + markWords * k + markWords) → ⊥) → getD (cells after) i 0 ≡ getD (cells before) i 0
   pub over : LaneOver old after k
   pub rest : Behind before after

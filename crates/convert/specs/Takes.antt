@@ -2,7 +2,7 @@
 --
 --   OldTake     one take by the unit of that time, on its own bytes
 --   OldTakes    takes in a row: from some bytes to others, with their answers
---   Takes       the same by today's public call
+--   TakeChain   the same by today's public call
 --   UntilTen    two lists of answers are the same, as far as both go, before the first list's first 10
 --   SameTakes   the claim
 --
@@ -31,9 +31,9 @@ pub data OldTakes : List ℕ → List Reply → List ℕ → Type 0 where
   oldDone : {t : List ℕ} → OldTakes t [] t
   oldThen : {t u v : List ℕ} {r : Reply} {rs : List Reply} → OldTake t r u → OldTakes u rs v → OldTakes t (r ∷ rs) v
 
-pub data Takes : List ℕ → List Reply → List ℕ → Type 0 where
-  done : {t : List ℕ} → Takes t [] t
-  then : {t u v : List ℕ} {r : Reply} {rs : List Reply} → UnitStep (ruled take) t (answered r) u → Takes u rs v → Takes t (r ∷ rs) v
+pub data TakeChain : List ℕ → List Reply → List ℕ → Type 0 where
+  done : {t : List ℕ} → TakeChain t [] t
+  then : {t u v : List ℕ} {r : Reply} {rs : List Reply} → UnitStep (ruled take) t (answered r) u → TakeChain u rs v → TakeChain t (r ∷ rs) v
 
 unfoldable pub UntilTen : List Reply → List Reply → Type 0
 UntilTen [] qs = Unit {0}
@@ -43,4 +43,4 @@ UntilTen (r ∷ rs) (q ∷ qs) = (r ≡ refused 10 none) ⊎ ((r ≡ q) × Until
 unfoldable pub SameTakes : Type 0
 SameTakes =
     (old before after : List ℕ) (a : Converting) → tableSize ≤ length before → OldTable old → Converts old before a after
-    → (rs qs : List Reply) (u v : List ℕ) → OldTakes old rs u → Takes after qs v → UntilTen rs qs
+    → (rs qs : List Reply) (u v : List ℕ) → OldTakes old rs u → TakeChain after qs v → UntilTen rs qs

@@ -12,11 +12,11 @@ ghost use Prim.Native.Nat.{_≤_, _<_};
 ghost use lib.ListN.{length, drop};
 ghost use Rattle.rules.specs.State.{laneDepth};
 ghost use Rattle.rules.specs.Older.{oldDepth};
-ghost use Rattle.waiting.specs.Waiting.{Lengths};
+ghost use Rattle.rounds.specs.Good.{Lengths};
 ghost use Rattle.table.specs.Layout.{SIZE, Room, Behind, Now, cells, putRow};
 ghost use Rattle.table.specs.Means.{presentAt};
 ghost use Rattle.old_table.specs.Old.{oldSize, oldRing, OldTable};
-ghost use Rattle.convert.specs.Over.{Copied, Carried, Filled, Moved, Over, unrolled};
+ghost use Rattle.convert.specs.Over.{Copied, Carried, Filled, LaneMoved, Over, unrolled};
 ghost use Rattle.convert.specs.Converts.{Converts};
 use editions::set_taken;
 use old_table::record_at;
@@ -87,7 +87,7 @@ fn row_over(new: &mut [u8], k: usize, l: LaneRow, time: Clock)
 // Takes over lane `k`, which is in the setup.
 fn lane_over(old: &[u8], new: &mut [u8], k: usize)
     requires { ⌜ OldTable (now old) × Room (now new) × (k < 64) × (presentAt (cells (now old)) k ≡ true) × Carried (now old) (now new) ⌝ }
-    ensures { λ _. ⌜ Moved (now (old .entry)) (now (new .entry)) (now (new .exit)) k ⌝ }
+    ensures { λ _. ⌜ LaneMoved (now (old .entry)) (now (new .entry)) (now (new .exit)) k ⌝ }
 {
     let l = row(old, k);
     if l.count == 0 {

@@ -44,21 +44,21 @@ use Rattle.plan.specs.Read.{settings, setupCame, setupReply}
 use Rattle.plan.specs.declared.Plan.{Plan}
 use Rattle.plan.specs.declared.Outcome.{Outcome}
 use Rattle.plan.specs.declared.Outcome.the-variants.{Read, Refused}
-use Rattle.depot.specs.Prints.{planOf, readOther, planText, replyText, printed, Prints}
+use Rattle.depot.specs.Prints.{planOf, readOther, planText, replyText, printed, PrintsText}
 use Rattle.depot.specs.declared.Form.{Form}
 use Rattle.depot.specs.declared.Form.the-variants.{Setup, Sheet}
 
-pub prints-line : (text a a′ : List ℕ) (n : ℕ) → Line a a′ 0 text n → 64 ≤ length a → Prints text a a′ n
+pub prints-line : (text a a′ : List ℕ) (n : ℕ) → Line a a′ 0 text n → 64 ≤ length a → PrintsText text a a′ n
 prints-line text a a′ n l m =
     let e : a′ ≡ text ++ drop (length text) a = l .wrote .is ∙ stored-first a text (length text) refl (omega (arith, l .most, m)) in
     let f : n ≡ length text = l .wrote .past ∙ zero-add _ in
     record { is = e; size = f; within = omega (arith, ap length e, length-append text (drop (length text) a), f) }
 
 -- the same text
-as-text : (x y a a′ : List ℕ) (n : ℕ) → x ≡ y → Prints y a a′ n → Prints x a a′ n
-as-text x y a a′ n e p = subst (λ (t : List ℕ). Prints t a a′ n) (sym e) p
+as-text : (x y a a′ : List ℕ) (n : ℕ) → x ≡ y → PrintsText y a a′ n → PrintsText x a a′ n
+as-text x y a a′ n e p = subst (λ (t : List ℕ). PrintsText t a a′ n) (sym e) p
 
-front : (text a a′ : List ℕ) (n : ℕ) → n ≡ length text → a′ ≡ text ++ drop n a → Prints text a a′ n
+front : (text a a′ : List ℕ) (n : ℕ) → n ≡ length text → a′ ≡ text ++ drop n a → PrintsText text a a′ n
 front text a a′ n f e =
     let g : a′ ≡ text ++ drop (length text) a = e ∙ ap (λ (k : ℕ). text ++ drop k a) f in
     record { is = g; size = f; within = omega (arith, ap length g, length-append text (drop (length text) a), f) }
@@ -69,17 +69,17 @@ size-refused h = absurd (let z : _≡_ {A = ℕ} 0 1 = cc in omega arith)
 -- ---- an input
 
 module _ (form : Form) (s a a′ : List ℕ) (n : ℕ) (room : 1024 ≤ length a) where
-  pub prints-long : 32768 < length s → Line a a′ 0 (noLine 18 none) n → Prints (printed form s) a a′ n
+  pub prints-long : 32768 < length s → Line a a′ 0 (noLine 18 none) n → PrintsText (printed form s) a a′ n
   prints-long long l = as-text (printed form s) (noLine 18 none) a a′ n (rw (lt-ltb 32768 (length s) long)) (prints-line (noLine 18 none) a a′ n l (omega (arith, room)))
 
   module _ (few : length s ≤ 32768) (r : Reading) (e : setupReply r ≡ readOther form s) where
     came : (o : Outcome) → r .outcome ≡ o → printed form s ≡ replyText form (setupCame (r .plan) o)
     came o h = rw (le-ltb 32768 (length s) few, ← e, h)
 
-    pub prints-refused : (x : Refusal) → r .outcome ≡ Refused x → Line a a′ 0 (noLine (number x) (placeOf x)) n → Prints (printed form s) a a′ n
+    pub prints-refused : (x : Refusal) → r .outcome ≡ Refused x → Line a a′ 0 (noLine (number x) (placeOf x)) n → PrintsText (printed form s) a a′ n
     prints-refused x o l = as-text _ _ a a′ n (came (Refused x) o) (prints-line (noLine (number x) (placeOf x)) a a′ n l (omega (arith, room)))
 
-    pub prints-plan : (k : ℕ) → r .outcome ≡ Read k → Prints (planText form (planOf (r .plan))) a a′ n → Prints (printed form s) a a′ n
+    pub prints-plan : (k : ℕ) → r .outcome ≡ Read k → PrintsText (planText form (planOf (r .plan))) a a′ n → PrintsText (printed form s) a a′ n
     prints-plan k o p = as-text _ _ a a′ n (came (Read k) o) p
 
 pub plan-good : (form : Form) (s : List ℕ) (r : Reading) → setupReply r ≡ readOther form s → (k : ℕ) → r .outcome ≡ Read k → Within (planOf (r .plan))
@@ -104,7 +104,7 @@ module _ (plan : Plan) (within : Within (planOf plan)) (a : List ℕ) (room : 10
     done : (setup.writeReply answer ≡ setup.writtenSize (setup.setupSize p)) × (a′ ≡ setupBytes p ++ drop (setup.setupSize p) a)
     done = subst (λ (y : Planned). setup.Writes y a answer a′) lanes-are w .written within (omega (arith, size-most p within, room))
 
-    pub setup-written : (n : ℕ) → answer ≡ setup-told.Size n → Prints (setupBytes p) a a′ n
+    pub setup-written : (n : ℕ) → answer ≡ setup-told.Size n → PrintsText (setupBytes p) a a′ n
     setup-written n t =
         let q : setup.writtenSize n ≡ setup.writtenSize (setup.setupSize p) = sym (ap setup.writeReply t) ∙ done .0 in
         let n-is : n ≡ setup.setupSize p = cc in
@@ -126,7 +126,7 @@ module _ (plan : Plan) (within : Within (planOf plan)) (a : List ℕ) (room : 10
     text-framed : (Bare p → ⊥) → planText Sheet p ≡ noLine 82 none
     text-framed b = rw (ne-eqb (framingOf (p .lanes) + shareds (p .lanes)) 0 (λ z. b (omega (arith, z), omega (arith, z))))
 
-    pub sheet-written : (n : ℕ) → answer ≡ sheet-told.Size n → Prints (planText Sheet p) a a′ n
+    pub sheet-written : (n : ℕ) → answer ≡ sheet-told.Size n → PrintsText (planText Sheet p) a a′ n
     sheet-written n t =
         ⊎-elim
         (λ (b : Bare p).
@@ -137,7 +137,7 @@ module _ (plan : Plan) (within : Within (planOf plan)) (a : List ℕ) (room : 10
         (λ (b : Bare p → ⊥). size-refused (sym (ap sheetWriteReply t) ∙ writes .no-sheet within b .0))
         (bare-or-not p)
 
-    pub sheet-framed : (x : sheet-unwritten.Unwritten) → answer ≡ sheet-told.Refused x → (a″ : List ℕ) (n : ℕ) → Line a′ a″ 0 (noLine 82 none) n → Prints (planText Sheet p) a a″ n
+    pub sheet-framed : (x : sheet-unwritten.Unwritten) → answer ≡ sheet-told.Refused x → (a″ : List ℕ) (n : ℕ) → Line a′ a″ 0 (noLine 82 none) n → PrintsText (planText Sheet p) a a″ n
     sheet-framed x t a″ n l =
         ⊎-elim
         (λ (b : Bare p). size-refused (sym (writes .written within b fits .0) ∙ ap sheetWriteReply t))

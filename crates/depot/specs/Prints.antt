@@ -4,7 +4,7 @@
 --   readOther   what is read: a sheet where a setup is written, and a setup where a sheet is
 --   planText    a plan as a setup, or as a sheet; replyText: what was read, or the line of its refusal
 --   printed     for an input: its plan in the other form, or the line of a refusal
---   Prints      a text stands at the front of the lent bytes, and the bytes past it stay
+--   PrintsText      a text stands at the front of the lent bytes, and the bytes past it stay
 --
 -- Assumes nothing.
 use Prim.Native.Nat.{ℕ, _+_, _≤_}
@@ -44,7 +44,7 @@ replyText form (setupRead v gs n at) = planText form (record { format = v; lanes
 abbrev pub printed : Form → List ℕ → List ℕ
 printed form s = if ltb 32768 (length s) then noLine 18 none else replyText form (readOther form s)
 
-pub record Prints (text a a′ : List ℕ) (n : ℕ) : Type 0 where
+pub record PrintsText (text a a′ : List ℕ) (n : ℕ) : Type 0 where
   pub is : a′ ≡ text ++ drop (length text) a
   pub size : n ≡ length text
   pub within : n ≤ length a′

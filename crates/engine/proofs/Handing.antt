@@ -30,12 +30,12 @@ use Rattle.queue.specs.Queue.{Takes}
 use Rattle.queue.specs.declared.Item.{Item}
 use Rattle.choice.proofs.Held.{held-early}
 use Rattle.slot_lists.specs.Lists.{backAt, listAt, startAt}
-use Rattle.filing.specs.Filing.{Starting, Agrees}
+use Rattle.filing.specs.Filing.{Starting, Agrees, never}
 use Rattle.filing.proofs.Slots.{low-unique, group-held}
 use Rattle.filing.proofs.Starts.{Named, Grouped}
 use Rattle.filing.proofs.LeastStart.{group-of, least-all}
 use Rattle.groups.specs.Front.{Settles, stays, nothing, jumps}
-use Rattle.lane_moves.specs.Moves.{never, Tells, Refiled}
+use Rattle.lane_moves.specs.Moves.{Tells, Refiled}
 use Rattle.lane_moves.proofs.Rules.{refile-agrees}
 use Rattle.choice.specs.Known.{Known, Standing}
 use Rattle.choice.specs.declared.Place.{Place}

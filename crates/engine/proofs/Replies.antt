@@ -20,17 +20,17 @@ use Rattle.rules.proofs.Moves.{idle-first}
 use Rattle.rules.proofs.Keep.{Picked, PickIs, pick-is, Allowed, PutOk, put-ok}
 use Rattle.rules.proofs.Shift.{shifted-allowed}
 use Rattle.rules.proofs.Chosen.{Choice, chosen}
-use Rattle.rules.proofs.BySets.{laneOf}
+use Rattle.rules.proofs.BySets.{candidateLane}
 use Rattle.table.specs.Means.{meant}
 use Rattle.choice.specs.Known.{Known}
 use Rattle.back.specs.Back.{TakesBack}
 use Rattle.engine.specs.Turns.{Holds, Turns}
 use Rattle.engine.proofs.Ends.{known-holds, step-encodes}
-use Rattle.engine.specs.Does.{Says, Does, Serves}
+use Rattle.engine.specs.Does.{SaysReply, Does, Serves}
 
 -- ---- refusals
 
-pub refusal-says : (c : Call) (t : List ℕ) (x : Refusal) → placeOf x ≡ none → step (meant t) c ≡ no (number x) (meant t) → Says c t (Refused x)
+pub refusal-says : (c : Call) (t : List ℕ) (x : Refusal) → placeOf x ≡ none → step (meant t) c ≡ no (number x) (meant t) → SaysReply c t (Refused x)
 refusal-says c t x p e = ap (refused (number x)) p ∙ sym (ap (λ (o : Outcome). o .reply) e)
 
 pub refusal-does : (c : Call) (t : List ℕ) (x : Refusal) → Known t → placeOf x ≡ none → step (meant t) c ≡ no (number x) (meant t) → Does c t (Refused x) t
@@ -75,19 +75,19 @@ put-does t b u j i m n a known e k l h =
 
 -- ---- take and look
 
-none-picked : (s : State) → none ≡ laneOf (choose s) → picked s ≡ none
+none-picked : (s : State) → none ≡ candidateLane (choose s) → picked s ≡ none
 unfolding picked pickOf
 none-picked s e = go (choose s) e
   where
-    go : (o : Option Candidate) → none ≡ laneOf o → pickOf s o ≡ none
+    go : (o : Option Candidate) → none ≡ candidateLane o → pickOf s o ≡ none
     go none q = refl
     go (some c) q = let z : _≡_ {A = ℕ} 0 1 = cc in absurd (omega arith)
 
-pub take-none : (s : State) → none ≡ laneOf (choose s) → step s take ≡ no 16 s
+pub take-none : (s : State) → none ≡ candidateLane (choose s) → step s take ≡ no 16 s
 unfolding step doTake takeOf
 take-none s e = ap (takeOf s) (none-picked s e)
 
-pub look-none : (s : State) → none ≡ laneOf (choose s) → step s look ≡ no 16 s
+pub look-none : (s : State) → none ≡ candidateLane (choose s) → step s look ≡ no 16 s
 unfolding step doLook lookOf
 look-none s e = ap (lookOf s) (none-picked s e)
 
@@ -98,7 +98,7 @@ pub record Found (s : State) (k : ℕ) : Type 0 where
   pub lane : pick .lane ≡ k
   pub is : Picked s pick
 
-pub found : (s : State) (k : ℕ) → laneOf (choose s) ≡ some k → Found s k
+pub found : (s : State) (k : ℕ) → candidateLane (choose s) ≡ some k → Found s k
 unfolding picked pickOf pickFirst choose
 found s k e = go (choose s) refl e (pick-is s)
   where
@@ -108,7 +108,7 @@ found s k e = go (choose s) refl e (pick-is s)
         absurd (false≢true (sym (h (ch .at)) ∙ ch .is))
     first c (some r) eq ec el h = record { pick = record { lane = c .lane; first = r }; picks = ap (pickOf s) ec ∙ ap (pickFirst (c .lane)) eq; lane = el; is = h }
 
-    go : (o : Option Candidate) → choose s ≡ o → laneOf o ≡ some k → PickIs s (picked s) → Found s k
+    go : (o : Option Candidate) → choose s ≡ o → candidateLane o ≡ some k → PickIs s (picked s) → Found s k
     go none ec q h = let z : _≡_ {A = ℕ} 0 1 = cc in absurd (omega arith)
     go (some c) ec q h = first c (firstOf (laneAt s (c .lane))) refl ec (cc) (subst (λ (o : Option Candidate). PickIs s (pickOf s o)) ec h)
 
@@ -125,7 +125,7 @@ take-does t u r known s = record {
   rest = s .turns .rest;
 }
 
-pub look-says : (t : List ℕ) (r : Record) (p : Pick) → picked (meant t) ≡ some p → r .lane ≡ p .lane → r .train ≡ p .first .train → r .mark ≡ p .first .mark → r .length .0 ≡ p .first .len → Says look t (Seen r)
+pub look-says : (t : List ℕ) (r : Record) (p : Pick) → picked (meant t) ≡ some p → r .lane ≡ p .lane → r .train ≡ p .first .train → r .mark ≡ p .first .mark → r .length .0 ≡ p .first .len → SaysReply look t (Seen r)
 unfolding step doLook lookOf
 look-says t r p e l i m n = rw (e, l, i, m, n)
 

@@ -14,7 +14,7 @@ use Rattle.waiting.proofs.Laws.{first-nothing, held-none, held-hand}
 use Rattle.rules.specs.State.{Rec, Setting, Lane, noLane, rate, some?, firstOf, holds, laneAt}
 use Rattle.rules.specs.Calls as rules
 use Rattle.table.specs.Layout.{cells, rowAt}
-use Rattle.table.specs.Means.{presentAt, waitingOf, givenOf, timed, meant, RowAgrees, Sound}
+use Rattle.table.specs.Means.{presentAt, waitingOf, givenOf, timedByWord, meant, RowAgrees, Sound}
 use Rattle.table.specs.declared.LaneRow.{LaneRow}
 use Rattle.table.proofs.Footprint.{lane-is}
 use Rattle.table.proofs.Rows.{lane-present, lane-absent, waiting-kind, waiting-none, waiting-held}
@@ -70,7 +70,7 @@ module _ (t : List ℕ) (sound : Sound t) (k : ℕ) (small : k < 64) (here : pre
   abbrev l : Lane
   l = laneAt (meant t) k
 
-  is-timed : l ≡ timed (givenOf r) (r .time .0) q
+  is-timed : l ≡ timedByWord (givenOf r) (r .time .0) q
   is-timed = lane-is (cells t) _ k small ∙ lane-present (cells t) k here
 
   agrees : RowAgrees r
@@ -91,7 +91,7 @@ module _ (t : List ℕ) (sound : Sound t) (k : ℕ) (small : k < 64) (here : pre
       go (suc n) z = omega arith
 
   pub row-is : RowIs l r
-  unfolding timed
+  unfolding timedByWord
   row-is = record {
     given = same-given;
     weight = agrees .numbers .weight-low;

@@ -15,7 +15,7 @@ use Rattle.rules.specs.State.{Rec, Setting, Lane, State, noLane, charge, rate, 
 use Rattle.rules.specs.Choice.{choose}
 use Rattle.rules.specs.Calls.{behind, served}
 use Rattle.rules.specs.Good.{Times, Good}
-use Rattle.rules.specs.BySets.{laneOf}
+use Rattle.rules.specs.BySets.{candidateLane}
 use Rattle.rules.specs.Sets.{inGroup}
 use Rattle.rules.proofs.Lowest.{LowOf, LowestOf}
 use Rattle.rules.proofs.GroupRule.{is-in-group, group-low}
@@ -33,7 +33,7 @@ use Rattle.choice.proofs.Held.{held-small}
 use Rattle.engine.proofs.RowIs.{RowIs, row-is}
 use Rattle.engine.proofs.Replies.{Found, found}
 use Rattle.slot_lists.specs.Lists.{backAt, listAt, startAt, listOf}
-use Rattle.filing.specs.Filing.{headOf}
+use Rattle.filing.specs.Filing.{frontOf}
 use Rattle.filing.proofs.Moves.{stands}
 use Rattle.filing.proofs.KeepsTake.{old-in}
 use Rattle.engine.specs.Turns.{Holds}
@@ -44,8 +44,8 @@ pub record At (t : List ℕ) (s : State) (g r k : ℕ) : Type 0 where
   pub low : 16 ≤ g
   pub high : g ≤ 31
   pub start : startAt t g ≡ some r
-  pub first : headOf (listAt t g (listOf t g r)) ≡ some k
-  pub lane : laneOf (choose s) ≡ some k
+  pub first : frontOf (listAt t g (listOf t g r)) ≡ some k
+  pub lane : candidateLane (choose s) ≡ some k
 
 pub served-busy : (l : Lane) → holds (served l) ≡ true → (served l) .start ≡ l .finish
 served-busy l = served-ind (λ (m : Lane). holds m ≡ true → m .start ≡ l .finish) l (λ e t. absurd (false≢true (sym (ap some? e) ∙ t))) (λ r e t. refl)

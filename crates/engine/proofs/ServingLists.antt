@@ -13,7 +13,7 @@ use Rattle.table.proofs.Few.{few-good, room-held}
 use Rattle.queue.specs.Queue.{Takes}
 use Rattle.queue.specs.declared.Item.{Item}
 use Rattle.slot_lists.specs.Lists.{backAt, listAt, startAt, listOf, Solid}
-use Rattle.filing.specs.Filing.{headOf, sift, inList, Agrees}
+use Rattle.filing.specs.Filing.{frontOf, sift, inList, Agrees}
 use Rattle.filing.proofs.Sift.{length-sift, sift-without, without-none, times-sift}
 use Rattle.filing.proofs.Moves.{elsewhere}
 use Rattle.filing.proofs.KeepsTake.{old-in}
@@ -35,8 +35,8 @@ module _ (t : List ℕ) (s : State) (g r k : ℕ) (a : At t s g r k) (t₁ : Lis
   same-list : listOf t₁ g r ≡ listOf t g r
   same-list = ap (λ (b : ℕ). (r + b) / 2 ^ g % 32) (back-stays t t₁ bytes-stay)
 
-  pub first₁ : headOf (listAt t₁ g (listOf t₁ g r)) ≡ some k
-  first₁ = ap (λ (b : ℕ). headOf (listAt t₁ g b)) same-list ∙ ap headOf (lists-stay t t₁ bytes-stay g (listOf t g r) (a .high) (omega arith)) ∙ a .first
+  pub first₁ : frontOf (listAt t₁ g (listOf t₁ g r)) ≡ some k
+  first₁ = ap (λ (b : ℕ). frontOf (listAt t₁ g b)) same-list ∙ ap frontOf (lists-stay t t₁ bytes-stay g (listOf t g r) (a .high) (omega arith)) ∙ a .first
 
   pub start₁ : startAt t₁ g ≡ some r
   start₁ = starts-stay t t₁ bytes-stay g (a .high) ∙ a .start
@@ -44,7 +44,7 @@ module _ (t : List ℕ) (s : State) (g r k : ℕ) (a : At t s g r k) (t₁ : Lis
   pub some-after : 0 < length (listAt t₁ g (listOf t₁ g r))
   some-after = go (listAt t₁ g (listOf t₁ g r)) first₁
     where
-      go : (l : List ℕ) → headOf l ≡ some k → 0 < length l
+      go : (l : List ℕ) → frontOf l ≡ some k → 0 < length l
       go [] q = let z : _≡_ {A = ℕ} 0 1 = cc in absurd (omega arith)
       go (y ∷ ys) q = omega arith
 

@@ -13,7 +13,7 @@ use Rattle.rules.specs.Reads.{reads}
 use Rattle.rules.specs.declared.Answer.{Answer}
 use Rattle.rules.proofs.Keep.{look-same, lag-same}
 use Rattle.table.specs.Means.{meant}
-use Rattle.engine.specs.Does.{Says, Unchanged, Does}
+use Rattle.engine.specs.Does.{SaysReply, Unchanged, Does}
 use Rattle.choice.specs.Known.{Known}
 use Rattle.engine.specs.Turns.{Holds}
 use Rattle.engine.proofs.Ends.{known-holds, step-encodes}
@@ -39,5 +39,5 @@ same-bytes (lagged z) t = tt
 same-bytes restarted t = tt
 same-bytes (refused n p) t = refl
 
-pub looks-does : (c : Call) (t : List ℕ) (x : Answer) → Known t → (step (meant t) c) .state ≡ meant t → Says c t x → Does c t x t
+pub looks-does : (c : Call) (t : List ℕ) (x : Answer) → Known t → (step (meant t) c) .state ≡ meant t → SaysReply c t x → Does c t x t
 looks-does c t x known e h = record { says = h; encodes = step-encodes (meant t) c t (known .good) (subst (Holds t) (sym e) (known-holds t known)); unchanged = same-bytes (reads x) t; rest = refl }

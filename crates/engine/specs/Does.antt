@@ -1,10 +1,10 @@
 -- What an inner call promises, on a table known to be good: it does what the rules do with the state that the table means.
 --
---   Says     the answer reads as the rules' reply
---   Does     and the bytes after it encode the rules' state; a refusal leaves every byte
---   heldBy   how many records of a train a lane's words tell of
---   Finds    what an allowed put finds
---   Serves   a record is handed out
+--   SaysReply   the answer reads as the rules' reply
+--   Does        and the bytes after it encode the rules' state; a refusal leaves every byte
+--   heldBy      how many records of a train a lane's words tell of
+--   Finds       what an allowed put finds
+--   Serves      a record is handed out
 --
 -- Assumes nothing.
 use Prim.Native.Nat.{ℕ}
@@ -30,8 +30,8 @@ use Rattle.engine.specs.Turns.{Turns}
 use Rattle.engine.specs.declared.Verdict.{Verdict}
 use Rattle.engine.specs.declared.Verdict.the-variants.{Allowed, Refused}
 
-abbrev pub Says : Call → List ℕ → Answer → Type 0
-Says c t a = reads a ≡ (step (meant t) c) .reply
+abbrev pub SaysReply : Call → List ℕ → Answer → Type 0
+SaysReply c t a = reads a ≡ (step (meant t) c) .reply
 
 -- R3.3: a refused call leaves every byte
 abbrev pub Unchanged : Reply → List ℕ → List ℕ → Type 0
@@ -44,7 +44,7 @@ Unchanged restarted before after = Unit {0}
 Unchanged (refused n p) before after = after ≡ before
 
 pub record Does (c : Call) (before : List ℕ) (a : Answer) (after : List ℕ) : Type 0 where
-  pub says : Says c before a
+  pub says : SaysReply c before a
   pub encodes : Encodes after ((step (meant before) c) .state)
   pub unchanged : Unchanged (reads a) before after
   pub rest : drop SIZE after ≡ drop SIZE before

@@ -18,10 +18,10 @@ ghost use Rattle.table.specs.Layout.{Room, cells};
 ghost use Rattle.table.specs.Means.{meant, Sound};
 ghost use Rattle.queue.specs.Queue.{waiting};
 ghost use Rattle.slot_lists.specs.Lists.{groupsAt, startAt, Solid};
-ghost use Rattle.lane_moves.specs.Moves.{never};
+ghost use Rattle.filing.specs.Filing.{never};
 ghost use Rattle.choice.specs.Known.{Known, Standing};
 ghost use Rattle.engine.specs.Turns.{Turns, Reaching, Settled};
-ghost use Rattle.engine.specs.Does.{Says, Does, laneTrains, queueDepth, heldBy, verdictIs, Placeless, Finds, Idle, Serves};
+ghost use Rattle.engine.specs.Does.{SaysReply, Does, laneTrains, queueDepth, heldBy, verdictIs, Placeless, Finds, Idle, Serves};
 use back::take_back;
 use choice::Choice;
 use choice::Place;
@@ -230,7 +230,7 @@ pub fn take(t: &mut [u8]) -> Answer
 // Look: what take would hand out.
 pub fn look(t: &[u8]) -> Answer
     requires { ⌜ Known (now t) ⌝ }
-    ensures { λ r. ⌜ Says Calls.look (now (t .entry)) r ⌝ }
+    ensures { λ r. ⌜ SaysReply Calls.look (now (t .entry)) r ⌝ }
 {
     let choice = chosen(t);
     match choice {
@@ -253,7 +253,7 @@ pub fn look(t: &[u8]) -> Answer
 // Sets: the four words.
 pub fn sets(t: &[u8]) -> Answer
     requires { ⌜ Known (now t) ⌝ }
-    ensures { λ r. ⌜ Says Calls.sets (now (t .entry)) r ⌝ }
+    ensures { λ r. ⌜ SaysReply Calls.sets (now (t .entry)) r ⌝ }
 {
     Answer::Sets(set_words(t))
 }
@@ -269,7 +269,7 @@ fn difference(v: Clock, s: Clock) -> i64
 // Lag (R3.18): how far V is ahead of S, or of what S would be in an idle lane.
 pub fn lag(t: &[u8], lane: u8) -> Answer
     requires { ⌜ Known (now t) ⌝ }
-    ensures { λ r. ⌜ Says (Calls.lag lane) (now (t .entry)) r ⌝ }
+    ensures { λ r. ⌜ SaysReply (Calls.lag lane) (now (t .entry)) r ⌝ }
 {
     let k = lane as usize;
     if 64 <= k {

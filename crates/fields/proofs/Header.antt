@@ -15,7 +15,7 @@ use borrow.Author.Tests.{lt-ltb, le-ltb, le-leb, lt-leb}
 use lib.Dec.{leb}
 use lib.ListN.{length}
 use Rattle.fields.specs.Bytes.{byteAt, big}
-use Rattle.fields.specs.Header.{headerAt, behind, behindAt}
+use Rattle.fields.specs.Header.{headerAt, behindField, behindAt}
 use Rattle.fields.specs.declared.Field.the-variants.{Nothing, Cut, Header}
 
 module _ (s : List ℕ) (at : ℕ) where
@@ -38,17 +38,17 @@ fits-left l at n h =
 module _ (s : List ℕ) (at : ℕ) where
   pub behind-none : headerAt s at ≡ Nothing → behindAt s at ≡ at
   unfolding behindAt
-  behind-none h = ap (behind s at) h
+  behind-none h = ap (behindField s at) h
 
   pub behind-cut : headerAt s at ≡ Cut → behindAt s at ≡ at
   unfolding behindAt
-  behind-cut h = ap (behind s at) h
+  behind-cut h = ap (behindField s at) h
 
   module _ (tag value n : ℕ) (h : headerAt s at ≡ Header tag value n) where
     pub behind-short : leb (value + n) (length s) ≡ false → behindAt s at ≡ at
     unfolding behindAt
-    behind-short f = ap (behind s at) h ∙ simp f
+    behind-short f = ap (behindField s at) h ∙ simp f
 
     pub behind-whole : leb (value + n) (length s) ≡ true → behindAt s at ≡ value + n
     unfolding behindAt
-    behind-whole f = ap (behind s at) h ∙ simp f
+    behind-whole f = ap (behindField s at) h ∙ simp f

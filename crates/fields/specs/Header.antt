@@ -24,11 +24,11 @@ headerAt s at =
     (pick (ltb at (length s)) Cut Nothing)
 
 -- Behind the value, where header and value are whole. Where they are not there is no field to move by, and the place stays.
-abbrev pub behind : List ℕ → ℕ → Field → ℕ
-behind s at Nothing = at
-behind s at Cut = at
-behind s at (Header tag value n) = pick (leb (value + n) (length s)) (value + n) at
+abbrev pub behindField : List ℕ → ℕ → Field → ℕ
+behindField s at Nothing = at
+behindField s at Cut = at
+behindField s at (Header tag value n) = pick (leb (value + n) (length s)) (value + n) at
 
 -- R8.1
 unfoldable pub behindAt : List ℕ → ℕ → ℕ
-behindAt s at = behind s at (headerAt s at)
+behindAt s at = behindField s at (headerAt s at)

@@ -19,9 +19,9 @@ use Rattle.rules.proofs.Lowest.{LowOf, LowestOf}
 use Rattle.rules.proofs.GroupRule.{in-group, group-low}
 use Rattle.rules.proofs.Keep.{eligible-is, is-eligible}
 use Rattle.rules.proofs.Chosen.{Chosen, Choice, chosen}
-use Rattle.rules.specs.BySets.{standsAt, firstIn, laneOfGroup, chooseBySets, laneOf}
+use Rattle.rules.specs.BySets.{standsAt, firstIn, laneOfGroup, chooseBySets, candidateLane}
 use Rattle.rules.proofs.BySets.{sets-rule, same-choice}
-use Rattle.filing.specs.Filing.{sift, headOf, Whole, slotAt, inList, Lists, Filing, Agrees, Window, LeastGroup}
+use Rattle.filing.specs.Filing.{sift, frontOf, Whole, slotAt, inList, Lists, Filing, Agrees, Window, LeastGroup}
 use Rattle.filing.proofs.Sift.{sift-ext, first-sift}
 use Rattle.filing.proofs.Slots.{start-slot, no-less, group-held, window}
 use Rattle.filing.proofs.LeastStart.{group-of}
@@ -55,11 +55,11 @@ module _ (B : ℕ) (wh : Whole B) (s : State) (good : Good s) (lists : Lists) (s
         go true h = let w = window s good B g r wh e .0 in same-place (laneAt s k) (in-group g (laneAt s k) h .1) (w .from k h) (w .to k h)
         go false h = refl
 
-    pub first-of-list : 16 ≤ g → laneOfGroup s g (some r) ≡ headOf (lists g (a % 32))
+    pub first-of-list : 16 ≤ g → laneOfGroup s g (some r) ≡ frontOf (lists g (a % 32))
     unfolding laneOfGroup
     first-of-list lo =
         first-sift (λ k. standsAt g r (laneAt s k)) (s .order)
-        ∙ ap headOf (sift-ext (λ k. standsAt g r (laneAt s k)) (λ k. inList B g (a % 32) (laneAt s k)) (s .order) (λ k h. same-test k) ∙ sym (ag .filed g (a % 32) lo hi (omega arith)))
+        ∙ ap frontOf (sift-ext (λ k. standsAt g r (laneAt s k)) (λ k. inList B g (a % 32) (laneAt s k)) (s .order) (λ k h. same-test k) ∙ sym (ag .filed g (a % 32) lo hi (omega arith)))
 
   -- ---- the group
 
@@ -95,19 +95,19 @@ module _ (B : ℕ) (wh : Whole B) (s : State) (good : Good s) (lists : Lists) (s
         sets-rule s good .first c e ∙ ap (λ (k : ℕ). group (laneAt s k .given)) (omega (arith, h .num)) ∙ same
 
     -- the chosen lane is the first of the list of that group's start
-    pub choice-is : headOf (lists g ((r + B) / 2 ^ g % 32)) ≡ laneOf (choose s)
+    pub choice-is : frontOf (lists g ((r + B) / 2 ^ g % 32)) ≡ candidateLane (choose s)
     unfolding choose chooseBySets
     choice-is =
         let first : firstGroup s ≡ g = chosen-group (choose s) refl (chosen (s .clock) (s .order) 0 (s .lanes)) in
-        let by : laneOfGroup s (firstGroup s) (groupStart (s .lanes) (firstGroup s)) ≡ laneOf (choose s) = same-choice s good in
+        let by : laneOfGroup s (firstGroup s) (groupStart (s .lanes) (firstGroup s)) ≡ candidateLane (choose s) = same-choice s good in
         sym (first-of-list g r (n .high) start (n .low)) ∙ ap (laneOfGroup s g) (sym start) ∙ ap (λ (i : ℕ). laneOfGroup s i (groupStart (s .lanes) i)) (sym first) ∙ by
 
   -- no group's start is at most V
-  pub choice-none : ((i q : ℕ) → 16 ≤ i → i ≤ 31 → starts i ≡ some q → s .clock < q) → none ≡ laneOf (choose s)
+  pub choice-none : ((i q : ℕ) → 16 ≤ i → i ≤ 31 → starts i ≡ some q → s .clock < q) → none ≡ candidateLane (choose s)
   unfolding choose
   choice-none f = go (choose s) (chosen (s .clock) (s .order) 0 (s .lanes))
     where
-      go : (o : Option Candidate) → Choice (s .clock) (s .order) 0 (s .lanes) o → none ≡ laneOf o
+      go : (o : Option Candidate) → Choice (s .clock) (s .order) 0 (s .lanes) o → none ≡ candidateLane o
       go none h = refl
       go (some c) h =
           let el = eligible-is (s .clock) (laneAt s (h .at)) (h .is) in

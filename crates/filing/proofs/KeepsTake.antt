@@ -21,22 +21,22 @@ use Rattle.rules.proofs.Serve.{served-ind}
 use Rattle.rules.proofs.Queues.{held-inside, served-given}
 use Rattle.rules.proofs.GroupRule.{in-group, is-in-group}
 use Rattle.rules.proofs.Ties.{times-same}
-use Rattle.filing.specs.Filing.{sift, headOf, Whole, slotAt, inList, Lists, Filing, Agrees, Window}
+use Rattle.filing.specs.Filing.{sift, frontOf, Whole, slotAt, inList, Lists, Filing, Agrees, Window}
 use Rattle.filing.proofs.Moves.{Stands, stands, is-standing, Changed, insert-filed, remove-filed}
 use Rattle.filing.proofs.Slots.{window}
 use Rattle.filing.proofs.Starts.{Named, NextList, next-start, no-start, start-other}
 use Rattle.filing.proofs.KeepsPut.{other-out, same-or}
 
-head-first : (l : List ℕ) (k : ℕ) → headOf l ≡ some k → l ≡ k ∷ drop 1 l
+head-first : (l : List ℕ) (k : ℕ) → frontOf l ≡ some k → l ≡ k ∷ drop 1 l
 head-first [] k e = let z : _≡_ {A = ℕ} 0 1 = cc in absurd (omega arith)
 head-first (x ∷ xs) k e = let q : x ≡ k = cc in ap (λ (y : ℕ). y ∷ xs) q
 
-head-in : (p : ℕ → Bool) (xs : List ℕ) (k : ℕ) → headOf (sift p xs) ≡ some k → p k ≡ true
+head-in : (p : ℕ → Bool) (xs : List ℕ) (k : ℕ) → frontOf (sift p xs) ≡ some k → p k ≡ true
 unfolding sift
 head-in p [] k e = let z : _≡_ {A = ℕ} 0 1 = cc in absurd (omega arith)
 head-in p (x ∷ xs) k e = go (p x) refl e (head-in p xs k)
   where
-    go : (b : Bool) → p x ≡ b → headOf (if b then x ∷ sift p xs else sift p xs) ≡ some k → (headOf (sift p xs) ≡ some k → p k ≡ true) → p k ≡ true
+    go : (b : Bool) → p x ≡ b → frontOf (if b then x ∷ sift p xs else sift p xs) ≡ some k → (frontOf (sift p xs) ≡ some k → p k ≡ true) → p k ≡ true
     go true q e r = let same : x ≡ k = cc in subst (λ (y : ℕ). p y ≡ true) same q
     go false q e r = r e
 
@@ -51,7 +51,7 @@ next-slot z x y pos a b = (
     slack h = omega arith
 
 module _ (B : ℕ) (w : Whole B) (s : State) (good : Good s) (lists : Lists) (starts : ℕ → Option ℕ) (ag : Agrees B lists starts s)
-    (k g r : ℕ) (lo : 16 ≤ g) (hi : g ≤ 31) (start : starts g ≡ some r) (first : headOf (lists g ((r + B) / 2 ^ g % 32)) ≡ some k) (x : Rec) (is-first : firstOf (laneAt s k) ≡ some x) where
+    (k g r : ℕ) (lo : 16 ≤ g) (hi : g ≤ 31) (start : starts g ≡ some r) (first : frontOf (lists g ((r + B) / 2 ^ g % 32)) ≡ some k) (x : Rec) (is-first : firstOf (laneAt s k) ≡ some x) where
   abbrev from-slot : ℕ
   from-slot = (r + B) / 2 ^ g
 
@@ -75,7 +75,7 @@ module _ (B : ℕ) (w : Whole B) (s : State) (good : Good s) (lists : Lists) (st
   start-whole = window s good B g r w group-start .1
 
   pub old-in : inList B g from-list old ≡ true
-  old-in = head-in (λ j. inList B g from-list (laneAt s j)) (s .order) k (ap headOf (sym (ag .filed g from-list lo hi (omega arith))) ∙ first)
+  old-in = head-in (λ j. inList B g from-list (laneAt s j)) (s .order) k (ap frontOf (sym (ag .filed g from-list lo hi (omega arith))) ∙ first)
 
   old-stands : Stands B g from-list old
   old-stands = stands B g from-list old old-in

@@ -10,7 +10,7 @@ use lib.ListN.{length}
 use borrow.Author.Tests.{eqb-true, eqb-false, eq-eqb, ne-eqb, lt-ltb, le-ltb}
 use Rattle.units.specs.Plain.{if_then_else_, place, times, without}
 use Rattle.rules.specs.BySets.{firstIn}
-use Rattle.filing.specs.Filing.{sift, headOf}
+use Rattle.filing.specs.Filing.{sift, frontOf}
 
 pub sift-append : (p : ℕ → Bool) (xs ys : List ℕ) → sift p (xs ++ ys) ≡ sift p xs ++ sift p ys
 unfolding sift
@@ -69,12 +69,12 @@ times-sift p k (x ∷ xs) = go (p x) refl (p k) refl (eqb x k) refl (times-sift 
     go false e true f false m r = omega (arith, r)
     go false e false f d m r = r
 
-pub first-sift : (p : ℕ → Bool) (xs : List ℕ) → firstIn p xs ≡ headOf (sift p xs)
+pub first-sift : (p : ℕ → Bool) (xs : List ℕ) → firstIn p xs ≡ frontOf (sift p xs)
 unfolding sift firstIn
 first-sift p [] = refl
 first-sift p (x ∷ xs) = go (p x) (first-sift p xs)
   where
-    go : (b : Bool) → firstIn p xs ≡ headOf (sift p xs) → (if b then some x else firstIn p xs) ≡ headOf (if b then x ∷ sift p xs else sift p xs)
+    go : (b : Bool) → firstIn p xs ≡ frontOf (sift p xs) → (if b then some x else firstIn p xs) ≡ frontOf (if b then x ∷ sift p xs else sift p xs)
     go true r = refl
     go false r = r
 

@@ -1,16 +1,17 @@
 -- Lanes filed in slot lists, beside a state of the rules (R6.11). QFQ keeps the lanes of a group in lists, one for each slot in which an S may lie; a slot's
 -- list is used again 32 slots later.
 --
---   sift        the numbers of a list at which a test passes, in the list's order
---   Whole       what may have been taken off the clock: multiples of 2^31, so whole slots of every group
---   slotAt      the number of the slot in which a lane's S lies, by the endless clock: (S + B) / s
---   inList      a lane holds records, is of group g, and its slot is b modulo 32
---   inARow      all lists one behind the other: a tie order
---   Filing      each list is the tie order's lanes that stand there
---   Starting    each group's start is the least R of its lanes
---   Agrees      both
---   Window      every holding lane of group g has its slot among the 32 from a on
---   LeastGroup  the group of least finish among those whose start is at most V, the lowest of them
+--   sift         the numbers of a list at which a test passes, in the list's order
+--   Whole        what may have been taken off the clock: multiples of 2^31, so whole slots of every group
+--   slotAt       the number of the slot in which a lane's S lies, by the endless clock: (S + B) / s
+--   never        a time later than all that a good table has
+--   inList       a lane holds records, is of group g, and its slot is b modulo 32
+--   inARow       all lists one behind the other: a tie order
+--   Filing       each list is the tie order's lanes that stand there
+--   Starting     each group's start is the least R of its lanes
+--   Agrees       both
+--   Window       every holding lane of group g has its slot among the 32 from a on
+--   LeastGroup   the group of least finish among those whose start is at most V, the lowest of them
 --
 -- B is what was taken off the clock so far. The lists are numbered by the endless clock S + B, so that none of them moves when the clock is taken back.
 -- Assumes nothing.
@@ -30,9 +31,9 @@ unfoldable pub sift : (ℕ → Bool) → List ℕ → List ℕ
 sift p [] = []
 sift p (k ∷ ks) = if p k then k ∷ sift p ks else sift p ks
 
-abbrev pub headOf : List ℕ → Option ℕ
-headOf [] = none
-headOf (k ∷ ks) = some k
+abbrev pub frontOf : List ℕ → Option ℕ
+frontOf [] = none
+frontOf (k ∷ ks) = some k
 
 -- the slots of all groups divide those of the highest one
 abbrev pub Whole : ℕ → Type 0
@@ -43,6 +44,10 @@ slotAt B l = (l .start + B) / slot (l .given)
 
 unfoldable pub inList : ℕ → ℕ → ℕ → Lane → Bool
 inList B g b l = inGroup g l && eqb (slotAt B l % slotLists) b
+
+-- later than any start and any finish of a good table: those are below 2^64 - 1
+abbrev pub never : ℕ
+never = 18446744073709551615
 
 abbrev pub Lists : Type 0
 Lists = ℕ → ℕ → List ℕ

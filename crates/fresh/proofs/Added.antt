@@ -19,7 +19,7 @@ use Rattle.rules.specs.Calls.{idle, fresh}
 use Rattle.slot_lists.specs.Lists.{listAt}
 use Rattle.filing.specs.Filing.{inARow}
 use Rattle.table.specs.Layout.{CELLS, presentWord, depthWord, framingWord, laneWord, rowAt, rowOf, cells}
-use Rattle.table.specs.Means.{presentAt, givenOf, waitingOf, RowAgrees, laneOf, stateOf, meant, Beside, Sound, withLane}
+use Rattle.table.specs.Means.{presentAt, givenOf, waitingOf, RowAgrees, laneOf, stateOf, meant, RowsFit, Sound, withLane}
 use Rattle.table.specs.declared.LaneRow.{LaneRow}
 use Rattle.table.proofs.Footprint.{SameLane, lane-kept, lane-is, agrees-kept, lane-housed}
 use Rattle.table.proofs.Next.{bit-present, bit-absent}
@@ -64,7 +64,7 @@ module _ (w : List ℕ) (h : ℕ) (len : length w ≡ CELLS) where
       let lanes : tab 64 (laneOf begun) ≡ map idle (upTo 0 []) = tab-ext 64 (laneOf begun) (λ i. idle noSetting) (λ i b. lane-absent begun i (none-present i)) ∙ sym (map-tab idle 64 (λ i. noSetting)) ∙ ap (map idle) (sym (mixed-none _ (λ i. noSetting))) in
       rw (zero-word 0 (omega arith), lanes)
 
-  pub begun-beside : Beside begun
+  pub begun-beside : RowsFit begun
   begun-beside = record { depth = begun-depth; housed = λ k b p n. absurd (false≢true (sym (none-present k) ∙ p)); rows = λ k b p. absurd (false≢true (sym (none-present k) ∙ p)) }
 
 -- ---- add_lane
@@ -150,7 +150,7 @@ module _ (w : List ℕ) (k word : ℕ) (g : Setting) (len : length w ≡ CELLS) 
       let lanes : tab 64 (laneOf added) ≡ set (tab 64 (laneOf w)) k (laneOf added k) = tab-set 64 k (laneOf w) (laneOf added) hk (λ j h ne. lane-kept w added j (lane-other j h ne)) in
       rw (clock, lanes, lane-here)
 
-  pub added-beside : Beside w → Beside added
+  pub added-beside : RowsFit w → RowsFit added
   added-beside b =
       record {
         depth = other depthWord (omega arith) (λ x y. omega arith) ∙ b .depth;

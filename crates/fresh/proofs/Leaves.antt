@@ -13,7 +13,7 @@ use Rattle.rules.specs.Calls.{idle}
 use Rattle.slot_lists.specs.Lists.{listAt}
 use Rattle.filing.specs.Filing.{inARow}
 use Rattle.table.specs.Layout.{Now, cells, presentWord, framingWord, laneWord, rowAt, putRow}
-use Rattle.table.specs.Means.{Next, givenOf, timed, laneOf, stateOf, meant, Sound, Leaves, withLane}
+use Rattle.table.specs.Means.{Next, givenOf, timedByWord, laneOf, stateOf, meant, Sound, Leaves, withLane}
 use Rattle.table.specs.declared.LaneRow.{LaneRow}
 use Rattle.table.proofs.Stores.{length-cells, now-then, behind-refl}
 use Rattle.table.proofs.Footprint.{lane-is}
@@ -67,7 +67,7 @@ rest-at t t′ k hk weight n =
     let p = weight-present w o k hk weight in
     let given : laneAt (meant t) k .given ≡ givenOf (rowAt w k) = ap (λ (l : Lane). l .given) (lane-is w o k hk) ∙ given-row w k p in
     let none : rowAt (putRow w k (retimed (rowAt w k) 0 0 0)) k .count ≡ 0 = ap (λ (l : LaneRow). l .count) (row-put w k 0 0 0 (length-cells t) hk (omega arith)) in
-    leave-lane t t′ (putRow w k (retimed (rowAt w k) 0 0 0)) k (idle (laneAt (meant t) k .given)) hk n (outside-row w k (retimed (rowAt w k) 0 0 0)) (lane-put w k 0 0 0 (length-cells t) hk (omega arith) p ∙ ap (timed (givenOf (rowAt w k)) 0) (waiting-none w k (retimed (rowAt w k) 0 0 0) refl) ∙ sym (timed-idle (givenOf (rowAt w k))) ∙ ap idle (sym given))
+    leave-lane t t′ (putRow w k (retimed (rowAt w k) 0 0 0)) k (idle (laneAt (meant t) k .given)) hk n (outside-row w k (retimed (rowAt w k) 0 0 0)) (lane-put w k 0 0 0 (length-cells t) hk (omega arith) p ∙ ap (timedByWord (givenOf (rowAt w k)) 0) (waiting-none w k (retimed (rowAt w k) 0 0 0) refl) ∙ sym (timed-idle (givenOf (rowAt w k))) ∙ ap idle (sym given))
     (λ b q some. absurd (omega (arith, none)))
 
 pub rest-leaves : (t t′ : List ℕ) (k : ℕ) (l : LaneRow) → l ≡ rowAt (cells t) k → k < 64 → 0 < laneAt (meant t) k .given .weight → Now t t′ (putRow (cells t) k (retimed l 0 0 0))

@@ -1,12 +1,12 @@
 -- What a fresh table is.
 --
---   Makes        the bytes are the fresh table of a list of settings, with empty slot lists, and those past the table are as they were
---   settings     the settings of a list of given lanes
---   FramedBy     each of the lanes has so many framing bytes
---   mixed        64 elements: by one rule below k, by another from k on
---   upTo         the settings of the lanes below k, and none of the others
---   restedTo     a state whose lanes below k are idle with F = 0
---   SettingWord  a setting word that agrees with its setting
+--   Makes          the bytes are the fresh table of a list of settings, with empty slot lists, and those past the table are as they were
+--   laneSettings   the settings of a list of given lanes
+--   FramedBy       each of the lanes has so many framing bytes
+--   mixed          64 elements: by one rule below k, by another from k on
+--   upTo           the settings of the lanes below k, and none of the others
+--   restedTo       a state whose lanes below k are idle with F = 0
+--   SettingWord    a setting word that agrees with its setting
 --
 -- Assumes nothing.
 use mathlib.Core.Path.{_≡_}
@@ -20,19 +20,19 @@ use Rattle.rules.specs.State.{Setting, State, noSetting, settingAt, laneAt}
 use Rattle.rules.specs.Calls.{idle, fresh}
 use Rattle.slot_lists.specs.Lists.{Empty}
 use Rattle.table.specs.Layout.{SIZE, cells, rowOf}
-use Rattle.table.specs.Means.{meant, Beside, RowAgrees, givenOf}
+use Rattle.table.specs.Means.{meant, RowsFit, RowAgrees, givenOf}
 use Rattle.plan.specs.Read.{settingOf}
 use Rattle.plan.specs.declared.Lane.{Lane}
 
 -- The fresh state of R2.4 in bytes, and those past the table as they were.
 pub record Makes (before after : List ℕ) (gs : List Setting) : Type 0 where
   pub state : meant after ≡ fresh gs
-  pub beside : Beside (cells after)
+  pub beside : RowsFit (cells after)
   pub empty : Empty after
   pub rest : drop SIZE after ≡ drop SIZE before
 
-abbrev pub settings : List Lane → List Setting
-settings gs = map settingOf gs
+abbrev pub laneSettings : List Lane → List Setting
+laneSettings gs = map settingOf gs
 
 -- the line's framing bytes: every lane of the setup has them
 abbrev pub FramedBy : ℕ → List Setting → Type 0

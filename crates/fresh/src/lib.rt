@@ -12,7 +12,7 @@ ghost use Rattle.rules.specs.Setup.{InNumbers, Setup};
 ghost use Rattle.rules.specs.Calls.{idle};
 ghost use Rattle.table.specs.Layout.{Room, cells, framingWord};
 ghost use Rattle.table.specs.Means.{meant, Sound, Leaves, withLane};
-ghost use Rattle.fresh.specs.Makes.{Makes, SettingWord, settings, FramedBy, upTo, restedTo};
+ghost use Rattle.fresh.specs.Makes.{Makes, SettingWord, laneSettings, FramedBy, upTo, restedTo};
 use plan::Lane;
 use slot_lists::empty;
 use table::CLOCK;
@@ -73,8 +73,8 @@ pub fn add_lane(t: &mut [u8], k: usize, h: Bytes, weight: u64, longest: Bytes, s
 
 // The line's framing bytes, from the first lane that is in the setup: all lanes have the same.
 fn line_framing(lanes: [Lane; LANES]) -> Bytes
-    requires { ⌜ Setup (settings lanes) ⌝ }
-    ensures { λ r. ⌜ FramedBy (r .0) (settings lanes) ⌝ }
+    requires { ⌜ Setup (laneSettings lanes) ⌝ }
+    ensures { λ r. ⌜ FramedBy (r .0) (laneSettings lanes) ⌝ }
 {
     let mut k = 0;
     while k < LANES {
@@ -89,8 +89,8 @@ fn line_framing(lanes: [Lane; LANES]) -> Bytes
 
 // Writes the fresh table of a setup.
 pub fn write(t: &mut [u8], lanes: [Lane; LANES])
-    requires { ⌜ Room (now t) × Setup (settings lanes) ⌝ }
-    ensures { λ _. ⌜ Makes (now (t .entry)) (now (t .exit)) (settings lanes) ⌝ }
+    requires { ⌜ Room (now t) × Setup (laneSettings lanes) ⌝ }
+    ensures { λ _. ⌜ Makes (now (t .entry)) (now (t .exit)) (laneSettings lanes) ⌝ }
 {
     let h = line_framing(lanes);
     begin(t, h);

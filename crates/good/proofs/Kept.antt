@@ -7,7 +7,7 @@ use lib.ListN.{getD}
 use Rattle.waiting.specs.Waiting.{Waiting, isShared}
 use Rattle.rules.specs.State.{Lane, noLane}
 use Rattle.table.specs.Layout.{framingWord, rowAt}
-use Rattle.table.specs.Means.{presentAt, givenOf, waitingOf, timed, laneOf}
+use Rattle.table.specs.Means.{presentAt, givenOf, waitingOf, timedByWord, laneOf}
 use Rattle.table.specs.declared.LaneRow.{LaneRow}
 use Rattle.table.proofs.Rows.{lane-present, lane-absent, waiting-kind, row-framing}
 use Rattle.table.proofs.Timed.{timed-given, timed-waiting}
@@ -17,7 +17,7 @@ pub record Kept (w : List ℕ) : Type 0 where
   pub row : ℕ → LaneRow
   pub waiting : ℕ → Waiting
   pub lane : ℕ → Lane
-  pub present : (k : ℕ) → presentAt w k ≡ true → lane k ≡ timed (givenOf (row k)) (row k .time .0) (waiting k)
+  pub present : (k : ℕ) → presentAt w k ≡ true → lane k ≡ timedByWord (givenOf (row k)) (row k .time .0) (waiting k)
   pub absent : (k : ℕ) → presentAt w k ≡ false → lane k ≡ noLane
   pub kind : (k : ℕ) → isShared (waiting k) ≡ row k .shared
   pub framed : (k : ℕ) → row k .framing .0 ≡ getD w framingWord 0

@@ -19,7 +19,7 @@ use Rattle.rules.specs.State.{Rec, Setting, Lane, holds, some?, eligible, slot,
 use Rattle.rules.specs.Calls as rules
 use Rattle.units.specs.Plain.{anyBelow, wordOf}
 use Rattle.table.specs.Layout.{presentWord}
-use Rattle.table.specs.Means.{presentAt, Next, givenOf, timed}
+use Rattle.table.specs.Means.{presentAt, Next, givenOf, timedByWord}
 use Rattle.table.specs.declared.LaneRow.{LaneRow}
 use Rattle.table.proofs.Next.{bit-absent}
 use Rattle.lane_test.specs.Says.{LaneFine}
@@ -99,7 +99,7 @@ module _ (v : ℕ) (w : List ℕ) (x : Kept w) (P : ℕ → Type 0) where
     eligible-of (some r) e = rw (some-count (some r) e, e, slot-is (omega (arith, held-hand longest waits r good-waits e, size)))
 
     eligible-is : eligibleAt v (x .lane) k ≡ (ltb 0 (row .count) && leb (roundDown (2 ^ (row .group)) (row .time .0)) v)
-    unfolding timed
+    unfolding timedByWord
     eligible-is = ap (eligible v) (x .present k p) ∙ eligible-of (first waits) refl
 
     found-row : (f r : Found) → FoundSays v w (x .lane) P k f → Noted f k row v r → FoundSays v w (x .lane) P (suc k) r

@@ -14,7 +14,8 @@ use Rattle.units.specs.Plain.{if_then_else_}
 use Rattle.words.proofs.Runs.{eq-or-ne}
 use Rattle.rules.proofs.Bools.{if-ind}
 use Rattle.groups.specs.declared.Front.{Front}
-use Rattle.groups.specs.Front.{never, front, preferred, LeadsAt, LeadsNone, Leads, EarliestAt, EarliestNone, Earliest, Settles, nothing, jumps}
+use Rattle.filing.specs.Filing.{never}
+use Rattle.groups.specs.Front.{front, preferred, LeadsAt, LeadsNone, Leads, EarliestAt, EarliestNone, Earliest, Settles, nothing, jumps}
 
 same-start : (o : Option ℕ) (r q : ℕ) → o ≡ some r → o ≡ some q → r ≡ q
 same-start o r q a b = cc

@@ -9,14 +9,12 @@
 use mathlib.Core.Path.{_≡_}
 use mathlib.Core.Logic.{_⊎_}
 use mathlib.Core.Option.{Option, none, some}
+use Rattle.filing.specs.Filing.{never}
 use Rattle.filing.proofs.LeastStart.{LeastStart}
 use Prim.Native.Nat.{ℕ, _+_, _*_, _^_, _≤_, _<_}
 use lib.Dec.{ltb}
 use Rattle.units.specs.Plain.{if_then_else_}
 use Rattle.groups.specs.declared.Front.{Front}
-
-abbrev pub never : ℕ
-never = 18446744073709551615
 
 abbrev pub front : ℕ → ℕ → Front
 front g r = record { group = g; finish = r + 2 * 2 ^ g }

@@ -9,9 +9,9 @@ use Rattle.plan.specs.Fields.{setupFieldOf}
 use Rattle.plan.specs.Judge.{laneOutside, judgedAt}
 use Rattle.plan.specs.Read.{setupWalk, readPlan, readSetup}
 use Rattle.halt.specs.Halt.{haltSetup}
-use Rattle.halt.specs.Examples.{Shown}
+use Rattle.halt.specs.Examples.{HaltShown}
 
-pub examples : Shown
+pub examples : HaltShown
 unfolding big setupFieldOf itemAt laneOutside judgedAt setupWalk readPlan readSetup haltSetup
 examples = record {
   format-1 = refl;

@@ -13,7 +13,7 @@ use Rattle.pages.specs.Offers.{DeviceEvent, deviceTraceBy, deviceTrace, ofRules
 use Rattle.pages.specs.Carried.{WithoutOffers}
 use Rattle.pages.proofs.Carried.{without-offers}
 use Rattle.scheduler.specs.Chain.{callsOf, Led}
-use Rattle.scheduler.specs.Compared.{FairTight, tightest}
+use Rattle.scheduler.specs.Compared.{FairTightCalls, tightest}
 use Rattle.scheduler.specs.Demands as demands
 use Rattle.scheduler.proofs.Demands.{after-make}
 use Rattle.halt.specs.Halt.{haltSetup}
@@ -53,7 +53,7 @@ slots : Slots
 unfolding haltSetup slot group charge perByte leastPower powerFrom
 slots = record { lane-0 = refl; lane-1 = refl; lane-2 = refl; lane-3 = refl }
 
-module _ (es : List DeviceEvent) (u : List ℕ) (l : Led haltSetup es u) (cs : List Call) (calls : callsOf es ≡ map ruled cs) (fair : FairTight haltSetup es) where
+module _ (es : List DeviceEvent) (u : List ℕ) (l : Led haltSetup es u) (cs : List Call) (calls : callsOf es ≡ map ruled cs) (fair : FairTightCalls haltSetup es) where
   same-force : (past rest : List DeviceEvent) → es ≡ past ++ rest → inForce haltSetup past ≡ haltSetup
   unfolding WithoutOffers
   same-force past rest e =
@@ -62,7 +62,7 @@ module _ (es : List DeviceEvent) (u : List ℕ) (l : Led haltSetup es u) (cs : L
       (subst (λ (x : List DeviceEvent). pageIn haltSetup x ≡ startPage haltSetup) (front .1) (without-offers haltSetup (front .0) .2))
 
   pub share : HaltShare es
-  unfolding HaltShare FairTight MarginIs
+  unfolding HaltShare FairTightCalls MarginIs
   share past stretch rest e k h =
       let held : lineRate * bytesSent haltSetup (ofRules stretch) < rate (settingAt haltSetup k) * bytesSentOf haltSetup k (ofRules stretch) + 4 * slot (settingAt haltSetup k) + tightest haltSetup =
       subst

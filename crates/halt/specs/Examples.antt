@@ -1,9 +1,9 @@
 -- The halt's setup and its neighbours, byte for byte, and what reading gives of each.
 --
---   laneField    a lane field with its longest
---   haltBytes    the halt's setup in a format, with some bytes behind the format field, and the last lane's number
---   shortBytes   the same lanes with no longest given
---   Shown        which of them are the halt's
+--   haltLaneField   a lane field with its longest
+--   haltBytes       the halt's setup in a format, with some bytes behind the format field, and the last lane's number
+--   shortBytes      the same lanes with no longest given
+--   HaltShown       which of them are the halt's
 --
 -- Assumes nothing.
 use Prim.Native.Nat.{ℕ}
@@ -18,11 +18,11 @@ abbrev pub format : ℕ → List ℕ
 format v = 1 ∷ 0 ∷ 2 ∷ 0 ∷ v ∷ []
 
 -- 10 0005 k, a weight of two bytes, and 0100: 256
-abbrev pub laneField : ℕ → ℕ → ℕ → List ℕ
-laneField k high low = 16 ∷ 0 ∷ 5 ∷ k ∷ high ∷ low ∷ 1 ∷ 0 ∷ []
+abbrev pub haltLaneField : ℕ → ℕ → ℕ → List ℕ
+haltLaneField k high low = 16 ∷ 0 ∷ 5 ∷ k ∷ high ∷ low ∷ 1 ∷ 0 ∷ []
 
 abbrev pub haltBytes : ℕ → List ℕ → ℕ → List ℕ
-haltBytes v behind last = format v ++ (behind ++ (laneField 0 2 0 ++ (laneField 1 1 0 ++ (laneField 2 0 128 ++ (laneField last 0 128 ++ endField)))))
+haltBytes v behind last = format v ++ (behind ++ (haltLaneField 0 2 0 ++ (haltLaneField 1 1 0 ++ (haltLaneField 2 0 128 ++ (haltLaneField last 0 128 ++ endField)))))
 
 -- 10 0003 k, and a weight of two bytes
 abbrev pub shortField : ℕ → ℕ → ℕ → List ℕ
@@ -36,7 +36,7 @@ abbrev pub framingField : ℕ → List ℕ
 framingField h = 17 ∷ 0 ∷ 1 ∷ h ∷ []
 
 -- R20.7
-pub record Shown : Type 0 where
+pub record HaltShown : Type 0 where
   pub format-1 : readSetup (haltBytes 1 [] 3) ≡ setupRead 1 haltSetup 4 40
   pub format-2 : readSetup (haltBytes 2 [] 3) ≡ setupRead 2 haltSetup 4 40
   -- no framing bytes, written out

@@ -28,7 +28,7 @@ use Rattle.engine.specs.Does.{Does, Unchanged}
 use Rattle.answers.specs.Answers.{Made}
 use Rattle.answers.proofs.Made.{made-step, encodes-step}
 use Rattle.good.specs.Table.{GoodTable}
-use Rattle.inner.specs.Works.{CALL, putBy, callAt, callsIn, worked, Leads, Works}
+use Rattle.inner.specs.Works.{CALL, putBy, callAt, callsIn, worked, LeadsTable, Works}
 
 -- the call of three bytes, once it is known which it is
 abbrev byLane : List ℕ → ℕ → Bool → Call
@@ -48,7 +48,7 @@ module _ {t u : List ℕ} {a : Answer} (calls : List ℕ) (at : ℕ) where
 
 pub record So (calls t₀ t : List ℕ) (i : ℕ) : Type 0 where
   pub made : Made t
-  pub leads : Leads t₀ t (worked calls (meant t₀) i)
+  pub leads : LeadsTable t₀ t (worked calls (meant t₀) i)
 
 pub so-none : (calls t : List ℕ) → Made t → So calls t t 0
 unfolding worked
@@ -67,9 +67,9 @@ so-more calls t₀ t u i a s d = record {
   };
 }
 
-pub so-all : (calls t₀ t : List ℕ) (i : ℕ) → i ≡ length calls / CALL → So calls t₀ t i → Leads t₀ t (worked calls (meant t₀) (callsIn calls))
+pub so-all : (calls t₀ t : List ℕ) (i : ℕ) → i ≡ length calls / CALL → So calls t₀ t i → LeadsTable t₀ t (worked calls (meant t₀) (callsIn calls))
 unfolding callsIn
-so-all calls t₀ t i e s = subst (λ (k : ℕ). Leads t₀ t (worked calls (meant t₀) k)) e (s .leads)
+so-all calls t₀ t i e s = subst (λ (k : ℕ). LeadsTable t₀ t (worked calls (meant t₀) k)) e (s .leads)
 
 -- ---- the restart before them
 
@@ -161,7 +161,7 @@ unfolding worked
 worked-alike calls s σ zero r a = a
 worked-alike calls s σ (suc n) r a = step-alike (worked calls s n) (worked calls σ n) (reached-good _ (worked-reached calls s n r)) (worked-alike calls s σ n r a) (callAt calls (n * CALL)) .state
 
-pub done-works : (calls t u v : List ℕ) → GoodTable t → Begun t u → length v ≡ length t → Leads u v (worked calls (meant u) (callsIn calls)) → Works calls t 0 v
+pub done-works : (calls t u v : List ℕ) → GoodTable t → Begun t u → length v ≡ length t → LeadsTable u v (worked calls (meant u) (callsIn calls)) → Works calls t 0 v
 done-works calls t u v g b len l = record {
   not-good = λ h. absurd (h g);
   held = λ _ e. absurd (false≢true (sym (b .none-held) ∙ e));

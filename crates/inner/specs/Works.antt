@@ -1,12 +1,12 @@
 -- The calls of a list of bytes, and what they leave.
 --
---   CALL      the bytes of a call
---   putBy     the put of a lane and a number
---   callAt    the call of the bytes from a place on
---   callsIn   how many calls the bytes are
---   worked    the state after the first calls
---   Leads     a table after them
---   Works     the promise of the exported call
+--   CALL         the bytes of a call
+--   putBy        the put of a lane and a number
+--   callAt       the call of the bytes from a place on
+--   callsIn      how many calls the bytes are
+--   worked       the state after the first calls
+--   LeadsTable   a table after them
+--   Works        the promise of the exported call
 --
 -- Assumes nothing.
 use Prim.Native.Nat.{ℕ, zero, suc, _+_, _*_, _/_, _%_}
@@ -46,12 +46,12 @@ worked calls s zero = s
 worked calls s (suc n) = (step (worked calls s n) (callAt calls (n * CALL))) .state
 
 -- The table encodes the state, and the bytes past it are as they were.
-pub record Leads (before after : List ℕ) (s : State) : Type 0 where
+pub record LeadsTable (before after : List ℕ) (s : State) : Type 0 where
   pub table : Encodes after s
   pub rest : drop SIZE after ≡ drop SIZE before
 
 pub record Works (calls before : List ℕ) (r : ℕ) (after : List ℕ) : Type 0 where
   pub not-good : (GoodTable before → ⊥) → (r ≡ 10) × (after ≡ before)
   pub held : GoodTable before → anyHolds (meant before .lanes) ≡ true → (r ≡ 15) × (after ≡ before)
-  pub done : GoodTable before → anyHolds (meant before .lanes) ≡ false → (r ≡ 0) × Leads before after (worked calls (fresh (setupOf (meant before))) (callsIn calls))
+  pub done : GoodTable before → anyHolds (meant before .lanes) ≡ false → (r ≡ 0) × LeadsTable before after (worked calls (fresh (setupOf (meant before))) (callsIn calls))
   pub size : length after ≡ length before

@@ -12,7 +12,7 @@ ghost use Rattle.table.specs.Means.{meant};
 ghost use Rattle.choice.specs.Known.{Known};
 ghost use Rattle.engine.specs.Does.{Does};
 ghost use Rattle.answers.specs.Answers.{Made};
-ghost use Rattle.inner.specs.Works.{CALL, callAt, callsIn, worked, Leads, Works};
+ghost use Rattle.inner.specs.Works.{CALL, callAt, callsIn, worked, LeadsTable, Works};
 use fields::u16_at;
 use good::good;
 use rules::Answer;
@@ -47,7 +47,7 @@ fn call(t: &mut [u8], calls: &[u8], at: usize) -> Answer
 // The calls of the bytes, one after another.
 fn work(t: &mut [u8], calls: &[u8])
     requires { ⌜ Made (now t) ⌝ }
-    ensures { λ _. ⌜ Leads (now (t .entry)) (now (t .exit)) (worked (now (calls .entry)) (meant (now (t .entry))) (callsIn (now (calls .entry)))) ⌝ }
+    ensures { λ _. ⌜ LeadsTable (now (t .entry)) (now (t .exit)) (worked (now (calls .entry)) (meant (now (t .entry))) (callsIn (now (calls .entry)))) ⌝ }
 {
     let many = calls.len() / CALL;
     let mut i = 0;

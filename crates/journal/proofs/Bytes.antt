@@ -23,7 +23,7 @@ use Rattle.journal.specs.Reads.{Plain, plainRefused, told, shown, fromRu
 use Rattle.journal.specs.Record.{Reading, says, faulty, readRecord}
 use Rattle.journal.specs.declared.Told.{Told}
 use Rattle.journal.specs.Step.{stored, Stays, Kept, BoardStep, RecordSays}
-use Rattle.journal.specs.Bytes.{Exactly29, Exact29, EachMade, OneBoard, OneAnswer, OneClear, AnyOrder}
+use Rattle.journal.specs.Bytes.{Exactly29, Exact29, EachMade, OneBoard, OneRecordAnswer, OneClear, AnyOrder}
 use Rattle.journal.proofs.Numbers.{rules-not-29, stands-not-29, field-not-29}
 
 -- ---- one encoding
@@ -124,7 +124,7 @@ says-one (faulty n p) t a a′ u u′ x y =
     (λ (m : NoBoard t). let e = x .0 m in let f = y .0 m in (e ∙ sym f, stayed a t u 29 none e (x .2) ∙ sym (stayed a′ t u′ 29 none f (y .2))))
     (decided t)
 
-pub one-answer : OneAnswer
+pub one-answer : OneRecordAnswer
 one-answer s t a a′ u u′ x y = says-one (readRecord s) t a a′ u u′ x y
 
 -- ---- in either order

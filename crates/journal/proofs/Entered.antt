@@ -18,13 +18,13 @@ use Rattle.desk.specs.Calls.{enter, knownKind, inSequence, follows, recordJudge
 use Rattle.desk.proofs.Lines.{beyond, target-old, target-new}
 use Rattle.desk.proofs.Keep.{keeps}
 use Rattle.desk.proofs.Made.{refusal-is}
-use Rattle.board.specs.Layout.{putLine, ShowsBoard, recOf, boardOf, NoBoard, Found}
+use Rattle.board.specs.Layout.{putLine, ShowsBoard, handoverOf, boardOf, NoBoard, Found}
 use Rattle.desk_line.specs.declared.Line.{Line}
 use Rattle.desk_line.specs.Follow.{follow}
 use Rattle.board.proofs.Means.{board-size}
 use Rattle.board.proofs.Stores.{put-size, put-rest, put-shows, found-first}
 use Rattle.journal.specs.Reads.{plainRefused, refusedBy}
-use Rattle.journal.specs.Record.{recLine, Read, Reading, says, faulty, readHeader, readRecord}
+use Rattle.journal.specs.Record.{recLine, RecordRead, Reading, says, faulty, readHeader, readRecord}
 use Rattle.journal.specs.Step.{BoardStep, RecordSays}
 use Rattle.journal.specs.Field.{ReadingIs}
 use Rattle.journal.specs.declared.Reading as Answered
@@ -85,11 +85,11 @@ module _ (t : List ℕ) (r : Handover) (s : ShowsBoard t (boardOf t)) where
 
   -- ---- a later record
 
-  module _ (k : ℕ) (known-is : knownKind (r .kind) ≡ true) (found : Found (isOf (r .train)) (boardOf t) 64 k) (below : k < 64) (l : Line) (read : recOf l ≡ lineAt (boardOf t) k) where
+  module _ (k : ℕ) (known-is : knownKind (r .kind) ≡ true) (found : Found (isOf (r .train)) (boardOf t) 64 k) (below : k < 64) (l : Line) (read : handoverOf l ≡ lineAt (boardOf t) k) where
     place-at : trainLine (r .train) (boardOf t) ≡ k
     place-at = found-first (isOf (r .train)) (boardOf t) k (board-size t) found
 
-    used : (x : Option Handover) → recOf l ≡ x → isOf (r .train) x ≡ true → x ≡ some (recLine l)
+    used : (x : Option Handover) → handoverOf l ≡ x → isOf (r .train) x ≡ true → x ≡ some (recLine l)
     used x e h =
         ⊎-elim
         (λ (z : l .kind ≡ 0). absurd (false≢true (rw (← e, eq-eqb (l .kind) 0 z) at h)))
@@ -144,7 +144,7 @@ module _ (s : List ℕ) where
     unfolding readRecord
     read-short e q h = ap (readHeader s) header ∙ rw (eq-eqb tag 48 e, eq-eqb n 11 q, h)
 
-    pub read-whole : tag ≡ 48 → n ≡ 11 → leb 14 (length s) ≡ true → (l : Line) → Read s l → readRecord s ≡ says (recLine l)
+    pub read-whole : tag ≡ 48 → n ≡ 11 → leb 14 (length s) ≡ true → (l : Line) → RecordRead s l → readRecord s ≡ says (recLine l)
     unfolding readRecord
     read-whole e q h l r = ap (readHeader s) header ∙ rw (eq-eqb tag 48 e, eq-eqb n 11 q, h) (ap says (sym (r .is)))
 

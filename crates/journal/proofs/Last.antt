@@ -16,7 +16,7 @@ use Rattle.board.specs.Layout.{ShowsBoard}
 use Rattle.journal.specs.Reads.{plainRefused, told, fromRules}
 use Rattle.journal.specs.Record.{Reading, says, faulty, readRecord}
 use Rattle.journal.specs.Step.{BoardStep, RecordSays, RecordStep}
-use Rattle.journal.specs.Lists.{Asked, recorded, cleared, JournalEvent, Does, JournalChain, done, next, lineAccepted, noteRead, note, lastSaid, NotCleared, EndsAtLast}
+use Rattle.journal.specs.Lists.{Asked, recorded, cleared, JournalEvent, JournalStep, JournalChain, done, next, lineAccepted, noteRead, note, lastSaid, JournalNotCleared, JournalEndsAtLast}
 use Rattle.journal.specs.declared.Told.{Told}
 use Rattle.journal.proofs.Bytes.{stayed}
 use Rattle.journal.proofs.Lists.{after-one, from-begin, said}
@@ -35,7 +35,7 @@ module _ (b : Board) (u : List ℕ) (o : Handover) (h : ShowsBoard u b) (on : Bo
       (z, stayed a u v (if knownKind (r .kind) then 32 else 30) none z (y .kept))
 
   -- what a call's answer makes of the train's last record
-  noted-on : (c : Asked) (a : Told) (v : List ℕ) → Does c u a v → (c ≡ cleared (o .train) → ⊥) → (if lineAccepted (told a) then note (o .train) (some o) c else some o) ≡ some o
+  noted-on : (c : Asked) (a : Told) (v : List ℕ) → JournalStep c u a v → (c ≡ cleared (o .train) → ⊥) → (if lineAccepted (told a) then note (o .train) (some o) c else some o) ≡ some o
   noted-on (cleared n) a v x k =
       rw (ne-eqb n (o .train) (λ e. k (ap cleared e))) (same (lineAccepted (told a)) (some o))
   noted-on (recorded s) a v x k = go (readRecord s) refl
@@ -49,8 +49,8 @@ module _ (b : Board) (u : List ℕ) (o : Handover) (h : ShowsBoard u b) (on : Bo
           (eq-or-ne (r .train) (o .train))
 
 stays : (b : Board) {u v : List ℕ} {es : List JournalEvent} (o : Handover) → ShowsBoard u b → Board.trainShown (o .train) b ≡ some o → o .sequence ≡ 4294967295
-    → JournalChain u es v → NotCleared (o .train) es → lastSaid (o .train) (some o) es ≡ some o
-unfolding lastSaid NotCleared
+    → JournalChain u es v → JournalNotCleared (o .train) es → lastSaid (o .train) (some o) es ≡ some o
+unfolding lastSaid JournalNotCleared
 stays b o h on last done k = refl
 stays b o h on last (next {es = rest} t u c a x ch) k =
     let f = after-one b c t a u h x in
@@ -58,7 +58,7 @@ stays b o h on last (next {es = rest} t u c a x ch) k =
     let on′ = f .shown-of (o .train) ∙ ap (λ z. if lineAccepted (told a) then note (o .train) z c else z) on ∙ n in
     ap (λ z. lastSaid (o .train) z rest) n ∙ stays (f .board) o (f .shows) on′ last ch (k .1)
 
-pub ends-at-last-of-calls : EndsAtLast
+pub ends-at-last-of-calls : JournalEndsAtLast
 ends-at-last-of-calls t₀ t u es o x ch e last =
     let r = from-begin t₀ t u es x ch in
     let on = said r (o .train) ∙ e in

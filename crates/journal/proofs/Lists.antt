@@ -19,7 +19,7 @@ use Rattle.board.specs.Layout.{BoardRoom, ShowsBoard}
 use Rattle.journal.specs.Reads.{plainRefused, told, shown, fromRules, stands, begun}
 use Rattle.journal.specs.Record.{Reading, says, faulty, readRecord}
 use Rattle.journal.specs.Step.{BoardStep, RecordSays, LineStep, BeginStep}
-use Rattle.journal.specs.Lists.{Asked, recorded, cleared, JournalEvent, Does, JournalChain, done, next, lineAccepted, note, lastSaid, Never29, ShowsLast}
+use Rattle.journal.specs.Lists.{Asked, recorded, cleared, JournalEvent, JournalStep, JournalChain, done, next, lineAccepted, note, lastSaid, Never29, JournalShowsLast}
 use Rattle.journal.specs.declared.Told.{Told}
 use Rattle.journal.specs.declared.Shown.{Shown}
 use Rattle.journal.specs.declared.Begun.the-variants as Begun
@@ -62,7 +62,7 @@ read-after b s (faulty n p) q t a u h x =
       not-29 = λ f. field-not-29 s n p q (sym e ∙ f);
     }
 
-pub after-one : (b : Board) (c : Asked) (t : List ℕ) (a : Told) (u : List ℕ) → ShowsBoard t b → Does c t a u → After b c a u
+pub after-one : (b : Board) (c : Asked) (t : List ℕ) (a : Told) (u : List ℕ) → ShowsBoard t b → JournalStep c t a u → After b c a u
 after-one b (recorded s) t a u h x = read-after b s (readRecord s) refl t a u h x
 after-one b (cleared n) t a u h x = record {
   board = (boardStep b (clear n)) .board;
@@ -119,7 +119,7 @@ from-begin t₀ t u es x ch =
 pub said : {es : List JournalEvent} {u : List ℕ} (r : Run emptyBoard es u) (v : ℕ) → Board.trainShown v (r .board) ≡ lastSaid v none es
 said {es} r v = r .shown-of v ∙ ap (λ z. lastSaid v z es) (empty-line (trainLine v emptyBoard))
 
-pub shows-last : ShowsLast
+pub shows-last : JournalShowsLast
 shows-last t₀ t u es x ch =
     let r = from-begin t₀ t u es x ch in
     let b = r .board in

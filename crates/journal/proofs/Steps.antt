@@ -16,7 +16,7 @@ use Rattle.desk.specs.Board.{Handover, Board, lineAt, isOf, trainLine, Makeable
 use Rattle.desk.specs.Calls.{BoardCall, clear, left, cleared, boardStep, Sayable}
 use Rattle.desk.proofs.Lines.{beyond}
 use Rattle.desk.proofs.Keep.{keeps, empty-line, empty-makeable}
-use Rattle.board.specs.Layout.{BoardRoom, putLine, ShowsBoard, recOf, boardOf, NoBoard, Tells, Found}
+use Rattle.board.specs.Layout.{BoardRoom, putLine, ShowsBoard, handoverOf, boardOf, NoBoard, Tells, Found}
 use Rattle.desk_line.specs.declared.Line.{Line}
 use Rattle.board.proofs.Means.{board-size, shows-is}
 use Rattle.board.proofs.Stores.{put-size, put-rest, put-shows, found-first}
@@ -66,7 +66,7 @@ does-step c t a u s r n y k = record {
 
 -- ---- clear
 
-left-kind : (l : Line) (x : Option Handover) → recOf l ≡ x → eqb (l .kind) 2 ≡ left x
+left-kind : (l : Line) (x : Option Handover) → handoverOf l ≡ x → eqb (l .kind) 2 ≡ left x
 left-kind l x e = ⊎-elim (λ (z : l .kind ≡ 0). rw (← e, z)) (λ (n : l .kind ≡ 0 → ⊥). rw (← e, ne-eqb (l .kind) 0 n)) (eq-or-ne (l .kind) 0)
 
 clear-is : (b : Board) (t k : ℕ) (v : Bool) → trainLine t b ≡ k → left (lineAt b k) ≡ v → boardStep b (clear t) ≡ cleared v b k
@@ -85,10 +85,10 @@ module _ (t : List ℕ) (u k : ℕ) (s : ShowsBoard t (boardOf t)) (f : Found (i
   pub clear-absent : k ≡ 64 → BoardStep (clear u) t (Told.Refused NotCleared) t
   clear-absent e = refused-clear (ap left (beyond (boardOf t) k (omega (arith, board-size t))))
 
-  pub clear-joined : (l : Line) → recOf l ≡ lineAt (boardOf t) k → (l .kind ≡ 2 → ⊥) → BoardStep (clear u) t (Told.Refused NotCleared) t
+  pub clear-joined : (l : Line) → handoverOf l ≡ lineAt (boardOf t) k → (l .kind ≡ 2 → ⊥) → BoardStep (clear u) t (Told.Refused NotCleared) t
   clear-joined l e n = refused-clear (sym (left-kind l (lineAt (boardOf t) k) e) ∙ ne-eqb (l .kind) 2 n)
 
-  pub clear-done : (l : Line) → recOf l ≡ lineAt (boardOf t) k → l .kind ≡ 2 → k < 64 → u < 4294967296 → BoardStep (clear u) t (Told.Line k) (putLine t k none)
+  pub clear-done : (l : Line) → handoverOf l ≡ lineAt (boardOf t) k → l .kind ≡ 2 → k < 64 → u < 4294967296 → BoardStep (clear u) t (Told.Line k) (putLine t k none)
   unfolding Sayable
   clear-done l e two h w =
       let q = clear-is (boardOf t) u k true at-place (sym (left-kind l (lineAt (boardOf t) k) e) ∙ eq-eqb (l .kind) 2 two) in
@@ -109,10 +109,10 @@ line-is k t a s e = record {
 pub line-beyond : (k : ℕ) (t : List ℕ) → ShowsBoard t (boardOf t) → 64 ≤ k → LineStep k t Shown.Free
 line-beyond k t s h = line-is k t Shown.Free s (ap stands (sym (beyond (boardOf t) k (rw (board-size t) h))))
 
-pub line-free : (k : ℕ) (t : List ℕ) (l : Line) → ShowsBoard t (boardOf t) → recOf l ≡ lineAt (boardOf t) k → l .kind ≡ 0 → LineStep k t Shown.Free
+pub line-free : (k : ℕ) (t : List ℕ) (l : Line) → ShowsBoard t (boardOf t) → handoverOf l ≡ lineAt (boardOf t) k → l .kind ≡ 0 → LineStep k t Shown.Free
 line-free k t l s e z = line-is k t Shown.Free s (rw (← e, eq-eqb (l .kind) 0 z))
 
-pub line-holds : (k : ℕ) (t : List ℕ) (l : Line) → ShowsBoard t (boardOf t) → recOf l ≡ lineAt (boardOf t) k → (l .kind ≡ 0 → ⊥) → LineStep k t (Shown.Holds l)
+pub line-holds : (k : ℕ) (t : List ℕ) (l : Line) → ShowsBoard t (boardOf t) → handoverOf l ≡ lineAt (boardOf t) k → (l .kind ≡ 0 → ⊥) → LineStep k t (Shown.Holds l)
 line-holds k t l s e n = line-is k t (Shown.Holds l) s (rw (← e, ne-eqb (l .kind) 0 n))
 
 -- ---- begin

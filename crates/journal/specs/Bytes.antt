@@ -1,11 +1,11 @@
 -- What follows for the bytes of a board; R11.18: nothing is left open.
 --
---   Exact29       R11.4, R14.28: 29 is answered exactly where no board that calls make is written in the bytes
---   EachMade      every board that calls make is shown by some bytes, in any slice that has room
---   OneBoard      bytes show one board at most; bytes that show the same board have the same words
---   OneAnswer     two outcomes that the promise of record allows for the same field on the same bytes: the same answer and the same bytes
---   OneClear      the same for clear
---   AnyOrder      two records of different trains, one of them on the board: the same answers and the same bytes in either order
+--   Exact29           R11.4, R14.28: 29 is answered exactly where no board that calls make is written in the bytes
+--   EachMade          every board that calls make is shown by some bytes, in any slice that has room
+--   OneBoard          bytes show one board at most; bytes that show the same board have the same words
+--   OneRecordAnswer   two outcomes that the promise of record allows for the same field on the same bytes: the same answer and the same bytes
+--   OneClear          the same for clear
+--   AnyOrder          two records of different trains, one of them on the board: the same answers and the same bytes in either order
 --
 -- Assumes nothing.
 use Prim.Native.Nat.{ℕ, _<_}
@@ -43,8 +43,8 @@ OneBoard =
     ((t : List ℕ) (b c : Board) → ShowsBoard t b → ShowsBoard t c → b ≡ c)
     × ((u v : List ℕ) (b : Board) → ShowsBoard u b → ShowsBoard v b → (i : ℕ) → i < 128 → wordAt u i ≡ wordAt v i)
 
-abbrev pub OneAnswer : Type 0
-OneAnswer = (s t : List ℕ) (a a′ : Told) (u u′ : List ℕ) → RecordStep s t a u → RecordStep s t a′ u′ → (told a ≡ told a′) × (u ≡ u′)
+abbrev pub OneRecordAnswer : Type 0
+OneRecordAnswer = (s t : List ℕ) (a a′ : Told) (u u′ : List ℕ) → RecordStep s t a u → RecordStep s t a′ u′ → (told a ≡ told a′) × (u ≡ u′)
 
 abbrev pub OneClear : Type 0
 OneClear = (c : BoardCall) (t : List ℕ) (a a′ : Told) (u u′ : List ℕ) → BoardStep c t a u → BoardStep c t a′ u′ → (told a ≡ told a′) × (u ≡ u′)

@@ -1,12 +1,12 @@
 -- Lists of public calls on a board's bytes, and what the board shows after them.
 --
 --   Asked, JournalEvent   record with the bytes of a field, or clear with a train; with the call's own answer
---   Does                  the promise of such a call
+--   JournalStep           the promise of such a call
 --   JournalChain          a list of them, each on the bytes that the last one left
 --   lastSaid              a train's last accepted record since its last clear, worked from the calls and their answers alone
 --   Showing               R11.16: what line answers then
---   ShowsLast             R11.16: the claim, for every list from a board that begin left
---   EndsAtLast            .. and R11.17: after sequence 4,294,967,295 nothing of that train is accepted until it is cleared
+--   JournalShowsLast      R11.16: the claim, for every list from a board that begin left
+--   JournalEndsAtLast     .. and R11.17: after sequence 4,294,967,295 nothing of that train is accepted until it is cleared
 --
 -- Assumes nothing.
 use Prim.Native.Nat.{ℕ, _<_}
@@ -32,13 +32,13 @@ pub record JournalEvent : Type 0 where
   pub call : Asked
   pub answer : Plain
 
-abbrev pub Does : Asked → List ℕ → Told → List ℕ → Type 0
-Does (recorded s) t a u = RecordStep s t a u
-Does (cleared n) t a u = BoardStep (clear n) t a u
+abbrev pub JournalStep : Asked → List ℕ → Told → List ℕ → Type 0
+JournalStep (recorded s) t a u = RecordStep s t a u
+JournalStep (cleared n) t a u = BoardStep (clear n) t a u
 
 pub data JournalChain : List ℕ → List JournalEvent → List ℕ → Type 0 where
   done : {t : List ℕ} → JournalChain t [] t
-  next : {v : List ℕ} {es : List JournalEvent} (t u : List ℕ) (c : Asked) (a : Told) → Does c t a u → JournalChain u es v → JournalChain t (record { call = c; answer = told a } ∷ es) v
+  next : {v : List ℕ} {es : List JournalEvent} (t u : List ℕ) (c : Asked) (a : Told) → JournalStep c t a u → JournalChain u es v → JournalChain t (record { call = c; answer = told a } ∷ es) v
 
 -- ---- what the calls and answers alone say of a train
 
@@ -78,25 +78,25 @@ pub record Showing (es : List JournalEvent) (u : List ℕ) : Type 0 where
   -- a train stands on one line at most, so it is shown in one cell at most
   pub once : (j k : ℕ) (a c : Shown) (q r : Handover) → LineStep j u a → LineStep k u c → shown a ≡ stands (some q) → shown c ≡ stands (some r) → q .train ≡ r .train → j ≡ k
 
-abbrev pub ShowsLast : Type 0
-ShowsLast = (t₀ t u : List ℕ) (es : List JournalEvent) → BeginStep t₀ Begun.Begun t → JournalChain t es u → Showing es u
+abbrev pub JournalShowsLast : Type 0
+JournalShowsLast = (t₀ t u : List ℕ) (es : List JournalEvent) → BeginStep t₀ Begun.Begun t → JournalChain t es u → Showing es u
 
 -- ---- the last sequence
 
 -- no call of the list clears train t
-unfoldable pub NotCleared : ℕ → List JournalEvent → Type 0
-NotCleared t [] = Unit {0}
-NotCleared t (e ∷ es) = (e .call ≡ cleared t → ⊥) × NotCleared t es
+unfoldable pub JournalNotCleared : ℕ → List JournalEvent → Type 0
+JournalNotCleared t [] = Unit {0}
+JournalNotCleared t (e ∷ es) = (e .call ≡ cleared t → ⊥) × JournalNotCleared t es
 
 -- the bytes u are a board where o, which has the greatest sequence, is its train's last record
-pub record Ended (o : Handover) (u : List ℕ) : Type 0 where
+pub record JournalEnded (o : Handover) (u : List ℕ) : Type 0 where
   -- a record of the train is refused by 32, or by 30 which goes before it, and no byte is changed
   pub refuses : (s : List ℕ) (r : Handover) (a : Told) (v : List ℕ) → readRecord s ≡ says r → r .train ≡ o .train → RecordStep s u a v
       → (told a ≡ plainRefused (if knownKind (r .kind) then 32 else 30) none) × (v ≡ u)
   -- it stays the last one, whatever the calls are, until the train is cleared
-  pub stays : (es : List JournalEvent) (v : List ℕ) → JournalChain u es v → NotCleared (o .train) es → lastSaid (o .train) (some o) es ≡ some o
+  pub stays : (es : List JournalEvent) (v : List ℕ) → JournalChain u es v → JournalNotCleared (o .train) es → lastSaid (o .train) (some o) es ≡ some o
 
-abbrev pub EndsAtLast : Type 0
-EndsAtLast =
+abbrev pub JournalEndsAtLast : Type 0
+JournalEndsAtLast =
     (t₀ t u : List ℕ) (es : List JournalEvent) (o : Handover) → BeginStep t₀ Begun.Begun t → JournalChain t es u
-    → lastSaid (o .train) none es ≡ some o → o .sequence ≡ 4294967295 → Ended o u
+    → lastSaid (o .train) none es ≡ some o → o .sequence ≡ 4294967295 → JournalEnded o u

@@ -1,8 +1,8 @@
 -- The numbers and places of the answers.
 --
---   listed              R11.14: a refusal's number, and its place where the list has one
---   Plain               an answer as the rules give it; fromRules: that of a reply of `desk`
---   told, shown, begun  an answer of a call, read
+--   boardListed          R11.14: a refusal's number, and its place where the list has one
+--   Plain                an answer as the rules give it; fromRules: that of a reply of `desk`
+--   told, shown, begun   an answer of a call, read
 --
 -- Assumes nothing.
 use Prim.Native.Nat.{ℕ}
@@ -20,17 +20,17 @@ use Rattle.journal.specs.declared.Shown.the-variants as Shown
 use Rattle.journal.specs.declared.Begun.{Begun}
 use Rattle.journal.specs.declared.Begun.the-variants as Begun
 
-abbrev pub listed : Refusal → ℕ × Option ℕ
-listed (Cut p) = (1, some p)
-listed (UnknownTag p) = (2, some p)
-listed (WrongLength p) = (3, some p)
-listed BoardShort = (7, some 0)
-listed NotABoard = (29, none)
-listed KindUnknown = (30, none)
-listed NoFreeLine = (31, none)
-listed OutOfTurn = (32, none)
-listed DoesNotFollow = (33, none)
-listed NotCleared = (34, none)
+abbrev pub boardListed : Refusal → ℕ × Option ℕ
+boardListed (Cut p) = (1, some p)
+boardListed (UnknownTag p) = (2, some p)
+boardListed (WrongLength p) = (3, some p)
+boardListed BoardShort = (7, some 0)
+boardListed NotABoard = (29, none)
+boardListed KindUnknown = (30, none)
+boardListed NoFreeLine = (31, none)
+boardListed OutOfTurn = (32, none)
+boardListed DoesNotFollow = (33, none)
+boardListed NotCleared = (34, none)
 
 pub data Plain : Type 0 where
   line : ℕ → Plain
@@ -39,7 +39,7 @@ pub data Plain : Type 0 where
   plainRefused : ℕ → Option ℕ → Plain
 
 abbrev pub refusedBy : Refusal → Plain
-refusedBy x = plainRefused ((listed x) .0) ((listed x) .1)
+refusedBy x = plainRefused ((boardListed x) .0) ((boardListed x) .1)
 
 abbrev pub fromRules : BoardReply → Plain
 fromRules (Calls.told k) = line k

@@ -1,9 +1,9 @@
 -- A handover record in a field.
 --
---   recLine       the record of a line by value
---   Read          a line by value that holds the numbers of a whole field
---   Reading       what a field says: a record, or a refusal's number and place
---   readRecord    R11.6: a field at the start of lent bytes
+--   recLine      the record of a line by value
+--   RecordRead   a line by value that holds the numbers of a whole field
+--   Reading      what a field says: a record, or a refusal's number and place
+--   readRecord   R11.6: a field at the start of lent bytes
 --
 -- Assumes nothing.
 use Prim.Native.Nat.{ℕ}
@@ -28,7 +28,7 @@ recLine l = record { train = l .train; cell = l .cell; kind = l .kind; sequence 
 abbrev pub valuesOf : List ℕ → Handover
 valuesOf s = record { train = big s 3 4; cell = big s 7 2; kind = big s 9 1; sequence = big s 10 4 }
 
-pub record Read (s : List ℕ) (l : Line) : Type 0 where
+pub record RecordRead (s : List ℕ) (l : Line) : Type 0 where
   pub is : recLine l ≡ valuesOf s
   pub carried : InField (recLine l)
 

@@ -10,7 +10,7 @@ ghost use Rattle.desk.specs.Board.{isOf, InField};
 ghost use Rattle.desk.specs.Calls as Calls;
 ghost use Rattle.board.specs.Layout.{boardOf, ShowsBoard, Found};
 ghost use Rattle.fields.specs.Bytes.{big};
-ghost use Rattle.journal.specs.Record.{recLine, Read};
+ghost use Rattle.journal.specs.Record.{recLine, RecordRead};
 ghost use Rattle.journal.specs.Field.{ReadingIs};
 ghost use Rattle.journal.specs.Step.{BoardStep, RecordStep, LineStep, BeginStep};
 use board::find;
@@ -130,7 +130,7 @@ fn u8_at(s: &[u8], at: usize) -> u8
 // The record's four numbers, from a value that is whole.
 fn values(s: &[u8]) -> Line
     requires { ⌜ 14 ≤ length (now s) ⌝ }
-    ensures { λ r. ⌜ Read (now (s .entry)) r ⌝ }
+    ensures { λ r. ⌜ RecordRead (now (s .entry)) r ⌝ }
 {
     let train = u32_at(s, 3);
     let cell = u16_at(s, 7);

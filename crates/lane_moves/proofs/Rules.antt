@@ -13,7 +13,7 @@ use Rattle.rules.specs.Calls.{woken, served, accept, serve}
 use Rattle.rules.specs.Good.{Good}
 use Rattle.rules.proofs.Moves.{Sound, MayEnter}
 use Rattle.slot_lists.specs.Lists.{backAt, listAt, startAt}
-use Rattle.filing.specs.Filing.{headOf, Whole, Agrees, Filing}
+use Rattle.filing.specs.Filing.{frontOf, Whole, Agrees, Filing}
 use Rattle.filing.proofs.Starts.{Named}
 use Rattle.filing.proofs.KeepsPut.{put-agrees}
 use Rattle.filing.proofs.KeepsTake.{last-filed, again-filed, serve-agrees, serve-agrees-none}
@@ -31,7 +31,7 @@ add-agrees s t t′ k r ag named inside idle sound may lo hi a =
 
 -- take from the first lane of the list of a group's start
 module _ (s : State) (good : Good s) (t t′ : List ℕ) (whole : Whole (backAt t)) (ag : Agrees (backAt t) (listAt t) (startAt t) s)
-    (k g r : ℕ) (lo : 16 ≤ g) (hi : g ≤ 31) (start : startAt t g ≡ some r) (first : headOf (listAt t g (listOf t g r)) ≡ some k)
+    (k g r : ℕ) (lo : 16 ≤ g) (hi : g ≤ 31) (start : startAt t g ≡ some r) (first : frontOf (listAt t g (listOf t g r)) ≡ some k)
     (x : Rec) (is-first : firstOf (laneAt s k) ≡ some x) (named : Named (serve s k x))
     (more : Bool) (em : more ≡ holds (served (laneAt s k))) (y : ℕ) (a : Refiled t t′ g r (laneAt s k .finish) k more y) where
   filed-after : (b : Bool) → more ≡ b → Filing (backAt t) (listAt t′) (serve s k x)

@@ -20,10 +20,10 @@ use Rattle.slot_lists.specs.Lists.{backWord, startWord, ringNumber, groupsAt, m
 use Rattle.slot_lists.specs.Changes.{Moved, Apart, Stored, Nearest}
 use Rattle.slot_lists.proofs.Store.{stored-then}
 use Rattle.slot_lists.proofs.Laws.{list-on, list-off, list-some, some-bit, start-on, start-off}
-use Rattle.filing.specs.Filing.{Lists}
+use Rattle.filing.specs.Filing.{Lists, never}
 use Rattle.filing.proofs.Moves.{Changed}
 use Rattle.filing.proofs.Starts.{NextList}
-use Rattle.lane_moves.specs.Moves.{never, slotOf, listOf, Added, Onward, nowhere, onto, Tells, Closing, empty, onward, Refiled}
+use Rattle.lane_moves.specs.Moves.{slotOf, listOf, Added, Onward, nowhere, onto, Tells, Closing, empty, onward, Refiled}
 use Rattle.lane_moves.proofs.Views.{under, under-here, own-changed, Nearly, solid-nearly, same-start, moved-changed, moved-nearly, moved-apart, stored-solid, then-stored}
 
 apart-then : (t u v : List ℕ) → Apart t u → Apart u v → Apart t v

@@ -18,13 +18,9 @@ use Rattle.rules.specs.Choice.{least}
 use Rattle.slot_lists.specs.Lists.{listAt, startAt, Solid}
 pub use Rattle.slot_lists.specs.Lists.{slotOf, listOf}
 use Rattle.slot_lists.specs.Changes.{Apart, Stored, Nearest}
-use Rattle.filing.specs.Filing.{Lists}
+use Rattle.filing.specs.Filing.{Lists, never}
 use Rattle.filing.proofs.Moves.{Changed}
 use Rattle.filing.proofs.Starts.{NextList}
-
--- later than any start
-abbrev pub never : ℕ
-never = 18446744073709551615
 
 pub record Added (before after : List ℕ) (g s k : ℕ) : Type 0 where
   pub apart : Apart before after

@@ -13,7 +13,8 @@ use Rattle.words.specs.Words.{wordAt}
 use Rattle.words.specs.Runs.{tab, tabFrom}
 use Rattle.words.proofs.Runs.{getD-tab}
 use Rattle.rounds.specs.Round as round
-use Rattle.waiting.specs.Waiting.{Waiting, first, held, Lengths, GoodWaiting}
+use Rattle.rounds.specs.Good.{Lengths}
+use Rattle.waiting.specs.Waiting.{Waiting, first, held, GoodWaiting}
 use Rattle.waiting.proofs.Laws.{held-hand, held-none, held-most, good-nothing}
 use Rattle.rules.specs.State.{Rec, Setting, Lane, firstOf, slot, group, laneDepth}
 use Rattle.rules.specs.Calls as rules
@@ -21,8 +22,8 @@ use Rattle.rules.specs.Good.{Times}
 use Rattle.digits.specs.Digits.{digit}
 use Rattle.digits.specs.Under.{AllUnder, Clear, Gathered}
 use Rattle.digits.proofs.Under.{tops-clear, clear-tops}
-use Rattle.table.specs.Layout.{cells, lengthsCell, lengthWords, lengthCell, placeOf, rowAt, entryAt}
-use Rattle.table.specs.Means.{presentAt, recOf, ringOf, givenOf, waitingOf, timed, RowAgrees, RowPaced, PlacesFit, Housed, laneOf}
+use Rattle.table.specs.Layout.{cells, lengthsCell, lengthWords, lengthCell, placeInLane, rowAt, entryAt}
+use Rattle.table.specs.Means.{presentAt, recOf, laneRing, givenOf, waitingOf, timedByWord, RowAgrees, RowPaced, PlacesFit, Housed, laneOf}
 use Rattle.table.specs.declared.LaneRow.{LaneRow}
 use Rattle.table.proofs.Stores.{cell-is, word-before}
 use Rattle.table.proofs.Rows.{lane-present, length-ring, waiting-plain, waiting-none, waiting-shared, waiting-held}
@@ -39,11 +40,11 @@ module _ (t : List ℕ) (k : ℕ) (l : LaneRow) (hk : k < 64) where
       cell-is t (lengthsCell + (lengthWords * k + i)) (omega arith) ∙ ap (wordAt t) (word-before (lengthsCell + (lengthWords * k + i)) (omega arith) ∙ at)
 
   -- place i is quarter i % 4 of word i / 4
-  pub place-length : (i : ℕ) → i < laneDepth → entryAt (cells t) (placeOf k i) .length .0 ≡ digit 16 (i % 4) (wordAt t (lengthsCell + lengthWords * k + i / 4)) + 1
+  pub place-length : (i : ℕ) → i < laneDepth → entryAt (cells t) (placeInLane k i) .length .0 ≡ digit 16 (i % 4) (wordAt t (lengthsCell + lengthWords * k + i / 4)) + 1
   unfolding entryAt
   place-length i h =
-      let which : placeOf k i % 4 ≡ i % 4 = omega arith in
-      let cell : lengthCell (placeOf k i) ≡ lengthsCell + (lengthWords * k + i / 4) = omega arith in
+      let which : placeInLane k i % 4 ≡ i % 4 = omega arith in
+      let cell : lengthCell (placeInLane k i) ≡ lengthsCell + (lengthWords * k + i / 4) = omega arith in
       rw (which, cell, place-word (i / 4) (omega arith))
 
   pub places-under : PlacesFit (cells t) k l → AllUnder t (lengthsCell + lengthWords * k) lengthWords (l .longest .0)
@@ -57,20 +58,20 @@ module _ (t : List ℕ) (k : ℕ) (l : LaneRow) (hk : k < 64) where
   under-places f i h = omega (arith, place-length i h, f (i / 4) (omega arith) (i % 4) (omega arith))
 
 -- then each record's length is within
-pub noRec : round.Rec
+pub noRec : round.BareRec
 noRec = record { mark = 0; len = 0 }
 
-pub lengths-all : (m : ℕ) (q : List round.Rec) → ((i : ℕ) → i < length q → (1 ≤ getD q i noRec .len) × (getD q i noRec .len ≤ m)) → Lengths m q
+pub lengths-all : (m : ℕ) (q : List round.BareRec) → ((i : ℕ) → i < length q → (1 ≤ getD q i noRec .len) × (getD q i noRec .len ≤ m)) → Lengths m q
 lengths-all m [] f = tt
 lengths-all m (r ∷ rs) f = (f 0 (omega arith) .0, f 0 (omega arith) .1, lengths-all m rs (λ i h. f (suc i) (omega arith)))
 
-ring-lengths : (w : List ℕ) (k h n : ℕ) (l : LaneRow) → PlacesFit w k l → Lengths (l .longest .0) (ringOf w k h n)
-unfolding ringOf entryAt
+ring-lengths : (w : List ℕ) (k h n : ℕ) (l : LaneRow) → PlacesFit w k l → Lengths (l .longest .0) (laneRing w k h n)
+unfolding laneRing entryAt
 ring-lengths w k h n l f =
-    lengths-all (l .longest .0) (ringOf w k h n) (λ i p. let q : i < n = omega (arith, length-ring w k h n) in rw (getD-tab n i (λ j. recOf (entryAt w (placeOf k (h + j)))) noRec q) (omega arith, at (h + i)))
+    lengths-all (l .longest .0) (laneRing w k h n) (λ i p. let q : i < n = omega (arith, length-ring w k h n) in rw (getD-tab n i (λ j. recOf (entryAt w (placeInLane k (h + j)))) noRec q) (omega arith, at (h + i)))
   where
-    at : (j : ℕ) → entryAt w (placeOf k j) .length .0 ≤ l .longest .0
-    at j = let same : placeOf k (j % laneDepth) ≡ placeOf k j = omega arith in rw same at (f (j % laneDepth) (omega arith))
+    at : (j : ℕ) → entryAt w (placeInLane k j) .length .0 ≤ l .longest .0
+    at j = let same : placeInLane k (j % laneDepth) ≡ placeInLane k j = omega arith in rw same at (f (j % laneDepth) (omega arith))
 
 -- ---- times
 
@@ -88,7 +89,7 @@ module _ (v : ℕ) (l : LaneRow) (w : Waiting) where
 
 -- ---- a lane in the setup, by its row and what waits in it, however a table keeps them
 
-module _ (v : ℕ) (row : LaneRow) (w : Waiting) (l : Lane) (is : l ≡ timed (givenOf row) (row .time .0) w) (size : held w ≡ row .count) where
+module _ (v : ℕ) (row : LaneRow) (w : Waiting) (l : Lane) (is : l ≡ timedByWord (givenOf row) (row .time .0) w) (size : held w ≡ row .count) where
   given-is : l .given ≡ givenOf row
   given-is = ap (λ (l : Lane). l .given) is ∙ timed-given _ _ _
 
@@ -96,7 +97,7 @@ module _ (v : ℕ) (row : LaneRow) (w : Waiting) (l : Lane) (is : l ≡ timed (g
   waiting-is = ap (λ (l : Lane). l .waiting) is ∙ timed-waiting _ _ _
 
   pub fine-made : RowAgrees row → (0 < row .count → RowPaced row) → GoodWaiting (row .longest .0) w → TimeGood v row (group (givenOf row)) → LaneFine v row l
-  unfolding timed
+  unfolding timedByWord
   fine-made a c g t =
       record {
         agrees = a;
@@ -104,7 +105,7 @@ module _ (v : ℕ) (row : LaneRow) (w : Waiting) (l : Lane) (is : l ≡ timed (g
         waiting = rw (given-is, waiting-is) g;
         counted = ap held waiting-is ∙ size;
         numbers = subst (λ (l : Lane). Times v l (firstOf l)) (sym is)
-            (subst (Times v (timed (givenOf row) (row .time .0) w)) (sym (ap first (timed-waiting _ _ _))) (times-of v row w (first w) (λ r e. omega (arith, held-hand (row .longest .0) w r g e, size)) t));
+            (subst (Times v (timedByWord (givenOf row) (row .time .0) w)) (sym (ap first (timed-waiting _ _ _))) (times-of v row w (first w) (λ r e. omega (arith, held-hand (row .longest .0) w r g e, size)) t));
       }
 
   module _ (g : LaneFine v row l) where
@@ -115,16 +116,16 @@ module _ (v : ℕ) (row : LaneRow) (w : Waiting) (l : Lane) (is : l ≡ timed (g
     fine-room = omega (arith, held-most (row .longest .0) w fine-waiting, size)
 
     pub fine-time : TimeGood v row (group (givenOf row))
-    unfolding timed
+    unfolding timedByWord
     fine-time =
         time-of v row w (first w) (λ e. sym size ∙ held-none (row .longest .0) w fine-waiting e)
-        (subst (Times v (timed (givenOf row) (row .time .0) w)) (ap first (timed-waiting _ _ _)) (subst (λ (l : Lane). Times v l (firstOf l)) is (g .numbers)))
+        (subst (Times v (timedByWord (givenOf row) (row .time .0) w)) (ap first (timed-waiting _ _ _)) (subst (λ (l : Lane). Times v l (firstOf l)) is (g .numbers)))
 
 -- ---- in this layout
 
 module _ (w : List ℕ) (k : ℕ) (l : LaneRow) where
-  within : (n : ℕ) → (0 < n → PlacesFit w k l) → Lengths (l .longest .0) (ringOf w k (l .head) n)
-  unfolding ringOf tab tabFrom
+  within : (n : ℕ) → (0 < n → PlacesFit w k l) → Lengths (l .longest .0) (laneRing w k (l .head) n)
+  unfolding laneRing tab tabFrom
   within zero f = tt
   within (suc n) f = ring-lengths w k (l .head) (suc n) l (f (omega arith))
 

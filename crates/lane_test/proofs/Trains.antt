@@ -6,16 +6,15 @@ use mathlib.Core.List.{List}
 use native.Mathlib.Omega.{arith}
 use Rattle.words.specs.Words.{wordAt}
 use Rattle.digits.specs.Digits.{digit}
-use Rattle.rounds.specs.Round.{Shared, held}
-use Rattle.rounds.specs.Good.{Good}
+use Rattle.rounds.specs.Round.{Shared, sharedHeld}
+use Rattle.rounds.specs.Good.{GoodShared}
 use Rattle.turns.specs.Turns.{sharedOf, Ordered}
 use Rattle.turns.proofs.Train.{shared-same}
-use Rattle.round_test.specs.Shared as trains
-use Rattle.round_test.specs.Shared.{numbersAt, lengthsAt, SharedGood}
+use Rattle.round_test.specs.Shared.{numbersAt, lengthsAt, LengthsFit, SharedGood}
 use Rattle.round_test.proofs.Made.{shared-made}
 use Rattle.rules.specs.State.{group, laneDepth}
 use Rattle.parts.specs.Parts.{marksEnd}
-use Rattle.table.specs.Layout.{cells, lengthsCell, lengthWords, entryAt, placeOf, rowAt, roundAt, trainNumber}
+use Rattle.table.specs.Layout.{cells, lengthsCell, lengthWords, entryAt, placeInLane, rowAt, roundAt, trainNumber}
 use Rattle.table.specs.Means.{presentAt, recAt, sharedAt, givenOf, RowAgrees, RowPaced, PlacesFit}
 use Rattle.table.specs.declared.LaneRow.{LaneRow}
 use Rattle.table.proofs.Places.{train-read}
@@ -30,7 +29,7 @@ module _ (t : List ℕ) (k : ℕ) (l : LaneRow) (hk : k < 64) (a b : ℕ) (train
   number-is : (j : ℕ) → j < 8 → numbersAt t a j ≡ trainNumber w k j
   number-is j h = train-read k j hk h t (numbersAt t a j) (a + j) refl (omega arith)
 
-  length-is : (p : ℕ) → p < 64 → entryAt w (placeOf k p) .length .0 ≡ lengthsAt t b p
+  length-is : (p : ℕ) → p < 64 → entryAt w (placeInLane k p) .length .0 ≡ lengthsAt t b p
   length-is p h =
       let which : p % 4 ≡ (b + p) % 4 = omega arith in
       let where-at : lengthsCell + lengthWords * k + p / 4 ≡ (b + p) / 4 = omega arith in
@@ -44,7 +43,7 @@ module _ (t : List ℕ) (k : ℕ) (l : LaneRow) (hk : k < 64) (a b : ℕ) (train
   unfolding sharedAt
   shared-is = shared-same (recAt w k) (recAt w k) (numbersAt t a) (trainNumber w k) (roundAt w k) (λ p h. refl) number-is
 
-  pub fit-is : PlacesFit w k l → trains.PlacesFit (l .longest .0) (lengthsAt t b)
+  pub fit-is : PlacesFit w k l → LengthsFit (l .longest .0) (lengthsAt t b)
   fit-is f p h = omega (arith, f p h, length-is p h)
 
   module _ (f : PlacesFit w k l) where
@@ -54,19 +53,19 @@ module _ (t : List ℕ) (k : ℕ) (l : LaneRow) (hk : k < 64) (a b : ℕ) (train
     tested-good : Tested → TrainsGood w k l
     tested-good g =
         record {
-          lane = subst (Good (l .longest .0)) shared-is (g .lane (recAt w k) record-is);
-          fit = record { counted = sym (ap held shared-is) ∙ g .held (recAt w k); ordered = g .ordered };
+          lane = subst (GoodShared (l .longest .0)) shared-is (g .lane (recAt w k) record-is);
+          fit = record { counted = sym (ap sharedHeld shared-is) ∙ g .held (recAt w k); ordered = g .ordered };
         }
 
     good-tested : TrainsGood w k l → Tested
     good-tested g =
         shared-made (l .longest .0) (roundAt w k) (l .count) (numbersAt t a) (lengthsAt t b) (recAt w k) record-is (λ p. omega arith) (fit-is f) (g .fit .ordered)
-        (subst (Good (l .longest .0)) (sym shared-is) (g .lane)) (ap held shared-is ∙ g .fit .counted)
+        (subst (GoodShared (l .longest .0)) (sym shared-is) (g .lane)) (ap sharedHeld shared-is ∙ g .fit .counted)
 
-    pub trains-say : (r : ℕ) (x : Bool) → r ≡ roundAt w k → trains.Says x (SharedGood (l .longest .0) (numbersAt t a) (lengthsAt t b) r (l .count)) → Says x (TrainsGood w k l)
-    trains-say r x e s = go x (subst (λ (r : ℕ). trains.Says x (SharedGood (l .longest .0) (numbersAt t a) (lengthsAt t b) r (l .count))) e s)
+    pub trains-say : (r : ℕ) (x : Bool) → r ≡ roundAt w k → Says x (SharedGood (l .longest .0) (numbersAt t a) (lengthsAt t b) r (l .count)) → Says x (TrainsGood w k l)
+    trains-say r x e s = go x (subst (λ (r : ℕ). Says x (SharedGood (l .longest .0) (numbersAt t a) (lengthsAt t b) r (l .count))) e s)
       where
-        go : (x : Bool) → trains.Says x Tested → Says x (TrainsGood w k l)
+        go : (x : Bool) → Says x Tested → Says x (TrainsGood w k l)
         go true s = tested-good s
         go false s = λ g. s (good-tested g)
 

@@ -1,6 +1,6 @@
 -- What a test of one lane says.
 --
---   Says         a Bool that is true exactly if a statement holds
+--   Says         a Bool that is true exactly if a statement holds; of crate `round_test`
 --   TimeGood     the conditions on S, F and R, over a lane's row, i being its group
 --   TrainsGood   a shared lane's trains and round are good, and the layout's own of them agrees
 --   LaneFine     what the good-table rule asks of a lane that is in the setup, r being its row
@@ -8,11 +8,11 @@
 --
 -- Assumes nothing.
 use mathlib.Core.Path.{_≡_}
-use mathlib.Core.Bool.{Bool, true, false}
 use Prim.Native.Nat.{ℕ, _+_, _*_, _^_, _≤_, _<_}
 use mathlib.Core.List.{List}
 use Rattle.units.specs.Numbers.{roundDown}
-use Rattle.rounds.specs.Good.{Good}
+use Rattle.rounds.specs.Good.{GoodShared}
+pub use Rattle.round_test.specs.Shared.{Says}
 use Rattle.waiting.specs.Waiting.{GoodWaiting, held}
 use Rattle.rules.specs.State.{Lane, firstOf}
 use Rattle.rules.specs.Setup.{margin}
@@ -21,17 +21,13 @@ use Rattle.table.specs.Layout.{rowAt}
 use Rattle.table.specs.Means.{givenOf, RowAgrees, RowPaced, TrainsFit, Housed, sharedAt, laneOf}
 use Rattle.table.specs.declared.LaneRow.{LaneRow}
 
-abbrev pub Says : Bool → Type 0 → Type 0
-Says true P = P
-Says false P = P → ⊥
-
 -- R6.6 of S and R, R6.7 of F: the one clock word of a lane is S or F, and its upper edge is the same
 pub record TimeGood (v : ℕ) (l : LaneRow) (i : ℕ) : Type 0 where
   pub below : l .time .0 < v + 2 * 2 ^ i
   pub above : 0 < l .count → v < roundDown (2 ^ i) (l .time .0) + 2 * 2 ^ i + margin (givenOf l .framing)
 
 pub record TrainsGood (w : List ℕ) (k : ℕ) (l : LaneRow) : Type 0 where
-  pub lane : Good (l .longest .0) (sharedAt w k)
+  pub lane : GoodShared (l .longest .0) (sharedAt w k)
   pub fit : TrainsFit w k l
 
 pub record LaneFine (v : ℕ) (r : LaneRow) (l : Lane) : Type 0 where

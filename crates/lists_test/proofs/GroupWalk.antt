@@ -20,7 +20,7 @@ use Rattle.slot_lists.specs.Lists.{groupsAt, backAt}
 use Rattle.filing.specs.Filing.{flat}
 use Rattle.lane_test.specs.Says.{Says}
 use Rattle.filing.proofs.Flat.{flat-skip, times-more, times-part}
-use Rattle.lists_test.specs.Stored.{GroupFine, ringIn, groupIn, Stored, NotYet, Adds}
+use Rattle.lists_test.specs.Stored.{GroupFine, ringIn, groupIn, Stored, NotListedYet, Adds}
 use Rattle.lists_test.proofs.WordBits.{bit-under}
 
 module _ (t : List ℕ) where
@@ -70,7 +70,7 @@ module _ (t : List ℕ) where
           adds = λ k. omega (arith, adds k, w .adds k, times-more g k (groupIn t), ap (times k) (group-in g has), ap (λ (n : ℕ). times k (flat n (groupIn t))) (add-one g));
         }
 
-    pub pass-bad : (lanes : ℕ) → 16 ≤ g → (GroupFine t g → NotYet met (flat 32 (ringIn t g)) → ⊥) → Stored t lanes → ⊥
+    pub pass-bad : (lanes : ℕ) → 16 ≤ g → (GroupFine t g → NotListedYet met (flat 32 (ringIn t g)) → ⊥) → Stored t lanes → ⊥
     pass-bad lanes lo bad stored =
         bad (stored .fine g lo small has)
         (λ k. omega (arith, stored .once k, w .adds k, times-more g k (groupIn t), ap (times k) (group-in g has), times-part (suc g) 32 k (groupIn t) (omega arith)))

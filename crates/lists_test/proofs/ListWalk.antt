@@ -16,7 +16,7 @@ use Rattle.table.specs.Means.{Next}
 use Rattle.slot_lists.specs.Lists.{mapWord, ringNumber}
 use Rattle.filing.specs.Filing.{flat}
 use Rattle.filing.proofs.Flat.{flat-skip, times-more, times-part}
-use Rattle.lists_test.specs.Stored.{RingFine, listSlot, GroupFine, ringIn, NotYet, Adds}
+use Rattle.lists_test.specs.Stored.{RingFine, listSlot, GroupFine, ringIn, NotListedYet, Adds}
 use Rattle.lists_test.proofs.WordBits.{bit-under}
 
 module _ (t : List ℕ) (g : ℕ) where
@@ -67,7 +67,7 @@ module _ (t : List ℕ) (g : ℕ) where
             adds = λ k. omega (arith, adds k, w .adds k, times-more b k (ringIn t g), ap (times k) (ring-in b has), ap (λ (n : ℕ). times k (flat n (ringIn t g))) (add-one b));
           }
 
-      pub walk-bad : (RingFine t (ringNumber g b) g (listSlot t g b) → NotYet met (ringAt t (ringNumber g b)) → ⊥) → GroupFine t g → NotYet before (flat 32 (ringIn t g)) → ⊥
+      pub walk-bad : (RingFine t (ringNumber g b) g (listSlot t g b) → NotListedYet met (ringAt t (ringNumber g b)) → ⊥) → GroupFine t g → NotListedYet before (flat 32 (ringIn t g)) → ⊥
       walk-bad bad fine new =
           bad (fine .rings b small has)
           (λ k. omega (arith, new k, w .adds k, times-more b k (ringIn t g), ap (times k) (ring-in b has), times-part (suc b) 32 k (ringIn t g) small))

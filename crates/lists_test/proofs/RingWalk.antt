@@ -14,12 +14,12 @@ use Rattle.words.proofs.Bits.{bit-add-same, bit-add-other}
 use Rattle.words.proofs.Runs.{eq-or-ne}
 use Rattle.rings.specs.Rings.{ringAt}
 use Rattle.filing.proofs.Flat.{times-append}
-use Rattle.lists_test.specs.Stored.{Fits, RingFine, NotYet, Adds}
+use Rattle.lists_test.specs.Stored.{FitsSlot, RingFine, NotListedYet, Adds}
 
 -- j of the ring's lanes are read
 pub record Read (t : List ℕ) (i g at before j met : ℕ) : Type 0 where
   pub within : j ≤ length (ringAt t i)
-  pub fit : (k : ℕ) → 0 < times k (take j (ringAt t i)) → (k < 64) × Fits t k g at
+  pub fit : (k : ℕ) → 0 < times k (take j (ringAt t i)) → (k < 64) × FitsSlot t k g at
   pub adds : Adds before (take j (ringAt t i)) met
 
 module _ (t : List ℕ) (i g at before : ℕ) where
@@ -48,22 +48,22 @@ module _ (t : List ℕ) (i g at before : ℕ) where
     here : times e (e ∷ []) ≡ 1
     here = simp (eq-eqb e e refl)
 
-    pub read-far : 64 ≤ e → RingFine t i g at → NotYet before l → ⊥
+    pub read-far : 64 ≤ e → RingFine t i g at → NotListedYet before l → ⊥
     read-far far fine new = omega (arith, parts e, here, fine .fit e (omega (arith, parts e, here)) .0)
 
-    pub read-twice : bit e met ≡ 1 → RingFine t i g at → NotYet before l → ⊥
+    pub read-twice : bit e met ≡ 1 → RingFine t i g at → NotListedYet before l → ⊥
     read-twice b fine new = omega (arith, b, r .adds e, parts e, here, new e)
 
-    pub read-misfit : (Fits t e g at → ⊥) → RingFine t i g at → NotYet before l → ⊥
+    pub read-misfit : (FitsSlot t e g at → ⊥) → RingFine t i g at → NotListedYet before l → ⊥
     read-misfit not-so fine new = not-so (fine .fit e (omega (arith, parts e, here)) .1)
 
-    pub read-more : e < 64 → bit e met ≡ 0 → Fits t e g at → Read t i g at before (j + 1) (met + 2 ^ e)
+    pub read-more : e < 64 → bit e met ≡ 0 → FitsSlot t e g at → Read t i g at before (j + 1) (met + 2 ^ e)
     read-more small b fits =
         record {
           within = omega arith;
           fit = λ k h.
               ⊎-elim
-              (λ (q : k ≡ e). (omega (arith, q), subst (λ (x : ℕ). Fits t x g at) (sym q) fits))
+              (λ (q : k ≡ e). (omega (arith, q), subst (λ (x : ℕ). FitsSlot t x g at) (sym q) fits))
               (λ (ne : k ≡ e → ⊥). r .fit k (omega (arith, h, one-more k, other k ne)))
               (eq-or-ne k e);
           adds = λ k.

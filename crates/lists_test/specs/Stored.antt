@@ -1,11 +1,11 @@
 -- What the stored slot lists are asked for, word by word.
 --
---   slotNumber  the number of the slot of a time in group g, by the endless clock
---   Fits        lane k's own words: it is of group g, and its clock word lies in slot `at`
---   RingFine    a ring that keeps a list has lanes, and each of them fits
---   GroupFine   the words of a group that has lanes, and each of its rings that keeps a list
---   Stored      all groups, and the lanes in all lists are those that hold records, each once
---   Adds        a word of lanes, with those of a list more
+--   slotNumber   the number of the slot of a time in group g, by the endless clock
+--   FitsSlot     lane k's own words: it is of group g, and its clock word lies in slot `at`
+--   RingFine     a ring that keeps a list has lanes, and each of them fits
+--   GroupFine    the words of a group that has lanes, and each of its rings that keeps a list
+--   Stored       all groups, and the lanes in all lists are those that hold records, each once
+--   Adds         a word of lanes, with those of a list more
 --
 -- Assumes nothing.
 use mathlib.Core.Path.{_≡_}
@@ -27,13 +27,13 @@ use Rattle.lists_test.specs.declared.Met.the-variants.{Bad, Lanes}
 abbrev pub slotNumber : List ℕ → ℕ → ℕ → ℕ
 slotNumber t g x = x / 2 ^ g + backAt t / 2 ^ g
 
-pub record Fits (t : List ℕ) (k g at : ℕ) : Type 0 where
+pub record FitsSlot (t : List ℕ) (k g at : ℕ) : Type 0 where
   pub group : rowAt (cells t) k .group ≡ g
   pub slot : slotNumber t g (rowAt (cells t) k .time .0) ≡ at
 
 pub record RingFine (t : List ℕ) (i g at : ℕ) : Type 0 where
   pub some-lane : 0 < length (ringAt t i)
-  pub fit : (k : ℕ) → 0 < times k (ringAt t i) → (k < 64) × Fits t k g at
+  pub fit : (k : ℕ) → 0 < times k (ringAt t i) → (k < 64) × FitsSlot t k g at
 
 -- the slot of a group's start, and the slot of list b from there on
 abbrev pub startSlot : List ℕ → ℕ → ℕ
@@ -65,16 +65,16 @@ pub record Stored (t : List ℕ) (lanes : ℕ) : Type 0 where
 
 -- ---- what each walk says
 
-abbrev pub NotYet : ℕ → List ℕ → Type 0
-NotYet before l = (k : ℕ) → bit k before + times k l ≤ 1
+abbrev pub NotListedYet : ℕ → List ℕ → Type 0
+NotListedYet before l = (k : ℕ) → bit k before + times k l ≤ 1
 
 abbrev pub Adds : ℕ → List ℕ → ℕ → Type 0
 Adds before l after = (k : ℕ) → bit k after ≡ bit k before + times k l
 
 unfoldable pub RingSays : List ℕ → ℕ → ℕ → ℕ → ℕ → Met → Type 0
-RingSays t i g at before Bad = RingFine t i g at → NotYet before (ringAt t i) → ⊥
+RingSays t i g at before Bad = RingFine t i g at → NotListedYet before (ringAt t i) → ⊥
 RingSays t i g at before (Lanes x) = RingFine t i g at × Adds before (ringAt t i) x
 
 unfoldable pub GroupSays : List ℕ → ℕ → ℕ → Met → Type 0
-GroupSays t g before Bad = GroupFine t g → NotYet before (flat 32 (ringIn t g)) → ⊥
+GroupSays t g before Bad = GroupFine t g → NotListedYet before (flat 32 (ringIn t g)) → ⊥
 GroupSays t g before (Lanes x) = GroupFine t g × Adds before (flat 32 (ringIn t g)) x

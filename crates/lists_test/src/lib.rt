@@ -7,7 +7,7 @@ ghost use Prim.Native.Nat.{_/_, _^_, _<_, _≤_};
 ghost use Rattle.rings.specs.Rings.{Long};
 ghost use Rattle.slot_lists.specs.Lists.{backAt};
 ghost use Rattle.lane_test.specs.Says.{Says};
-ghost use Rattle.lists_test.specs.Stored.{Fits, RingSays, GroupSays, Stored};
+ghost use Rattle.lists_test.specs.Stored.{FitsSlot, RingSays, GroupSays, Stored};
 use rings::entry;
 use rings::held;
 use slot_lists::BACK;
@@ -39,7 +39,7 @@ const BACK_END: u64 = 68719476736;
 // Whether lane `k`, by its own words, is of group `g` and has its clock word in slot `at`; `base` slots of the group were taken off the clock.
 fn stands(t: &[u8], k: usize, g: u32, base: u64, at: u64) -> bool
     requires { ⌜ Long (now t) × (k < 64) × (16 ≤ g) × (g ≤ 31) × (base ≡ backAt (now t) / 2 ^ g) × (base < 2 ^ 36) ⌝ }
-    ensures { λ r. ⌜ Says r (Fits (now (t .entry)) k g at) ⌝ }
+    ensures { λ r. ⌜ Says r (FitsSlot (now (t .entry)) k g at) ⌝ }
 {
     let l = row(t, k);
     if l.group != g {

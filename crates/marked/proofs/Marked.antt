@@ -23,7 +23,7 @@ use Rattle.plan.specs.Examples.{twoLanes}
 use Rattle.table.specs.Means.{meant}
 use Rattle.scheduler.specs.Demands.{callsOf, AsRuled}
 use Rattle.scheduler.proofs.Demands.{as-ruled}
-use Rattle.marked.specs.Marked.{setting, sharedSetting, alone, acceptedTo, Given, toThird, toThirdReplies, full, turns, turnsReplies, Marked}
+use Rattle.marked.specs.Marked.{setting, sharedSetting, alone, acceptedTo, Given, toThird, toThirdReplies, toFull, turns, turnsReplies, Marked}
 
 abbrev replies : List Event → List Reply
 replies es = map (λ (e : Event). e .reply) es
@@ -67,7 +67,7 @@ marked =
       m5 = (refl, refl);
       m6 = refl;
       lone = refl;
-      m7 = given (alone (setting 512 1500)) full (λ rs v ls. rs ≡ acceptedTo 64 ++ (refused 13 none ∷ taken 0 0 7 1000 ∷ accepted 63 ∷ [])) refl;
+      m7 = given (alone (setting 512 1500)) toFull (λ rs v ls. rs ≡ acceptedTo 64 ++ (refused 13 none ∷ taken 0 0 7 1000 ∷ accepted 63 ∷ [])) refl;
       m8 = (refl, refl);
       junction = refl;
       trains = given (alone (sharedSetting 512 100)) turns (λ rs v ls. rs ≡ turnsReplies) refl;

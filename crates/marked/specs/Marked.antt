@@ -1,11 +1,11 @@
 -- Examples with their numbers (docs/RULES.md, R16), one table under one statement; and one of a lane that two trains share (R18.10).
 --
---   alone       the settings of a setup whose only lane is lane 0
---   Given       of any list of just these public calls, on any table that `make` left for the settings: their replies and what the bytes mean
---   toThird     the calls of the first session up to its third take
---   full        65 puts to lane 0, a take, a put
---   turns       puts of trains 5 and 2 of lane 0, and takes; a train that the lane does not know
---   Marked      the table
+--   alone     the settings of a setup whose only lane is lane 0
+--   Given     of any list of just these public calls, on any table that `make` left for the settings: their replies and what the bytes mean
+--   toThird   the calls of the first session up to its third take
+--   toFull    65 puts to lane 0, a take, a put
+--   turns     puts of trains 5 and 2 of lane 0, and takes; a train that the lane does not know
+--   Marked    the table
 --
 -- What depends on a table is said of the public calls' own answers and of the state that the table's bytes mean; `session`, `lone` and `light` say that a
 -- setup of these settings can be read, so that `make` leaves such a table; `junction` says it of a lane
@@ -50,8 +50,8 @@ toThird = put 0 0 1 1000 ∷ put 1 0 2 1000 ∷ put 0 0 3 500 ∷ sets ∷ take 
 abbrev pub toThirdReplies : List Reply
 toThirdReplies = accepted 0 ∷ accepted 0 ∷ accepted 1 ∷ words 12582912 0 0 0 ∷ taken 0 0 1 1000 ∷ taken 0 0 3 500 ∷ taken 1 0 2 1000 ∷ []
 
-abbrev pub full : List Call
-full = replicate 65 (put 0 0 7 1000) ++ (take ∷ put 0 0 8 1000 ∷ [])
+abbrev pub toFull : List Call
+toFull = replicate 65 (put 0 0 7 1000) ++ (take ∷ put 0 0 8 1000 ∷ [])
 
 -- R18.10: train 5's turn begins with the first put: its 100 bytes cover one record, and with nothing left over it goes behind train 2. That one sends 60, keeps
 -- 40, which does not cover the next 60, and goes behind train 5. With its next turn it has 140, so that it sends two.
@@ -98,7 +98,7 @@ pub record Marked : Type 0 where
   -- the setup for R16.9: 01 0002 0001, 10 0005 00 0200 05DC, 7F 0000
   pub lone : readSetup (formatField ++ (16 ∷ 0 ∷ 5 ∷ 0 ∷ 2 ∷ 0 ∷ 5 ∷ 220 ∷ []) ++ endField) ≡ setupRead 1 (alone (setting 512 1500)) 1 16
   -- R16.9: one lane takes 64 records and not one more, and has room again after a take
-  pub m7 : Given (alone (setting 512 1500)) full (λ rs s. rs ≡ acceptedTo 64 ++ (refused 13 none ∷ taken 0 0 7 1000 ∷ accepted 63 ∷ []))
+  pub m7 : Given (alone (setting 512 1500)) toFull (λ rs s. rs ≡ acceptedTo 64 ++ (refused 13 none ∷ taken 0 0 7 1000 ∷ accepted 63 ∷ []))
   -- R16.10: the greatest sum of weights, and one more, which gives 6 at the weight that goes over
   pub m8 : (readSetup (twoWeights 24) ≡ setupRead 1 (twoLanes 1000 24 1500) 2 22) × (readSetup (twoWeights 25) ≡ setupRefused 6 (some 17))
   -- the setup for R18.10, of its shared lane alone: 01 0002 0001, 10 0005 00 0200 0064, 12 0001 00, 7F 0000

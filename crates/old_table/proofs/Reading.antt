@@ -6,12 +6,12 @@ use mathlib.Core.List.{List}
 use lib.ListN.{length, getD}
 use Rattle.words.specs.Runs.{tab}
 use Rattle.words.proofs.Runs.{length-tab}
-use Rattle.rounds.specs.Round.{Rec}
+use Rattle.rounds.specs.Round.{BareRec}
 use Rattle.waiting.specs.Waiting.{plain, isShared}
 use Rattle.rules.specs.State.{noLane}
 use Rattle.rules.specs.Older.{oldDepth}
 use Rattle.table.specs.Layout.{cells, framingWord, laneWord, rowAt}
-use Rattle.table.specs.Means.{presentAt, recOf, givenOf, timed}
+use Rattle.table.specs.Means.{presentAt, recOf, givenOf, timedByWord}
 use Rattle.table.specs.declared.LaneRow.{LaneRow}
 use Rattle.table.specs.declared.Entry.{Entry}
 use Rattle.table.proofs.Rows.{row-framing}
@@ -40,7 +40,7 @@ pub length-queue : (w : List ℕ) (k h n : ℕ) → length (oldRing w k h n) ≡
 unfolding oldRing
 length-queue w k h n = length-tab n _
 
-pub old-present : (w : List ℕ) (k : ℕ) → presentAt w k ≡ true → oldLane w k ≡ timed (givenOf (oldRowAt w k)) (oldRowAt w k .time .0) (plain (oldQueue w k))
+pub old-present : (w : List ℕ) (k : ℕ) → presentAt w k ≡ true → oldLane w k ≡ timedByWord (givenOf (oldRowAt w k)) (oldRowAt w k .time .0) (plain (oldQueue w k))
 unfolding oldLane
 old-present w k p = rw p
 

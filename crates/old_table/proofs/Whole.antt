@@ -5,7 +5,8 @@ use Prim.Native.Nat.{ℕ, _≤_, _<_}
 use mathlib.Core.List.{List}
 use native.Mathlib.Omega.{arith}
 use lib.ListN.{length, getD}
-use Rattle.waiting.specs.Waiting.{Waiting, plain, Lengths, GoodWaiting, held}
+use Rattle.rounds.specs.Good.{Lengths}
+use Rattle.waiting.specs.Waiting.{Waiting, plain, GoodWaiting, held}
 use Rattle.rules.specs.State.{Lane, noLane}
 use Rattle.rules.specs.Older.{oldDepth, oldEdge}
 use Rattle.table.specs.Layout.{cells, clockWord, framingWord}

@@ -18,7 +18,7 @@ use mathlib.Core.List.{List}
 use lib.ListN.{length, getD}
 use Rattle.words.specs.Runs.{tab}
 use Rattle.units.specs.Plain.{if_then_else_}
-use Rattle.rounds.specs.Round.{Rec}
+use Rattle.rounds.specs.Round.{BareRec}
 use Rattle.waiting.specs.Waiting.{plain}
 use Rattle.rules.specs.State.{Lane, State, noLane}
 use Rattle.rules.specs.Older.{oldDepth, GoodOld}
@@ -27,7 +27,7 @@ use Rattle.parts.specs.Parts.{laneCount, lengthsFrom, ringsEnd}
 use Rattle.slot_lists.specs.Lists.{backAt, listAt, startAt, Solid}
 use Rattle.filing.specs.Filing.{inARow, Agrees}
 use Rattle.table.specs.Layout.{cells, clockWord, laneWord, ringWord, rateFrom, rowAt}
-use Rattle.table.specs.Means.{presentAt, recOf, givenOf, timed, RowAgrees, RowPaced}
+use Rattle.table.specs.Means.{presentAt, recOf, givenOf, timedByWord, RowAgrees, RowPaced}
 use Rattle.table.specs.declared.LaneRow.{LaneRow}
 use Rattle.table.specs.declared.Entry.{Entry}
 
@@ -60,14 +60,14 @@ oldPlace k i = lengthsFrom + oldDepth * k + i % oldDepth
 unfoldable pub oldEntryAt : List ℕ → ℕ → ℕ → Entry
 oldEntryAt w k i = let e = getD w (oldPlace k i) 0 in record { mark = e % 2 ^ 32; length = record { 0 = e / 2 ^ 32 } }
 
-unfoldable pub oldRing : List ℕ → ℕ → ℕ → ℕ → List Rec
+unfoldable pub oldRing : List ℕ → ℕ → ℕ → ℕ → List BareRec
 oldRing w k h n = tab n (λ i. recOf (oldEntryAt w k (h + i)))
 
-abbrev pub oldQueue : List ℕ → ℕ → List Rec
+abbrev pub oldQueue : List ℕ → ℕ → List BareRec
 oldQueue w k = oldRing w k (oldRowAt w k .head) (oldRowAt w k .count)
 
 unfoldable pub oldLane : List ℕ → ℕ → Lane
-oldLane w k = if presentAt w k then timed (givenOf (oldRowAt w k)) (oldRowAt w k .time .0) (plain (oldQueue w k)) else noLane
+oldLane w k = if presentAt w k then timedByWord (givenOf (oldRowAt w k)) (oldRowAt w k .time .0) (plain (oldQueue w k)) else noLane
 
 -- R7.2
 unfoldable pub oldMeant : List ℕ → State

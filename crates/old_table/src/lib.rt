@@ -9,7 +9,7 @@ ghost use mathlib.Core.Bool.{true};
 ghost use Prim.Native.Nat.{_^_, _<_, _≤_};
 ghost use lib.ListN.{getD};
 ghost use Rattle.rules.specs.Older.{oldDepth};
-ghost use Rattle.waiting.specs.Waiting.{Lengths};
+ghost use Rattle.rounds.specs.Good.{Lengths};
 ghost use Rattle.table.specs.Layout.{Front, cells, framingWord};
 ghost use Rattle.table.specs.Means.{presentAt};
 ghost use Rattle.lane_test.specs.Says.{Says};

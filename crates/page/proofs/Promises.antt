@@ -1,24 +1,22 @@
 -- What specs/Promises.antt promises. Assumes nothing.
 use Prim.Native.Nat.{ℕ, _<_}
-use mathlib.Core.Path.{_≡_, refl, sym, ap, _∙_}
+use mathlib.Core.Path.{_≡_, refl, sym, _∙_}
 use mathlib.Core.List.{List, [], _++_}
 use lib.ListN.{length}
 use Rattle.fields.specs.Bytes.{asField}
 use Rattle.rules.specs.State.{Setting}
-use Rattle.plan.specs.Read.{readSetup, settings, SetupReply, setupRefused, setupRead}
+use Rattle.plan.specs.Read.{readSetup, SetupReply, setupRefused, setupRead}
 use Rattle.plan.proofs.Accepted.{accepted-whole}
-use Rattle.page.specs.Read.{pageRead, readPage, pageCame, pageReply}
-use Rattle.page.specs.Form.{Extra, AllSkippable, extraBytes, pageBytes, PageWithin}
-use Rattle.page.specs.declared.Reading.{Reading}
-use Rattle.page.specs.declared.Outcome.the-variants.{Read}
-use Rattle.page.specs.Promises.{ReadsExactly, WithoutSkipped, PagesWithin, SetupDecides, RefusesInside}
+use Rattle.page.specs.Read.{pageRead, readPage}
+use Rattle.page.specs.Form.{Extra, AllSkippable, extraBytes, pageBytes}
+use Rattle.page.specs.Promises.{PageReadsExactly, WithoutSkipped, PagesWithin, SetupDecides, PageRefusesInside}
 use Rattle.page.proofs.Forth.{upto-refused, page-reads, complete}
 use Rattle.page.proofs.Formed.{accepted}
 use Rattle.page.proofs.Parts.{parts, refused-read}
 use Rattle.page.proofs.Places.{refuses}
 
-pub reads-exactly : ReadsExactly
-unfolding ReadsExactly
+pub reads-exactly : PageReadsExactly
+unfolding PageReadsExactly
 reads-exactly s e v gs n = (λ b h. accepted s b e v gs n h, λ a. complete s e v gs n a)
 
 -- what is read of a page does not turn on what is skipped in it
@@ -48,11 +46,6 @@ pub setup-decides : SetupDecides
 unfolding SetupDecides
 setup-decides d xs setup rest high a short n q h = upto-refused d xs setup rest high a short n q h
 
-pub refuses-inside : RefusesInside
-unfolding RefusesInside
+pub refuses-inside : PageRefusesInside
+unfolding PageRefusesInside
 refuses-inside s n q h = refuses s n q h
-
--- what a caller of `read_page` has: the contract's equation, and the outcome that it found
-pub read-within : (r : Reading) (s : List ℕ) (e : ℕ) → pageReply r ≡ readPage s → r .outcome ≡ Read e → PageWithin (r .plan .format) (settings (r .plan)) (r .plan .count)
-unfolding PagesWithin
-read-within r s e h o = pages-within s e (r .plan .format) (settings (r .plan)) (r .plan .count) (sym h ∙ ap (pageCame (r .plan)) o)

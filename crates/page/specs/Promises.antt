@@ -1,10 +1,10 @@
 -- What is promised of reading a page, of every input. Theorems of these names in small letters are in proofs/Promises.antt.
 --
---   ReadsExactly     the pages that are read are exactly those of the form, each with its own edition and its setup's own settings
---   WithoutSkipped   a page is read exactly if it is read without its skipped fields, and as the same
---   PagesWithin      the settings of a page that is read are within the numbers
---   SetupDecides     a fault of the setup inside is the page's, at its place counted from the page's start, whatever stands behind the setup
---   RefusesInside    a refusal has a number of a setup's refusals and a place in the page, at its length only for 1
+--   PageReadsExactly    the pages that are read are exactly those of the form, each with its own edition and its setup's own settings
+--   WithoutSkipped      a page is read exactly if it is read without its skipped fields, and as the same
+--   PagesWithin         the settings of a page that is read are within the numbers
+--   SetupDecides        a fault of the setup inside is the page's, at its place counted from the page's start, whatever stands behind the setup
+--   PageRefusesInside   a refusal has a number of a setup's refusals and a place in the page, at its length only for 1
 --
 -- Assumes nothing.
 use Prim.Native.Nat.{ℕ, _+_, _<_}
@@ -19,8 +19,8 @@ use Rattle.page.specs.Read.{pageRead, pageRefused, moved, readPage}
 use Rattle.page.specs.Form.{Extra, AllSkippable, extraBytes, uptoSetup, pageBytes, AcceptedPage, PageWithin, RefusedPage}
 
 -- R19.1
-unfoldable pub ReadsExactly : Type 0
-ReadsExactly =
+unfoldable pub PageReadsExactly : Type 0
+PageReadsExactly =
     (s : List ℕ) (edition format : ℕ) (gs : List Setting) (n : ℕ)
     → (Bytes s → readPage s ≡ pageRead edition format gs n → AcceptedPage s edition format gs n)
     × (AcceptedPage s edition format gs n → readPage s ≡ pageRead edition format gs n)
@@ -44,5 +44,5 @@ SetupDecides =
     → (n : ℕ) (q : Option ℕ) → readSetup setup ≡ setupRefused n q → readPage (uptoSetup edition xs setup rest) ≡ pageRefused n (moved (8 + length (extraBytes xs)) q)
 
 -- R14.48
-unfoldable pub RefusesInside : Type 0
-RefusesInside = (s : List ℕ) (n : ℕ) (q : Option ℕ) → readPage s ≡ pageRefused n q → RefusedPage s n q
+unfoldable pub PageRefusesInside : Type 0
+PageRefusesInside = (s : List ℕ) (n : ℕ) (q : Option ℕ) → readPage s ≡ pageRefused n q → RefusedPage s n q

@@ -14,13 +14,13 @@ use Rattle.alike.proofs.Alike.{alike-refl}
 use Rattle.pages.specs.Device.{Page, Device, inForceOf}
 use Rattle.editions.specs.Part.{partBytes, lastIn, waitingIn, Fits, Stores}
 use Rattle.editions.proofs.Lent.{tail-all, lent-tail, lent-front}
-use Rattle.table.specs.Layout.{SIZE, tableSize, pageBytes}
+use Rattle.table.specs.Layout.{SIZE, tableSize, pagePartBytes}
 use Rattle.table.specs.Means.{meant}
 use Rattle.table.specs.Encodes.{Encodes}
 use Rattle.table.proofs.Lists.{empty-listed}
 use Rattle.fresh.specs.Makes.{Makes}
 use Rattle.paged.specs.Paged.{partOf, EncodesDevice}
-use Rattle.paged.specs.Settles.{Rests, Leads}
+use Rattle.paged.specs.Settles.{Rests, LeadsDevice}
 use Rattle.paged.proofs.Core.{meant-core, beside-core, listed-core}
 use Rattle.paged.proofs.Units.{filed-encodes}
 
@@ -45,7 +45,7 @@ module _ (t u p : List ℕ) (n : ℕ) (w : Option Page) (s : State) where
   abbrev r : List ℕ
   r = putMid SIZE (length u - SIZE) u p
 
-  pub part-stored : tableSize ≤ length u → Encodes u s → partOf u ≡ partOf t → length p ≡ length q → Stores q p n w → Fits p → Leads t r (record { state = s; edition = n; waiting = w })
+  pub part-stored : tableSize ≤ length u → Encodes u s → partOf u ≡ partOf t → length p ≡ length q → Stores q p n w → Fits p → LeadsDevice t r (record { state = s; edition = n; waiting = w })
   part-stored room e kept size st fits =
       let fit : SIZE ≤ length u = omega arith in
       let tail : partOf r ≡ p = lent-tail SIZE u p fit in
@@ -59,11 +59,11 @@ module _ (t u p : List ℕ) (n : ℕ) (w : Option Page) (s : State) where
           fits = subst Fits (sym tail) fits;
         };
         rest =
-            sym (drop-drop pageBytes SIZE r)
-            ∙ ap (drop pageBytes) tail
-            ∙ further partBytes (pageBytes - partBytes) q p (st .rest)
-            ∙ ap (drop pageBytes) (tail-all SIZE u ∙ kept)
-            ∙ drop-drop pageBytes SIZE t;
+            sym (drop-drop pagePartBytes SIZE r)
+            ∙ ap (drop pagePartBytes) tail
+            ∙ further partBytes (pagePartBytes - partBytes) q p (st .rest)
+            ∙ ap (drop pagePartBytes) (tail-all SIZE u ∙ kept)
+            ∙ drop-drop pagePartBytes SIZE t;
       }
 
 -- the fresh table of a setup
@@ -76,13 +76,13 @@ makes-encodes t u gs room m = record {
 }
 
 pub forced : (t u p : List ℕ) (n : ℕ) (gs : List Setting) → tableSize ≤ length u → Makes t u gs → length p ≡ length (take (length u - SIZE) (drop SIZE u))
-    → Stores (take (length u - SIZE) (drop SIZE u)) p n none × Fits p → Leads t (putMid SIZE (length u - SIZE) u p) (inForceOf (record { edition = n; settings = gs }))
+    → Stores (take (length u - SIZE) (drop SIZE u)) p n none × Fits p → LeadsDevice t (putMid SIZE (length u - SIZE) u p) (inForceOf (record { edition = n; settings = gs }))
 unfolding inForceOf
 forced t u p n gs room m size st = part-stored t u p n none (fresh gs) room (makes-encodes t u gs (omega arith) m) (m .rest) size (st .0) (st .1)
 
 pub waited : (t p : List ℕ) (w : Option Page) → Rests t → length p ≡ length (take (length t - SIZE) (drop SIZE t))
     → Stores (take (length t - SIZE) (drop SIZE t)) p (lastIn (take (length t - SIZE) (drop SIZE t))) w
-    → Leads t (putMid SIZE (length t - SIZE) t p) (record { state = meant t; edition = lastIn (partOf t); waiting = w })
+    → LeadsDevice t (putMid SIZE (length t - SIZE) t p) (record { state = meant t; edition = lastIn (partOf t); waiting = w })
 waited t p w r size st =
     let all = tail-all SIZE t in
     let q = take (length t - SIZE) (drop SIZE t) in

@@ -19,7 +19,7 @@ use Rattle.table.specs.Encodes.{Encodes}
 use Rattle.good.specs.Table.{GoodTable}
 use Rattle.good.proofs.Encodes.{good-sound, good-encodes, encodes-good}
 use Rattle.paged.specs.Paged.{partOf, deviceOf, EncodesDevice, GoodUnit, GoodEncodesDevice, EncodesGoodDevice}
-use Rattle.paged.specs.Settles.{Filed, Ready, Rests}
+use Rattle.paged.specs.Settles.{Filed, PageReady, Rests}
 
 -- ---- the rule for a waiting page, of a unit and of a table's words
 
@@ -33,7 +33,7 @@ unfolding GoodWait GoodPage
 page-wait d none g = tt
 page-wait d (some p) g = g
 
-wait-ready : (b : Bool) (n : ℕ) (w : Option Page) → GoodWait b n w → Ready w
+wait-ready : (b : Bool) (n : ℕ) (w : Option Page) → GoodWait b n w → PageReady w
 unfolding GoodWait
 wait-ready b n none g = tt
 wait-ready b n (some p) g = g .1

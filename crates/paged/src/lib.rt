@@ -21,7 +21,7 @@ ghost use Rattle.table.specs.Layout.{tableSize};
 ghost use Rattle.table.specs.Means.{meant};
 ghost use Rattle.lane_test.specs.Says.{Says};
 ghost use Rattle.paged.specs.Paged.{partOf, GoodUnit};
-ghost use Rattle.paged.specs.Settles.{Filed, Rests, Leads};
+ghost use Rattle.paged.specs.Settles.{Filed, Rests, LeadsDevice};
 use editions::set_taken;
 use editions::set_waiting;
 use good::good;
@@ -59,7 +59,7 @@ pub fn good_unit(t: &[u8]) -> bool
 // A page comes into force: the fresh table of its setup, and its edition is the last one taken.
 pub fn come_in_force(t: &mut [u8], edition: u64, lanes: [Lane; LANES])
     requires { ⌜ (tableSize ≤ length (now t)) × (edition < 65536) × Setup (map settingOf lanes) ⌝ }
-    ensures { λ _. ⌜ Leads (now (t .entry)) (now (t .exit)) (inForceOf (record { edition = edition; settings = map settingOf lanes })) ⌝ }
+    ensures { λ _. ⌜ LeadsDevice (now (t .entry)) (now (t .exit)) (inForceOf (record { edition = edition; settings = map settingOf lanes })) ⌝ }
 {
     fresh::write(t, lanes);
     set_taken(&mut t[SIZE..], edition);
@@ -68,7 +68,7 @@ pub fn come_in_force(t: &mut [u8], edition: u64, lanes: [Lane; LANES])
 // A page waits, in place of one that may have waited; everything else stays.
 pub fn wait(t: &mut [u8], edition: u16, plan: Plan)
     requires { ⌜ Rests (now t) × (0 < edition) × Setup (settings plan) × (knownFormat (plan .format) ≡ true) ⌝ }
-    ensures { λ _. ⌜ Leads (now (t .entry)) (now (t .exit)) (record { state = meant (now (t .entry)); edition = lastIn (partOf (now (t .entry))); waiting = some (record { edition = edition; settings = settings plan }) }) ⌝ }
+    ensures { λ _. ⌜ LeadsDevice (now (t .entry)) (now (t .exit)) (record { state = meant (now (t .entry)); edition = lastIn (partOf (now (t .entry))); waiting = some (record { edition = edition; settings = settings plan }) }) ⌝ }
 {
     set_waiting(&mut t[SIZE..], edition, plan);
 }
@@ -76,7 +76,7 @@ pub fn wait(t: &mut [u8], edition: u16, plan: Plan)
 // No page waits where nothing is held: once no record is held any more, the page that waits comes into force.
 pub fn settle(t: &mut [u8])
     requires { ⌜ Rests (now t) ⌝ }
-    ensures { λ _. ⌜ Leads (now (t .entry)) (now (t .exit)) (settledDevice (meant (now (t .entry))) (lastIn (partOf (now (t .entry)))) (waitingIn (partOf (now (t .entry))))) ⌝ }
+    ensures { λ _. ⌜ LeadsDevice (now (t .entry)) (now (t .exit)) (settledDevice (meant (now (t .entry))) (lastIn (partOf (now (t .entry)))) (waitingIn (partOf (now (t .entry))))) ⌝ }
 {
     if held(t) {
         return;

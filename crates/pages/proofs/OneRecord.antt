@@ -111,7 +111,7 @@ module _ (gs : List Setting) (s : Setup gs) (cs : List DeviceCall) (a : AllRead 
     queued-at es more f =
         let x = stretch-of gs s cs a es [] more (f ∙ ap (λ (y : List DeviceEvent). y ++ more) (sym (append-nil es))) in
         let o = part-order (ofRules es) (x .device .state) (x .run .part) k t in
-        o ∙ ap (λ (q : List round.Rec). ofTrain t (sentOf k (ofRules es)) ++ q)
+        o ∙ ap (λ (q : List round.BareRec). ofTrain t (sentOf k (ofRules es)) ++ q)
         (sym (ap (drop (length (ofTrain t (sentOf k (ofRules es))))) o ∙ drop-front (ofTrain t (sentOf k (ofRules es))) (queueAt (x .device .state) k t)))
 
     pub turn-of : (length (queued k t (ofRules past)) ≡ n)

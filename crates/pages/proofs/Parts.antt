@@ -49,10 +49,10 @@ part-order es s p k t =
     let u = trace (fresh (p .given)) (p .now) in
     let q = queueAt s k t in
     ap (λ (x : List Event). ofTrain t (acceptedOf k x)) (p .events) ∙ ap (ofTrain t) (accepted-append k (p .old) u) ∙ of-append t (acceptedOf k (p .old)) (acceptedOf k u)
-    ∙ ap (λ (x : List round.Rec). x ++ ofTrain t (acceptedOf k u)) (p .even k .1 t)
-    ∙ ap (λ (x : List round.Rec). ofTrain t (sentOf k (p .old)) ++ x) (in-order (p .given) (p .now) k t ∙ ap (λ (x : State). ofTrain t (sentOf k u) ++ queueAt x k t) (sym (p .state)))
+    ∙ ap (λ (x : List round.BareRec). x ++ ofTrain t (acceptedOf k u)) (p .even k .1 t)
+    ∙ ap (λ (x : List round.BareRec). ofTrain t (sentOf k (p .old)) ++ x) (in-order (p .given) (p .now) k t ∙ ap (λ (x : State). ofTrain t (sentOf k u) ++ queueAt x k t) (sym (p .state)))
     ∙ sym (append-assoc (ofTrain t (sentOf k (p .old))) (ofTrain t (sentOf k u)) q)
-    ∙ ap (λ (x : List round.Rec). x ++ q)
+    ∙ ap (λ (x : List round.BareRec). x ++ q)
     (sym (ap (λ (x : List Event). ofTrain t (sentOf k x)) (p .events) ∙ ap (ofTrain t) (sent-append k (p .old) u) ∙ of-append t (sentOf k (p .old)) (sentOf k u)))
 
 -- and in number, lane by lane
@@ -108,6 +108,6 @@ part-cleared es s p e k =
     let idle = idle-first (firstOf l) (none-holds (s .lanes) e k) in (
       omega (arith, part-count es s p k, held-none (l .given .longest) (l .waiting) (sound es s p k) idle),
       λ t.
-          part-order es s p k t ∙ ap (λ (x : List round.Rec). ofTrain t (sentOf k es) ++ x) (queue-none (l .given .longest) (l .waiting) (sound es s p k) idle t)
+          part-order es s p k t ∙ ap (λ (x : List round.BareRec). ofTrain t (sentOf k es) ++ x) (queue-none (l .given .longest) (l .waiting) (sound es s p k) idle t)
           ∙ append-nil (ofTrain t (sentOf k es)),
     )

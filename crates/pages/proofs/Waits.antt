@@ -1,11 +1,9 @@
 -- How long one record waits, over lists with offers of pages: the claims. Assumes nothing.
-use Prim.Native.Nat.{ℕ, _*_}
+use Prim.Native.Nat.{ℕ}
 use mathlib.Core.List.{List}
 use Rattle.rules.specs.State.{Setting}
-use Rattle.rules.specs.Setup.{framingOf, longestCharge, margin}
-use Rattle.pages.specs.Claims.{FairPages, Demand3Pages, FairTightPages}
-use Rattle.pages.specs.Waits.{InTurnPages, WaitsPages, WaitsByPages, OutByPages, RecordsOutPages}
-use Rattle.pages.proofs.Fair.{demand3-pages, tight-pages}
+use Rattle.pages.specs.Claims.{FairPages}
+use Rattle.pages.specs.Waits.{InTurnPages, WaitsPages, WaitsByPages, OutByPages}
 use Rattle.pages.proofs.OneRecord.{waits-of, turn-of, by-of, out-of}
 
 pub in-turn-pages : InTurnPages
@@ -23,7 +21,3 @@ waits-by-pages M fair gs s cs a past since rest k r n e alone few = by-of gs s c
 pub out-by-pages : (M : List Setting → ℕ) → FairPages M → OutByPages M
 unfolding OutByPages
 out-by-pages M fair gs s cs a past since rest k r n e alone much = out-of gs s cs a past since rest k r n e alone M fair much
-
-pub records-out-pages : RecordsOutPages
-unfolding RecordsOutPages Demand3Pages FairTightPages
-records-out-pages = (out-by-pages (λ (gs : List Setting). margin (framingOf gs)) demand3-pages, out-by-pages (λ (gs : List Setting). 1024 * longestCharge gs) tight-pages)

@@ -29,7 +29,7 @@ use Rattle.rules.specs.Setup.{Setup, framingOf, longestCharge, margin}
 use Rattle.rules.specs.Calls.{Call, put, accepted, refused, fresh}
 use Rattle.rules.specs.Runs.{Event, trace, acceptedOf, sentOf, ofTrain}
 use Rattle.rules.specs.Fair.{bytesSent, bytesSentOf, Holding, Compared}
-use Rattle.rules.specs.Even.{HoldingTrain, bytesOf}
+use Rattle.rules.specs.Even.{HoldingTrain, trainBytes}
 use Rattle.rounds.specs.Round.{trainDepth}
 use Rattle.waiting.specs.Waiting.{laneDepth, queueOf}
 use Rattle.rules.specs.Good.{Good}
@@ -123,7 +123,7 @@ OthersPages =
     (gs : List Setting) → Setup gs → (calls : List DeviceCall) → AllRead calls
     → (past stretch rest : List DeviceEvent) → deviceTrace (freshDevice gs) calls ≡ past ++ stretch ++ rest
     → (k a b : ℕ) → (a ≡ b → ⊥) → ((p q : List DeviceEvent) → p ++ q ≡ stretch → HoldingTrain k a (ofRules (past ++ p)))
-    → bytesOf k b (ofRules stretch) + 2 ≤ bytesOf k a (ofRules stretch) + 3 * (settingAt (inForce gs past) k) .longest
+    → trainBytes k b (ofRules stretch) + 2 ≤ trainBytes k a (ofRules stretch) + 3 * (settingAt (inForce gs past) k) .longest
 
 -- R19.14: and two that both do
 unfoldable pub EvenTrainsPages : Type 0
@@ -132,7 +132,7 @@ EvenTrainsPages =
     → (past stretch rest : List DeviceEvent) → deviceTrace (freshDevice gs) calls ≡ past ++ stretch ++ rest
     → (k a b : ℕ) → (a ≡ b → ⊥)
     → ((p q : List DeviceEvent) → p ++ q ≡ stretch → HoldingTrain k a (ofRules (past ++ p))) → ((p q : List DeviceEvent) → p ++ q ≡ stretch → HoldingTrain k b (ofRules (past ++ p)))
-    → bytesOf k a (ofRules stretch) + 2 ≤ bytesOf k b (ofRules stretch) + 3 * (settingAt (inForce gs past) k) .longest
+    → trainBytes k a (ofRules stretch) + 2 ≤ trainBytes k b (ofRules stretch) + 3 * (settingAt (inForce gs past) k) .longest
 
 -- R19.14: no stretch in which a lane holds throughout spans a change of setup. That is no premise of the claims above; it follows.
 unfoldable pub SameSetupThroughout : Type 0

@@ -1,7 +1,7 @@
 -- A plan sent over the air while a record waits, computed.
 --
 --   oneLane, twoLanes   the setup that the table was made with, and the page's
---   offered             the offer of a page
+--   offeredPage         the offer of a page
 --   OverTheAir          the answers, call by call, and the page in force after the take and before it
 --
 -- Assumes nothing.
@@ -22,17 +22,17 @@ oneLane = record { weight = 512; longest = 1500; framing = 0; shared = false } �
 abbrev pub twoLanes : List Setting
 twoLanes = record { weight = 256; longest = 64; framing = 7; shared = false } ∷ record { weight = 512; longest = 576; framing = 7; shared = false } ∷ replicate 62 noSetting
 
-abbrev pub offered : ℕ → List Setting → DeviceCall
-offered n gs = offer (record { edition = n; settings = gs })
+abbrev pub offeredPage : ℕ → List Setting → DeviceCall
+offeredPage n gs = offer (record { edition = n; settings = gs })
 
 -- A record waits in lane 0; the page of edition 3 comes and waits; one of edition 2 is late. Lane 1 is not there yet. The take hands out the last record, by
 -- the old setup.
-abbrev pub before : List DeviceCall
-before = ruled (put 0 0 1 1000) ∷ offered 3 twoLanes ∷ offered 2 oneLane ∷ ruled (put 1 0 2 500) ∷ []
+abbrev pub callsBefore : List DeviceCall
+callsBefore = ruled (put 0 0 1 1000) ∷ offeredPage 3 twoLanes ∷ offeredPage 2 oneLane ∷ ruled (put 1 0 2 500) ∷ []
 
 -- After it lane 1 is there, and lane 0's longest is 64. A restart keeps the edition: 3 is refused, and 4, with nothing held, is in force at once.
-abbrev pub behind : List DeviceCall
-behind = ruled take ∷ ruled (put 1 0 3 500) ∷ ruled (put 0 0 4 65) ∷ ruled take ∷ ruled restart ∷ offered 3 twoLanes ∷ offered 4 oneLane ∷ []
+abbrev pub callsBehind : List DeviceCall
+callsBehind = ruled take ∷ ruled (put 1 0 3 500) ∷ ruled (put 0 0 4 65) ∷ ruled take ∷ ruled restart ∷ offeredPage 3 twoLanes ∷ offeredPage 4 oneLane ∷ []
 
 abbrev pub replies : List DeviceEvent → List DeviceReply
 replies es = map (λ (e : DeviceEvent). e .reply) es
@@ -40,8 +40,8 @@ replies es = map (λ (e : DeviceEvent). e .reply) es
 -- R19.18
 unfoldable pub OverTheAir : Type 0
 OverTheAir =
-    (replies (deviceTrace (freshDevice oneLane) (before ++ behind))
+    (replies (deviceTrace (freshDevice oneLane) (callsBefore ++ callsBehind))
     ≡ answered (accepted 0) ∷ waitsNow ∷ answered (refused 60 none) ∷ answered (refused 11 none)
     ∷ answered (taken 0 0 1 1000) ∷ answered (accepted 0) ∷ answered (refused 12 none) ∷ answered (taken 1 0 3 500) ∷ answered restarted ∷ answered (refused 60 none) ∷ inForceNow ∷ [])
-    × (_≡_ {A = Page} (pageIn oneLane (deviceTrace (freshDevice oneLane) before)) (record { edition = 0; settings = oneLane }))
-    × (_≡_ {A = Page} (pageIn oneLane (deviceTrace (freshDevice oneLane) (before ++ (ruled take ∷ [])))) (record { edition = 3; settings = twoLanes }))
+    × (_≡_ {A = Page} (pageIn oneLane (deviceTrace (freshDevice oneLane) callsBefore)) (record { edition = 0; settings = oneLane }))
+    × (_≡_ {A = Page} (pageIn oneLane (deviceTrace (freshDevice oneLane) (callsBefore ++ (ruled take ∷ [])))) (record { edition = 3; settings = twoLanes }))

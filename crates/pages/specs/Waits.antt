@@ -5,7 +5,7 @@
 --   InTurnPages        n is how many are queued before it; from there on they are handed out, then the record, then those put later
 --   WaitsPages M       while it is not handed out: 1,024 T < c O + 4 slots + M
 --   WaitsByPages M     in a lane that is not shared, fewer bytes are sent than the worst wait
---   OutByPages M       once so many are sent it is out; RecordsOutPages: as asked and tight
+--   OutByPages M       once so many are sent it is out
 --   WaitsSharedPages M, OutBySharedPages M     the same of any lane, shared ones too
 --   lagsNow            the event of a lag; WaitsFromPages M, WaitsFromByPages M: the wait where lag was asked right after the put
 --   OutByTakesPages    as many takes as the worst wait has bytes are enough
@@ -20,7 +20,7 @@ use lib.ListN.{length}
 use Rattle.units.specs.Numbers.{lineRate}
 use Rattle.waiting.specs.Waiting.{bare}
 use Rattle.rules.specs.State.{Rec, Setting, settingAt, charge, rate, slot}
-use Rattle.rules.specs.Setup.{Setup, framingOf, longestCharge, margin}
+use Rattle.rules.specs.Setup.{Setup, framingOf, margin}
 use Rattle.rules.specs.Calls.{put, lag, accepted, lagged}
 use Rattle.rules.specs.Runs.{acceptedOf, sentOf, ofTrain}
 use Rattle.rules.specs.Fair.{bytesSent, bytesSentOf}
@@ -61,9 +61,6 @@ OutByPages M =
     → (settingAt (inForce gs past) k) .shared ≡ false
     → worstWait (M (inForce gs past)) (settingAt (inForce gs past) k) n ≤ bytesSent (inForce gs past) (ofRules since)
     → Out k r (ofRules past) (ofRules since)
-
-unfoldable pub RecordsOutPages : Type 0
-RecordsOutPages = OutByPages (λ (gs : List Setting). margin (framingOf gs)) × OutByPages (λ (gs : List Setting). lineRate * longestCharge gs)
 
 -- ---- a shared lane
 

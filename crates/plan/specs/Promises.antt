@@ -1,10 +1,10 @@
 -- What is promised of reading a setup, of every input and every place. Theorems of these names in small letters are in proofs/Promises.antt.
 --
---   ReadsExactly    R8.15: the setups that are read are exactly the accepted ones, each as its own plan and as far as the place behind its 0x7F
---   ReadsWhole      R8.14: the same where the setup is the whole input
---   PlansWithin     R8.15: the plan of an accepted setup is within the numbers
---   LooksNoFurther  what is read depends on no byte behind the setup's 0x7F
---   RefusesInside   R8.13: a refusal has a number of `refusals` and a place in the input, at its length only for 1; at 50 to 54 the wrong number begins there
+--   SetupReadsExactly    R8.15: the setups that are read are exactly the accepted ones, each as its own plan and as far as the place behind its 0x7F
+--   ReadsWhole           R8.14: the same where the setup is the whole input
+--   PlansWithin          R8.15: the plan of an accepted setup is within the numbers
+--   LooksNoFurther       what is read depends on no byte behind the setup's 0x7F
+--   SetupRefusesInside   R8.13: a refusal has a number of `refusals` and a place in the input, at its length only for 1; at 50 to 54 the wrong number begins there
 --
 -- Assumes nothing.
 use Prim.Native.Nat.{ℕ}
@@ -16,8 +16,8 @@ use Rattle.rules.specs.State.{Setting}
 use Rattle.plan.specs.Read.{setupRead, setupRefused, readPlan, readSetup}
 use Rattle.plan.specs.Accepted.{AcceptedSetup, PlanWithin, RefusedSetup}
 
-unfoldable pub ReadsExactly : Type 0
-ReadsExactly =
+unfoldable pub SetupReadsExactly : Type 0
+SetupReadsExactly =
     (s : List ℕ) (at v : ℕ) (gs : List Setting) (n next : ℕ)
     → (readPlan s at ≡ setupRead v gs n next → AcceptedSetup s at v gs n next) × (AcceptedSetup s at v gs n next → readPlan s at ≡ setupRead v gs n next)
 
@@ -33,5 +33,5 @@ PlansWithin = (s : List ℕ) (at v : ℕ) (gs : List Setting) (n next : ℕ) →
 unfoldable pub LooksNoFurther : Type 0
 LooksNoFurther = (s t : List ℕ) (at v : ℕ) (gs : List Setting) (n next : ℕ) → readPlan s at ≡ setupRead v gs n next → take next s ≡ take next t → readPlan t at ≡ setupRead v gs n next
 
-unfoldable pub RefusesInside : Type 0
-RefusesInside = (s : List ℕ) (at n : ℕ) (place : Option ℕ) → readPlan s at ≡ setupRefused n place → RefusedSetup s at n place
+unfoldable pub SetupRefusesInside : Type 0
+SetupRefusesInside = (s : List ℕ) (at n : ℕ) (place : Option ℕ) → readPlan s at ≡ setupRefused n place → RefusedSetup s at n place

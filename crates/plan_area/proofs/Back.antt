@@ -1,4 +1,4 @@
--- Areas and setups go back and forth: the promises WritesBack and ReadsBack of specs/Step.antt.
+-- Areas and setups go back and forth: the promises AreaWritesBack and AreaReadsBack of specs/Step.antt.
 --
 --   ReadInto, read-into   what reading that gave lanes leaves, of a setup or another text
 --
@@ -21,7 +21,7 @@ use Rattle.plan_writer.specs.declared.Written.{Written}
 use Rattle.plan_writer.proofs.Decided.{within-or-not}
 use Rattle.plan_writer.proofs.Round.{size-is, reads-back, read-within, writes-back}
 use Rattle.plan_area.specs.Area.{areaSize, AreaRoom, planIn, ShowsPlan, AreaWithin}
-use Rattle.plan_area.specs.Step.{AreaReply, areaLanes, areaRefused, areaReply, AreaBySetup, AreaRead, WriteStep, WritesBack, ReadsBack}
+use Rattle.plan_area.specs.Step.{AreaReply, areaLanes, areaRefused, areaReply, AreaBySetup, AreaRead, WriteStep, AreaWritesBack, AreaReadsBack}
 use Rattle.plan_area.specs.declared.Got.{Got}
 use Rattle.plan_area.proofs.Shown.{shows-plan, shows-within, area-shows}
 
@@ -46,8 +46,8 @@ read-into said area area′ g n r e =
     by-reply room (plan.setupRefused m q) q-is f = lanes-refused (sym e ∙ f .0)
     by-reply room (plan.setupRead v gs m next) q-is f = record { plan = record { format = v; lanes = gs; count = m }; next = next; reads = q-is; shows = f .1; room = omega (arith, room, r .size) }
 
-pub writes-back-area : WritesBack
-unfolding WritesBack
+pub writes-back-area : AreaWritesBack
+unfolding AreaWritesBack
 writes-back-area s bytes form area area′ g n r e before after a h room =
     let into = read-into (readSetup s) area area′ g n r e in
     let p = into .plan in
@@ -81,8 +81,8 @@ wrote-size area before after a k h e =
     (λ (o : AreaWithin area → ⊥). size-refused (sym e ∙ h .outside o .0))
     (within-area area)
 
-pub reads-back-area : ReadsBack
-unfolding ReadsBack
+pub reads-back-area : AreaReadsBack
+unfolding AreaReadsBack
 reads-back-area area before after a k h e area₁ area₂ g room r =
     let is = wrote-size area before after a k h e in
     let p = planIn area in

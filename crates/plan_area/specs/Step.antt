@@ -1,11 +1,11 @@
 -- The promises of the two calls on a plan area (R9.8, R9.9), whole: for all bytes and every length.
 --
---   AreaReply   what reading answers: the number of lanes, or a refusal's number and its place
---   AreaRead    what reading into an area comes to, by what a reader says of its bytes
---   ReadStep    the promise of `read_setup`
---   WriteStep   the promise of `write_setup`
---   WritesBack  a setup that is read into an area, and is in the form, comes back as its own bytes
---   ReadsBack   what was written from an area is read, into any area, as the same words
+--   AreaReply        what reading answers: the number of lanes, or a refusal's number and its place
+--   AreaRead         what reading into an area comes to, by what a reader says of its bytes
+--   ReadStep         the promise of `read_setup`
+--   WriteStep        the promise of `write_setup`
+--   AreaWritesBack   a setup that is read into an area, and is in the form, comes back as its own bytes
+--   AreaReadsBack    what was written from an area is read, into any area, as the same words
 --
 -- The theorems of the last two are `writes-back-area` and `reads-back-area` in proofs/Back.antt. Assumes nothing.
 use Prim.Native.Nat.{ℕ, _≤_, _<_}
@@ -55,14 +55,14 @@ pub record WriteStep (area before : List ℕ) (a : Written) (after : List ℕ) :
   pub short : AreaWithin area → length before < setupSize (planIn area) → (writeReply a ≡ notWritten 56) × (after ≡ before)
   pub written : AreaWithin area → setupSize (planIn area) ≤ length before → (writeReply a ≡ writtenSize (setupSize (planIn area))) × (after ≡ setupBytes (planIn area) ++ drop (setupSize (planIn area)) before)
 
-unfoldable pub WritesBack : Type 0
-WritesBack =
+unfoldable pub AreaWritesBack : Type 0
+AreaWritesBack =
     (s : List ℕ) → Bytes s → InForm s → (area area′ : List ℕ) (g : Got) (n : ℕ) → ReadStep s area g area′ → areaReply g ≡ areaLanes n
     → (before after : List ℕ) (a : Written) → WriteStep area′ before a after → length s ≤ length before
     → (writeReply a ≡ writtenSize (length s)) × (after ≡ s ++ drop (length s) before)
 
-unfoldable pub ReadsBack : Type 0
-ReadsBack =
+unfoldable pub AreaReadsBack : Type 0
+AreaReadsBack =
     (area before after : List ℕ) (a : Written) (k : ℕ) → WriteStep area before a after → writeReply a ≡ writtenSize k
     → (area₁ area₂ : List ℕ) (g : Got) → AreaRoom area₁ → ReadStep (take k after) area₁ g area₂
     → (areaReply g ≡ areaLanes (planIn area .count)) × ((i : ℕ) → i < 65 → wordAt area₂ i ≡ wordAt area i)

@@ -14,7 +14,7 @@ use Rattle.rules.specs.State.{Setting}
 use Rattle.plan.specs.Read.{readSetup, settings, setupCame}
 use Rattle.plan_writer.specs.declared.Written.{Written}
 use Rattle.plan_writer.specs.Write.{Planned, planned, Within, setupSize, writtenSize, notWritten, writeReply, Writes}
-use Rattle.plan_writer.specs.RoundTrip.{readAs, ReadsBack, WritesBack, Rewritten, OnlyOutside, OnlyShort, SizeMost}
+use Rattle.plan_writer.specs.RoundTrip.{readAs, SetupReadsBack, SetupWritesBack, Rewritten, OnlyOutside, OnlyShort, SetupSizeMost}
 use Rattle.plan_writer.proofs.Numbered.{numbered-all}
 use Rattle.plan_writer.proofs.Round.{size-is, size-most, reads-back, in-form, read-within, writes-back, only-form, written-read, written-at}
 use Rattle.plan_writer.proofs.Decided.{within-or-not}
@@ -54,16 +54,16 @@ module _ (p : Planned) (before after : List ℕ) (a : Written) (h : Writes p bef
       go (inr (v, inl l)) = let q : notWritten 56 ≡ notWritten 55 = sym (h .short v l .0) ∙ e in let z : _≡_ {A = ℕ} 56 55 = cc in omega arith
       go (inr (v, inr l)) = size-refused (sym (h .written v l .0) ∙ e)
 
-pub reads-back-calls : ReadsBack
-unfolding ReadsBack
+pub reads-back-calls : SetupReadsBack
+unfolding SetupReadsBack
 reads-back-calls plan before after a k h e =
     let p = planned plan in
     let is = wrote-size p before after a h k e in
     let k-is : k ≡ setupSize p = is .1 .1 in
     (ap (λ (i : ℕ). readSetup (take i after)) k-is ∙ written-read p before after a h (is .0) (is .1 .0) ∙ ap (readAs p) (sym k-is), written-at p before after a h (is .0) (is .1 .0) ∙ ap (readAs p) (sym k-is))
 
-pub writes-back-calls : WritesBack
-unfolding WritesBack
+pub writes-back-calls : SetupWritesBack
+unfolding SetupWritesBack
 writes-back-calls s bytes form r k e o before after a h room =
     let p : Planned = record { format = r .plan .format; lanes = settings (r .plan); count = r .plan .count } in
     let is : readSetup s ≡ readAs p k = sym e ∙ ap (setupCame (r .plan)) o in
@@ -86,6 +86,6 @@ pub only-short-calls : OnlyShort
 unfolding OnlyShort
 only-short-calls p before after a h = (λ w l. h .short w l .0, wrote-short p before after a h)
 
-pub size-most-calls : SizeMost
-unfolding SizeMost
+pub size-most-calls : SetupSizeMost
+unfolding SetupSizeMost
 size-most-calls p w = size-most p w

@@ -14,7 +14,7 @@ use Rattle.rules.specs.Calls.{appended}
 use Rattle.slot_lists.specs.Lists.{listAt}
 use Rattle.filing.specs.Filing.{inARow}
 use Rattle.table.specs.Layout.{Now, cells, rowAt, putRing}
-use Rattle.table.specs.Means.{presentAt, sharedAt, waitingOf, givenOf, timed, meant, Housed, Sound, Leaves, withLane}
+use Rattle.table.specs.Means.{presentAt, sharedAt, waitingOf, givenOf, timedByWord, meant, Housed, Sound, Leaves, withLane}
 use Rattle.table.specs.declared.LaneRow.{LaneRow}
 use Rattle.table.proofs.Rows.{retimed, holds-present, waiting-shared, waiting-held}
 use Rattle.table.proofs.Timed.{timed-appended}
@@ -75,9 +75,9 @@ module _ (t t₁ t′ : List ℕ) (k : ℕ) (e : Item) (s : Sound t) (hk : k < 6
   pub append-leaves : r .head < laneDepth → Entered t t₁ k r e → Now t₁ t′ (putRing (cells t₁) k (r .head) (r .count + 1)) → Leaves t t′ (withLane (meant t) k (appended (laneAt (meant t) k) (waiting e)))
   append-leaves top en b =
       let is : r .shared ≡ true → waitingOf w k r ≡ shared (sharedAt w k) = λ q. waiting-shared w k r q busy-row in
-      let counted : r .shared ≡ true → round.held (sharedAt w k) ≡ r .count = λ q. housed .trains q .counted in
-      let same : timed (givenOf r) (r .time .0) (waitingOf (cells t₁) k (retimed r (r .time .0) (r .head) (r .count + 1))) ≡ appended (laneAt (meant t) k) (waiting e)
-      = ap (timed (givenOf r) (r .time .0)) (entered-waits t t₁ k r e en is counted (r .time .0))
+      let counted : r .shared ≡ true → round.sharedHeld (sharedAt w k) ≡ r .count = λ q. housed .trains q .counted in
+      let same : timedByWord (givenOf r) (r .time .0) (waitingOf (cells t₁) k (retimed r (r .time .0) (r .head) (r .count + 1))) ≡ appended (laneAt (meant t) k) (waiting e)
+      = ap (timedByWord (givenOf r) (r .time .0)) (entered-waits t t₁ k r e en is counted (r .time .0))
       ∙ sym (timed-appended (givenOf r) (r .time .0) (waitingOf w k r) (waiting e) first-kept)
       ∙ ap (λ (x : Lane). appended x (waiting e)) (sym (lane-row w o k hk present)) in
       subst (λ (x : Lane). Leaves t t′ (withLane (meant t) k x)) same

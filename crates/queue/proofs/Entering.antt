@@ -7,7 +7,7 @@ use native.Mathlib.Omega.{arith}
 use lib.ListN.{length, set}
 use Rattle.waiting.specs.Waiting.{plain, shared}
 use Rattle.rules.specs.State.{laneDepth}
-use Rattle.table.specs.Layout.{Now, cells, lengthsCell, lengthWords, trainsCell, placeOf, roundWord, roundAt, putEntry, clearCells, trainNumber}
+use Rattle.table.specs.Layout.{Now, cells, lengthsCell, lengthWords, trainsCell, placeInLane, roundWord, roundAt, putEntry, clearCells, trainNumber}
 use Rattle.table.specs.Means.{sharedAt, PlacesFit}
 use Rattle.table.specs.declared.Entry.{Entry}
 use Rattle.table.specs.declared.LaneRow.{LaneRow}
@@ -25,10 +25,10 @@ entryOf e = record { mark = e .mark; length = e .length }
 
 -- into the ring
 pub entered-plain : (t t₁ : List ℕ) (k : ℕ) (l : LaneRow) (e : Item) → k < 64 → l .count < laneDepth → Fits (entryOf e) → e .length .0 ≤ l .longest .0 → l .shared ≡ false
-    → Now t t₁ (putEntry (cells t) (placeOf k (l .head + l .count)) (entryOf e)) → Entered t t₁ k l e
+    → Now t t₁ (putEntry (cells t) (placeInLane k (l .head + l .count)) (entryOf e)) → Entered t t₁ k l e
 entered-plain t t₁ k l e hk room f le kind n =
     record {
-      moved = moved-now t t₁ _ k n (outside-place (cells t) k (l .head + l .count) (entryOf e)) (rows-place (cells t) k (placeOf k (l .head + l .count)) (entryOf e));
+      moved = moved-now t t₁ _ k n (outside-place (cells t) k (l .head + l .count) (entryOf e)) (rows-place (cells t) k (placeInLane k (l .head + l .count)) (entryOf e));
       fits = λ p. rw (n .words) (places-one (cells t) k l hk (length-cells t) (l .head + l .count) (entryOf e) f le p);
       plain = λ q. rw (n .words) (ring-snoc (cells t) k (l .head) (l .count) (entryOf e) (length-cells t) hk room f);
       shared = λ q. absurd (false≢true (sym kind ∙ q));
@@ -37,15 +37,15 @@ entered-plain t t₁ k l e hk room f le kind n =
 
 -- behind the records of its train
 pub entered-train : (t t₀ t₁ : List ℕ) (k p : ℕ) (l : LaneRow) (e : Item) → k < 64 → p < 64 → Fits (entryOf e) → e .length .0 ≤ l .longest .0 → l .shared ≡ true → Ready (cells t) k (e .train)
-    → Joins t t₀ k (e .train) (l .longest .0) p → Now t₀ t₁ (putEntry (cells t₀) (placeOf k p) (entryOf e)) → Entered t t₁ k l e
+    → Joins t t₀ k (e .train) (l .longest .0) p → Now t₀ t₁ (putEntry (cells t₀) (placeInLane k p) (entryOf e)) → Entered t t₁ k l e
 entered-train t t₀ t₁ k p l e hk small f le kind y j n =
     let c = j .change in
     let size = length-cells t in
     let v = both (cells t) k (e .train) (c .train) (c .round) hk (y .train) size (j .puts .small) in
-    let u = putEntry v (placeOf k p) (entryOf e) in
-    let words : cells t₁ ≡ u = n .words ∙ ap (λ (x : List ℕ). putEntry x (placeOf k p) (entryOf e)) (j .now .words) in
+    let u = putEntry v (placeInLane k p) (entryOf e) in
+    let words : cells t₁ ≡ u = n .words ∙ ap (λ (x : List ℕ). putEntry x (placeInLane k p) (entryOf e)) (j .now .words) in
     let first : Moved t t₀ k = moved-now t t₀ v k (j .now) (both-outside (cells t) k (e .train) (c .train) (c .round) hk (y .train) size (j .puts .small)) (both-rows (cells t) k (e .train) (c .train) (c .round) hk (y .train) size (j .puts .small)) in
-    let second : Moved t₀ t₁ k = moved-now t₀ t₁ _ k n (outside-place (cells t₀) k p (entryOf e)) (rows-place (cells t₀) k (placeOf k p) (entryOf e)) in
+    let second : Moved t₀ t₁ k = moved-now t₀ t₁ _ k n (outside-place (cells t₀) k p (entryOf e)) (rows-place (cells t₀) k (placeInLane k p) (entryOf e)) in
     record {
       moved = moved-then first second;
       fits = λ h. rw words (places-one v k l hk (both-size (cells t) k (e .train) (c .train) (c .round) hk (y .train) size (j .puts .small)) p (entryOf e) f le

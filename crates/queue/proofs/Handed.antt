@@ -7,20 +7,20 @@ use mathlib.Core.List.{List}
 use native.Mathlib.Omega.{arith}
 use lib.ListN.{length}
 use Rattle.words.proofs.Runs.{eq-or-ne}
-use Rattle.rounds.specs.Round.{handOut}
+use Rattle.rounds.specs.Round.{sharedHandOut}
 use Rattle.turns.specs.Turns as turns
-use Rattle.turns.specs.Turns.{headOf, turnOf, sharedOf, with, begun, Light, HandsOut}
+use Rattle.turns.specs.Turns.{headOf, turnOf, sharedOf, with, begun, Light, HandsOutTurn}
 use Rattle.turns.specs.declared.Change.{Change}
 use Rattle.turns.proofs.Train.{with-same, with-other, shared-same}
-use Rattle.table.specs.Layout.{CELLS, roundAt, placeOf, entryAt, trainNumber, putTrain}
+use Rattle.table.specs.Layout.{CELLS, roundAt, placeInLane, entryAt, trainNumber, putTrain}
 use Rattle.table.specs.Means.{recOf, recAt, sharedAt}
 use Rattle.queue.proofs.Trains.{light-small, numbers-put, places-train, round-train, both, both-size, both-numbers, both-round, both-place}
 
 module _ (w : List ℕ) (k L n next : ℕ) (c : Change) (hk : k < 64) (size : length w ≡ CELLS) (short : L ≤ 1500)
     (turn : turnOf (roundAt w k) < 8) (light : (i : ℕ) → i < 8 → Light (trainNumber w k i))
-    (first-length : recAt w k (turns.placeOf (turnOf (roundAt w k)) (headOf (trainNumber w k (turnOf (roundAt w k))))) .len ≡ n)
-    (next-length : recAt w k (turns.placeOf (turnOf (roundAt w k)) (headOf (trainNumber w k (turnOf (roundAt w k))) + 1)) .len ≡ next)
-    (hands : HandsOut (trainNumber w k (turnOf (roundAt w k))) (roundAt w k) n next c) where
+    (first-length : recAt w k (turns.placeInTrain (turnOf (roundAt w k)) (headOf (trainNumber w k (turnOf (roundAt w k))))) .len ≡ n)
+    (next-length : recAt w k (turns.placeInTrain (turnOf (roundAt w k)) (headOf (trainNumber w k (turnOf (roundAt w k))) + 1)) .len ≡ next)
+    (hands : HandsOutTurn (trainNumber w k (turnOf (roundAt w k))) (roundAt w k) n next c) where
   abbrev j : ℕ
   j = turnOf (roundAt w k)
 
@@ -50,13 +50,13 @@ module _ (w : List ℕ) (k L n next : ℕ) (c : Change) (hk : k < 64) (size : le
   pub begins-small : (i m : ℕ) → i < 8 → m ≡ trainNumber handed k i → m + 128 * L < 2 ^ 32
   begins-small i m hi e = omega (arith, handed-numbers i hi, ts-small i hi)
 
-  same-records : (u : List ℕ) → ((i : ℕ) → entryAt u (placeOf k i) ≡ entryAt w (placeOf k i)) → (q : ℕ) → q < 64 → recAt u k q ≡ recAt w k q
+  same-records : (u : List ℕ) → ((i : ℕ) → entryAt u (placeInLane k i) ≡ entryAt w (placeInLane k i)) → (q : ℕ) → q < 64 → recAt u k q ≡ recAt w k q
   unfolding recAt
   same-records u h q b = ap recOf (h q)
 
   -- words with these numbers are those of the lane after it
-  left : (b : Bool) → c .begins ≡ b → (u : List ℕ) → ((i : ℕ) → entryAt u (placeOf k i) ≡ entryAt w (placeOf k i)) → roundAt u k ≡ c .round
-      → ((i : ℕ) → i < 8 → trainNumber u k i ≡ begun L b ts (c .round) i) → sharedAt u k ≡ handOut L (sharedAt w k)
+  left : (b : Bool) → c .begins ≡ b → (u : List ℕ) → ((i : ℕ) → entryAt u (placeInLane k i) ≡ entryAt w (placeInLane k i)) → roundAt u k ≡ c .round
+      → ((i : ℕ) → i < 8 → trainNumber u k i ≡ begun L b ts (c .round) i) → sharedAt u k ≡ sharedHandOut L (sharedAt w k)
   unfolding sharedAt
   left b q u places round numbers =
       shared-same (recAt u k) (recAt w k) (trainNumber u k) (begun L b ts (c .round)) (roundAt u k) (same-records u places) numbers
@@ -64,7 +64,7 @@ module _ (w : List ℕ) (k L n next : ℕ) (c : Change) (hk : k < 64) (size : le
       ∙ ap (λ (x : Bool). sharedOf (recAt w k) (begun L x ts (c .round)) (c .round)) (sym q)
       ∙ hands .lane L (recAt w k) (trainNumber w k) refl first-length next-length
 
-  pub handed-shared : c .begins ≡ false → sharedAt handed k ≡ handOut L (sharedAt w k)
+  pub handed-shared : c .begins ≡ false → sharedAt handed k ≡ sharedHandOut L (sharedAt w k)
   unfolding begun
   handed-shared q = left false q handed (both-place w k j (c .train) (c .round) hk turn size (omega (arith, hands .small))) handed-round handed-numbers
 
@@ -85,11 +85,11 @@ module _ (w : List ℕ) (k L n next : ℕ) (c : Change) (hk : k < 64) (size : le
         ∙ ap (λ (y : ℕ). with ts y (m + 128 * L) x) ei
         ∙ ap (λ (y : ℕ). with ts (turnOf (c .round)) y x) number-is
 
-    pub begun-place : (x : ℕ) → entryAt begun-words (placeOf k x) ≡ entryAt w (placeOf k x)
+    pub begun-place : (x : ℕ) → entryAt begun-words (placeInLane k x) ≡ entryAt w (placeInLane k x)
     begun-place x = places-train handed k hk handed-size i (m + 128 * L) x hi ∙ both-place w k j (c .train) (c .round) hk turn size (omega (arith, hands .small)) x
 
     pub begun-round : roundAt begun-words k ≡ c .round
     begun-round = round-train handed k hk handed-size i (m + 128 * L) hi ∙ handed-round
 
-    pub begun-shared : sharedAt begun-words k ≡ handOut L (sharedAt w k)
+    pub begun-shared : sharedAt begun-words k ≡ sharedHandOut L (sharedAt w k)
     begun-shared = left true begins begun-words begun-place begun-round begun-numbers

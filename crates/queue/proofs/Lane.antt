@@ -10,7 +10,7 @@ use lib.ListN.{length, set, getD}
 use borrow.Author.Tests.{leb-false, ltb-true}
 use Rattle.rounds.specs.Round as round
 use Rattle.rounds.specs.Round.{Train, trainCount, trainDepth}
-use Rattle.rounds.specs.Good.{Good}
+use Rattle.rounds.specs.Good.{GoodShared}
 use Rattle.turns.specs.Turns.{headOf, countOf, namedOf, orderOf, roundOf, fours, trainOf, trainsOf, sharedOf, Ordered}
 use Rattle.turns.proofs.Train.{train-is, length-ring}
 use Rattle.turns.proofs.Good.{good-light, good-room}
@@ -18,7 +18,7 @@ use Rattle.waiting.specs.Waiting.{shared, itemOf, first, known, full, GoodWaiti
 use Rattle.waiting.proofs.Laws.{Enters, first-nothing, held-none}
 use Rattle.rules.specs.State.{Rec, Setting, Lane, laneAt, laneDepth, firstOf, holds, some?}
 use Rattle.table.specs.Layout.{Now, cells, laneWord, roundAt, rowAt, putRow, putRing, trainNumber}
-use Rattle.table.specs.Means.{presentAt, recAt, sharedAt, waitingOf, givenOf, timed, stateOf, meant, Housed, Beside, Leaves, withLane}
+use Rattle.table.specs.Means.{presentAt, recAt, sharedAt, waitingOf, givenOf, timedByWord, stateOf, meant, Housed, RowsFit, Leaves, withLane}
 use Rattle.table.specs.declared.LaneRow.{LaneRow}
 use Rattle.table.proofs.Stores.{length-cells, behind-then}
 use Rattle.table.proofs.Footprint.{lane-is}
@@ -29,9 +29,9 @@ use Rattle.queue.specs.Queue.{waiting, Ready, Moved}
 
 -- ---- then the row is stored, with the clock word x and n records from the place h on
 
-pub rewritten : (t t₁ t′ : List ℕ) (k x h n : ℕ) → k < 64 → h < laneDepth → presentAt (cells t) k ≡ true → Moved t t₁ k → (Beside (cells t) → 0 < n → Housed (cells t₁) k (retimed (rowAt (cells t) k) x h n))
+pub rewritten : (t t₁ t′ : List ℕ) (k x h n : ℕ) → k < 64 → h < laneDepth → presentAt (cells t) k ≡ true → Moved t t₁ k → (RowsFit (cells t) → 0 < n → Housed (cells t₁) k (retimed (rowAt (cells t) k) x h n))
     → Now t₁ t′ (putRow (cells t₁) k (retimed (rowAt (cells t) k) x h n))
-    → Leaves t t′ (withLane (meant t) k (timed (givenOf (rowAt (cells t) k)) x (waitingOf (cells t₁) k (retimed (rowAt (cells t) k) x h n))))
+    → Leaves t t′ (withLane (meant t) k (timedByWord (givenOf (rowAt (cells t) k)) x (waitingOf (cells t₁) k (retimed (rowAt (cells t) k) x h n))))
 rewritten t t₁ t′ k x h n hk small p m f b =
     let u = cells t₁ in
     let l = retimed (rowAt u k) x h n in
@@ -66,7 +66,7 @@ module _ (w o : List ℕ) (k : ℕ) (hk : k < 64) (p : presentAt w k ≡ true) w
   abbrev l : LaneRow
   l = rowAt w k
 
-  pub lane-row : laneAt (stateOf w o) k ≡ timed (givenOf l) (l .time .0) (waitingOf w k l)
+  pub lane-row : laneAt (stateOf w o) k ≡ timedByWord (givenOf l) (l .time .0) (waitingOf w k l)
   lane-row = lane-is w o k hk ∙ lane-present w k p
 
   pub waiting-of : laneAt (stateOf w o) k .waiting ≡ waitingOf w k l
@@ -92,21 +92,21 @@ module _ (w o : List ℕ) (k : ℕ) (hk : k < 64) (p : presentAt w k ≡ true) w
   pub enters-row : (r : Rec) → Enters (laneAt (stateOf w o) k .given .longest) (laneAt (stateOf w o) k .waiting) r → Enters (l .longest .0) (waitingOf w k l) r
   enters-row r a = rw (longest-row, waiting-of) at a
 
-  pub idle-row : Beside w → GoodWaiting (l .longest .0) (waitingOf w k l) → holds (laneAt (stateOf w o) k) ≡ false → l .count ≡ 0
+  pub idle-row : RowsFit w → GoodWaiting (l .longest .0) (waitingOf w k l) → holds (laneAt (stateOf w o) k) ≡ false → l .count ≡ 0
   idle-row b g h = sym (waiting-held w k l (b .housed k hk p)) ∙ held-none (l .longest .0) (waitingOf w k l) g (sym first-of ∙ none-first _ h)
 
 -- ---- a shared lane
 
-named-some : (at : ℕ → round.Rec) (ts : ℕ → ℕ) (r : ℕ) → some? (itemOf (round.first (sharedOf at ts r))) ≡ true → 0 < namedOf r
-unfolding sharedOf roundOf fours round.first round.firstIn
+named-some : (at : ℕ → round.BareRec) (ts : ℕ → ℕ) (r : ℕ) → some? (itemOf (round.sharedFirst (sharedOf at ts r))) ≡ true → 0 < namedOf r
+unfolding sharedOf roundOf fours round.sharedFirst round.firstInTurn
 named-some at ts r h = go (namedOf r) refl
   where
     go : (n : ℕ) → namedOf r ≡ n → 0 < namedOf r
-    go zero e = absurd (false≢true (sym (ap (λ (n : ℕ). some? (itemOf (round.firstIn (trainsOf at ts) (fours n (orderOf r))))) e) ∙ h))
+    go zero e = absurd (false≢true (sym (ap (λ (n : ℕ). some? (itemOf (round.firstInTurn (trainsOf at ts) (fours n (orderOf r))))) e) ∙ h))
     go (suc n) e = omega arith
 
 module _ (w : List ℕ) (k : ℕ) (l : LaneRow) (q : l .shared ≡ true) (some-held : 0 < l .count) where
-  pub good-shared : GoodWaiting (l .longest .0) (waitingOf w k l) → Good (l .longest .0) (sharedAt w k)
+  pub good-shared : GoodWaiting (l .longest .0) (waitingOf w k l) → GoodShared (l .longest .0) (sharedAt w k)
   unfolding GoodWaiting
   good-shared g = rw (waiting-shared w k l q some-held) at g
 
@@ -114,7 +114,7 @@ module _ (w : List ℕ) (k : ℕ) (l : LaneRow) (q : l .shared ≡ true) (some-h
   unfolding sharedAt
   shared-named h = named-some (recAt w k) (trainNumber w k) (roundAt w k) (rw (waiting-shared w k l q some-held) at h)
 
-  pub ready-held : Good (l .longest .0) (sharedAt w k) → Ordered (roundAt w k) → l .longest .0 ≤ 1500 → (r : Rec) → Enters (l .longest .0) (waitingOf w k l) r → Ready w k (r .train)
+  pub ready-held : GoodShared (l .longest .0) (sharedAt w k) → Ordered (roundAt w k) → l .longest .0 ≤ 1500 → (r : Rec) → Enters (l .longest .0) (waitingOf w k l) r → Ready w k (r .train)
   unfolding sharedAt sharedOf known full trainOf
   ready-held g o short r a₀ =
       let a : Enters (l .longest .0) (shared (sharedAt w k)) r = rw (waiting-shared w k l q some-held) at a₀ in
@@ -131,5 +131,5 @@ module _ (w : List ℕ) (k : ℕ) (l : LaneRow) (q : l .shared ≡ true) (some-h
         starts = good-room (l .longest .0) (roundAt w k) at ts g (r .train) j;
       }
     where
-      train-length : (at : ℕ → round.Rec) (j t : ℕ) → length (trainOf at j t .queue) ≡ countOf t
+      train-length : (at : ℕ → round.BareRec) (j t : ℕ) → length (trainOf at j t .queue) ≡ countOf t
       train-length at j t = length-ring at j (headOf t) (countOf t)

@@ -8,13 +8,13 @@ use native.Mathlib.Omega.{arith}
 use lib.ListN.{length}
 use Rattle.words.proofs.Runs.{eq-or-ne}
 use Rattle.rounds.specs.Round as round
-use Rattle.rounds.specs.Good.{Good}
+use Rattle.rounds.specs.Good.{GoodShared}
 use Rattle.rounds.proofs.Held.{put-held, none-empty}
 use Rattle.turns.specs.Turns.{sharedOf, Ordered}
 use Rattle.turns.proofs.Train.{length-trains}
 use Rattle.waiting.specs.Waiting.{Waiting, plain, shared, enter, handOut, tail}
-use Rattle.table.specs.Layout.{CELLS, Now, cells, lengthsCell, lengthWords, lengthCell, placeOf, roundAt, entryAt, putEntry, clearCells, trainNumber}
-use Rattle.table.specs.Means.{recAt, ringOf, sharedAt, waitingOf, RowPaced, PlacesFit, Housed}
+use Rattle.table.specs.Layout.{CELLS, Now, cells, lengthsCell, lengthWords, lengthCell, placeInLane, roundAt, entryAt, putEntry, clearCells, trainNumber}
+use Rattle.table.specs.Means.{recAt, laneRing, sharedAt, waitingOf, RowPaced, PlacesFit, Housed}
 use Rattle.table.specs.declared.Entry.{Entry}
 use Rattle.table.specs.declared.LaneRow.{LaneRow}
 use Rattle.table.proofs.Stores.{behind-refl, behind-then}
@@ -23,7 +23,7 @@ use Rattle.table.proofs.Footprint.{Outside}
 use Rattle.table.proofs.Agrees.{paced-retimed}
 use Rattle.table.proofs.Untouched.{SameRows, outside-trans}
 use Rattle.table.proofs.Rows.{retimed, waiting-plain, waiting-shared, waiting-none}
-use Rattle.queue.specs.Queue.{waiting, bare, Moved, Entered}
+use Rattle.queue.specs.Queue.{waiting, bareItem, Moved, Entered}
 use Rattle.queue.specs.declared.Item.{Item}
 
 -- ---- where the stores lie
@@ -46,24 +46,24 @@ moved-then {t} {u} {v} {k} a b =
 -- ---- places within the lane's numbers
 
 module _ (w : List ℕ) (k : ℕ) (l : LaneRow) (hk : k < 64) (size : length w ≡ CELLS) where
-  pub places-one : (i : ℕ) (e : Entry) → Fits e → e .length .0 ≤ l .longest .0 → PlacesFit w k l → PlacesFit (putEntry w (placeOf k i) e) k l
+  pub places-one : (i : ℕ) (e : Entry) → Fits e → e .length .0 ≤ l .longest .0 → PlacesFit w k l → PlacesFit (putEntry w (placeInLane k i) e) k l
   places-one i e f le others j hj =
       ⊎-elim
-      (λ (q : placeOf k j ≡ placeOf k i). rw (q, entry-same w (placeOf k i) (omega arith) size e f) le)
-      (λ (ne : placeOf k j ≡ placeOf k i → ⊥). rw (entry-other w (placeOf k i) (omega arith) size e f (placeOf k j) (omega arith) ne) (others j hj))
-      (eq-or-ne (placeOf k j) (placeOf k i))
+      (λ (q : placeInLane k j ≡ placeInLane k i). rw (q, entry-same w (placeInLane k i) (omega arith) size e f) le)
+      (λ (ne : placeInLane k j ≡ placeInLane k i → ⊥). rw (entry-other w (placeInLane k i) (omega arith) size e f (placeInLane k j) (omega arith) ne) (others j hj))
+      (eq-or-ne (placeInLane k j) (placeInLane k i))
 
   -- cleared places are
   pub places-cleared : 0 < l .longest .0 → PlacesFit (clearCells w (lengthsCell + lengthWords * k) lengthWords) k l
   unfolding entryAt
   places-cleared some i hi =
-      rw (clear-same w (lengthsCell + lengthWords * k) lengthWords (lengthCell (placeOf k i)) (omega arith) (omega arith) (omega arith), digit-none 16 (placeOf k i % 4)) some
+      rw (clear-same w (lengthsCell + lengthWords * k) lengthWords (lengthCell (placeInLane k i)) (omega arith) (omega arith) (omega arith), digit-none 16 (placeInLane k i % 4)) some
 
 -- ---- what waits
 
 -- a row with n records, by its kind
 module _ (w : List ℕ) (k x h n : ℕ) (l : LaneRow) where
-  plain-is : l .shared ≡ false → waitingOf w k (retimed l x h n) ≡ plain (ringOf w k h n)
+  plain-is : l .shared ≡ false → waitingOf w k (retimed l x h n) ≡ plain (laneRing w k h n)
   plain-is e = waiting-plain w k (retimed l x h n) e
 
   shared-is : l .shared ≡ true → 0 < n → waitingOf w k (retimed l x h n) ≡ shared (sharedAt w k)
@@ -76,7 +76,7 @@ by-kind false f g = g refl
 -- one record more; a shared lane's words, before it, tell of the records that its row counts
 module _ (t t₁ : List ℕ) (k : ℕ) (l : LaneRow) (e : Item) (en : Entered t t₁ k l e)
     (is : l .shared ≡ true → waitingOf (cells t) k l ≡ shared (sharedAt (cells t) k))
-    (counted : l .shared ≡ true → round.held (sharedAt (cells t) k) ≡ l .count) where
+    (counted : l .shared ≡ true → round.sharedHeld (sharedAt (cells t) k) ≡ l .count) where
   pub entered-waits : (x : ℕ) → waitingOf (cells t₁) k (retimed l x (l .head) (l .count + 1)) ≡ enter (l .longest .0) (waitingOf (cells t) k l) (waiting e)
   unfolding enter
   entered-waits x =
@@ -91,17 +91,17 @@ module _ (t t₁ : List ℕ) (k : ℕ) (l : LaneRow) (e : Item) (en : Entered t 
         paced = paced-retimed l x (l .head) (l .count + 1) paced;
         places = en .fits f;
         trains = λ q. record {
-          counted = ap round.held (en .shared q) ∙ put-held (l .longest .0) (sharedAt (cells t) k) (e .train) (bare e) (omega (arith, small q, length-trains (trainNumber (cells t) k) (recAt (cells t) k))) ∙ omega (arith, counted q);
+          counted = ap round.sharedHeld (en .shared q) ∙ put-held (l .longest .0) (sharedAt (cells t) k) (e .train) (bareItem e) (omega (arith, small q, length-trains (trainNumber (cells t) k) (recAt (cells t) k))) ∙ omega (arith, counted q);
           ordered = en .ordered q;
         };
       }
 
 -- one record less
 module _ (t t₁ : List ℕ) (k h : ℕ) (l : LaneRow) (some : 0 < l .count)
-    (plain-ring : l .shared ≡ false → ringOf (cells t₁) k h (l .count - 1) ≡ tail (ringOf (cells t) k (l .head) (l .count)))
-    (shared-hand : l .shared ≡ true → sharedAt (cells t₁) k ≡ round.handOut (l .longest .0) (sharedAt (cells t) k))
-    (good : l .shared ≡ true → Good (l .longest .0) (sharedAt (cells t₁) k))
-    (counted : l .shared ≡ true → round.held (sharedAt (cells t₁) k) ≡ l .count - 1) where
+    (plain-ring : l .shared ≡ false → laneRing (cells t₁) k h (l .count - 1) ≡ tail (laneRing (cells t) k (l .head) (l .count)))
+    (shared-hand : l .shared ≡ true → sharedAt (cells t₁) k ≡ round.sharedHandOut (l .longest .0) (sharedAt (cells t) k))
+    (good : l .shared ≡ true → GoodShared (l .longest .0) (sharedAt (cells t₁) k))
+    (counted : l .shared ≡ true → round.sharedHeld (sharedAt (cells t₁) k) ≡ l .count - 1) where
   shared-left : l .shared ≡ true → (x n : ℕ) → l .count - 1 ≡ n → waitingOf (cells t₁) k (retimed l x h n) ≡ shared (sharedAt (cells t₁) k)
   shared-left q x zero e = waiting-none (cells t₁) k (retimed l x h 0) refl ∙ rw q (ap shared (sym (none-empty (l .longest .0) (sharedAt (cells t₁) k) (good q) (counted q ∙ e))))
   shared-left q x (suc n) e = shared-is (cells t₁) k x h (suc n) l q (omega arith)

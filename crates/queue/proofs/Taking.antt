@@ -8,7 +8,7 @@ use native.Mathlib.Omega.{arith}
 use lib.ListN.{length}
 use Rattle.units.proofs.PerByte.{rate-le}
 use Rattle.rounds.specs.Round as round
-use Rattle.rounds.specs.Good.{Good}
+use Rattle.rounds.specs.Good.{GoodShared}
 use Rattle.rounds.proofs.Held.{hand-held}
 use Rattle.rounds.proofs.KeepHand.{hand-out-good}
 use Rattle.turns.specs.Turns as turns
@@ -19,8 +19,8 @@ use Rattle.rules.specs.State.{Rec, Lane, laneAt, laneDepth, firstOf, holds, som
 use Rattle.rules.specs.Calls.{served}
 use Rattle.slot_lists.specs.Lists.{listAt}
 use Rattle.filing.specs.Filing.{inARow}
-use Rattle.table.specs.Layout.{Now, cells, roundAt, rowAt, putRow, placeOf, entryAt, trainNumber}
-use Rattle.table.specs.Means.{presentAt, ringOf, sharedAt, waitingOf, givenOf, timed, meant, PlacesFit, Housed, Sound, Leaves, withLane, recAt}
+use Rattle.table.specs.Layout.{Now, cells, roundAt, rowAt, putRow, placeInLane, entryAt, trainNumber}
+use Rattle.table.specs.Means.{presentAt, laneRing, sharedAt, waitingOf, givenOf, timedByWord, meant, PlacesFit, Housed, Sound, Leaves, withLane, recAt}
 use Rattle.table.specs.declared.LaneRow.{LaneRow}
 use Rattle.table.proofs.Rows.{retimed, holds-present, waiting-shared, waiting-held, waiting-plain}
 use Rattle.table.proofs.Timed.{timed-some, timed-served}
@@ -70,7 +70,7 @@ module _ (t : List ℕ) (k : ℕ) (s : Sound t) (hk : k < 64) (g : GoodWaiting (
   pub take-framing : r .framing .0 ≤ 64
   take-framing = s .beside .rows k hk present .framing
 
-  pub front-shared : r .shared ≡ true → Good (r .longest .0) (sharedAt w k) × Ordered (roundAt w k) × (0 < namedOf (roundAt w k))
+  pub front-shared : r .shared ≡ true → GoodShared (r .longest .0) (sharedAt w k) × Ordered (roundAt w k) × (0 < namedOf (roundAt w k))
   front-shared q = (good-shared w k r q busy-row good, housed .trains q .ordered, shared-named w k r q busy-row (sym (ap some? (first-of w o k hk present)) ∙ busy))
 
   pub first-here : (x : Rec) → first (waitingOf w k r) ≡ some x → firstOf (laneAt (meant t) k) ≡ some x
@@ -87,18 +87,18 @@ module _ (t : List ℕ) (k : ℕ) (s : Sound t) (hk : k < 64) (g : GoodWaiting (
         ∙ sym (ap (λ (y : Lane). y .finish) (lane-row w o k hk present ∙ timed-some (givenOf r) (r .time .0) (waitingOf w k r) (waiting e) (first-back (waiting e) is)))
 
     pub take-leaves : (t₁ t′ : List ℕ) (h : ℕ) → h < laneDepth → Moved t t₁ k → PlacesFit (cells t₁) k r
-        → (r .shared ≡ false → ringOf (cells t₁) k h (r .count - 1) ≡ tail (ringOf w k (r .head) (r .count)))
-        → (r .shared ≡ true → sharedAt (cells t₁) k ≡ round.handOut (r .longest .0) (sharedAt w k)) → (r .shared ≡ true → Ordered (roundAt (cells t₁) k))
+        → (r .shared ≡ false → laneRing (cells t₁) k h (r .count - 1) ≡ tail (laneRing w k (r .head) (r .count)))
+        → (r .shared ≡ true → sharedAt (cells t₁) k ≡ round.sharedHandOut (r .longest .0) (sharedAt w k)) → (r .shared ≡ true → Ordered (roundAt (cells t₁) k))
         → Now t₁ t′ (putRow (cells t₁) k (retimed r (laneAt (meant t) k .finish) h (r .count - 1))) → Takes t t′ k e
     take-leaves t₁ t′ h top m f pl sh or b =
         let f₀ = laneAt (meant t) k .finish in
         let chosen = first-back (waiting e) is in
-        let good-left : r .shared ≡ true → Good (r .longest .0) (sharedAt (cells t₁) k) = λ q. subst (Good (r .longest .0)) (sym (sh q)) (hand-out-good (r .longest .0) (sharedAt w k) (good-shared w k r q busy-row good)) in
-        let counted : r .shared ≡ true → round.held (sharedAt (cells t₁) k) ≡ r .count - 1
-        = λ q. omega (arith, ap round.held (sh q), hand-held (r .longest .0) (sharedAt w k) (moved (waiting e)) (good-shared w k r q busy-row good) (item-some (round.first (sharedAt w k)) (waiting e) (sym (ap first (waiting-shared w k r q busy-row)) ∙ chosen)), housed .trains q .counted) in
-        let same : timed (givenOf r) f₀ (waitingOf (cells t₁) k (retimed r f₀ h (r .count - 1))) ≡ served (laneAt (meant t) k)
-        = ap (timed (givenOf r) f₀) (left-waits t t₁ k h r busy-row pl sh good-left counted f₀)
-        ∙ ap (λ (y : ℕ). timed (givenOf r) y (handOut (r .longest .0) (waitingOf w k r))) (sym finish-is ∙ ap (λ (y : ℕ). r .time .0 + charge (givenOf r) (e .length .0) * y) (housed .paced .rated))
+        let good-left : r .shared ≡ true → GoodShared (r .longest .0) (sharedAt (cells t₁) k) = λ q. subst (GoodShared (r .longest .0)) (sym (sh q)) (hand-out-good (r .longest .0) (sharedAt w k) (good-shared w k r q busy-row good)) in
+        let counted : r .shared ≡ true → round.sharedHeld (sharedAt (cells t₁) k) ≡ r .count - 1
+        = λ q. omega (arith, ap round.sharedHeld (sh q), hand-held (r .longest .0) (sharedAt w k) (moved (waiting e)) (good-shared w k r q busy-row good) (item-some (round.sharedFirst (sharedAt w k)) (waiting e) (sym (ap first (waiting-shared w k r q busy-row)) ∙ chosen)), housed .trains q .counted) in
+        let same : timedByWord (givenOf r) f₀ (waitingOf (cells t₁) k (retimed r f₀ h (r .count - 1))) ≡ served (laneAt (meant t) k)
+        = ap (timedByWord (givenOf r) f₀) (left-waits t t₁ k h r busy-row pl sh good-left counted f₀)
+        ∙ ap (λ (y : ℕ). timedByWord (givenOf r) y (handOut (r .longest .0) (waitingOf w k r))) (sym finish-is ∙ ap (λ (y : ℕ). r .time .0 + charge (givenOf r) (e .length .0) * y) (housed .paced .rated))
         ∙ sym (timed-served (givenOf r) (r .time .0) (waitingOf w k r) (waiting e) chosen)
         ∙ ap served (sym (lane-row w o k hk present)) in
         record {
@@ -107,7 +107,7 @@ module _ (t : List ℕ) (k : ℕ) (s : Sound t) (hk : k < 64) (g : GoodWaiting (
               (rewritten t t₁ t′ k f₀ h (r .count - 1) hk top present m (λ beside n. left-housed t t₁ k h r busy-row pl sh good-left counted f₀ (housed .paced) f or) b);
         }
 
-  pub first-item : (l : LaneRow) (f : FirstPlace) (x : Entry) → l ≡ r → Fronts w k l f → x ≡ entryAt w (placeOf k (f .place)) → First (laneAt (meant t) k) (record { train = f .train; mark = x .mark; length = x .length })
+  pub first-item : (l : LaneRow) (f : FirstPlace) (x : Entry) → l ≡ r → Fronts w k l f → x ≡ entryAt w (placeInLane k (f .place)) → First (laneAt (meant t) k) (record { train = f .train; mark = x .mark; length = x .length })
   unfolding recAt
   first-item l f x q fr e =
       subst (λ (y : Entry). First (laneAt (meant t) k) (record { train = f .train; mark = y .mark; length = y .length })) (sym e)
@@ -118,17 +118,17 @@ module _ (t : List ℕ) (k : ℕ) (s : Sound t) (hk : k < 64) (g : GoodWaiting (
 pub front-plain : (w : List ℕ) (k : ℕ) (l : LaneRow) → l .shared ≡ false → 0 < l .count → first (waitingOf w k l) ≡ some (withTrain 0 (recAt w k (l .head)))
 front-plain w k l q n = ap first (waiting-plain w k l q) ∙ ring-head w k (l .head) (l .count) n
 
-pub front-train : (w : List ℕ) (k : ℕ) (l : LaneRow) → l .shared ≡ true → 0 < l .count → Good (l .longest .0) (sharedAt w k) → Ordered (roundAt w k) → 0 < namedOf (roundAt w k)
-    → (r n p : ℕ) → r ≡ roundAt w k → n ≡ trainNumber w k (turnOf r) → p ≡ turns.placeOf (turnOf r) (headOf n) → first (waitingOf w k l) ≡ some (withTrain (turnOf r) (recAt w k p))
+pub front-train : (w : List ℕ) (k : ℕ) (l : LaneRow) → l .shared ≡ true → 0 < l .count → GoodShared (l .longest .0) (sharedAt w k) → Ordered (roundAt w k) → 0 < namedOf (roundAt w k)
+    → (r n p : ℕ) → r ≡ roundAt w k → n ≡ trainNumber w k (turnOf r) → p ≡ turns.placeInTrain (turnOf r) (headOf n) → first (waitingOf w k l) ≡ some (withTrain (turnOf r) (recAt w k p))
 unfolding sharedAt
 front-train w k l q some-held g o named r n p er en ep =
     let ts = trainNumber w k in
-    let base : (r : ℕ) → r ≡ roundAt w k → first (waitingOf w k l) ≡ some (withTrain (turnOf r) (recAt w k (turns.placeOf (turnOf r) (headOf (ts (turnOf r))))))
-    = λ r er. subst (λ (r : ℕ). first (waitingOf w k l) ≡ some (withTrain (turnOf r) (recAt w k (turns.placeOf (turnOf r) (headOf (ts (turnOf r))))))) (sym er)
+    let base : (r : ℕ) → r ≡ roundAt w k → first (waitingOf w k l) ≡ some (withTrain (turnOf r) (recAt w k (turns.placeInTrain (turnOf r) (headOf (ts (turnOf r))))))
+    = λ r er. subst (λ (r : ℕ). first (waitingOf w k l) ≡ some (withTrain (turnOf r) (recAt w k (turns.placeInTrain (turnOf r) (headOf (ts (turnOf r))))))) (sym er)
     (ap first (waiting-shared w k l q some-held) ∙ ap itemOf (chosen-is (l .longest .0) (roundAt w k) (recAt w k) ts g o named)) in
-    base r er ∙ ap (λ (y : ℕ). some (withTrain (turnOf r) (recAt w k (turns.placeOf (turnOf r) (headOf y))))) (sym en) ∙ ap (λ (y : ℕ). some (withTrain (turnOf r) (recAt w k y))) (sym ep)
+    base r er ∙ ap (λ (y : ℕ). some (withTrain (turnOf r) (recAt w k (turns.placeInTrain (turnOf r) (headOf y))))) (sym en) ∙ ap (λ (y : ℕ). some (withTrain (turnOf r) (recAt w k y))) (sym ep)
 
-pub turn-below : (w : List ℕ) (k L r : ℕ) → Good L (sharedAt w k) → Ordered (roundAt w k) → 0 < namedOf (roundAt w k) → r ≡ roundAt w k → turnOf r < 8
+pub turn-below : (w : List ℕ) (k L r : ℕ) → GoodShared L (sharedAt w k) → Ordered (roundAt w k) → 0 < namedOf (roundAt w k) → r ≡ roundAt w k → turnOf r < 8
 unfolding sharedAt
 turn-below w k L r g o named e = subst (λ (y : ℕ). turnOf y < 8) (sym e) (turn-known L (roundAt w k) (recAt w k) (trainNumber w k) g o named)
 
@@ -158,7 +158,7 @@ module _ (t : List ℕ) (k : ℕ) (s : Sound t) (hk : k < 64) (g : GoodWaiting (
         good = x .0;
         ordered = x .1;
         named = x .2;
-        length = ap lenOf (sym (front-train v k l q (busy-row t k s hk g busy) (x .0) (x .1) (x .2) R (trainNumber v k (turnOf R)) (turns.placeOf (turnOf R) (headOf (trainNumber v k (turnOf R)))) refl refl refl) ∙ first-back t k s hk g busy (waiting e) is);
+        length = ap lenOf (sym (front-train v k l q (busy-row t k s hk g busy) (x .0) (x .1) (x .2) R (trainNumber v k (turnOf R)) (turns.placeInTrain (turnOf R) (headOf (trainNumber v k (turnOf R)))) refl refl refl) ∙ first-back t k s hk g busy (waiting e) is);
       }
 
   pub take-plain : (t′ : List ℕ) (x : ℕ) → x ≡ laneAt (meant t) k .finish → l .shared ≡ false → Now t t′ (putRow v k (retimed l x ((l .head + 1) % laneDepth) (l .count - 1))) → Takes t t′ k e

@@ -7,12 +7,12 @@ use native.Mathlib.Omega.{arith}
 use lib.ListN.{length, set, length-set}
 use lib.Seq.{getD-set-same, getD-set-other}
 use Rattle.words.proofs.Runs.{eq-or-ne}
-use Rattle.rounds.specs.Round.{Shared, empty, put}
+use Rattle.rounds.specs.Round.{Shared, empty, sharedPut}
 use Rattle.turns.specs.Turns as turns
 use Rattle.turns.specs.Turns.{headOf, countOf, sharedOf, with, Ordered, Light, Puts}
 use Rattle.turns.specs.declared.Change.{Change}
 use Rattle.turns.proofs.Train.{parts, with-same, with-other, shared-same, shared-but, shared-none}
-use Rattle.table.specs.Layout.{CELLS, roundWord, roundAt, lengthCell, markCell, trainsCell, placeOf, entryAt, putEntry, trainPlace, trainNumber, putTrain, clearCells}
+use Rattle.table.specs.Layout.{CELLS, roundWord, roundAt, lengthCell, markCell, trainsCell, placeInLane, entryAt, putEntry, trainPlace, trainNumber, putTrain, clearCells}
 use Rattle.table.specs.Means.{recOf, recAt, sharedAt}
 use Rattle.table.specs.declared.Entry.{Entry}
 use Rattle.table.proofs.Entries.{Fits, entry-kept, entry-same, entry-other, put-other, train-kept, train-apart, length-train, train-same, train-other, train-cleared, clear-other, length-clear}
@@ -38,12 +38,12 @@ module _ (w : List ℕ) (k : ℕ) (hk : k < 64) (size : length w ≡ CELLS) wher
   round-same : (v : ℕ) → roundAt (set w (roundWord k) v) k ≡ v
   round-same v = getD-set-same w (roundWord k) v 0 (omega arith)
 
-  places-round : (v i : ℕ) → entryAt (set w (roundWord k) v) (placeOf k i) ≡ entryAt w (placeOf k i)
-  places-round v i = entry-kept w (set w (roundWord k) v) (placeOf k i) (getD-set-other w (roundWord k) (lengthCell (placeOf k i)) v 0 (omega arith)) (getD-set-other w (roundWord k) (markCell (placeOf k i)) v 0 (omega arith))
+  places-round : (v i : ℕ) → entryAt (set w (roundWord k) v) (placeInLane k i) ≡ entryAt w (placeInLane k i)
+  places-round v i = entry-kept w (set w (roundWord k) v) (placeInLane k i) (getD-set-other w (roundWord k) (lengthCell (placeInLane k i)) v 0 (omega arith)) (getD-set-other w (roundWord k) (markCell (placeInLane k i)) v 0 (omega arith))
 
-  pub places-train : (j n i : ℕ) → j < 8 → entryAt (putTrain w k j n) (placeOf k i) ≡ entryAt w (placeOf k i)
+  pub places-train : (j n i : ℕ) → j < 8 → entryAt (putTrain w k j n) (placeInLane k i) ≡ entryAt w (placeInLane k i)
   places-train j n i hj =
-      entry-kept w (putTrain w k j n) (placeOf k i) (train-apart w k j n (lengthCell (placeOf k i)) (λ e. omega arith)) (train-apart w k j n (markCell (placeOf k i)) (λ e. omega arith))
+      entry-kept w (putTrain w k j n) (placeInLane k i) (train-apart w k j n (lengthCell (placeInLane k i)) (λ e. omega arith)) (train-apart w k j n (markCell (placeInLane k i)) (λ e. omega arith))
 
   pub round-train : (j n : ℕ) → j < 8 → roundAt (putTrain w k j n) k ≡ roundAt w k
   round-train j n hj = train-apart w k j n (roundWord k) (λ e. omega arith)
@@ -72,47 +72,47 @@ module _ (w : List ℕ) (k j n r : ℕ) (hk : k < 64) (hj : j < 8) (size : lengt
   pub both-round : roundAt both k ≡ r
   both-round = round-same (putTrain w k j n) k hk size-train r
 
-  pub both-place : (i : ℕ) → entryAt both (placeOf k i) ≡ entryAt w (placeOf k i)
+  pub both-place : (i : ℕ) → entryAt both (placeInLane k i) ≡ entryAt w (placeInLane k i)
   both-place i = places-round (putTrain w k j n) k hk size-train r i ∙ places-train w k hk size j n i hj
 
 -- ---- a record more
 
 module _ (w : List ℕ) (k j L p : ℕ) (c : Change) (e : Entry) (hk : k < 64) (hj : j < 8) (size : length w ≡ CELLS) (small : p < 64) (f : Fits e)
-    (room : countOf (trainNumber w k j) < 8) (at : p ≡ turns.placeOf j (headOf (trainNumber w k j) + countOf (trainNumber w k j)))
+    (room : countOf (trainNumber w k j) < 8) (at : p ≡ turns.placeInTrain j (headOf (trainNumber w k j) + countOf (trainNumber w k j)))
     (puts : Puts L (trainNumber w k j) (roundAt w k) j c) where
   abbrev v : List ℕ
   v = both w k j (c .train) (c .round) hk hj size (puts .small)
 
   abbrev u : List ℕ
-  u = putEntry v (placeOf k p) e
+  u = putEntry v (placeInLane k p) e
 
   size-v : length v ≡ CELLS
   size-v = both-size w k j (c .train) (c .round) hk hj size (puts .small)
 
   numbers : (i : ℕ) → i < 8 → trainNumber u k i ≡ with (trainNumber w k) j (c .train) i
   numbers i hi =
-      train-kept v u k i (put-other v (placeOf k p) e (markCell (trainPlace k i)) (λ x. omega arith) (λ x. omega arith))
+      train-kept v u k i (put-other v (placeInLane k p) e (markCell (trainPlace k i)) (λ x. omega arith) (λ x. omega arith))
       ∙ both-numbers w k j (c .train) (c .round) hk hj size (puts .small) i hi
 
   round-is : roundAt u k ≡ c .round
-  round-is = put-other v (placeOf k p) e (roundWord k) (λ x. omega arith) (λ x. omega arith) ∙ both-round w k j (c .train) (c .round) hk hj size (puts .small)
+  round-is = put-other v (placeInLane k p) e (roundWord k) (λ x. omega arith) (λ x. omega arith) ∙ both-round w k j (c .train) (c .round) hk hj size (puts .small)
 
   here : recAt u k p ≡ recOf e
   unfolding recAt
-  here = ap recOf (entry-same v (placeOf k p) (omega arith) size-v e f)
+  here = ap recOf (entry-same v (placeInLane k p) (omega arith) size-v e f)
 
   others : (q : ℕ) → q < 64 → (q ≡ p → ⊥) → recAt u k q ≡ recAt w k q
   unfolding recAt
-  others q h ne = ap recOf (entry-other v (placeOf k p) (omega arith) size-v e f (placeOf k q) (omega arith) (λ x. ne (omega arith)) ∙ both-place w k j (c .train) (c .round) hk hj size (puts .small) q)
+  others q h ne = ap recOf (entry-other v (placeInLane k p) (omega arith) size-v e f (placeInLane k q) (omega arith) (λ x. ne (omega arith)) ∙ both-place w k j (c .train) (c .round) hk hj size (puts .small) q)
 
-  pub entered-shared : sharedAt u k ≡ put L (sharedAt w k) j (recOf e)
+  pub entered-shared : sharedAt u k ≡ sharedPut L (sharedAt w k) j (recOf e)
   unfolding sharedAt
   entered-shared =
       shared-same (recAt u k) (recAt u k) (trainNumber u k) (with (trainNumber w k) j (c .train)) (roundAt u k) (λ q h. refl) numbers
       ∙ ap (sharedOf (recAt u k) (with (trainNumber w k) j (c .train))) round-is
       ∙ puts .lane (recAt u k) (trainNumber w k) refl
-      ∙ ap (λ (s : Shared). put L s j (recAt u k (turns.placeOf j (headOf (trainNumber w k j) + countOf (trainNumber w k j))))) (shared-but (recAt u k) (recAt w k) (trainNumber w k) (roundAt w k) j room (λ q h ne. others q h (λ x. ne (x ∙ at))))
-      ∙ ap (put L (sharedOf (recAt w k) (trainNumber w k) (roundAt w k)) j) (ap (recAt u k) (sym at) ∙ here)
+      ∙ ap (λ (s : Shared). sharedPut L s j (recAt u k (turns.placeInTrain j (headOf (trainNumber w k j) + countOf (trainNumber w k j))))) (shared-but (recAt u k) (recAt w k) (trainNumber w k) (roundAt w k) j room (λ q h ne. others q h (λ x. ne (x ∙ at))))
+      ∙ ap (sharedPut L (sharedOf (recAt w k) (trainNumber w k) (roundAt w k)) j) (ap (recAt u k) (sym at) ∙ here)
 
   pub entered-ordered : Ordered (roundAt u k)
   entered-ordered = subst Ordered (sym round-is) (puts .ordered)
@@ -132,10 +132,10 @@ module _ (w : List ℕ) (k : ℕ) (hk : k < 64) (size : length w ≡ CELLS) wher
   pub bare-round : roundAt bare-words k ≡ 0
   bare-round = round-same (clearCells w (trainsCell + 4 * k) 4) k hk size-c 0
 
-  pub bare-place : (i : ℕ) → entryAt bare-words (placeOf k i) ≡ entryAt w (placeOf k i)
+  pub bare-place : (i : ℕ) → entryAt bare-words (placeInLane k i) ≡ entryAt w (placeInLane k i)
   bare-place i =
       places-round (clearCells w (trainsCell + 4 * k) 4) k hk size-c 0 i
-      ∙ entry-kept w (clearCells w (trainsCell + 4 * k) 4) (placeOf k i) (clear-other w (trainsCell + 4 * k) 4 (lengthCell (placeOf k i)) (λ a b. omega arith)) (clear-other w (trainsCell + 4 * k) 4 (markCell (placeOf k i)) (λ a b. omega arith))
+      ∙ entry-kept w (clearCells w (trainsCell + 4 * k) 4) (placeInLane k i) (clear-other w (trainsCell + 4 * k) 4 (lengthCell (placeInLane k i)) (λ a b. omega arith)) (clear-other w (trainsCell + 4 * k) 4 (markCell (placeInLane k i)) (λ a b. omega arith))
 
   pub bare-shared : sharedAt bare-words k ≡ empty
   unfolding sharedAt

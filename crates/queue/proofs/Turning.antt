@@ -6,11 +6,11 @@ use mathlib.Core.List.{List}
 use native.Mathlib.Omega.{arith}
 use lib.ListN.{length, set}
 use Rattle.turns.specs.Turns as turns
-use Rattle.turns.specs.Turns.{headOf, countOf, deficitOf, namedOf, turnOf, Ordered, Known, Light, HandsOut}
+use Rattle.turns.specs.Turns.{headOf, countOf, deficitOf, namedOf, turnOf, Ordered, Known, Light, HandsOutTurn}
 use Rattle.turns.specs.declared.Change.{Change}
 use Rattle.turns.proofs.Good.{good-known, good-light, turn-known, turn-count, turn-covers}
 use Rattle.waiting.specs.Waiting.{shared}
-use Rattle.table.specs.Layout.{CELLS, Now, cells, placeOf, roundWord, roundAt, entryAt, trainNumber, putTrain}
+use Rattle.table.specs.Layout.{CELLS, Now, cells, placeInLane, roundWord, roundAt, entryAt, trainNumber, putTrain}
 use Rattle.table.specs.Means.{recAt, sharedAt}
 use Rattle.table.specs.declared.Entry.{Entry}
 use Rattle.table.proofs.Stores.{length-cells}
@@ -23,14 +23,14 @@ use Rattle.queue.proofs.Moves.{moved-now, moved-then}
 -- ---- what `turn` reads
 
 module _ (w : List ℕ) (k : ℕ) where
-  pub hands-of : (n next : ℕ) (c : Change) (r m : ℕ) → r ≡ roundAt w k → m ≡ trainNumber w k (turnOf r) → HandsOut m r n next c → HandsOut (trainNumber w k (turnOf (roundAt w k))) (roundAt w k) n next c
-  hands-of n next c r m er em h = subst (λ (y : ℕ). HandsOut (trainNumber w k (turnOf y)) y n next c) er (subst (λ (y : ℕ). HandsOut y r n next c) em h)
+  pub hands-of : (n next : ℕ) (c : Change) (r m : ℕ) → r ≡ roundAt w k → m ≡ trainNumber w k (turnOf r) → HandsOutTurn m r n next c → HandsOutTurn (trainNumber w k (turnOf (roundAt w k))) (roundAt w k) n next c
+  hands-of n next c r m er em h = subst (λ (y : ℕ). HandsOutTurn (trainNumber w k (turnOf y)) y n next c) er (subst (λ (y : ℕ). HandsOutTurn y r n next c) em h)
 
-  pub next-of : (r m : ℕ) (e : Entry) (p : ℕ) → r ≡ roundAt w k → m ≡ trainNumber w k (turnOf r) → e ≡ entryAt w (placeOf k p) → p ≡ turns.placeOf (turnOf r) (headOf m + 1)
-      → recAt w k (turns.placeOf (turnOf (roundAt w k)) (headOf (trainNumber w k (turnOf (roundAt w k))) + 1)) .len ≡ e .length .0
+  pub next-of : (r m : ℕ) (e : Entry) (p : ℕ) → r ≡ roundAt w k → m ≡ trainNumber w k (turnOf r) → e ≡ entryAt w (placeInLane k p) → p ≡ turns.placeInTrain (turnOf r) (headOf m + 1)
+      → recAt w k (turns.placeInTrain (turnOf (roundAt w k)) (headOf (trainNumber w k (turnOf (roundAt w k))) + 1)) .len ≡ e .length .0
   unfolding recAt
   next-of r m e p er em ee ep =
-      sym (ap (λ (x : Entry). x .length .0) (ee ∙ ap (λ (y : ℕ). entryAt w (placeOf k y)) (ep ∙ ap (λ (y : ℕ). turns.placeOf (turnOf r) (headOf y + 1)) em ∙ ap (λ (y : ℕ). turns.placeOf (turnOf y) (headOf (trainNumber w k (turnOf y)) + 1)) er)))
+      sym (ap (λ (x : Entry). x .length .0) (ee ∙ ap (λ (y : ℕ). entryAt w (placeInLane k y)) (ep ∙ ap (λ (y : ℕ). turns.placeInTrain (turnOf r) (headOf y + 1)) em ∙ ap (λ (y : ℕ). turns.placeInTrain (turnOf y) (headOf (trainNumber w k (turnOf y)) + 1)) er)))
 
   pub hand-ready : (L n r m : ℕ) → Chosen w k L n → L ≤ 1500 → r ≡ roundAt w k → m ≡ trainNumber w k (turnOf r)
       → Light m × (0 < countOf m) × (n ≤ deficitOf m) × Ordered r × Known r × (0 < namedOf r)
@@ -51,8 +51,8 @@ both-now t t₁ k r n v e a = subst (λ (y : ℕ). Now t t₁ (set (putTrain (ce
 -- ---- the stores of `turn`
 
 module _ (t t₁ : List ℕ) (k L n next : ℕ) (c : Change) (hk : k < 64) (short : L ≤ 1500) (ch : Chosen (cells t) k L n)
-    (next-length : recAt (cells t) k (turns.placeOf (turnOf (roundAt (cells t) k)) (headOf (trainNumber (cells t) k (turnOf (roundAt (cells t) k))) + 1)) .len ≡ next)
-    (hands : HandsOut (trainNumber (cells t) k (turnOf (roundAt (cells t) k))) (roundAt (cells t) k) n next c) where
+    (next-length : recAt (cells t) k (turns.placeInTrain (turnOf (roundAt (cells t) k)) (headOf (trainNumber (cells t) k (turnOf (roundAt (cells t) k))) + 1)) .len ≡ next)
+    (hands : HandsOutTurn (trainNumber (cells t) k (turnOf (roundAt (cells t) k))) (roundAt (cells t) k) n next c) where
   abbrev w : List ℕ
   w = cells t
 
@@ -77,7 +77,7 @@ module _ (t t₁ : List ℕ) (k L n next : ℕ) (c : Change) (hk : k < 64) (shor
   turned-same a q =
       record {
         moved = moved-both a;
-        places = λ i. ap (λ (x : List ℕ). entryAt x (placeOf k i)) (a .words) ∙ both-place w k (turnOf (roundAt w k)) (c .train) (c .round) hk turn-below size (omega (arith, hands .small)) i;
+        places = λ i. ap (λ (x : List ℕ). entryAt x (placeInLane k i)) (a .words) ∙ both-place w k (turnOf (roundAt w k)) (c .train) (c .round) hk turn-below size (omega (arith, hands .small)) i;
         shared = ap (λ (x : List ℕ). sharedAt x k) (a .words) ∙ handed-shared w k L n next c hk size short turn-below lights (ch .length) next-length hands q;
         ordered = rw (a .words, both-round w k (turnOf (roundAt w k)) (c .train) (c .round) hk turn-below size (omega (arith, hands .small))) (hands .ordered);
       }
@@ -94,7 +94,7 @@ module _ (t t₁ : List ℕ) (k L n next : ℕ) (c : Change) (hk : k < 64) (shor
         let words : cells t₂ ≡ putTrain u k i (m + 128 * L) = b .words ∙ ap (λ (x : List ℕ). putTrain x k i (m + 128 * L)) (a .words) in
         record {
           moved = moved-then (moved-both a) (moved-now t₁ t₂ _ k b (outside-train (cells t₁) k i (m + 128 * L) (omega (arith, hands .turn begins))) (rows-train (cells t₁) k i (m + 128 * L)));
-          places = λ x. ap (λ (y : List ℕ). entryAt y (placeOf k x)) words ∙ begun-place w k L n next c hk size short turn-below lights (ch .length) next-length hands i m begins ei number x;
+          places = λ x. ap (λ (y : List ℕ). entryAt y (placeInLane k x)) words ∙ begun-place w k L n next c hk size short turn-below lights (ch .length) next-length hands i m begins ei number x;
           shared = ap (λ (x : List ℕ). sharedAt x k) words ∙ begun-shared w k L n next c hk size short turn-below lights (ch .length) next-length hands i m begins ei number;
           ordered = rw (words, begun-round w k L n next c hk size short turn-below lights (ch .length) next-length hands i m begins ei number) (hands .ordered);
         }

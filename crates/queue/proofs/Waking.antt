@@ -16,7 +16,7 @@ use Rattle.rules.specs.Calls.{woken}
 use Rattle.slot_lists.specs.Lists.{listAt}
 use Rattle.filing.specs.Filing.{inARow}
 use Rattle.table.specs.Layout.{Now, cells, rowAt, putRow}
-use Rattle.table.specs.Means.{presentAt, sharedAt, waitingOf, givenOf, timed, meant, RowPaced, Housed, Sound, Leaves, withLane}
+use Rattle.table.specs.Means.{presentAt, sharedAt, waitingOf, givenOf, timedByWord, meant, RowPaced, Housed, Sound, Leaves, withLane}
 use Rattle.table.specs.declared.LaneRow.{LaneRow}
 use Rattle.table.proofs.Rows.{retimed, weight-present, waiting-none}
 use Rattle.table.proofs.Timed.{timed-none, timed-woken}
@@ -67,16 +67,16 @@ module _ (t t₀ t₁ t′ : List ℕ) (k x : ℕ) (e : Item) (s : Sound t) (hk 
   wake-leaves top c en b =
       let one : r .count + 1 ≡ 1 = omega (arith, wake-none) in
       let is : r .shared ≡ true → waitingOf (cells t₀) k r ≡ shared (sharedAt (cells t₀) k) = λ q. waiting-none (cells t₀) k r wake-none ∙ rw q (ap shared (sym (c .shared q))) in
-      let counted : r .shared ≡ true → round.held (sharedAt (cells t₀) k) ≡ r .count = λ q. ap round.held (c .shared q) ∙ held-nothing true ∙ sym wake-none in
+      let counted : r .shared ≡ true → round.sharedHeld (sharedAt (cells t₀) k) ≡ r .count = λ q. ap round.sharedHeld (c .shared q) ∙ held-nothing true ∙ sym wake-none in
       let before : waitingOf (cells t₀) k r ≡ waitingOf w k r = waiting-none (cells t₀) k r wake-none ∙ sym (waiting-none w k r wake-none) in
       let waits : waitingOf (cells t₁) k (retimed r x (r .head) 1) ≡ enter (r .longest .0) (waitingOf w k r) (waiting e)
       = ap (λ (n : ℕ). waitingOf (cells t₁) k (retimed r x (r .head) n)) (sym one) ∙ entered-waits t₀ t₁ k r e en is counted x ∙ ap (λ (y : Waiting). enter (r .longest .0) y (waiting e)) before in
       let lane = lane-row w o k hk present in
       let none-lane : laneAt (meant t) k .finish ≡ r .time .0 = ap (λ (y : Lane). y .finish) (lane ∙ timed-none (givenOf r) (r .time .0) (waitingOf w k r) first-none) in
       let time : x ≡ max (r .time .0) (meant t .clock) = start ∙ ap (λ (y : ℕ). max y (meant t .clock)) none-lane in
-      let same : timed (givenOf r) x (waitingOf (cells t₁) k (retimed r x (r .head) 1)) ≡ woken (meant t .clock) (laneAt (meant t) k) (waiting e)
-      = ap (timed (givenOf r) x) waits
-      ∙ ap (λ (y : ℕ). timed (givenOf r) y (enter (r .longest .0) (waitingOf w k r) (waiting e))) time
+      let same : timedByWord (givenOf r) x (waitingOf (cells t₁) k (retimed r x (r .head) 1)) ≡ woken (meant t .clock) (laneAt (meant t) k) (waiting e)
+      = ap (timedByWord (givenOf r) x) waits
+      ∙ ap (λ (y : ℕ). timedByWord (givenOf r) y (enter (r .longest .0) (waitingOf w k r) (waiting e))) time
       ∙ sym (timed-woken (givenOf r) (meant t .clock) (r .time .0) (waitingOf w k r) (waiting e) first-none (first-enter (r .longest .0) (waitingOf w k r) (waiting e) good enters first-none))
       ∙ ap (λ (y : Lane). woken (meant t .clock) y (waiting e)) (sym lane) in
       subst (λ (y : Lane). Leaves t t′ (withLane (meant t) k y)) same

@@ -18,16 +18,16 @@ use mathlib.Core.List.{List, [], _∷_, _++_}
 use mathlib.Core.Option.{some}
 use lib.ListN.{set}
 use Rattle.rounds.specs.Round as round
-use Rattle.rounds.specs.Round.{empty, put, handOut}
-use Rattle.rounds.specs.Good.{Good}
+use Rattle.rounds.specs.Round.{empty, sharedPut, sharedHandOut}
+use Rattle.rounds.specs.Good.{GoodShared}
 use Rattle.turns.specs.Turns.{headOf, countOf, namedOf, turnOf, Ordered, Light, Puts}
 use Rattle.turns.specs.Turns as turns
 use Rattle.turns.specs.declared.Change.{Change}
 use Rattle.waiting.specs.Waiting.{withTrain}
 use Rattle.rules.specs.State.{Rec, Lane, firstOf, laneAt}
 use Rattle.rules.specs.Calls.{served}
-use Rattle.table.specs.Layout.{Now, Behind, cells, placeOf, entryAt, roundWord, roundAt, trainNumber, putTrain}
-use Rattle.table.specs.Means.{recAt, ringOf, sharedAt, waitingOf, meant, PlacesFit, Leaves, withLane}
+use Rattle.table.specs.Layout.{Now, Behind, cells, placeInLane, entryAt, roundWord, roundAt, trainNumber, putTrain}
+use Rattle.table.specs.Means.{recAt, laneRing, sharedAt, waitingOf, meant, PlacesFit, Leaves, withLane}
 use Rattle.table.specs.declared.LaneRow.{LaneRow}
 use Rattle.table.proofs.Footprint.{Outside}
 use Rattle.table.proofs.Untouched.{SameRows}
@@ -38,8 +38,8 @@ use Rattle.queue.specs.declared.FirstPlace.{FirstPlace}
 abbrev pub waiting : Item → Rec
 waiting e = record { train = e .train; mark = e .mark; len = e .length .0 }
 
-abbrev pub bare : Item → round.Rec
-bare e = record { mark = e .mark; len = e .length .0 }
+abbrev pub bareItem : Item → round.BareRec
+bareItem e = record { mark = e .mark; len = e .length .0 }
 
 abbrev pub First : Lane → Item → Type 0
 First l e = firstOf l ≡ some (waiting e)
@@ -63,7 +63,7 @@ pub record Joins (before after : List ℕ) (k j L p : ℕ) : Type 0 where
   pub change : Change
   pub now : Now before after (set (putTrain (cells before) k j (change .train)) (roundWord k) (change .round))
   pub puts : Puts L (trainNumber (cells before) k j) (roundAt (cells before) k) j change
-  pub place : p ≡ turns.placeOf j (headOf (trainNumber (cells before) k j) + countOf (trainNumber (cells before) k j))
+  pub place : p ≡ turns.placeInTrain j (headOf (trainNumber (cells before) k j) + countOf (trainNumber (cells before) k j))
 
 pub record Moved (before after : List ℕ) (k : ℕ) : Type 0 where
   pub outside : Outside (cells before) (cells after) k
@@ -73,8 +73,8 @@ pub record Moved (before after : List ℕ) (k : ℕ) : Type 0 where
 pub record Entered (before after : List ℕ) (k : ℕ) (l : LaneRow) (e : Item) : Type 0 where
   pub moved : Moved before after k
   pub fits : PlacesFit (cells before) k l → PlacesFit (cells after) k l
-  pub plain : l .shared ≡ false → ringOf (cells after) k (l .head) (l .count + 1) ≡ ringOf (cells before) k (l .head) (l .count) ++ (bare e ∷ [])
-  pub shared : l .shared ≡ true → sharedAt (cells after) k ≡ put (l .longest .0) (sharedAt (cells before) k) (e .train) (bare e)
+  pub plain : l .shared ≡ false → laneRing (cells after) k (l .head) (l .count + 1) ≡ laneRing (cells before) k (l .head) (l .count) ++ (bareItem e ∷ [])
+  pub shared : l .shared ≡ true → sharedAt (cells after) k ≡ sharedPut (l .longest .0) (sharedAt (cells before) k) (e .train) (bareItem e)
   pub ordered : l .shared ≡ true → Ordered (roundAt (cells after) k)
 
 pub record Cleared (before after : List ℕ) (k : ℕ) (l : LaneRow) : Type 0 where
@@ -89,13 +89,13 @@ pub record Fronts (w : List ℕ) (k : ℕ) (l : LaneRow) (f : FirstPlace) : Type
 
 -- the first record of a shared lane has this length
 pub record Chosen (w : List ℕ) (k L n : ℕ) : Type 0 where
-  pub good : Good L (sharedAt w k)
+  pub good : GoodShared L (sharedAt w k)
   pub ordered : Ordered (roundAt w k)
   pub named : 0 < namedOf (roundAt w k)
-  pub length : recAt w k (turns.placeOf (turnOf (roundAt w k)) (headOf (trainNumber w k (turnOf (roundAt w k))))) .len ≡ n
+  pub length : recAt w k (turns.placeInTrain (turnOf (roundAt w k)) (headOf (trainNumber w k (turnOf (roundAt w k))))) .len ≡ n
 
 pub record Turned (before after : List ℕ) (k L : ℕ) : Type 0 where
   pub moved : Moved before after k
-  pub places : (i : ℕ) → entryAt (cells after) (placeOf k i) ≡ entryAt (cells before) (placeOf k i)
-  pub shared : sharedAt (cells after) k ≡ handOut L (sharedAt (cells before) k)
+  pub places : (i : ℕ) → entryAt (cells after) (placeInLane k i) ≡ entryAt (cells before) (placeInLane k i)
+  pub shared : sharedAt (cells after) k ≡ sharedHandOut L (sharedAt (cells before) k)
   pub ordered : Ordered (roundAt (cells after) k)

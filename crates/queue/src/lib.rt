@@ -6,7 +6,7 @@
 ghost use mathlib.Core.Path.{_≡_};
 ghost use mathlib.Core.Bool.{true, false};
 ghost use Prim.Native.Nat.{_+_, _^_, _<_, _≤_, max};
-ghost use Rattle.rounds.specs.Good.{Good};
+ghost use Rattle.rounds.specs.Good.{GoodShared};
 ghost use Rattle.turns.specs.Turns.{namedOf, Ordered};
 ghost use Rattle.waiting.specs.Waiting.{GoodWaiting};
 ghost use Rattle.waiting.proofs.Laws.{Enters};
@@ -141,7 +141,7 @@ pub fn wake(t: &mut [u8], k: usize, start: Clock, e: Item) -> u32
 
 // Where the first record of lane `k` stands, which holds records and has the row `l`.
 fn front(t: &[u8], k: usize, l: LaneRow) -> FirstPlace
-    requires { ⌜ Room (now t) × (k < 64) × (0 < l .count) × (l .shared ≡ true → Good (l .longest .0) (sharedAt (cells (now t)) k) × Ordered (roundAt (cells (now t)) k) × (0 < namedOf (roundAt (cells (now t)) k))) ⌝ }
+    requires { ⌜ Room (now t) × (k < 64) × (0 < l .count) × (l .shared ≡ true → GoodShared (l .longest .0) (sharedAt (cells (now t)) k) × Ordered (roundAt (cells (now t)) k) × (0 < namedOf (roundAt (cells (now t)) k))) ⌝ }
     ensures { λ r. ⌜ Fronts (cells (now (t .entry))) k l r ⌝ }
 {
     if l.shared {

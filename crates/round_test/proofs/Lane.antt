@@ -11,35 +11,35 @@ use lib.ListN.{getD}
 use Rattle.units.specs.Plain.{if_then_else_, times, sum}
 use Rattle.words.specs.Runs.{tab, tabFrom}
 use Rattle.words.proofs.Runs.{tab-snoc}
-use Rattle.rounds.specs.Round.{Rec, Train, noTrain, some?, inTurn, heldIn, held}
-use Rattle.rounds.specs.Good.{Lengths, Deficit, GoodTrain, Good}
+use Rattle.rounds.specs.Round.{BareRec, Train, noTrain, queued?, inTurn, trainHeld, sharedHeld}
+use Rattle.rounds.specs.Good.{Lengths, Deficit, GoodTrain, GoodShared}
 use Rattle.rounds.proofs.Test.{beyond, not-in-turn}
-use Rattle.turns.specs.Turns.{headOf, countOf, deficitOf, placeOf, ringOf, trainOf, trainsOf, sharedOf, fours, namedOf, orderOf, roundOf, turnOf, Ordered}
+use Rattle.turns.specs.Turns.{headOf, countOf, deficitOf, placeInTrain, trainRing, trainOf, trainsOf, sharedOf, fours, namedOf, orderOf, roundOf, turnOf, Ordered}
 use Rattle.turns.proofs.Train.{parts, length-ring, ring-none, ring-cons, train-is, length-trains}
 use Rattle.turns.proofs.Good.{good-known, good-once, good-each}
-use Rattle.round_test.specs.Shared.{PlacesFit, TrainFine, below, heldBelow, SharedGood}
+use Rattle.round_test.specs.Shared.{LengthsFit, TrainFine, below, heldBelow, SharedGood}
 
 -- ---- one train
 
 -- all places hold lengths within the numbers, so the records of a train do
-lengths-fit : (L : ℕ) (at : ℕ → Rec) (k h n : ℕ) → k < 8 → ((p : ℕ) → p < 64 → (1 ≤ at p .len) × (at p .len ≤ L)) → Lengths L (ringOf at k h n)
+lengths-fit : (L : ℕ) (at : ℕ → BareRec) (k h n : ℕ) → k < 8 → ((p : ℕ) → p < 64 → (1 ≤ at p .len) × (at p .len ≤ L)) → Lengths L (trainRing at k h n)
 lengths-fit L at k h zero hk fit = rw (ring-none at k h) tt
 lengths-fit L at k h (suc n) hk fit =
-    let f = fit (placeOf k h) (omega arith) in
+    let f = fit (placeInTrain k h) (omega arith) in
     rw (ring-cons at k h n) (f .0, f .1, lengths-fit L at k ((h + 1) % 8) n hk fit)
 
-module _ (L : ℕ) (at : ℕ → Rec) (k t : ℕ) (hk : k < 8) (fit : (p : ℕ) → p < 64 → (1 ≤ at p .len) × (at p .len ≤ L)) where
-  abbrev q : List Rec
-  q = ringOf at k (headOf t) (countOf t)
+module _ (L : ℕ) (at : ℕ → BareRec) (k t : ℕ) (hk : k < 8) (fit : (p : ℕ) → p < 64 → (1 ≤ at p .len) × (at p .len ≤ L)) where
+  abbrev q : List BareRec
+  q = trainRing at k (headOf t) (countOf t)
 
   abbrev len : ℕ
-  len = at (placeOf k (headOf t)) .len
+  len = at (placeInTrain k (headOf t)) .len
 
   none-queue : countOf t ≡ 0 → q ≡ []
-  none-queue z = ap (ringOf at k (headOf t)) z ∙ ring-none at k (headOf t)
+  none-queue z = ap (trainRing at k (headOf t)) z ∙ ring-none at k (headOf t)
 
-  some-queue : 0 < countOf t → q ≡ at (placeOf k (headOf t)) ∷ ringOf at k ((headOf t + 1) % 8) (countOf t - 1)
-  some-queue p = let c : countOf t ≡ suc (countOf t - 1) = omega arith in ap (ringOf at k (headOf t)) c ∙ ring-cons at k (headOf t) (countOf t - 1)
+  some-queue : 0 < countOf t → q ≡ at (placeInTrain k (headOf t)) ∷ trainRing at k ((headOf t + 1) % 8) (countOf t - 1)
+  some-queue p = let c : countOf t ≡ suc (countOf t - 1) = omega arith in ap (trainRing at k (headOf t)) c ∙ ring-cons at k (headOf t) (countOf t - 1)
 
   eighths : t ≡ headOf t + 8 * countOf t + 128 * deficitOf t
   eighths = parts t
@@ -53,16 +53,16 @@ module _ (L : ℕ) (at : ℕ → Rec) (k t : ℕ) (hk : k < 8) (fit : (p : ℕ) 
       record {
         room = omega (arith, length-ring at k (headOf t) (countOf t), eighths);
         lengths = lengths-fit L at k (headOf t) (countOf t) hk fit;
-        deficit = subst (λ (x : List Rec). Deficit L turn (deficitOf t) x) (sym none) zero-deficit;
-        named-once = sym (ap (λ (x : List Rec). if some? x then 1 else 0) none);
+        deficit = subst (λ (x : List BareRec). Deficit L turn (deficitOf t) x) (sym none) zero-deficit;
+        named-once = sym (ap (λ (x : List BareRec). if queued? x then 1 else 0) none);
       }
   fine-good (suc n) true h f =
       let cons = some-queue (f .0) in
       record {
         room = omega (arith, length-ring at k (headOf t) (countOf t), f .1);
         lengths = lengths-fit L at k (headOf t) (countOf t) hk fit;
-        deficit = subst (λ (x : List Rec). Deficit L true (deficitOf t) x) (sym cons) (f .2, f .3);
-        named-once = one n h ∙ sym (ap (λ (x : List Rec). if some? x then 1 else 0) cons);
+        deficit = subst (λ (x : List BareRec). Deficit L true (deficitOf t) x) (sym cons) (f .2, f .3);
+        named-once = one n h ∙ sym (ap (λ (x : List BareRec). if queued? x then 1 else 0) cons);
       }
     where
       one : (n : ℕ) → suc n ≤ 1 → suc n ≡ 1
@@ -72,8 +72,8 @@ module _ (L : ℕ) (at : ℕ → Rec) (k t : ℕ) (hk : k < 8) (fit : (p : ℕ) 
       record {
         room = omega (arith, length-ring at k (headOf t) (countOf t), f .1);
         lengths = lengths-fit L at k (headOf t) (countOf t) hk fit;
-        deficit = subst (λ (x : List Rec). Deficit L false (deficitOf t) x) (sym cons) (f .2);
-        named-once = one n h ∙ sym (ap (λ (x : List Rec). if some? x then 1 else 0) cons);
+        deficit = subst (λ (x : List BareRec). Deficit L false (deficitOf t) x) (sym cons) (f .2);
+        named-once = one n h ∙ sym (ap (λ (x : List BareRec). if queued? x then 1 else 0) cons);
       }
     where
       one : (n : ℕ) → suc n ≤ 1 → suc n ≡ 1
@@ -85,50 +85,50 @@ module _ (L : ℕ) (at : ℕ → Rec) (k t : ℕ) (hk : k < 8) (fit : (p : ℕ) 
   good-fine n turn g = go (countOf t) refl n turn g
     where
       go : (c : ℕ) → countOf t ≡ c → (n : ℕ) (turn : Bool) → GoodTrain L turn n (trainOf at k t) → TrainFine L n turn t len
-      go zero z zero turn g = let d : deficitOf t ≡ 0 = subst (λ (x : List Rec). Deficit L turn (deficitOf t) x) (none-queue z) (g .deficit) in omega (arith, eighths)
-      go zero z (suc n) turn g = absurd (omega (arith, g .named-once ∙ ap (λ (x : List Rec). if some? x then 1 else 0) (none-queue z)))
-      go (suc c) z zero turn g = absurd (omega (arith, g .named-once ∙ ap (λ (x : List Rec). if some? x then 1 else 0) (some-queue (omega arith))))
+      go zero z zero turn g = let d : deficitOf t ≡ 0 = subst (λ (x : List BareRec). Deficit L turn (deficitOf t) x) (none-queue z) (g .deficit) in omega (arith, eighths)
+      go zero z (suc n) turn g = absurd (omega (arith, g .named-once ∙ ap (λ (x : List BareRec). if queued? x then 1 else 0) (none-queue z)))
+      go (suc c) z zero turn g = absurd (omega (arith, g .named-once ∙ ap (λ (x : List BareRec). if queued? x then 1 else 0) (some-queue (omega arith))))
       go (suc c) z (suc n) true g =
-          let d : Deficit L true (deficitOf t) (at (placeOf k (headOf t)) ∷ ringOf at k ((headOf t + 1) % 8) (countOf t - 1)) = subst (λ (x : List Rec). Deficit L true (deficitOf t) x) (some-queue (omega arith)) (g .deficit) in
+          let d : Deficit L true (deficitOf t) (at (placeInTrain k (headOf t)) ∷ trainRing at k ((headOf t + 1) % 8) (countOf t - 1)) = subst (λ (x : List BareRec). Deficit L true (deficitOf t) x) (some-queue (omega arith)) (g .deficit) in
           (omega arith, omega (arith, g .room, length-ring at k (headOf t) (countOf t)), d .0, d .1)
       go (suc c) z (suc n) false g =
-          let d : Deficit L false (deficitOf t) (at (placeOf k (headOf t)) ∷ ringOf at k ((headOf t + 1) % 8) (countOf t - 1)) = subst (λ (x : List Rec). Deficit L false (deficitOf t) x) (some-queue (omega arith)) (g .deficit) in
+          let d : Deficit L false (deficitOf t) (at (placeInTrain k (headOf t)) ∷ trainRing at k ((headOf t + 1) % 8) (countOf t - 1)) = subst (λ (x : List BareRec). Deficit L false (deficitOf t) x) (some-queue (omega arith)) (g .deficit) in
           (omega arith, omega (arith, g .room, length-ring at k (headOf t) (countOf t)), d)
 
 -- ---- how many records are held
 
-sum-append : (xs ys : List Train) → sum heldIn (xs ++ ys) ≡ sum heldIn xs + sum heldIn ys
+sum-append : (xs ys : List Train) → sum trainHeld (xs ++ ys) ≡ sum trainHeld xs + sum trainHeld ys
 sum-append [] ys = omega arith
 sum-append (x ∷ xs) ys = omega (arith, sum-append xs ys)
 
-held-tab : (at : ℕ → Rec) (ts : ℕ → ℕ) (n : ℕ) → sum heldIn (tab n (λ k. trainOf at k (ts k))) ≡ heldBelow ts n
+held-tab : (at : ℕ → BareRec) (ts : ℕ → ℕ) (n : ℕ) → sum trainHeld (tab n (λ k. trainOf at k (ts k))) ≡ heldBelow ts n
 unfolding below tab tabFrom trainOf
 held-tab at ts zero = refl
 held-tab at ts (suc n) =
-    ap (λ (m : ℕ). sum heldIn (tab m (λ k. trainOf at k (ts k)))) (sym (add-one n))
-    ∙ ap (sum heldIn) (tab-snoc n (λ k. trainOf at k (ts k)))
+    ap (λ (m : ℕ). sum trainHeld (tab m (λ k. trainOf at k (ts k)))) (sym (add-one n))
+    ∙ ap (sum trainHeld) (tab-snoc n (λ k. trainOf at k (ts k)))
     ∙ sum-append (tab n (λ k. trainOf at k (ts k))) (trainOf at n (ts n) ∷ [])
     ∙ omega (arith, held-tab at ts n, length-ring at n (headOf (ts n)) (countOf (ts n)))
 
-pub held-is : (at : ℕ → Rec) (ts : ℕ → ℕ) (r : ℕ) → held (sharedOf at ts r) ≡ heldBelow ts 8
+pub held-is : (at : ℕ → BareRec) (ts : ℕ → ℕ) (r : ℕ) → sharedHeld (sharedOf at ts r) ≡ heldBelow ts 8
 unfolding sharedOf trainsOf
 held-is at ts r = held-tab at ts 8
 
 -- ---- the lane
 
-module _ (L r count : ℕ) (ts lengths : ℕ → ℕ) (o : Ordered r) (some-bytes : (p : ℕ) → 1 ≤ lengths p) (fit : PlacesFit L lengths) where
+module _ (L r count : ℕ) (ts lengths : ℕ → ℕ) (o : Ordered r) (some-bytes : (p : ℕ) → 1 ≤ lengths p) (fit : LengthsFit L lengths) where
   abbrev first-length : ℕ → ℕ
-  first-length k = lengths (placeOf k (headOf (ts k)))
+  first-length k = lengths (placeInTrain k (headOf (ts k)))
 
   abbrev Fine : ℕ → Type 0
   Fine k = TrainFine L (times k (roundOf r)) (eqb (turnOf r) k) (ts k) (first-length k)
 
-  module _ (at : ℕ → Rec) (are : (p : ℕ) → p < 64 → at p .len ≡ lengths p) where
+  module _ (at : ℕ → BareRec) (are : (p : ℕ) → p < 64 → at p .len ≡ lengths p) where
     within : (p : ℕ) → p < 64 → (1 ≤ at p .len) × (at p .len ≤ L)
     within p h = (omega (arith, are p h, some-bytes p), omega (arith, are p h, fit p h))
 
-    first-is : (k : ℕ) → k < 8 → at (placeOf k (headOf (ts k))) .len ≡ first-length k
-    first-is k h = are (placeOf k (headOf (ts k))) (omega arith)
+    first-is : (k : ℕ) → k < 8 → at (placeInTrain k (headOf (ts k))) .len ≡ first-length k
+    first-is k h = are (placeInTrain k (headOf (ts k))) (omega arith)
 
   -- a round that names no train has none in turn, and then the number says nothing of a turn
   turned : (k : ℕ) (P : Bool → Type 0) → (times k (roundOf r) ≡ 0 → (a b : Bool) → P a → P b) → P (eqb (turnOf r) k) → P (inTurn k (roundOf r))
@@ -161,23 +161,23 @@ module _ (L r count : ℕ) (ts lengths : ℕ → ℕ) (o : Ordered r) (some-byte
         held = λ at. held-is at ts r ∙ counted;
       }
     where
-      near : (at : ℕ → Rec) → ((p : ℕ) → p < 64 → at p .len ≡ lengths p) → (k : ℕ) → k < 8 → GoodTrain L (inTurn k (roundOf r)) (times k (roundOf r)) (getD (trainsOf at ts) k noTrain)
+      near : (at : ℕ → BareRec) → ((p : ℕ) → p < 64 → at p .len ≡ lengths p) → (k : ℕ) → k < 8 → GoodTrain L (inTurn k (roundOf r)) (times k (roundOf r)) (getD (trainsOf at ts) k noTrain)
       near at are k h =
-          let f : TrainFine L (times k (roundOf r)) (eqb (turnOf r) k) (ts k) (at (placeOf k (headOf (ts k))) .len) = rw (first-is at are k h) (fine k h) in
-          let g : TrainFine L (times k (roundOf r)) (inTurn k (roundOf r)) (ts k) (at (placeOf k (headOf (ts k))) .len) =
-          turned k (λ (b : Bool). TrainFine L (times k (roundOf r)) b (ts k) (at (placeOf k (headOf (ts k))) .len)) (λ z a b. no-turn (times k (roundOf r)) (ts k) (at (placeOf k (headOf (ts k))) .len) z a b) f in
+          let f : TrainFine L (times k (roundOf r)) (eqb (turnOf r) k) (ts k) (at (placeInTrain k (headOf (ts k))) .len) = rw (first-is at are k h) (fine k h) in
+          let g : TrainFine L (times k (roundOf r)) (inTurn k (roundOf r)) (ts k) (at (placeInTrain k (headOf (ts k))) .len) =
+          turned k (λ (b : Bool). TrainFine L (times k (roundOf r)) b (ts k) (at (placeInTrain k (headOf (ts k))) .len)) (λ z a b. no-turn (times k (roundOf r)) (ts k) (at (placeInTrain k (headOf (ts k))) .len) z a b) f in
           rw (train-is ts at k h) (fine-good L at k (ts k) h (within at are) (times k (roundOf r)) (inTurn k (roundOf r)) (once k h) g)
 
-      far : (at : ℕ → Rec) (k : ℕ) → 8 ≤ k → GoodTrain L (inTurn k (roundOf r)) (times k (roundOf r)) (getD (trainsOf at ts) k noTrain)
+      far : (at : ℕ → BareRec) (k : ℕ) → 8 ≤ k → GoodTrain L (inTurn k (roundOf r)) (times k (roundOf r)) (getD (trainsOf at ts) k noTrain)
       far at k h =
           let none = known k h in
           rw (beyond (trainsOf at ts) k (omega (arith, length-trains ts at)), not-in-turn k (roundOf r) none, none) (record { room = omega arith; lengths = tt; deficit = refl; named-once = refl })
 
-  some-records : ℕ → Rec
+  some-records : ℕ → BareRec
   some-records p = record { mark = 0; len = lengths p }
 
   module _ (g : SharedGood L ts lengths r count) where
-    some-lane : Good L (sharedOf some-records ts r)
+    some-lane : GoodShared L (sharedOf some-records ts r)
     unfolding some-records
     some-lane = g .lane some-records (λ p q. refl)
 

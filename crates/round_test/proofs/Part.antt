@@ -10,8 +10,8 @@ use lib.Seq.{getD-drop}
 use Rattle.words.specs.Runs.{elementsFrom}
 use Rattle.words.specs.Words.{leVal, wordAt}
 use Rattle.digits.specs.Digits.{digit}
-use Rattle.turns.specs.Turns.{headOf, placeOf, namedOf, Ordered}
-use Rattle.round_test.specs.Shared.{Says, numbersAt, lengthsAt, PlacesFit, heldBelow, Sound, covering, Tallied, SharedGood}
+use Rattle.turns.specs.Turns.{headOf, placeInTrain, namedOf, Ordered}
+use Rattle.round_test.specs.Shared.{Says, numbersAt, lengthsAt, LengthsFit, heldBelow, SoundTrain, covering, Tallied, SharedGood}
 use Rattle.round_test.proofs.Answers.{says-as}
 use Rattle.round_test.proofs.Fill.{filled}
 use Rattle.round_test.proofs.Testing.{tallied-good, good-tallied}
@@ -39,13 +39,13 @@ lengths-part t lengths p =
 tallied-as : (L : ℕ) (ts lens lens′ : ℕ → ℕ) (order named : ℕ) → ((p : ℕ) → lens p ≡ lens′ p) → Tallied L ts lens order named → Tallied L ts lens′ order named
 tallied-as L ts lens lens′ order named same a =
     record {
-      each = λ k h. subst (Sound L (ts k)) (same (placeOf k (headOf (ts k)))) (a .each k h);
+      each = λ k h. subst (SoundTrain L (ts k)) (same (placeInTrain k (headOf (ts k)))) (a .each k h);
       names = a .names;
       number = a .number;
-      turn = λ k h. ap (covering (ts k)) (sym (same (placeOf k (headOf (ts k))))) ∙ a .turn k h;
+      turn = λ k h. ap (covering (ts k)) (sym (same (placeInTrain k (headOf (ts k))))) ∙ a .turn k h;
     }
 
-pub lane-says : (b : Bool) (L r count trains lengths order : ℕ) (t u : List ℕ) (o : Ordered r) → PlacesFit L (lengthsAt t lengths) → u ≡ drop (lengths / 4 * 8) t → order ≡ filled r o
+pub lane-says : (b : Bool) (L r count trains lengths order : ℕ) (t u : List ℕ) (o : Ordered r) → LengthsFit L (lengthsAt t lengths) → u ≡ drop (lengths / 4 * 8) t → order ≡ filled r o
     → heldBelow (numbersAt t trains) 8 ≡ count → Says b (Tallied L (numbersAt t trains) (lengthsAt u (lengths % 4)) order (namedOf r)) → Says b (SharedGood L (numbersAt t trains) (lengthsAt t lengths) r count)
 lane-says b L r count trains lengths order t u o fit part is held s =
     says-as b s

@@ -10,8 +10,8 @@ use borrow.Author.Count.{below-more}
 use Rattle.units.specs.Plain.{times}
 use Rattle.words.specs.Bits.{bit}
 use Rattle.rounds.proofs.Lists.{same-or}
-use Rattle.turns.specs.Turns.{headOf, deficitOf, placeOf, fours}
-use Rattle.round_test.specs.Shared.{Says, below, Holds, holding, covering, Sound, Wanted, Tallied}
+use Rattle.turns.specs.Turns.{headOf, deficitOf, placeInTrain, fours}
+use Rattle.round_test.specs.Shared.{Says, below, HoldsSome, holding, covering, SoundTrain, Wanted, Tallied}
 use Rattle.round_test.proofs.Answers.{says-eqb}
 use Rattle.round_test.proofs.Sums.{one, one-same, one-other, bit-power, bit-power-other, bit-low}
 use Rattle.round_test.proofs.Marks.{word, below-most, word-small, word-bit, word-is}
@@ -26,7 +26,7 @@ turn-bit turn k h =
 
 module _ (L : ℕ) (ts lens : ℕ → ℕ) where
   abbrev len : ℕ → ℕ
-  len k = lens (placeOf k (headOf (ts k)))
+  len k = lens (placeInTrain k (headOf (ts k)))
 
   abbrev h : ℕ → ℕ
   h k = holding (ts k)
@@ -42,7 +42,7 @@ module _ (L : ℕ) (ts lens : ℕ → ℕ) where
 
   pub record Tallying (tally k : ℕ) : Type 0 where
     pub within : k ≤ 8
-    pub sound : (i : ℕ) → i < k → Sound L (ts i) (len i)
+    pub sound : (i : ℕ) → i < k → SoundTrain L (ts i) (len i)
     pub is : tally ≡ word h k + 256 * below h k + 4096 * word o k
 
   pub tallying-none : Tallying 0 0
@@ -56,12 +56,12 @@ module _ (L : ℕ) (ts lens : ℕ → ℕ) where
     pub small : tally < 2 ^ 21
     small = omega (arith, c .is, word-small h h-most k, word-small o o-most k, below-most h h-most k, one-small)
 
-    more : Sound L (ts k) (len k) → (next : ℕ) → next ≡ tally + h k * 2 ^ k + 256 * h k + 4096 * (o k * 2 ^ k) → Tallying next (k + 1)
+    more : SoundTrain L (ts k) (len k) → (next : ℕ) → next ≡ tally + h k * 2 ^ k + 256 * h k + 4096 * (o k * 2 ^ k) → Tallying next (k + 1)
     unfolding below
     more s next e =
         record {
           within = omega arith;
-          sound = below-more (λ i. Sound L (ts i) (len i)) k (c .sound) s;
+          sound = below-more (λ i. SoundTrain L (ts i) (len i)) k (c .sound) s;
           is = omega (arith, e, c .is) ∙ ap (λ (n : ℕ). word h n + 256 * below h n + 4096 * word o n) (sym (add-one k));
         }
 
@@ -71,30 +71,30 @@ module _ (L : ℕ) (ts lens : ℕ → ℕ) where
 
     module _ (train : ℕ) (is : train ≡ ts k) where
       abbrev len-read : ℕ
-      len-read = lens (placeOf k (headOf train))
+      len-read = lens (placeInTrain k (headOf train))
 
       same-len : len-read ≡ len k
-      same-len = ap (λ (x : ℕ). lens (placeOf k (headOf x))) is
+      same-len = ap (λ (x : ℕ). lens (placeInTrain k (headOf x))) is
 
       pub head-only : train < 8 → 1 ≤ len k → Tallying tally (k + 1)
       head-only s b =
           more (λ p. absurd (omega (arith, is, s)), λ p. absurd (omega (arith, is, s, b))) tally
           (adds 0 0 tally (omega (arith, is, s)) (omega (arith, is, s, b)) (omega arith))
 
-      pub waits : Holds train → (len-read ≤ deficitOf train → ⊥) → Tallying (tally + (2 ^ k + 256)) (k + 1)
+      pub waits : HoldsSome train → (len-read ≤ deficitOf train → ⊥) → Tallying (tally + (2 ^ k + 256)) (k + 1)
       waits b n =
           let d : deficitOf train < len-read = omega (arith, n) in
-          more (λ p. subst Holds is b, λ p. absurd (omega (arith, p, d, same-len, is))) (tally + (2 ^ k + 256))
+          more (λ p. subst HoldsSome is b, λ p. absurd (omega (arith, p, d, same-len, is))) (tally + (2 ^ k + 256))
           (adds 1 0 (tally + (2 ^ k + 256)) (omega (arith, is, b .0)) (omega (arith, is, d, same-len)) (omega arith))
 
-      pub covers : Holds train → len-read ≤ deficitOf train → deficitOf train < 2 * L → Tallying (tally + (2 ^ k + 256) + 4096 * 2 ^ k) (k + 1)
+      pub covers : HoldsSome train → len-read ≤ deficitOf train → deficitOf train < 2 * L → Tallying (tally + (2 ^ k + 256) + 4096 * 2 ^ k) (k + 1)
       covers b l u =
-          more (λ p. subst Holds is b, λ p. omega (arith, u, is)) (tally + (2 ^ k + 256) + 4096 * 2 ^ k)
+          more (λ p. subst HoldsSome is b, λ p. omega (arith, u, is)) (tally + (2 ^ k + 256) + 4096 * 2 ^ k)
           (adds 1 1 (tally + (2 ^ k + 256) + 4096 * 2 ^ k) (omega (arith, is, b .0)) (omega (arith, is, l, same-len)) (omega arith))
 
       module _ (order named : ℕ) where
-        pub not-head : (Holds train → ⊥) → 8 ≤ train → Tallied L ts lens order named → ⊥
-        not-head n b a = n (subst Holds (sym is) (a .each k lt .0 (omega (arith, is, b))))
+        pub not-head : (HoldsSome train → ⊥) → 8 ≤ train → Tallied L ts lens order named → ⊥
+        not-head n b a = n (subst HoldsSome (sym is) (a .each k lt .0 (omega (arith, is, b))))
 
         pub too-much : len-read ≤ deficitOf train → 2 * L ≤ deficitOf train → Tallied L ts lens order named → ⊥
         too-much l u a = omega (arith, a .each k lt .1 (omega (arith, l, same-len, is)), u, is)

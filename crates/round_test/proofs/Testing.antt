@@ -9,9 +9,9 @@ use lib.Dec.{eqb}
 use lib.ListN.{length}
 use borrow.Author.Tests.{eqb-true, eqb-false}
 use Rattle.units.specs.Plain.{times}
-use Rattle.turns.specs.Turns.{headOf, deficitOf, placeOf, fours, namedOf, orderOf, roundOf, turnOf, Ordered}
+use Rattle.turns.specs.Turns.{headOf, deficitOf, placeInTrain, fours, namedOf, orderOf, roundOf, turnOf, Ordered}
 use Rattle.turns.proofs.Round.{length-fours, round-cons}
-use Rattle.round_test.specs.Shared.{PlacesFit, TrainFine, below, heldBelow, holding, covering, Sound, Tallied, SharedGood}
+use Rattle.round_test.specs.Shared.{LengthsFit, TrainFine, below, heldBelow, holding, covering, SoundTrain, Tallied, SharedGood}
 use Rattle.round_test.proofs.Sums.{one-same, one-other, le-below, named-all, exact, no-other}
 use Rattle.round_test.proofs.Fill.{filled, filled-times, filled-turn, filled-none}
 use Rattle.round_test.proofs.Lane.{all-good, good-all, named-once, named-known, good-held}
@@ -25,7 +25,7 @@ module _ (L t length : ℕ) (some : 1 ≤ length) where
   fine-holding (suc n) true h f = omega (arith, h, f .0)
   fine-holding (suc n) false h f = omega (arith, h, f .0)
 
-  fine-sound : (n : ℕ) (turn : Bool) → TrainFine L n turn t length → Sound L t length
+  fine-sound : (n : ℕ) (turn : Bool) → TrainFine L n turn t length → SoundTrain L t length
   unfolding TrainFine
   fine-sound zero turn f = (λ p. absurd (omega (arith, p, f)), λ p. absurd (omega (arith, p, f)))
   fine-sound (suc n) true f = (λ p. (f .0, f .1), λ p. f .3)
@@ -42,7 +42,7 @@ module _ (L t length : ℕ) (some : 1 ≤ length) where
   fine-waits (suc n) f = omega (arith, f .2)
 
   -- and back
-  fine-made : (turn : Bool) → Sound L t length → 8 ≤ t → (turn ≡ true → covering t length ≡ 1) → (turn ≡ false → covering t length ≡ 0) → TrainFine L 1 turn t length
+  fine-made : (turn : Bool) → SoundTrain L t length → 8 ≤ t → (turn ≡ true → covering t length ≡ 1) → (turn ≡ false → covering t length ≡ 0) → TrainFine L 1 turn t length
   unfolding TrainFine
   fine-made true s h c w = let l : length ≤ deficitOf t = omega (arith, c refl) in (s .0 h .0, s .0 h .1, l, s .1 l)
   fine-made false s h c w = (s .0 h .0, s .0 h .1, omega (arith, w refl))
@@ -53,9 +53,9 @@ some-or-none : (P : Type 0) (n : ℕ) → (n ≡ 0 → P) → ((m : ℕ) → n �
 some-or-none P zero f g = f refl
 some-or-none P (suc m) f g = g m refl
 
-module _ (L r count : ℕ) (ts lens : ℕ → ℕ) (o : Ordered r) (some-bytes : (p : ℕ) → 1 ≤ lens p) (fit : PlacesFit L lens) where
+module _ (L r count : ℕ) (ts lens : ℕ → ℕ) (o : Ordered r) (some-bytes : (p : ℕ) → 1 ≤ lens p) (fit : LengthsFit L lens) where
   abbrev len : ℕ → ℕ
-  len k = lens (placeOf k (headOf (ts k)))
+  len k = lens (placeInTrain k (headOf (ts k)))
 
   abbrev Matches : Type 0
   Matches = Tallied L ts lens (filled r o) (namedOf r)
@@ -87,7 +87,7 @@ module _ (L r count : ℕ) (ts lens : ℕ → ℕ) (o : Ordered r) (some-bytes :
               (λ z. absurd (omega (arith, once, none-named z k)))
               (λ m e.
               let turn : covering (ts k) (len k) ≡ times k (turnOf r ∷ []) = a .turn k h ∙ ap (λ (x : ℕ). times k (x ∷ [])) (filled-turn r o m e) in
-              fine-made L (ts k) (len k) (some-bytes (placeOf k (headOf (ts k)))) (eqb (turnOf r) k) (a .each k h) (omega (arith, p))
+              fine-made L (ts k) (len k) (some-bytes (placeInTrain k (headOf (ts k)))) (eqb (turnOf r) k) (a .each k h) (omega (arith, p))
               (λ q. turn ∙ omega (arith, one-same (turnOf r) k (eqb-true (turnOf r) k q)))
               (λ q. turn ∙ omega (arith, one-other (turnOf r) k (eqb-false (turnOf r) k q)))))
         ]
@@ -105,7 +105,7 @@ module _ (L r count : ℕ) (ts lens : ℕ → ℕ) (o : Ordered r) (some-bytes :
     once = named-once L r count ts lens o some-bytes fit g
 
     held-to : (k : ℕ) → k < 8 → times k (roundOf r) ≡ holding (ts k)
-    held-to k h = fine-holding L (ts k) (len k) (some-bytes (placeOf k (headOf (ts k)))) (times k (roundOf r)) (eqb (turnOf r) k) (once k) (each k h)
+    held-to k h = fine-holding L (ts k) (len k) (some-bytes (placeInTrain k (headOf (ts k)))) (times k (roundOf r)) (eqb (turnOf r) k) (once k) (each k h)
 
     number : below (λ k. holding (ts k)) 8 ≡ namedOf r
     number =
@@ -126,24 +126,24 @@ module _ (L r count : ℕ) (ts lens : ℕ → ℕ) (o : Ordered r) (some-bytes :
         some-or-none (covering (ts k) (len k) ≡ times k (filled r o % 16 ∷ [])) (namedOf r)
         (λ z.
         let none : ts k < 8 = omega (arith, held-to k h, none-named z k) in
-        omega (arith, none, some-bytes (placeOf k (headOf (ts k))), ap (λ (x : ℕ). times k (x ∷ [])) (filled-none r o z), one-other 15 k (λ e. omega (arith, e))))
+        omega (arith, none, some-bytes (placeInTrain k (headOf (ts k))), ap (λ (x : ℕ). times k (x ∷ [])) (filled-none r o z), one-other 15 k (λ e. omega (arith, e))))
         (λ m e. by m e (eqb (turnOf r) k) refl ∙ ap (λ (x : ℕ). times k (x ∷ [])) (sym (filled-turn r o m e)))
       where
         by : (m : ℕ) → namedOf r ≡ suc m → (b : Bool) → eqb (turnOf r) k ≡ b → covering (ts k) (len k) ≡ times k (turnOf r ∷ [])
         by m e true q =
             let is = eqb-true (turnOf r) k q in
-            fine-covers L (ts k) (len k) (some-bytes (placeOf k (headOf (ts k)))) (times k (roundOf r)) (in-turn m e k is)
+            fine-covers L (ts k) (len k) (some-bytes (placeInTrain k (headOf (ts k)))) (times k (roundOf r)) (in-turn m e k is)
             (subst (λ (b : Bool). TrainFine L (times k (roundOf r)) b (ts k) (len k)) q (each k h))
             ∙ omega (arith, one-same (turnOf r) k is)
         by m e false q =
-            fine-waits L (ts k) (len k) (some-bytes (placeOf k (headOf (ts k)))) (times k (roundOf r))
+            fine-waits L (ts k) (len k) (some-bytes (placeInTrain k (headOf (ts k)))) (times k (roundOf r))
             (subst (λ (b : Bool). TrainFine L (times k (roundOf r)) b (ts k) (len k)) q (each k h))
             ∙ omega (arith, one-other (turnOf r) k (eqb-false (turnOf r) k q))
 
     pub good-tallied : Matches
     good-tallied =
         record {
-          each = λ k h. fine-sound L (ts k) (len k) (some-bytes (placeOf k (headOf (ts k)))) (times k (roundOf r)) (eqb (turnOf r) k) (each k h);
+          each = λ k h. fine-sound L (ts k) (len k) (some-bytes (placeInTrain k (headOf (ts k)))) (times k (roundOf r)) (eqb (turnOf r) k) (each k h);
           names = λ k h. omega (arith, held-to k h, once k, filled-times r o k h);
           number = number;
           turn = turn;

@@ -1,20 +1,20 @@
 -- What the test of one shared lane says.
 --
---   numbersAt      the numbers of 8 trains that stand in the halves of bytes, from a half on
---   lengthsAt      the lengths of 64 places, each less one in a quarter of bytes, from a quarter on
---   PlacesFit      every place holds a length of 1 to the longest, a record there or not
---   TrainFine      what a train's number must be, the train named in the round or not, in turn or not, length being that of its first record
---   below          the sum of a function over the numbers below n
---   heldBelow      the records of the first n trains
---   Holds          a train's number has 1 to 8 records
---   atLeast        1 if a number is at least another one, else 0
---   holding        1 for a train's number that is more than a head, else 0
---   covering       1 if a train's deficit covers a length, else 0
---   Sound          what is asked of a train's number before it is held to the round
---   Seen           the word of the trains that eight numbers of four bits name
---   Wanted         the tally that the trains of a round must make
---   Tallied        the trains' numbers are sound, and make that tally
---   SharedGood     the lane is good, and holds so many records
+--   numbersAt    the numbers of 8 trains that stand in the halves of bytes, from a half on
+--   lengthsAt    the lengths of 64 places, each less one in a quarter of bytes, from a quarter on
+--   LengthsFit   every place holds a length of 1 to the longest, a record there or not
+--   TrainFine    what a train's number must be, the train named in the round or not, in turn or not, length being that of its first record
+--   below        the sum of a function over the numbers below n
+--   heldBelow    the records of the first n trains
+--   HoldsSome    a train's number has 1 to 8 records
+--   atLeast      1 if a number is at least another one, else 0
+--   holding      1 for a train's number that is more than a head, else 0
+--   covering     1 if a train's deficit covers a length, else 0
+--   SoundTrain   what is asked of a train's number before it is held to the round
+--   Seen         the word of the trains that eight numbers of four bits name
+--   Wanted       the tally that the trains of a round must make
+--   Tallied      the trains' numbers are sound, and make that tally
+--   SharedGood   the lane is good, and holds so many records
 --
 -- Assumes nothing.
 use Prim.Native.Nat.{ℕ, zero, suc, _+_, _-_, _*_, _/_, _%_, _^_, _≤_, _<_, min}
@@ -25,9 +25,9 @@ use Rattle.units.specs.Plain.{times}
 use Rattle.words.specs.Bits.{bit}
 use Rattle.words.specs.Words.{wordAt}
 use Rattle.digits.specs.Digits.{digit}
-use Rattle.rounds.specs.Round.{Rec, trainCount, trainDepth, held}
-use Rattle.rounds.specs.Good.{Good}
-use Rattle.turns.specs.Turns.{headOf, countOf, deficitOf, placeOf, fours, sharedOf, Ordered}
+use Rattle.rounds.specs.Round.{BareRec, trainCount, trainDepth, sharedHeld}
+use Rattle.rounds.specs.Good.{GoodShared}
+use Rattle.turns.specs.Turns.{headOf, countOf, deficitOf, placeInTrain, fours, sharedOf, Ordered}
 
 abbrev pub Says : Bool → Type 0 → Type 0
 Says true P = P
@@ -39,8 +39,8 @@ numbersAt t from k = digit 32 ((from + k) % 2) (wordAt t ((from + k) / 2))
 abbrev pub lengthsAt : List ℕ → ℕ → ℕ → ℕ
 lengthsAt t from p = digit 16 ((from + p) % 4) (wordAt t ((from + p) / 4)) + 1
 
-abbrev pub PlacesFit : ℕ → (ℕ → ℕ) → Type 0
-PlacesFit L lengths = (p : ℕ) → p < trainCount * trainDepth → lengths p ≤ L
+abbrev pub LengthsFit : ℕ → (ℕ → ℕ) → Type 0
+LengthsFit L lengths = (p : ℕ) → p < trainCount * trainDepth → lengths p ≤ L
 
 -- a train that is not named has a head at most; one that is has records, and a deficit as the rule for a good table asks
 unfoldable pub TrainFine : ℕ → ℕ → Bool → ℕ → ℕ → Type 0
@@ -57,8 +57,8 @@ below f (suc n) = below f n + f n
 abbrev pub heldBelow : (ℕ → ℕ) → ℕ → ℕ
 heldBelow ts n = below (λ k. countOf (ts k)) n
 
-abbrev pub Holds : ℕ → Type 0
-Holds t = (0 < countOf t) × (countOf t ≤ trainDepth)
+abbrev pub HoldsSome : ℕ → Type 0
+HoldsSome t = (0 < countOf t) × (countOf t ≤ trainDepth)
 
 abbrev pub atLeast : ℕ → ℕ → ℕ
 atLeast b x = 1 - (b - x)
@@ -70,8 +70,8 @@ abbrev pub covering : ℕ → ℕ → ℕ
 covering t length = atLeast length (deficitOf t)
 
 -- more than a head is 1 to 8 records; and a deficit that covers the first of them is no greater than one turn makes it
-abbrev pub Sound : ℕ → ℕ → ℕ → Type 0
-Sound L t length = (8 ≤ t → Holds t) × (length ≤ deficitOf t → deficitOf t < 2 * L)
+abbrev pub SoundTrain : ℕ → ℕ → ℕ → Type 0
+SoundTrain L t length = (8 ≤ t → HoldsSome t) × (length ≤ deficitOf t → deficitOf t < 2 * L)
 
 -- ---- the round and the trains
 
@@ -87,15 +87,15 @@ pub record Wanted (order named r : ℕ) : Type 0 where
 
 -- the trains that hold are those named, as many as there are names; the deficit of the one in turn covers its first record, and of no other one
 pub record Tallied (L : ℕ) (ts lengths : ℕ → ℕ) (order named : ℕ) : Type 0 where
-  pub each : (k : ℕ) → k < trainCount → Sound L (ts k) (lengths (placeOf k (headOf (ts k))))
+  pub each : (k : ℕ) → k < trainCount → SoundTrain L (ts k) (lengths (placeInTrain k (headOf (ts k))))
   pub names : (k : ℕ) → k < trainCount → holding (ts k) ≡ min 1 (times k (fours 8 order))
   pub number : below (λ k. holding (ts k)) trainCount ≡ named
-  pub turn : (k : ℕ) → k < trainCount → covering (ts k) (lengths (placeOf k (headOf (ts k)))) ≡ times k (order % 16 ∷ [])
+  pub turn : (k : ℕ) → k < trainCount → covering (ts k) (lengths (placeInTrain k (headOf (ts k)))) ≡ times k (order % 16 ∷ [])
 
 -- ---- the lane
 
 -- ts are the trains' numbers, r is the round's; of the records only their lengths count
 pub record SharedGood (L : ℕ) (ts lengths : ℕ → ℕ) (r count : ℕ) : Type 0 where
   pub ordered : Ordered r
-  pub lane : (at : ℕ → Rec) → ((p : ℕ) → p < trainCount * trainDepth → at p .len ≡ lengths p) → Good L (sharedOf at ts r)
-  pub held : (at : ℕ → Rec) → held (sharedOf at ts r) ≡ count
+  pub lane : (at : ℕ → BareRec) → ((p : ℕ) → p < trainCount * trainDepth → at p .len ≡ lengths p) → GoodShared L (sharedOf at ts r)
+  pub held : (at : ℕ → BareRec) → sharedHeld (sharedOf at ts r) ≡ count

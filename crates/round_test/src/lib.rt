@@ -11,8 +11,8 @@
 ghost use mathlib.Core.Path.{_≡_};
 ghost use Prim.Native.Nat.{_+_, _*_, _/_, _^_, _<_, _≤_};
 ghost use lib.ListN.{length};
-ghost use Rattle.turns.specs.Turns.{headOf, countOf, deficitOf, placeOf};
-ghost use Rattle.round_test.specs.Shared.{Says, numbersAt, lengthsAt, PlacesFit, heldBelow, Holds, Seen, Wanted, Tallied, SharedGood};
+ghost use Rattle.turns.specs.Turns.{headOf, countOf, deficitOf, placeInTrain};
+ghost use Rattle.round_test.specs.Shared.{Says, numbersAt, lengthsAt, LengthsFit, heldBelow, HoldsSome, Seen, Wanted, Tallied, SharedGood};
 use digits::half;
 use digits::quarter;
 use turns::COUNT_UNIT;
@@ -92,7 +92,7 @@ fn held(t: &[u8], trains: usize) -> u64
 // Whether a train's number has 1 to 8 records: with 15 added, a count has bit 3 exactly if it is none of these.
 fn holds(train: u64) -> bool
     requires { ⌜ train < 2 ^ 32 ⌝ }
-    ensures { λ r. ⌜ Says r (Holds train) ⌝ }
+    ensures { λ r. ⌜ Says r (HoldsSome train) ⌝ }
 {
     (train + 15 * COUNT_UNIT) / (8 * COUNT_UNIT) % 2 == 0
 }
@@ -100,7 +100,7 @@ fn holds(train: u64) -> bool
 // Whether the deficit of train `k`, whose number this is, covers its first record.
 fn covered(lens: &[u8], lengths: usize, k: usize, train: u64) -> bool
     requires { ⌜ ((lengths + 63) / 4 * 8 + 8 ≤ length (now lens)) × (k < 8) ⌝ }
-    ensures { λ r. ⌜ Says r (lengthsAt (now (lens .entry)) lengths (placeOf k (headOf train)) ≤ deficitOf train) ⌝ }
+    ensures { λ r. ⌜ Says r (lengthsAt (now (lens .entry)) lengths (placeInTrain k (headOf train)) ≤ deficitOf train) ⌝ }
 {
     let length = quarter(lens, lengths + 8 * k + (train % TRAIN_DEPTH) as usize) + 1;
     length <= train / DEFICIT_UNIT
@@ -152,7 +152,7 @@ pub fn shared_good(
     longest: u64,
     count: u64,
 ) -> bool
-    requires { ⌜ ((trains + 7) / 2 * 8 + 8 ≤ length (now t)) × ((lengths + 63) / 4 * 8 + 8 ≤ length (now t)) × (0 < longest) × (longest ≤ 2 ^ 15) × PlacesFit longest (lengthsAt (now t) lengths) ⌝ }
+    requires { ⌜ ((trains + 7) / 2 * 8 + 8 ≤ length (now t)) × ((lengths + 63) / 4 * 8 + 8 ≤ length (now t)) × (0 < longest) × (longest ≤ 2 ^ 15) × LengthsFit longest (lengthsAt (now t) lengths) ⌝ }
     ensures { λ r. ⌜ Says r (SharedGood longest (numbersAt (now (t .entry)) trains) (lengthsAt (now (t .entry)) lengths) round count) ⌝ }
 {
     let named = round / NAMED_UNIT;

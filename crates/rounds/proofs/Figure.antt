@@ -9,7 +9,7 @@ use lib.Dec.{eqb}
 use lib.ListN.{length, getD}
 use borrow.Author.Tests.{eq-eqb, ne-eqb}
 use Rattle.units.specs.Plain.{if_then_else_, times}
-use Rattle.rounds.specs.Round.{Rec, Train, Shared, noTrain, some?, inTurn, raised, begin}
+use Rattle.rounds.specs.Round.{BareRec, Train, Shared, noTrain, queued?, inTurn, raised, begin}
 use Rattle.rounds.specs.Good.{Deficit, Lengths}
 use Rattle.rounds.specs.Runs.{bytes}
 use Rattle.rounds.proofs.Lists.{if-ind, same-or, set-cases}
@@ -86,7 +86,7 @@ alone a b (j ∷ js) h p =
 
 -- ---- bytes of one record
 
-pub ofTrain-bytes : (j k : ℕ) (r : Rec) → bytes (if eqb k j then r ∷ [] else []) ≡ worth (eqb k j) (r .len)
+pub ofTrain-bytes : (j k : ℕ) (r : BareRec) → bytes (if eqb k j then r ∷ [] else []) ≡ worth (eqb k j) (r .len)
 ofTrain-bytes j k r = go (eqb k j)
   where
     go : (c : Bool) → bytes (if c then r ∷ [] else []) ≡ worth c (r .len)
@@ -101,7 +101,7 @@ module _ (L : ℕ) where
   Size true d = (1 ≤ d) × (d < 2 * L)
   Size false d = d < L
 
-  pub size : (turn : Bool) (d : ℕ) (q : List Rec) → some? q ≡ true → Lengths L q → Deficit L turn d q → Size turn d
+  pub size : (turn : Bool) (d : ℕ) (q : List BareRec) → queued? q ≡ true → Lengths L q → Deficit L turn d q → Size turn d
   size turn d [] e l h = absurd (false≢true e)
   size true d (r ∷ rs) e l h = (omega (arith, l .0, h .0), h .1)
   size false d (r ∷ rs) e l h = omega (arith, l .1)
@@ -116,6 +116,6 @@ module _ (L : ℕ) where
   ranged da db false false true sa sb p q = (omega arith, omega arith)
   ranged da db false false false sa sb p q = (omega arith, omega arith)
 
-  pub some-length : (q : List Rec) → some? q ≡ true → Lengths L q → 1 ≤ L
+  pub some-length : (q : List BareRec) → queued? q ≡ true → Lengths L q → 1 ≤ L
   some-length [] e l = absurd (false≢true e)
   some-length (r ∷ rs) e l = omega (arith, l .0, l .1)

@@ -9,9 +9,9 @@ use lib.Dec.{leb, ltb}
 use lib.ListN.{length, getD, set, length-set, length-append}
 use borrow.Author.Tests.{eq-eqb, ne-eqb, leb-true, ltb-true}
 use Rattle.units.specs.Plain.{times}
-use Rattle.rounds.specs.Round.{Rec, Train, Shared, trainCount, trainDepth, noTrain, some?, trainAt, holds, inTurn, added, join, put}
-use Rattle.rounds.specs.Good.{Lengths, Deficit, GoodTrain, Good}
-use Rattle.rounds.specs.Runs.{Op, offer, take, allows, step, after}
+use Rattle.rounds.specs.Round.{BareRec, Train, Shared, trainCount, trainDepth, noTrain, queued?, trainAt, trainHolds, inTurn, added, join, sharedPut}
+use Rattle.rounds.specs.Good.{Lengths, Deficit, GoodTrain, GoodShared}
+use Rattle.rounds.specs.Runs.{Op, offer, take, allows, sharedStep, sharedAfter}
 use Rattle.rounds.proofs.Lists.{if-ind, and-parts, set-cases, times-append}
 pub use Rattle.rounds.proofs.KeepHand.{hand-out-good}
 use Rattle.rounds.proofs.KeepHand.{begin-good}
@@ -19,13 +19,13 @@ use Rattle.rounds.proofs.KeepHand.{begin-good}
 -- ---- put
 
 -- what an accepted put has
-pub record Allowed (L : ℕ) (s : Shared) (k : ℕ) (r : Rec) : Type 0 where
+pub record Allowed (L : ℕ) (s : Shared) (k : ℕ) (r : BareRec) : Type 0 where
   pub train : k < trainCount
   pub some-bytes : 1 ≤ r .len
   pub fits : r .len ≤ L
   pub room : length (trainAt s k .queue) < trainDepth
 
-pub allows-is : (L : ℕ) (s : Shared) (k : ℕ) (r : Rec) → allows L s k r ≡ true → Allowed L s k r
+pub allows-is : (L : ℕ) (s : Shared) (k : ℕ) (r : BareRec) → allows L s k r ≡ true → Allowed L s k r
 unfolding allows
 allows-is L s k r e =
     let c = and-parts (ltb k trainCount && leb 1 (r .len) && leb (r .len) L) (ltb (length (trainAt s k .queue)) trainDepth) e in
@@ -33,27 +33,27 @@ allows-is L s k r e =
     let a = and-parts (ltb k trainCount) (leb 1 (r .len)) (b .0) in
     record { train = ltb-true k trainCount (a .0); some-bytes = leb-true 1 (r .len) (a .1); fits = leb-true (r .len) L (b .1); room = ltb-true (length (trainAt s k .queue)) trainDepth (c .1) }
 
-added-lengths : (L : ℕ) (q : List Rec) (r : Rec) → 1 ≤ r .len → r .len ≤ L → Lengths L q → Lengths L (q ++ (r ∷ []))
+pub added-lengths : (L : ℕ) (q : List BareRec) (r : BareRec) → 1 ≤ r .len → r .len ≤ L → Lengths L q → Lengths L (q ++ (r ∷ []))
 added-lengths L [] r a b l = (a, b, tt)
 added-lengths L (x ∷ xs) r a b l = (l .0, l .1, added-lengths L xs r a b (l .2))
 
 -- a train that holds records keeps its deficit; one that starts has none
-added-deficit : (L : ℕ) (turn : Bool) (d : ℕ) (q : List Rec) (r : Rec) → 1 ≤ r .len → (some? q ≡ false → turn ≡ false) → Deficit L turn d q → Deficit L turn d (q ++ (r ∷ []))
+added-deficit : (L : ℕ) (turn : Bool) (d : ℕ) (q : List BareRec) (r : BareRec) → 1 ≤ r .len → (queued? q ≡ false → turn ≡ false) → Deficit L turn d q → Deficit L turn d (q ++ (r ∷ []))
 added-deficit L true d [] r a f h = absurd (false≢true (sym (f refl)))
 added-deficit L false d [] r a f h = omega arith
 added-deficit L true d (x ∷ xs) r a f h = h
 added-deficit L false d (x ∷ xs) r a f h = h
 
-added-holds : (q : List Rec) (r : Rec) → some? (q ++ (r ∷ [])) ≡ true
+added-holds : (q : List BareRec) (r : BareRec) → queued? (q ++ (r ∷ [])) ≡ true
 added-holds [] r = refl
 added-holds (x ∷ xs) r = refl
 
-module _ (L : ℕ) (s : Shared) (good : Good L s) (k : ℕ) (r : Rec) (ok : Allowed L s k r) where
+module _ (L : ℕ) (s : Shared) (good : GoodShared L s) (k : ℕ) (r : BareRec) (ok : Allowed L s k r) where
   abbrev t : Train
   t = trainAt s k
 
   -- the train with one record more, named as a holding train is
-  added-good : (turn : Bool) → Deficit L turn (t .deficit) (t .queue) → (some? (t .queue) ≡ false → turn ≡ false) → GoodTrain L turn 1 (added t r)
+  added-good : (turn : Bool) → Deficit L turn (t .deficit) (t .queue) → (queued? (t .queue) ≡ false → turn ≡ false) → GoodTrain L turn 1 (added t r)
   unfolding added
   added-good turn d f = record {
     room = simp length-append (omega (arith, ok .room));
@@ -66,7 +66,7 @@ module _ (L : ℕ) (s : Shared) (good : Good L s) (k : ℕ) (r : Rec) (ok : Allo
   inside = omega (arith, good .size, ok .train)
 
   -- it held records: the round stays
-  more-good : holds s k ≡ true → Good L (record { trains = set (s .trains) k (added t r); round = s .round })
+  more-good : trainHolds s k ≡ true → GoodShared L (record { trains = set (s .trains) k (added t r); round = s .round })
   more-good e = record {
     size = length-set (s .trains) k (added t r) ∙ good .size;
     each = λ j. set-cases (GoodTrain L (inTurn j (s .round)) (times j (s .round))) (s .trains) k j (added t r) noTrain inside
@@ -75,7 +75,7 @@ module _ (L : ℕ) (s : Shared) (good : Good L s) (k : ℕ) (r : Rec) (ok : Allo
   }
 
   -- it starts: it joins the end of the round. `turn` says who is in turn.
-  starts-each : (turn : ℕ → Bool) (ks : List ℕ) → holds s k ≡ false → turn k ≡ false → ((j : ℕ) → GoodTrain L (turn j) (times j ks) (trainAt s j))
+  starts-each : (turn : ℕ → Bool) (ks : List ℕ) → trainHolds s k ≡ false → turn k ≡ false → ((j : ℕ) → GoodTrain L (turn j) (times j ks) (trainAt s j))
       → (j : ℕ) → GoodTrain L (turn j) (times j (ks ++ (k ∷ []))) (getD (set (s .trains) k (added t r)) j noTrain)
   starts-each turn ks e off g j =
       set-cases (GoodTrain L (turn j) (times j (ks ++ (k ∷ [])))) (s .trains) k j (added t r) noTrain inside
@@ -85,13 +85,13 @@ module _ (L : ℕ) (s : Shared) (good : Good L s) (k : ℕ) (r : Rec) (ok : Allo
       once : 1 ≡ times k (ks ++ (k ∷ []))
       once = simp (times-append, eq-eqb k k refl) (omega (arith, simp e at (g k .named-once)))
 
-  pub put-good : Good L (put L s k r)
-  unfolding put join
+  pub put-good : GoodShared L (sharedPut L s k r)
+  unfolding sharedPut join
   put-good =
-      if-ind (Good L) (holds s k) _ _ more-good
+      if-ind (GoodShared L) (trainHolds s k) _ _ more-good
       (λ e. go e (s .round) (good .each))
     where
-      go : holds s k ≡ false → (ks : List ℕ) → ((j : ℕ) → GoodTrain L (inTurn j ks) (times j ks) (trainAt s j)) → Good L (join L (set (s .trains) k (added t r)) ks k)
+      go : trainHolds s k ≡ false → (ks : List ℕ) → ((j : ℕ) → GoodTrain L (inTurn j ks) (times j ks) (trainAt s j)) → GoodShared L (join L (set (s .trains) k (added t r)) ks k)
       go e [] g = begin-good L (set (s .trains) k (added t r)) (k ∷ [])
           (record { size = length-set (s .trains) k (added t r) ∙ good .size; each = starts-each (λ j. false) [] e refl g })
       go e (i ∷ is) g =
@@ -103,12 +103,12 @@ module _ (L : ℕ) (s : Shared) (good : Good L s) (k : ℕ) (r : Rec) (ok : Allo
 
 -- ---- every operation
 
-pub step-good : (L : ℕ) (s : Shared) (o : Op) → Good L s → Good L (step L s o)
-unfolding step
-step-good L s (offer k r) g = if-ind (Good L) (allows L s k r) _ _ (λ e. put-good L s g k r (allows-is L s k r e)) (λ e. g)
+pub step-good : (L : ℕ) (s : Shared) (o : Op) → GoodShared L s → GoodShared L (sharedStep L s o)
+unfolding sharedStep
+step-good L s (offer k r) g = if-ind (GoodShared L) (allows L s k r) _ _ (λ e. put-good L s g k r (allows-is L s k r e)) (λ e. g)
 step-good L s take g = hand-out-good L s g
 
-pub after-good : (L : ℕ) (s : Shared) (os : List Op) → Good L s → Good L (after L s os)
-unfolding after
+pub after-good : (L : ℕ) (s : Shared) (os : List Op) → GoodShared L s → GoodShared L (sharedAfter L s os)
+unfolding sharedAfter
 after-good L s [] g = g
-after-good L s (o ∷ os) g = after-good L (step L s o) os (step-good L s o g)
+after-good L s (o ∷ os) g = after-good L (sharedStep L s o) os (step-good L s o g)

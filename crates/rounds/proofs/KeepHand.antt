@@ -9,22 +9,22 @@ use lib.Dec.{leb, eqb}
 use lib.ListN.{length, getD, set, length-set}
 use borrow.Author.Tests.{eq-eqb, ne-eqb, leb-true, leb-false}
 use Rattle.units.specs.Plain.{if_then_else_, times}
-use Rattle.rounds.specs.Round.{Rec, Train, Shared, trainCount, trainDepth, noTrain, some?, raised, begin, handOf, handIn, handOut}
-use Rattle.rounds.specs.Good.{Lengths, Deficit, GoodTrain, Good}
+use Rattle.rounds.specs.Round.{BareRec, Train, Shared, trainCount, trainDepth, noTrain, queued?, raised, begin, handOf, handIn, sharedHandOut}
+use Rattle.rounds.specs.Good.{Lengths, Deficit, GoodTrain, GoodShared}
 use Rattle.rounds.proofs.Lists.{if-ind, set-cases, times-append}
 
 -- ---- trains
 
-pub held-inside : (ts : List Train) (k : ℕ) → some? (getD ts k noTrain .queue) ≡ true → k < length ts
+pub held-inside : (ts : List Train) (k : ℕ) → queued? (getD ts k noTrain .queue) ≡ true → k < length ts
 held-inside [] k h = absurd (false≢true h)
 held-inside (t ∷ ts) zero h = zero-lt-suc (length ts)
 held-inside (t ∷ ts) (suc k) h = omega (arith, held-inside ts k h)
 
 -- a train that the round names holds a record
-pub named-holds : {L : ℕ} {b : Bool} {n : ℕ} {t : Train} → GoodTrain L b n t → 0 < n → some? (t .queue) ≡ true
-named-holds {n = n} {t = t} g h = go (some? (t .queue)) refl (g .named-once)
+pub named-holds : {L : ℕ} {b : Bool} {n : ℕ} {t : Train} → GoodTrain L b n t → 0 < n → queued? (t .queue) ≡ true
+named-holds {n = n} {t = t} g h = go (queued? (t .queue)) refl (g .named-once)
   where
-    go : (c : Bool) → some? (t .queue) ≡ c → n ≡ (if c then 1 else 0) → some? (t .queue) ≡ true
+    go : (c : Bool) → queued? (t .queue) ≡ c → n ≡ (if c then 1 else 0) → queued? (t .queue) ≡ true
     go true e p = e
     go false e p = absurd (omega arith)
 
@@ -37,7 +37,7 @@ raised-good L n t h g = record {
   named-once = g .named-once;
 }
   where
-    go : (q : List Rec) → some? q ≡ true → Lengths L q → Deficit L false (t .deficit) q → Deficit L true (t .deficit + L) q
+    go : (q : List BareRec) → queued? q ≡ true → Lengths L q → Deficit L false (t .deficit) q → Deficit L true (t .deficit + L) q
     go [] e l d = absurd (false≢true e)
     go (r ∷ rs) e l d = (omega (arith, l .1), omega (arith, l .1))
 
@@ -47,7 +47,7 @@ pub record Between (L : ℕ) (ts : List Train) (ks : List ℕ) : Type 0 where
   pub size : length ts ≡ trainCount
   pub each : (k : ℕ) → GoodTrain L false (times k ks) (getD ts k noTrain)
 
-pub begin-good : (L : ℕ) (ts : List Train) (ks : List ℕ) → Between L ts ks → Good L (begin L ts ks)
+pub begin-good : (L : ℕ) (ts : List Train) (ks : List ℕ) → Between L ts ks → GoodShared L (begin L ts ks)
 unfolding begin
 begin-good L ts [] b = record { size = b .size; each = b .each }
 begin-good L ts (j ∷ js) b =
@@ -61,7 +61,7 @@ begin-good L ts (j ∷ js) b =
 
 -- ---- hand out
 
-module _ (L : ℕ) (ts : List Train) (k : ℕ) (ks : List ℕ) (good : Good L (record { trains = ts; round = k ∷ ks })) where
+module _ (L : ℕ) (ts : List Train) (k : ℕ) (ks : List ℕ) (good : GoodShared L (record { trains = ts; round = k ∷ ks })) where
   named-k : times k (k ∷ ks) ≡ suc (times k ks)
   named-k = simp (eq-eqb k k refl) (omega arith)
 
@@ -69,7 +69,7 @@ module _ (L : ℕ) (ts : List Train) (k : ℕ) (ks : List ℕ) (good : Good L (r
   in-turn : GoodTrain L true (suc (times k ks)) (getD ts k noTrain)
   in-turn = subst (λ (n : ℕ). GoodTrain L true n (getD ts k noTrain)) named-k (subst (λ (b : Bool). GoodTrain L b (times k (k ∷ ks)) (getD ts k noTrain)) (eq-eqb k k refl) (good .each k))
 
-  pub turn-holds : some? (getD ts k noTrain .queue) ≡ true
+  pub turn-holds : queued? (getD ts k noTrain .queue) ≡ true
   turn-holds = named-holds in-turn (omega arith)
 
   pub turn-once : times k ks ≡ 0
@@ -90,7 +90,7 @@ module _ (L : ℕ) (ts : List Train) (k : ℕ) (ks : List ℕ) (good : Good L (r
   }
 
   -- its turn goes on
-  goes-on : (t : Train) → GoodTrain L true 1 t → Good L (record { trains = set ts k t; round = k ∷ ks })
+  goes-on : (t : Train) → GoodTrain L true 1 t → GoodShared L (record { trains = set ts k t; round = k ∷ ks })
   goes-on t g = record {
     size = length-set ts k t ∙ good .size;
     each = λ j. set-cases (GoodTrain L (eqb k j) (times j (k ∷ ks))) ts k j t noTrain (held-inside ts k turn-holds)
@@ -101,7 +101,7 @@ module _ (L : ℕ) (ts : List Train) (k : ℕ) (ks : List ℕ) (good : Good L (r
   at-end : (j : ℕ) → times j (ks ++ (k ∷ [])) ≡ times j ks + (if eqb k j then 1 else 0)
   at-end j = times-append j ks (k ∷ []) ∙ omega arith
 
-  pub hand-of-good : (d : ℕ) (q : List Rec) → length q ≤ trainDepth → Lengths L q → Deficit L true d q → some? q ≡ true → Good L (handOf L ts k ks d q)
+  pub hand-of-good : (d : ℕ) (q : List BareRec) → length q ≤ trainDepth → Lengths L q → Deficit L true d q → queued? q ≡ true → GoodShared L (handOf L ts k ks d q)
   unfolding handOf
   hand-of-good d [] m l h e = absurd (false≢true e)
   hand-of-good d (r ∷ []) m l h e =
@@ -109,20 +109,20 @@ module _ (L : ℕ) (ts : List Train) (k : ℕ) (ks : List ℕ) (good : Good L (r
       (over noTrain ks (record { room = omega arith; lengths = tt; deficit = refl; named-once = turn-once }) (λ j n. refl))
   hand-of-good d (r ∷ r′ ∷ rs) m l h e =
       let t : Train = record { deficit = d - r .len; queue = r′ ∷ rs } in
-      if-ind (Good L) (leb (r′ .len) (d - r .len)) _ _
+      if-ind (GoodShared L) (leb (r′ .len) (d - r .len)) _ _
       (λ c. goes-on t (record { room = omega arith; lengths = l .2; deficit = (leb-true (r′ .len) (d - r .len) c, omega arith); named-once = refl }))
       (λ c. begin-good L (set ts k t) (ks ++ (k ∷ []))
       (over t (ks ++ (k ∷ [])) (record { room = omega arith; lengths = l .2; deficit = leb-false (r′ .len) (d - r .len) c; named-once = at-end k ∙ simp (eq-eqb k k refl) (omega (arith, turn-once)) })
       (λ j n. at-end j ∙ simp (ne-eqb k j n) (omega arith))))
 
-  pub hand-in-good : Good L (handIn L ts (k ∷ ks))
+  pub hand-in-good : GoodShared L (handIn L ts (k ∷ ks))
   unfolding handIn
   hand-in-good = hand-of-good (getD ts k noTrain .deficit) (getD ts k noTrain .queue) (in-turn .room) (in-turn .lengths) (in-turn .deficit) turn-holds
 
-pub hand-out-good : (L : ℕ) (s : Shared) → Good L s → Good L (handOut L s)
-unfolding handOut handIn
+pub hand-out-good : (L : ℕ) (s : Shared) → GoodShared L s → GoodShared L (sharedHandOut L s)
+unfolding sharedHandOut handIn
 hand-out-good L s g = go (s .trains) (s .round) g
   where
-    go : (ts : List Train) (ks : List ℕ) → Good L (record { trains = ts; round = ks }) → Good L (handIn L ts ks)
+    go : (ts : List Train) (ks : List ℕ) → GoodShared L (record { trains = ts; round = ks }) → GoodShared L (handIn L ts ks)
     go ts [] g = g
     go ts (k ∷ ks) g = hand-in-good L ts k ks g

@@ -1,56 +1,55 @@
--- The chosen record is there whenever a train holds one, and no put changes it; each train's records are handed out once and in order, or are still held.
--- Assumes nothing.
+-- The chosen record is there whenever a train holds one, and no put changes it; a put brings its record behind those of its train, and a hand-out takes the
+-- first of one train's: each train's records go out once and in order. Assumes nothing.
 use Prim.Native.Nat.{ℕ, _-_, _≤_, _<_}
 use native.Mathlib.Omega.{arith}
 use mathlib.Core.Path.{_≡_, refl, sym, ap, _∙_}
 use mathlib.Core.Bool.{Bool, true, false}
 use mathlib.Core.Option.{none, some}
-use mathlib.Core.List.{List, [], _∷_, _++_, append-assoc, append-nil}
+use mathlib.Core.List.{List, [], _∷_, _++_, append-nil}
 use lib.Dec.{leb, eqb}
 use lib.ListN.{length, getD, set}
 use borrow.Author.Tests.{eq-eqb, ne-eqb}
 use Rattle.units.specs.Plain.{if_then_else_}
-use Rattle.rounds.specs.Round.{Rec, Train, Shared, noTrain, trainAt, holds, Moving, firstOf, firstIn, first, raised, begin, added, join, put, handOf, handIn, handOut}
-use Rattle.rounds.specs.Good.{Lengths, Good}
-use Rattle.rounds.specs.Runs.{Op, offer, take, allows, step, accepted, sent, ofTrain, after, acceptedOf, sentOf, InOrder}
+use Rattle.rounds.specs.Round.{BareRec, Train, Shared, noTrain, trainAt, trainHolds, TrainItem, firstOfTrain, firstInTurn, sharedFirst, raised, begin, added, join, sharedPut, handOf, handIn, sharedHandOut}
+use Rattle.rounds.specs.Good.{Lengths, GoodShared}
+use Rattle.rounds.specs.Runs.{itemOfTrain}
 use Rattle.rounds.proofs.Lists.{if-ind, set-cases, set-keeps}
-use Rattle.rounds.proofs.Keep.{allows-is, step-good}
 use Rattle.rounds.proofs.KeepHand.{held-inside, turn-holds}
 
 -- ---- the chosen record
 
-pub first-fits : (L : ℕ) (s : Shared) (x : Moving) → Good L s → first s ≡ some x → (0 < x .item .len) × (x .item .len ≤ L)
-unfolding first firstIn firstOf
+pub first-fits : (L : ℕ) (s : Shared) (x : TrainItem) → GoodShared L s → sharedFirst s ≡ some x → (0 < x .item .len) × (x .item .len ≤ L)
+unfolding sharedFirst firstInTurn firstOfTrain
 first-fits L s x g e = go (s .trains) (s .round) g e
   where
-    fits : (k : ℕ) (q : List Rec) → Lengths L q → firstOf k q ≡ some x → (0 < x .item .len) × (x .item .len ≤ L)
+    fits : (k : ℕ) (q : List BareRec) → Lengths L q → firstOfTrain k q ≡ some x → (0 < x .item .len) × (x .item .len ≤ L)
     fits k [] l e = let z : _≡_ {A = ℕ} 0 1 = cc in absurd (omega arith)
-    fits k (r ∷ rs) l e = let h : r ≡ x .item = cc in (omega (arith, l .0, ap (λ (y : Rec). y .len) h), omega (arith, l .1, ap (λ (y : Rec). y .len) h))
+    fits k (r ∷ rs) l e = let h : r ≡ x .item = cc in (omega (arith, l .0, ap (λ (y : BareRec). y .len) h), omega (arith, l .1, ap (λ (y : BareRec). y .len) h))
 
-    go : (ts : List Train) (ks : List ℕ) → Good L (record { trains = ts; round = ks }) → firstIn ts ks ≡ some x → (0 < x .item .len) × (x .item .len ≤ L)
+    go : (ts : List Train) (ks : List ℕ) → GoodShared L (record { trains = ts; round = ks }) → firstInTurn ts ks ≡ some x → (0 < x .item .len) × (x .item .len ≤ L)
     go ts [] g e = let z : _≡_ {A = ℕ} 0 1 = cc in absurd (omega arith)
     go ts (k ∷ ks) g e = fits k (getD ts k noTrain .queue) (g .each k .lengths) e
 
 -- no put changes the chosen record
-pub first-stays : (L : ℕ) (s : Shared) (k : ℕ) (r : Rec) (x : Moving) → k < length (s .trains) → first s ≡ some x → first (put L s k r) ≡ some x
-unfolding first firstIn firstOf put join added
+pub first-stays : (L : ℕ) (s : Shared) (k : ℕ) (r : BareRec) (x : TrainItem) → k < length (s .trains) → sharedFirst s ≡ some x → sharedFirst (sharedPut L s k r) ≡ some x
+unfolding sharedFirst firstInTurn firstOfTrain sharedPut join added
 first-stays L s k r x inside e =
-    if-ind (λ (u : Shared). first u ≡ some x) (holds s k) _ _ (λ h. go (s .round) e) (λ h. joins (s .round) e)
+    if-ind (λ (u : Shared). sharedFirst u ≡ some x) (trainHolds s k) _ _ (λ h. go (s .round) e) (λ h. joins (s .round) e)
   where
     ts′ : List Train
     ts′ = set (s .trains) k (added (trainAt s k) r)
 
-    longer : (j : ℕ) (q : List Rec) → firstOf j q ≡ some x → firstOf j (q ++ (r ∷ [])) ≡ some x
+    longer : (j : ℕ) (q : List BareRec) → firstOfTrain j q ≡ some x → firstOfTrain j (q ++ (r ∷ [])) ≡ some x
     longer j [] h = let z : _≡_ {A = ℕ} 0 1 = cc in absurd (omega arith)
     longer j (y ∷ ys) h = h
 
-    go : (ks : List ℕ) → firstIn (s .trains) ks ≡ some x → firstIn ts′ ks ≡ some x
+    go : (ks : List ℕ) → firstInTurn (s .trains) ks ≡ some x → firstInTurn ts′ ks ≡ some x
     go [] h = h
     go (j ∷ js) h =
-        set-cases (λ (m : Train). firstOf j (m .queue) ≡ some x) (s .trains) k j (added (trainAt s k) r) noTrain inside
+        set-cases (λ (m : Train). firstOfTrain j (m .queue) ≡ some x) (s .trains) k j (added (trainAt s k) r) noTrain inside
         (λ q. longer j (trainAt s k .queue) (rw q h)) (λ n. h)
 
-    joins : (ks : List ℕ) → firstIn (s .trains) ks ≡ some x → first (join L ts′ ks k) ≡ some x
+    joins : (ks : List ℕ) → firstInTurn (s .trains) ks ≡ some x → sharedFirst (join L ts′ ks k) ≡ some x
     joins [] h = let z : _≡_ {A = ℕ} 0 1 = cc in absurd (omega arith)
     joins (j ∷ js) h = go (j ∷ js) h
 
@@ -62,18 +61,18 @@ begin-queue L ts [] j = refl
 begin-queue L ts (k ∷ ks) j = set-keeps (λ (t : Train). t .queue) ts k j (raised L (getD ts k noTrain)) noTrain refl
 
 -- the queues after a put
-pub put-queue : (L : ℕ) (s : Shared) (k j : ℕ) (r : Rec) → trainAt (put L s k r) j .queue ≡ getD (set (s .trains) k (added (trainAt s k) r)) j noTrain .queue
-unfolding put join
+pub put-queue : (L : ℕ) (s : Shared) (k j : ℕ) (r : BareRec) → trainAt (sharedPut L s k r) j .queue ≡ getD (set (s .trains) k (added (trainAt s k) r)) j noTrain .queue
+unfolding sharedPut join
 put-queue L s k j r =
-    if-ind (λ (u : Shared). trainAt u j .queue ≡ getD (set (s .trains) k (added (trainAt s k) r)) j noTrain .queue) (holds s k) _ _ (λ e. refl) (λ e. go (s .round))
+    if-ind (λ (u : Shared). trainAt u j .queue ≡ getD (set (s .trains) k (added (trainAt s k) r)) j noTrain .queue) (trainHolds s k) _ _ (λ e. refl) (λ e. go (s .round))
   where
     go : (ks : List ℕ) → trainAt (join L (set (s .trains) k (added (trainAt s k) r)) ks k) j .queue ≡ getD (set (s .trains) k (added (trainAt s k) r)) j noTrain .queue
     go [] = begin-queue L (set (s .trains) k (added (trainAt s k) r)) (k ∷ []) j
     go (i ∷ is) = refl
 
-pub put-fifo : (L : ℕ) (s : Shared) (k j : ℕ) (r : Rec) → k < length (s .trains)
-    → trainAt s j .queue ++ ofTrain j (some (record { train = k; item = r })) ≡ trainAt (put L s k r) j .queue
-unfolding ofTrain added
+pub put-fifo : (L : ℕ) (s : Shared) (k j : ℕ) (r : BareRec) → k < length (s .trains)
+    → trainAt s j .queue ++ itemOfTrain j (some (record { train = k; item = r })) ≡ trainAt (sharedPut L s k r) j .queue
+unfolding itemOfTrain added
 put-fifo L s k j r inside =
     rw (put-queue L s k j r)
     (set-cases (λ (m : Train). trainAt s j .queue ++ (if eqb k j then r ∷ [] else []) ≡ m .queue) (s .trains) k j (added (trainAt s k) r) noTrain inside
@@ -81,9 +80,9 @@ put-fifo L s k j r inside =
     (λ n. simp (ne-eqb k j n, append-nil)))
 
 -- the queues after a hand-out: only the train in turn has lost its first record
-pub hand-of-fifo : (L : ℕ) (ts : List Train) (k : ℕ) (ks : List ℕ) (d : ℕ) (q : List Rec) → getD ts k noTrain .queue ≡ q → k < length ts → (j : ℕ)
-    → getD ts j noTrain .queue ≡ ofTrain j (firstOf k q) ++ trainAt (handOf L ts k ks d q) j .queue
-unfolding handOf firstOf ofTrain
+pub hand-of-fifo : (L : ℕ) (ts : List Train) (k : ℕ) (ks : List ℕ) (d : ℕ) (q : List BareRec) → getD ts k noTrain .queue ≡ q → k < length ts → (j : ℕ)
+    → getD ts j noTrain .queue ≡ itemOfTrain j (firstOfTrain k q) ++ trainAt (handOf L ts k ks d q) j .queue
+unfolding handOf firstOfTrain itemOfTrain
 hand-of-fifo L ts k ks d [] e inside j = refl
 hand-of-fifo L ts k ks d (r ∷ []) e inside j =
     rw (begin-queue L (set ts k noTrain) ks j)
@@ -101,32 +100,10 @@ hand-of-fifo L ts k ks d (r ∷ r′ ∷ rs) e inside j =
         set-cases (λ (m : Train). getD ts j noTrain .queue ≡ (if eqb k j then r ∷ [] else []) ++ m .queue) ts k j left noTrain inside
         (λ h. rw (← h, eq-eqb k k refl) e) (λ n. simp (ne-eqb k j n))
 
-pub hand-fifo : (L : ℕ) (s : Shared) → Good L s → (j : ℕ) → trainAt s j .queue ≡ ofTrain j (first s) ++ trainAt (handOut L s) j .queue
-unfolding first firstIn handOut handIn ofTrain
+pub hand-fifo : (L : ℕ) (s : Shared) → GoodShared L s → (j : ℕ) → trainAt s j .queue ≡ itemOfTrain j (sharedFirst s) ++ trainAt (sharedHandOut L s) j .queue
+unfolding sharedFirst firstInTurn sharedHandOut handIn itemOfTrain
 hand-fifo L s g j = go (s .trains) (s .round) g
   where
-    go : (ts : List Train) (ks : List ℕ) → Good L (record { trains = ts; round = ks }) → getD ts j noTrain .queue ≡ ofTrain j (firstIn ts ks) ++ trainAt (handIn L ts ks) j .queue
+    go : (ts : List Train) (ks : List ℕ) → GoodShared L (record { trains = ts; round = ks }) → getD ts j noTrain .queue ≡ itemOfTrain j (firstInTurn ts ks) ++ trainAt (handIn L ts ks) j .queue
     go ts [] g = refl
     go ts (k ∷ ks) g = hand-of-fifo L ts k ks (getD ts k noTrain .deficit) (getD ts k noTrain .queue) refl (held-inside ts k (turn-holds L ts k ks g)) j
-
-pub step-fifo : (L : ℕ) (s : Shared) (o : Op) → Good L s → (j : ℕ) → trainAt s j .queue ++ ofTrain j (accepted L s o) ≡ ofTrain j (sent s o) ++ trainAt (step L s o) j .queue
-unfolding step accepted sent ofTrain
-step-fifo L s (offer k r) g j = go (allows L s k r) refl
-  where
-    go : (b : Bool) → allows L s k r ≡ b → trainAt s j .queue ++ ofTrain j (if b then some (record { train = k; item = r }) else none) ≡ trainAt (if b then put L s k r else s) j .queue
-    go true e = put-fifo L s k j r (omega (arith, allows-is L s k r e .train, g .size))
-    go false e = append-nil (trainAt s j .queue)
-step-fifo L s take g j = append-nil (trainAt s j .queue) ∙ hand-fifo L s g j
-
-pub in-order : (L : ℕ) → InOrder L
-unfolding InOrder acceptedOf sentOf after
-in-order L s g [] k = append-nil (trainAt s k .queue)
-in-order L s g (o ∷ os) k =
-    let s′ = step L s o in
-    let a = ofTrain k (accepted L s o) in
-    let t = ofTrain k (sent s o) in
-    sym (append-assoc (trainAt s k .queue) a (acceptedOf L k s′ os))
-    ∙ ap (λ (q : List Rec). q ++ acceptedOf L k s′ os) (step-fifo L s o g k)
-    ∙ append-assoc t (trainAt s′ k .queue) (acceptedOf L k s′ os)
-    ∙ ap (λ (q : List Rec). t ++ q) (in-order L s′ (step-good L s o g) os k)
-    ∙ sym (append-assoc t (sentOf L k s′ os) (trainAt (after L s′ os) k .queue))

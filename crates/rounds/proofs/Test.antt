@@ -11,8 +11,8 @@ use lib.Dec.{leb, ltb, eqb}
 use lib.ListN.{length, getD}
 use borrow.Author.Tests.{leb-true, le-leb, ltb-true, lt-ltb, eqb-true, eq-eqb, ne-eqb}
 use Rattle.units.specs.Plain.{if_then_else_, times}
-use Rattle.rounds.specs.Round.{Rec, Train, Shared, trainCount, trainDepth, noTrain, some?, trainAt, inTurn}
-use Rattle.rounds.specs.Good.{Lengths, Deficit, GoodTrain, Good, every, everyBelow, lengthTest, deficitTest, trainTest, goodTest}
+use Rattle.rounds.specs.Round.{BareRec, Train, Shared, trainCount, trainDepth, noTrain, queued?, trainAt, inTurn}
+use Rattle.rounds.specs.Good.{Lengths, Deficit, GoodTrain, GoodShared, every, everyBelow, lengthTest, deficitTest, trainTest, goodTest}
 use Rattle.rounds.proofs.Lists.{and-parts}
 use Rattle.rounds.proofs.KeepHand.{named-holds, held-inside}
 
@@ -55,7 +55,7 @@ beyond (t ∷ ts) (suc k) h = beyond ts k (le-of-suc-le-suc h)
 
 -- ---- one train
 
-pub lengths-true : (L : ℕ) (q : List Rec) → every (lengthTest L) q ≡ true → Lengths L q
+pub lengths-true : (L : ℕ) (q : List BareRec) → every (lengthTest L) q ≡ true → Lengths L q
 unfolding every lengthTest
 lengths-true L [] e = tt
 lengths-true L (r ∷ rs) e =
@@ -63,18 +63,18 @@ lengths-true L (r ∷ rs) e =
     let b = and-parts (leb 1 (r .len)) (leb (r .len) L) (a .0) in
     (leb-true 1 (r .len) (b .0), leb-true (r .len) L (b .1), lengths-true L rs (a .1))
 
-pub true-lengths : (L : ℕ) (q : List Rec) → Lengths L q → every (lengthTest L) q ≡ true
+pub true-lengths : (L : ℕ) (q : List BareRec) → Lengths L q → every (lengthTest L) q ≡ true
 unfolding every lengthTest
 true-lengths L [] l = refl
 true-lengths L (r ∷ rs) l = simp (le-leb 1 (r .len) (l .0), le-leb (r .len) L (l .1), true-lengths L rs (l .2))
 
-deficit-true : (L : ℕ) (turn : Bool) (d : ℕ) (q : List Rec) → deficitTest L turn d q ≡ true → Deficit L turn d q
+deficit-true : (L : ℕ) (turn : Bool) (d : ℕ) (q : List BareRec) → deficitTest L turn d q ≡ true → Deficit L turn d q
 unfolding deficitTest
 deficit-true L turn d [] e = eqb-true d 0 e
 deficit-true L true d (r ∷ rs) e = let a = and-parts (leb (r .len) d) (ltb d (2 * L)) e in (leb-true (r .len) d (a .0), ltb-true d (2 * L) (a .1))
 deficit-true L false d (r ∷ rs) e = ltb-true d (r .len) e
 
-true-deficit : (L : ℕ) (turn : Bool) (d : ℕ) (q : List Rec) → Deficit L turn d q → deficitTest L turn d q ≡ true
+true-deficit : (L : ℕ) (turn : Bool) (d : ℕ) (q : List BareRec) → Deficit L turn d q → deficitTest L turn d q ≡ true
 unfolding deficitTest
 true-deficit L turn d [] h = eq-eqb d 0 h
 true-deficit L true d (r ∷ rs) h = simp (le-leb (r .len) d (h .0), lt-ltb d (2 * L) (h .1))
@@ -85,12 +85,12 @@ unfolding trainTest
 train-true L turn n t e =
     let a = and-parts (leb (length (t .queue)) trainDepth) _ e in
     let b = and-parts (every (lengthTest L) (t .queue)) _ (a .1) in
-    let c = and-parts (deficitTest L turn (t .deficit) (t .queue)) (eqb n (if some? (t .queue) then 1 else 0)) (b .1) in
+    let c = and-parts (deficitTest L turn (t .deficit) (t .queue)) (eqb n (if queued? (t .queue) then 1 else 0)) (b .1) in
     record {
       room = leb-true (length (t .queue)) trainDepth (a .0);
       lengths = lengths-true L (t .queue) (b .0);
       deficit = deficit-true L turn (t .deficit) (t .queue) (c .0);
-      named-once = eqb-true n (if some? (t .queue) then 1 else 0) (c .1);
+      named-once = eqb-true n (if queued? (t .queue) then 1 else 0) (c .1);
     }
 
 true-train : (L : ℕ) (turn : Bool) (n : ℕ) (t : Train) → GoodTrain L turn n t → trainTest L turn n t ≡ true
@@ -100,7 +100,7 @@ true-train L turn n t g =
       le-leb (length (t .queue)) trainDepth (g .room),
       true-lengths L (t .queue) (g .lengths),
       true-deficit L turn (t .deficit) (t .queue) (g .deficit),
-      eq-eqb n (if some? (t .queue) then 1 else 0) (g .named-once),
+      eq-eqb n (if queued? (t .queue) then 1 else 0) (g .named-once),
     )
 
 -- ---- the lane
@@ -110,7 +110,7 @@ pub not-in-turn : (k : ℕ) (js : List ℕ) → times k js ≡ 0 → inTurn k js
 not-in-turn k [] e = refl
 not-in-turn k (j ∷ js) e = ne-eqb j k (λ q. absurd (omega (arith, simp (eq-eqb j k q) at e)))
 
-pub test-good : (L : ℕ) (s : Shared) → goodTest L s ≡ true → Good L s
+pub test-good : (L : ℕ) (s : Shared) → goodTest L s ≡ true → GoodShared L s
 unfolding goodTest
 test-good L s e =
     let a = and-parts (eqb (length (s .trains)) trainCount) _ e in
@@ -126,7 +126,7 @@ test-good L s e =
       ];
     }
 
-pub good-test : (L : ℕ) (s : Shared) → Good L s → goodTest L s ≡ true
+pub good-test : (L : ℕ) (s : Shared) → GoodShared L s → goodTest L s ≡ true
 unfolding goodTest
 good-test L s g =
     simp (

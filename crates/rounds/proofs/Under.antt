@@ -9,16 +9,16 @@ use lib.Dec.{leb, eqb}
 use lib.ListN.{length, getD, set, length-set}
 use borrow.Author.Tests.{eq-eqb, ne-eqb}
 use Rattle.units.specs.Plain.{if_then_else_, times}
-use Rattle.rounds.specs.Round.{Rec, Train, Shared, noTrain, some?, trainAt, firstOf, handOf, holds, firstIn, first, added, join, put, handIn, handOut}
-use Rattle.rounds.specs.Good.{Deficit, Good}
-use Rattle.rounds.specs.Runs.{ofTrain, bytes}
+use Rattle.rounds.specs.Round.{BareRec, Train, Shared, noTrain, queued?, trainAt, firstOfTrain, handOf, trainHolds, firstInTurn, sharedFirst, added, join, sharedPut, handIn, sharedHandOut}
+use Rattle.rounds.specs.Good.{Deficit, GoodShared}
+use Rattle.rounds.specs.Runs.{itemOfTrain, bytes}
 use Rattle.rounds.proofs.Lists.{if-ind, same-or, set-cases, times-append, set-keeps}
 use Rattle.rounds.proofs.KeepHand.{held-inside, named-holds, turn-holds, turn-once}
 use Rattle.rounds.proofs.Order.{begin-queue}
 use Rattle.rounds.proofs.Figure.{Inside, Under, ahead, ahead-end, alone, before, begin-level, deficitOf, ofTrain-bytes, worth}
 
-module _ (L a b : ℕ) (apart : a ≡ b → ⊥) (ts : List Train) (k : ℕ) (ks : List ℕ) (good : Good L (record { trains = ts; round = k ∷ ks }))
-    (has-a : some? (getD ts a noTrain .queue) ≡ true)
+module _ (L a b : ℕ) (apart : a ≡ b → ⊥) (ts : List Train) (k : ℕ) (ks : List ℕ) (good : GoodShared L (record { trains = ts; round = k ∷ ks }))
+    (has-a : queued? (getD ts a noTrain .queue) ≡ true)
   where
     inside : k < length ts
     inside = held-inside ts k (turn-holds L ts k ks good)
@@ -42,9 +42,9 @@ module _ (L a b : ℕ) (apart : a ≡ b → ⊥) (ts : List Train) (k : ℕ) (ks
     next-inside t [] h = tt
     next-inside t (i ∷ is) h = rw (length-set ts k t) (held-inside ts i (named-holds (good .each i) (h i (simp (eq-eqb i i refl) (omega arith)))))
 
-    hand-of-under : (d : ℕ) (q : List Rec) → deficitOf ts k ≡ d → Deficit L true d q → some? q ≡ true → some? (trainAt (handOf L ts k ks d q) a .queue) ≡ true
-        → Under L a b (record { trains = ts; round = k ∷ ks }) (handOf L ts k ks d q) (bytes (ofTrain a (firstOf k q))) (bytes (ofTrain b (firstOf k q)))
-    unfolding handOf firstOf ofTrain ahead
+    hand-of-under : (d : ℕ) (q : List BareRec) → deficitOf ts k ≡ d → Deficit L true d q → queued? q ≡ true → queued? (trainAt (handOf L ts k ks d q) a .queue) ≡ true
+        → Under L a b (record { trains = ts; round = k ∷ ks }) (handOf L ts k ks d q) (bytes (itemOfTrain a (firstOfTrain k q))) (bytes (itemOfTrain b (firstOfTrain k q)))
+    unfolding handOf firstOfTrain itemOfTrain ahead
     hand-of-under d [] ed h e ka = absurd (false≢true e)
     hand-of-under d (r ∷ []) ed h e ka =
         rw (ofTrain-bytes a k r, ofTrain-bytes b k r)
@@ -66,7 +66,7 @@ module _ (L a b : ℕ) (apart : a ≡ b → ⊥) (ts : List Train) (k : ℕ) (ks
       where
         not-a : k ≡ a → ⊥
         not-a q =
-            false≢true (sym (rw (begin-queue L (set ts k noTrain) ks a) (set-cases (λ (m : Train). some? (m .queue) ≡ false) ts k a noTrain noTrain inside (λ _. refl) (λ n. absurd (n q)))) ∙ ka)
+            false≢true (sym (rw (begin-queue L (set ts k noTrain) ks a) (set-cases (λ (m : Train). queued? (m .queue) ≡ false) ts k a noTrain noTrain inside (λ _. refl) (λ n. absurd (n q)))) ∙ ka)
 
         kept : (j : ℕ) → (k ≡ j → ⊥) → (deficitOf (set ts k noTrain) j ≡ deficitOf ts j) × (worth (eqb k j) (r .len) ≡ 0) × (worth (eqb k j) L ≡ 0)
         kept j n = (
@@ -110,23 +110,23 @@ module _ (L a b : ℕ) (apart : a ≡ b → ⊥) (ts : List Train) (k : ℕ) (ks
             (λ q. rw (← q, eq-eqb k k refl) (omega (arith, h .0, ed))) (λ n. rw (ne-eqb k j n) (omega arith))
 
 module _ (L a b : ℕ) (apart : a ≡ b → ⊥) where
-  pub hand-under : (s : Shared) → Good L s → holds s a ≡ true → holds (handOut L s) a ≡ true → Under L a b s (handOut L s) (bytes (ofTrain a (first s))) (bytes (ofTrain b (first s)))
-  unfolding handOut handIn first firstIn ofTrain
+  pub hand-under : (s : Shared) → GoodShared L s → trainHolds s a ≡ true → trainHolds (sharedHandOut L s) a ≡ true → Under L a b s (sharedHandOut L s) (bytes (itemOfTrain a (sharedFirst s))) (bytes (itemOfTrain b (sharedFirst s)))
+  unfolding sharedHandOut handIn sharedFirst firstInTurn itemOfTrain
   hand-under s g h h′ = go (s .trains) (s .round) g h h′
     where
-      go : (ts : List Train) (ks : List ℕ) → Good L (record { trains = ts; round = ks }) → some? (getD ts a noTrain .queue) ≡ true
-          → some? (trainAt (handIn L ts ks) a .queue) ≡ true
-          → Under L a b (record { trains = ts; round = ks }) (handIn L ts ks) (bytes (ofTrain a (firstIn ts ks))) (bytes (ofTrain b (firstIn ts ks)))
+      go : (ts : List Train) (ks : List ℕ) → GoodShared L (record { trains = ts; round = ks }) → queued? (getD ts a noTrain .queue) ≡ true
+          → queued? (trainAt (handIn L ts ks) a .queue) ≡ true
+          → Under L a b (record { trains = ts; round = ks }) (handIn L ts ks) (bytes (itemOfTrain a (firstInTurn ts ks))) (bytes (itemOfTrain b (firstInTurn ts ks)))
       go ts [] g ha ka = omega arith
       go ts (k ∷ ks) g ha ka =
           hand-of-under L a b apart ts k ks g ha (getD ts k noTrain .deficit) (getD ts k noTrain .queue) refl
           (subst (λ (t : Bool). Deficit L t (getD ts k noTrain .deficit) (getD ts k noTrain .queue)) (eq-eqb k k refl) (g .each k .deficit))
           (turn-holds L ts k ks g) ka
 
-  pub put-under : (s : Shared) (k : ℕ) (r : Rec) → Good L s → holds s a ≡ true → Under L a b s (put L s k r) 0 0
-  unfolding put join added
+  pub put-under : (s : Shared) (k : ℕ) (r : BareRec) → GoodShared L s → trainHolds s a ≡ true → Under L a b s (sharedPut L s k r) 0 0
+  unfolding sharedPut join added
   put-under s k r g h =
-      if-ind (λ (u : Shared). Under L a b s u 0 0) (holds s k) _ _
+      if-ind (λ (u : Shared). Under L a b s u 0 0) (trainHolds s k) _ _
       (λ e. omega (arith, same a, same b)) (λ e. go e (s .round) (g .each a .named-once))
     where
       ts′ : List Train
@@ -135,12 +135,12 @@ module _ (L a b : ℕ) (apart : a ≡ b → ⊥) where
       same : (j : ℕ) → deficitOf ts′ j ≡ deficitOf (s .trains) j
       same j = set-keeps (λ (t : Train). t .deficit) (s .trains) k j (added (trainAt s k) r) noTrain refl
 
-      go : holds s k ≡ false → (ks : List ℕ) → times a ks ≡ (if holds s a then 1 else 0) → Under L a b (record { trains = s .trains; round = ks }) (join L ts′ ks k) 0 0
+      go : trainHolds s k ≡ false → (ks : List ℕ) → times a ks ≡ (if trainHolds s a then 1 else 0) → Under L a b (record { trains = s .trains; round = ks }) (join L ts′ ks k) 0 0
       go e [] n = absurd (omega (arith, simp h at n))
       go e (i ∷ is) n =
           omega (
             arith,
             same a,
             same b,
-            ap (λ (x : Bool). worth x L) (ahead-end a b k (i ∷ is) (λ q. false≢true (sym e ∙ ap (λ (x : ℕ). holds s x) q ∙ h))),
+            ap (λ (x : Bool). worth x L) (ahead-end a b k (i ∷ is) (λ q. false≢true (sym e ∙ ap (λ (x : ℕ). trainHolds s x) q ∙ h))),
           )

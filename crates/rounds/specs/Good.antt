@@ -6,16 +6,16 @@ use mathlib.Core.List.{List, [], _∷_}
 use lib.Dec.{leb, ltb, eqb}
 use lib.ListN.{length}
 use Rattle.units.specs.Plain.{if_then_else_, times}
-use Rattle.rounds.specs.Round.{Rec, Train, Shared, trainCount, trainDepth, some?, trainAt, inTurn}
+use Rattle.rounds.specs.Round.{BareRec, Train, Shared, trainCount, trainDepth, queued?, trainAt, inTurn}
 
--- each length 1 to the lane's longest
-abbrev pub Lengths : ℕ → List Rec → Type 0
+-- R1.5: each length 1 to the lane's longest
+abbrev pub Lengths : ℕ → List BareRec → Type 0
 Lengths L [] = Unit {0}
 Lengths L (r ∷ rs) = (1 ≤ r .len) × (r .len ≤ L) × Lengths L rs
 
 -- R18.8: the deficit of a train that holds nothing is 0; that of the train in turn covers its first record, and is below twice the longest; that of any other
 -- does not cover its first record.
-abbrev pub Deficit : ℕ → Bool → ℕ → List Rec → Type 0
+abbrev pub Deficit : ℕ → Bool → ℕ → List BareRec → Type 0
 Deficit L turn d [] = d ≡ 0
 Deficit L true d (r ∷ rs) = (r .len ≤ d) × (d < 2 * L)
 Deficit L false d (r ∷ rs) = d < r .len
@@ -25,10 +25,10 @@ pub record GoodTrain (L : ℕ) (turn : Bool) (named : ℕ) (t : Train) : Type 0 
   pub room : length (t .queue) ≤ trainDepth
   pub lengths : Lengths L (t .queue)
   pub deficit : Deficit L turn (t .deficit) (t .queue)
-  pub named-once : named ≡ (if some? (t .queue) then 1 else 0)
+  pub named-once : named ≡ (if queued? (t .queue) then 1 else 0)
 
 -- R18.8
-pub record Good (L : ℕ) (s : Shared) : Type 0 where
+pub record GoodShared (L : ℕ) (s : Shared) : Type 0 where
   pub size : length (s .trains) ≡ trainCount
   pub each : (k : ℕ) → GoodTrain L (inTurn k (s .round)) (times k (s .round)) (trainAt s k)
 
@@ -42,10 +42,10 @@ unfoldable pub everyBelow : (ℕ → Bool) → ℕ → Bool
 everyBelow p zero = true
 everyBelow p (suc n) = p n && everyBelow p n
 
-unfoldable pub lengthTest : ℕ → Rec → Bool
+unfoldable pub lengthTest : ℕ → BareRec → Bool
 lengthTest L r = leb 1 (r .len) && leb (r .len) L
 
-unfoldable pub deficitTest : ℕ → Bool → ℕ → List Rec → Bool
+unfoldable pub deficitTest : ℕ → Bool → ℕ → List BareRec → Bool
 deficitTest L turn d [] = eqb d 0
 deficitTest L true d (r ∷ rs) = leb (r .len) d && ltb d (2 * L)
 deficitTest L false d (r ∷ rs) = ltb d (r .len)
@@ -53,7 +53,7 @@ deficitTest L false d (r ∷ rs) = ltb d (r .len)
 unfoldable pub trainTest : ℕ → Bool → ℕ → Train → Bool
 trainTest L turn named t =
     leb (length (t .queue)) trainDepth
-    && (every (lengthTest L) (t .queue) && (deficitTest L turn (t .deficit) (t .queue) && eqb named (if some? (t .queue) then 1 else 0)))
+    && (every (lengthTest L) (t .queue) && (deficitTest L turn (t .deficit) (t .queue) && eqb named (if queued? (t .queue) then 1 else 0)))
 
 unfoldable pub goodTest : ℕ → Shared → Bool
 goodTest L s =

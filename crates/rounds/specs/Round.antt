@@ -1,15 +1,15 @@
 -- One lane that up to 8 trains share, by deficit round robin (docs/RULES.md, R18).
 --
---   Rec           a waiting record: its mark and its length
---   Train         a train's deficit and its queue, first record first
---   Shared        the trains by number, and the round: the trains that hold records in the order of their turns, the one in turn first
---   holds         train k holds a record
---   inTurn        train k is the one in turn
---   first         the chosen record, with its train
---   begin         a turn begins
---   put           a record for a train
---   handOut       the chosen record is handed out
---   held          how many records wait
+--   BareRec         a waiting record without its train: its mark and its length
+--   Train           a train's deficit and its queue, first record first
+--   Shared          the trains by number, and the round: the trains that hold records in the order of their turns, the one in turn first
+--   trainHolds      train k holds a record
+--   inTurn          train k is the one in turn
+--   sharedFirst     the chosen record, with its train
+--   begin           a turn begins
+--   sharedPut       a record for a train
+--   sharedHandOut   the chosen record is handed out
+--   sharedHeld      how many records wait
 --
 -- L is the lane's longest record, in bytes. Assumes nothing.
 use Prim.Native.Nat.{ℕ, _+_, _-_}
@@ -22,14 +22,14 @@ use Rattle.units.specs.Plain.{if_then_else_, sum}
 
 -- ---- what a shared lane holds
 
-pub record Rec : Type 0 where
+pub record BareRec : Type 0 where
   pub mark : ℕ
   pub len : ℕ
 
 -- R18.2: a deficit counts bare bytes, without framing
 pub record Train : Type 0 where
   pub deficit : ℕ
-  pub queue : List Rec
+  pub queue : List BareRec
 
 -- R18.2
 pub record Shared : Type 0 where
@@ -47,15 +47,15 @@ trainDepth = 8
 abbrev pub noTrain : Train
 noTrain = record { deficit = 0; queue = [] }
 
-abbrev pub some? : List Rec → Bool
-some? [] = false
-some? (r ∷ rs) = true
+abbrev pub queued? : List BareRec → Bool
+queued? [] = false
+queued? (r ∷ rs) = true
 
 abbrev pub trainAt : Shared → ℕ → Train
 trainAt s k = getD (s .trains) k noTrain
 
-abbrev pub holds : Shared → ℕ → Bool
-holds s k = some? (trainAt s k .queue)
+abbrev pub trainHolds : Shared → ℕ → Bool
+trainHolds s k = queued? (trainAt s k .queue)
 
 -- R18.2
 abbrev pub inTurn : ℕ → List ℕ → Bool
@@ -66,31 +66,31 @@ inTurn k (j ∷ js) = eqb j k
 unfoldable pub empty : Shared
 empty = record { trains = replicate trainCount noTrain; round = [] }
 
-abbrev pub heldIn : Train → ℕ
-heldIn t = length (t .queue)
+abbrev pub trainHeld : Train → ℕ
+trainHeld t = length (t .queue)
 
-abbrev pub held : Shared → ℕ
-held s = sum heldIn (s .trains)
+abbrev pub sharedHeld : Shared → ℕ
+sharedHeld s = sum trainHeld (s .trains)
 
 -- ---- the chosen record
 
 -- a record with its train
-pub record Moving : Type 0 where
+pub record TrainItem : Type 0 where
   pub train : ℕ
-  pub item : Rec
+  pub item : BareRec
 
-unfoldable pub firstOf : ℕ → List Rec → Option Moving
-firstOf k [] = none
-firstOf k (r ∷ rs) = some (record { train = k; item = r })
+unfoldable pub firstOfTrain : ℕ → List BareRec → Option TrainItem
+firstOfTrain k [] = none
+firstOfTrain k (r ∷ rs) = some (record { train = k; item = r })
 
 -- R18.4
-unfoldable pub firstIn : List Train → List ℕ → Option Moving
-firstIn ts [] = none
-firstIn ts (k ∷ ks) = firstOf k (getD ts k noTrain .queue)
+unfoldable pub firstInTurn : List Train → List ℕ → Option TrainItem
+firstInTurn ts [] = none
+firstInTurn ts (k ∷ ks) = firstOfTrain k (getD ts k noTrain .queue)
 
 -- R18.4: the chosen record is the first of the train in turn: no put changes which train that is
-unfoldable pub first : Shared → Option Moving
-first s = firstIn (s .trains) (s .round)
+unfoldable pub sharedFirst : Shared → Option TrainItem
+sharedFirst s = firstInTurn (s .trains) (s .round)
 
 -- ---- turns
 
@@ -105,7 +105,7 @@ begin L ts (k ∷ ks) = record { trains = set ts k (raised L (getD ts k noTrain)
 
 -- ---- put
 
-unfoldable pub added : Train → Rec → Train
+unfoldable pub added : Train → BareRec → Train
 added t r = record { deficit = t .deficit; queue = t .queue ++ (r ∷ []) }
 
 -- R18.5: a train that held nothing goes behind the others; in an empty lane its turn begins at once
@@ -114,17 +114,17 @@ join L ts [] k = begin L ts (k ∷ [])
 join L ts (j ∷ js) k = record { trains = ts; round = j ∷ js ++ (k ∷ []) }
 
 -- R18.5
-unfoldable pub put : ℕ → Shared → ℕ → Rec → Shared
-put L s k r =
+unfoldable pub sharedPut : ℕ → Shared → ℕ → BareRec → Shared
+sharedPut L s k r =
     let ts = set (s .trains) k (added (trainAt s k) r) in
-    if holds s k then record { trains = ts; round = s .round } else join L ts (s .round) k
+    if trainHolds s k then record { trains = ts; round = s .round } else join L ts (s .round) k
 
 -- ---- hand out
 
 -- R18.7: the train in turn, k, with the deficit d, hands out the first of its records, and its deficit drops by that record's length; ks is the round behind
 -- it. Left with no record it leaves the round, and its deficit is gone. While what is left covers its next record it stays in turn; else it goes behind the
 -- others with the rest, and the next turn begins. (Alone in the round it is the next in turn again.)
-unfoldable pub handOf : ℕ → List Train → ℕ → List ℕ → ℕ → List Rec → Shared
+unfoldable pub handOf : ℕ → List Train → ℕ → List ℕ → ℕ → List BareRec → Shared
 handOf L ts k ks d [] = record { trains = ts; round = k ∷ ks }
 handOf L ts k ks d (r ∷ []) = begin L (set ts k noTrain) ks
 handOf L ts k ks d (r ∷ r′ ∷ rs) =
@@ -137,5 +137,5 @@ handIn L ts [] = record { trains = ts; round = [] }
 handIn L ts (k ∷ ks) = handOf L ts k ks (getD ts k noTrain .deficit) (getD ts k noTrain .queue)
 
 -- R18.7
-unfoldable pub handOut : ℕ → Shared → Shared
-handOut L s = handIn L (s .trains) (s .round)
+unfoldable pub sharedHandOut : ℕ → Shared → Shared
+sharedHandOut L s = handIn L (s .trains) (s .round)

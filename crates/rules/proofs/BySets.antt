@@ -14,7 +14,7 @@ use Rattle.rules.specs.State.{Setting, Lane, State, group, slot, startR,
 use Rattle.rules.specs.Choice.{Candidate, choose}
 use Rattle.rules.specs.Sets.{groups, inGroup, groupStart, finishFrom, groupFinish, firstGroup, SetsRule}
 use Rattle.rules.specs.Good.{Good}
-pub use Rattle.rules.specs.BySets.{standsAt, firstIn, laneOfGroup, chooseBySets, laneOf}
+pub use Rattle.rules.specs.BySets.{standsAt, firstIn, laneOfGroup, chooseBySets, candidateLane}
 use Rattle.rules.specs.BySets.{SameChoice}
 use Rattle.rules.proofs.Bools.{and-parts, and-made}
 use Rattle.rules.proofs.Lane.{group-most}
@@ -139,7 +139,7 @@ module _ (s : State) (good : Good s) where
         (subst (λ (i : ℕ). standsAt i (startR (laneAt s (c .lane))) (laneAt s (c .lane)) ≡ true) (sym is-group) (is-standing (laneAt s (c .lane)) (eligible-is (s .clock) (laneAt s (c .lane)) is .0)))
         once earliest)
 
-  by-sets : (o : Option Candidate) → Choice (s .clock) (s .order) 0 (s .lanes) o → chooseBySets s ≡ laneOf o
+  by-sets : (o : Option Candidate) → Choice (s .clock) (s .order) 0 (s .lanes) o → chooseBySets s ≡ candidateLane o
   by-sets none h = none-chosen h
   by-sets (some c) h = found c h
 
@@ -156,7 +156,7 @@ module _ (s : State) (good : Good s) where
   }
 
   -- the choice through the sets is the plain choice
-  pub same-choice : chooseBySets s ≡ laneOf (choose s)
+  pub same-choice : chooseBySets s ≡ candidateLane (choose s)
   unfolding choose
   same-choice = by-sets (choose s) (chosen (s .clock) (s .order) 0 (s .lanes))
 

@@ -71,7 +71,7 @@ put-sends k r n es = refl
 
 -- Where the order of a train is kept before the put and later, what is handed out between and what is queued then is what was queued, the record, and what was
 -- accepted between.
-pub turn : (k : ℕ) (r : Rec) (n : ℕ) (past since : List Event) (q q′ : List round.Rec)
+pub turn : (k : ℕ) (r : Rec) (n : ℕ) (past since : List Event) (q q′ : List round.BareRec)
     → ofTrain (r .train) (acceptedOf k past) ≡ ofTrain (r .train) (sentOf k past) ++ q
     → ofTrain (r .train) (acceptedOf k (past ++ accepts k r n ∷ since)) ≡ ofTrain (r .train) (sentOf k (past ++ accepts k r n ∷ since)) ++ q′
     → ofTrain (r .train) (sentOf k since) ++ q′ ≡ q ++ bare r ∷ ofTrain (r .train) (acceptedOf k since)
@@ -80,10 +80,10 @@ turn k r n past since q q′ before later =
     let acc = ofTrain t (acceptedOf k past) in
     let sent = ofTrain t (sentOf k past) in
     let all : ofTrain t (acceptedOf k (past ++ accepts k r n ∷ since)) ≡ acc ++ (bare r ∷ ofTrain t (acceptedOf k since))
-    = ap (ofTrain t) (accepted-append k past (accepts k r n ∷ since)) ∙ of-append t (acceptedOf k past) (acceptedOf k (accepts k r n ∷ since)) ∙ ap (λ (x : List round.Rec). acc ++ x) (put-accepts k r n since) in
+    = ap (ofTrain t) (accepted-append k past (accepts k r n ∷ since)) ∙ of-append t (acceptedOf k past) (acceptedOf k (accepts k r n ∷ since)) ∙ ap (λ (x : List round.BareRec). acc ++ x) (put-accepts k r n since) in
     let out : ofTrain t (sentOf k (past ++ accepts k r n ∷ since)) ≡ sent ++ ofTrain t (sentOf k since)
     = ap (ofTrain t) (sent-append k past (accepts k r n ∷ since)) ∙ of-append t (sentOf k past) (sentOf k (accepts k r n ∷ since)) ∙ ap (λ (x : List Rec). sent ++ ofTrain t x) (put-sends k r n since) in
     sym (cancel-front sent (q ++ (bare r ∷ ofTrain t (acceptedOf k since))) (ofTrain t (sentOf k since) ++ q′)
     (sym (append-assoc sent q (bare r ∷ ofTrain t (acceptedOf k since)))
-    ∙ ap (λ (x : List round.Rec). x ++ (bare r ∷ ofTrain t (acceptedOf k since))) (sym before)
-    ∙ sym all ∙ later ∙ ap (λ (x : List round.Rec). x ++ q′) out ∙ append-assoc sent (ofTrain t (sentOf k since)) q′))
+    ∙ ap (λ (x : List round.BareRec). x ++ (bare r ∷ ofTrain t (acceptedOf k since))) (sym before)
+    ∙ sym all ∙ later ∙ ap (λ (x : List round.BareRec). x ++ q′) out ∙ append-assoc sent (ofTrain t (sentOf k since)) q′))

@@ -12,7 +12,7 @@ use Rattle.waiting.proofs.Others.{Has}
 use Rattle.rules.specs.State.{Rec, Setting, settingAt, State, laneAt}
 use Rattle.rules.specs.Calls.{Call, fresh}
 use Rattle.rules.specs.Runs.{Event, after, trace, sentOf, ofTrain, InOrder}
-use Rattle.rules.specs.Even.{HoldingTrain, bytesOf, OthersTight, EvenTight, EvenTrains}
+use Rattle.rules.specs.Even.{HoldingTrain, trainBytes, OthersTight, EvenTight, EvenTrains}
 use Rattle.rules.proofs.SameSetup.{setting-lane, setup-kept, fresh-setup}
 use Rattle.rules.proofs.Sound.{sound-run, fresh-sound}
 use Rattle.rules.proofs.Order.{in-order}
@@ -22,13 +22,13 @@ use Rattle.rules.proofs.Others.{others-bytes}
 -- ---- from a fresh table
 
 -- a train that holds a record by the events' count holds one in the state
-holds-train : (gs : List Setting) (k t : ℕ) (cs : List Call) → HoldingTrain k t (trace (fresh gs) cs) → round.some? (queueOf ((laneAt (after (fresh gs) cs) k) .waiting) t) ≡ true
+holds-train : (gs : List Setting) (k t : ℕ) (cs : List Call) → HoldingTrain k t (trace (fresh gs) cs) → round.queued? (queueOf ((laneAt (after (fresh gs) cs) k) .waiting) t) ≡ true
 unfolding InOrder
 holds-train gs k t cs h =
     go (queueOf ((laneAt (after (fresh gs) cs) k) .waiting) t)
     (omega (arith, ap length (in-order gs cs k t), length-append (ofTrain t (sentOf k (trace (fresh gs) cs))) (queueOf ((laneAt (after (fresh gs) cs) k) .waiting) t)))
   where
-    go : (q : List round.Rec) → 0 < length q → round.some? q ≡ true
+    go : (q : List round.BareRec) → 0 < length q → round.queued? q ≡ true
     go [] p = absurd (omega arith)
     go (x ∷ xs) p = refl
 
@@ -36,7 +36,7 @@ given-is : (gs : List Setting) (k : ℕ) (cs : List Call) → (laneAt (after (fr
 given-is gs k cs = ap (λ (g : Setting). g .longest) (sym (setting-lane (after (fresh gs) cs) k) ∙ ap (λ (x : List Setting). settingAt x k) (setup-kept (fresh gs) cs ∙ fresh-setup gs))
 
 others-calls : (gs : List Setting) (k a b : ℕ) → (a ≡ b → ⊥) → (pre mid : List Call) → ((p q : List Call) → p ++ q ≡ mid → HoldingTrain k a (trace (fresh gs) (pre ++ p)))
-    → bytesOf k b (trace (after (fresh gs) pre) mid) + 2 ≤ bytesOf k a (trace (after (fresh gs) pre) mid) + 3 * (settingAt gs k) .longest
+    → trainBytes k b (trace (after (fresh gs) pre) mid) + 2 ≤ trainBytes k a (trace (after (fresh gs) pre) mid) + 3 * (settingAt gs k) .longest
 others-calls gs k a b apart pre mid h =
     let s = after (fresh gs) pre in
     let held : (p q : List Call) → p ++ q ≡ mid → Has a ((laneAt (after s p) k) .waiting)
@@ -51,7 +51,7 @@ others-tight gs calls past stretch rest e k a b apart h =
     let all = split (fresh gs) calls (past ++ stretch) rest e in
     let two = split (fresh gs) (all .calls) past stretch (all .past-is) in
     let s = after (fresh gs) (two .calls) in
-    subst (λ (es : List Event). bytesOf k b es + 2 ≤ bytesOf k a es + 3 * (settingAt gs k) .longest) (two .rest-is)
+    subst (λ (es : List Event). trainBytes k b es + 2 ≤ trainBytes k a es + 3 * (settingAt gs k) .longest) (two .rest-is)
     (others-calls gs k a b apart (two .calls) (two .more)
     (λ p q g.
     subst (HoldingTrain k a) (sym (trace-append (fresh gs) (two .calls) p ∙ ap (λ (es : List Event). es ++ trace s p) (two .past-is)))
@@ -65,4 +65,4 @@ even-tight gs calls past stretch rest e k a b apart h = others-tight gs calls pa
 pub even-trains : (gs : List Setting) → EvenTrains gs
 unfolding EvenTrains EvenTight
 even-trains gs calls past stretch rest e k a b h =
-    same-or a b (λ q. omega (arith, ap (λ (t : ℕ). bytesOf k t stretch) q)) (λ n. omega (arith, even-tight gs calls past stretch rest e k a b n h))
+    same-or a b (λ q. omega (arith, ap (λ (t : ℕ). trainBytes k t stretch) q)) (λ n. omega (arith, even-tight gs calls past stretch rest e k a b n h))

@@ -9,7 +9,7 @@ use lib.ListN.{replicate}
 use Rattle.rules.specs.State.{Setting, noSetting, settingAt, rate, slot}
 use Rattle.rules.specs.Setup.{InNumbers, framingOf, Setup}
 use Rattle.rules.specs.Fair.{bytesSentOf, Fair, Demand3, Compared, TwoLanes}
-use Rattle.rules.specs.Examples.{twoLanes, Session, Waits, SideBySide, TakenBack}
+use Rattle.rules.specs.Examples.{twoLanes, Session, WaitsAtMost, SideBySide, TakenBack}
 use Rattle.rules.proofs.Computes.{rules}
 use Rattle.rules.proofs.Fair.{demand3}
 use Rattle.rules.proofs.Fair as proved
@@ -48,8 +48,8 @@ its-slot : slot (settingAt twoLanes 0) ≡ 4194304
 unfolding rules
 its-slot = refl
 
-pub waits : Waits
-unfolding Waits Demand3 Fair
+pub waits : WaitsAtMost
+unfolding WaitsAtMost Demand3 Fair
 waits calls past stretch rest e h o =
     omega (arith, demand3 twoLanes two-lanes calls past stretch rest e 0 h, ap (λ (n : ℕ). rate (settingAt twoLanes 0) * n) o, its-slot, its-framing)
 

@@ -23,7 +23,7 @@ pub of-append : (t : ℕ) (xs ys : List Rec) → ofTrain t (xs ++ ys) ≡ ofTrai
 unfolding ofTrain
 of-append t [] ys = refl
 of-append t (x ∷ xs) ys =
-    ap (λ (q : List round.Rec). (if eqb (x .train) t then bare x ∷ [] else []) ++ q) (of-append t xs ys)
+    ap (λ (q : List round.BareRec). (if eqb (x .train) t then bare x ∷ [] else []) ++ q) (of-append t xs ys)
     ∙ sym (append-assoc (if eqb (x .train) t then bare x ∷ [] else []) (ofTrain t xs) (ofTrain t ys))
 
 pub queue-run : (k t : ℕ) (s : State) (cs : List Call) → AllSound s → queueAt s k t ++ ofTrain t (acceptedOf k (trace s cs)) ≡ ofTrain t (sentOf k (trace s cs)) ++ queueAt (after s cs) k t
@@ -33,13 +33,13 @@ queue-run k t s (c ∷ cs) w =
     let o = step s c in
     let a = ofLane k (acceptedIn (record { call = c; reply = o .reply })) in
     let x = ofLane k (sentIn (o .reply)) in
-    ap (λ (q : List round.Rec). queueAt s k t ++ q) (of-append t a (acceptedOf k (trace (o .state) cs)))
+    ap (λ (q : List round.BareRec). queueAt s k t ++ q) (of-append t a (acceptedOf k (trace (o .state) cs)))
     ∙ sym (append-assoc (queueAt s k t) (ofTrain t a) (ofTrain t (acceptedOf k (trace (o .state) cs))))
-    ∙ ap (λ (q : List round.Rec). q ++ ofTrain t (acceptedOf k (trace (o .state) cs))) (step-passed k s c .fifo w t)
+    ∙ ap (λ (q : List round.BareRec). q ++ ofTrain t (acceptedOf k (trace (o .state) cs))) (step-passed k s c .fifo w t)
     ∙ append-assoc (ofTrain t x) (queueAt (o .state) k t) (ofTrain t (acceptedOf k (trace (o .state) cs)))
-    ∙ ap (λ (q : List round.Rec). ofTrain t x ++ q) (queue-run k t (o .state) cs (step-sound s c w))
+    ∙ ap (λ (q : List round.BareRec). ofTrain t x ++ q) (queue-run k t (o .state) cs (step-sound s c w))
     ∙ sym (append-assoc (ofTrain t x) (ofTrain t (sentOf k (trace (o .state) cs))) (queueAt (after (o .state) cs) k t))
-    ∙ ap (λ (q : List round.Rec). q ++ queueAt (after (o .state) cs) k t) (sym (of-append t x (sentOf k (trace (o .state) cs))))
+    ∙ ap (λ (q : List round.BareRec). q ++ queueAt (after (o .state) cs) k t) (sym (of-append t x (sentOf k (trace (o .state) cs))))
 
 pub fresh-queue : (gs : List Setting) (k t : ℕ) → queueAt (fresh gs) k t ≡ []
 unfolding fresh idle
@@ -47,7 +47,7 @@ fresh-queue gs k t = ap (λ (l : Lane). queueOf (l .waiting) t) (idle-at gs k) �
 
 pub in-order : (gs : List Setting) → InOrder gs
 unfolding InOrder
-in-order gs calls k t = ap (λ (q : List round.Rec). q ++ ofTrain t (acceptedOf k (trace (fresh gs) calls))) (sym (fresh-queue gs k t)) ∙ queue-run k t (fresh gs) calls (fresh-sound gs)
+in-order gs calls k t = ap (λ (q : List round.BareRec). q ++ ofTrain t (acceptedOf k (trace (fresh gs) calls))) (sym (fresh-queue gs k t)) ∙ queue-run k t (fresh gs) calls (fresh-sound gs)
 
 -- and how many: the lane holds what was accepted and not handed out
 pub held-run : (k : ℕ) (s : State) (cs : List Call) → AllSound s → heldAt s k + length (acceptedOf k (trace s cs)) ≡ length (sentOf k (trace s cs)) + heldAt (after s cs) k

@@ -16,7 +16,7 @@ use Rattle.waiting.proofs.Others.{upOf, downOf, Has, Under, under-enter, under-
 use Rattle.rules.specs.State.{Rec, State, laneAt}
 use Rattle.rules.specs.Calls.{Call}
 use Rattle.rules.specs.Runs.{after, trace, sentOf, ofTrain}
-use Rattle.rules.specs.Even.{bytesOf}
+use Rattle.rules.specs.Even.{trainBytes}
 use Rattle.rules.proofs.Keep.{AllSound}
 use Rattle.rules.proofs.Queues.{of-one}
 use Rattle.rules.proofs.Sound.{sound-run}
@@ -45,12 +45,12 @@ module _ (k a b : ℕ) (apart : a ≡ b → ⊥) where
     enters = λ L w r g h. under-enter L a b apart w r g h;
     hands = λ L w x g e h h′. rw (one-bytes a x, one-bytes b x) (under-hand L a b apart w x g e h h′);
     joins = λ L w u v xs ys p q. omega (arith, p, q, more-bytes a xs ys, more-bytes b xs ys);
-    some-record = λ L w g e h. false≢true (ap round.some? (sym (queue-none L w g e a)) ∙ h);
+    some-record = λ L w g e h. false≢true (ap round.queued? (sym (queue-none L w g e a)) ∙ h);
   }
 
   pub others-bytes : (s : State) (mid : List Call) → AllSound s → ((p q : List Call) → p ++ q ≡ mid → Has a ((laneAt (after s p) k) .waiting))
       → (laneAt (after s mid) k) .given .longest ≡ (laneAt s k) .given .longest
-      → bytesOf k b (trace s mid) + 2 ≤ bytesOf k a (trace s mid) + 3 * (laneAt s k) .given .longest
+      → trainBytes k b (trace s mid) + 2 ≤ trainBytes k a (trace s mid) + 3 * (laneAt s k) .given .longest
   unfolding after
   others-bytes s mid w h same =
       let L = (laneAt s k) .given .longest in

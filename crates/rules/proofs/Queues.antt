@@ -40,7 +40,7 @@ pub served-given : (l : Lane) → (served l) .given ≡ l .given
 served-given l = served-ind (λ (m : Lane). m .given ≡ l .given) l (λ e. refl) (λ r e. refl)
 
 -- train t's queue of lane k, and how many records the lane holds
-abbrev pub queueAt : State → ℕ → ℕ → List round.Rec
+abbrev pub queueAt : State → ℕ → ℕ → List round.BareRec
 queueAt s k t = queueOf ((laneAt s k) .waiting) t
 
 abbrev pub heldAt : State → ℕ → ℕ

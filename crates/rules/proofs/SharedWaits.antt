@@ -24,7 +24,7 @@ use Rattle.rules.specs.Setup.{Setup}
 use Rattle.rules.specs.Calls.{Call, accepted, putRefusal, putOf, doPut, fresh, step}
 use Rattle.rules.specs.Runs.{Event, after, trace, sentOf, ofTrain}
 use Rattle.rules.specs.Fair.{bytesSent, bytesSentOf}
-use Rattle.rules.specs.Even.{bytesOf, HoldingTrain, OthersTight}
+use Rattle.rules.specs.Even.{trainBytes, HoldingTrain, OthersTight}
 use Rattle.rules.specs.Waits.{accepts, NotYet, Waits, sharedSpan, worstShared, WaitsShared, OutByShared}
 use Rattle.rules.proofs.Bounds.{SetupOk}
 use Rattle.rules.proofs.Keep.{PutOk, put-ok, allowed-enters}
@@ -126,7 +126,7 @@ module _ (gs : List Setting) (calls : List Call) (past stretch rest : List Event
       → bytesSentOf gs k stretch ≤ (1 + g .framing) * ((8 * n + 21) * g .longest)
   unfolding OthersTight
   stretch-most t n inside holding few =
-      let f : ℕ → ℕ = λ i. bytesOf k i stretch in
+      let f : ℕ → ℕ = λ i. trainBytes k i stretch in
       let L = g .longest in
       let fit = stretch-fit in
       let other : (i : ℕ) → (t ≡ i → ⊥) → f i ≤ f t + 3 * L = λ i ne. omega (arith, others-tight gs calls past stretch rest e k t i ne holding) in

@@ -8,11 +8,11 @@ use Rattle.rules.specs.State.{noSetting}
 use Rattle.rules.specs.Calls.{put, take, accepted, taken, refused, fresh}
 use Rattle.rules.specs.Runs.{trace, sentIn, ofLane, sentOf, ofTrain}
 use Rattle.rules.specs.Examples.{replies}
-use Rattle.rules.specs.TrainExamples.{Turns, TrainRefusals, Reached}
+use Rattle.rules.specs.TrainExamples.{TrainsTakeTurns, TrainRefusals, Reached}
 use Rattle.rules.proofs.Computes.{rules}
 
-pub turns : Turns
-unfolding Turns rules
+pub turns : TrainsTakeTurns
+unfolding TrainsTakeTurns rules
 turns = refl
 
 pub train-refusals : TrainRefusals

@@ -44,7 +44,7 @@ queued-is gs k t cs =
 
 in-order-queued : (gs : List Setting) (k t : ℕ) (cs : List Call) → (let es = trace (fresh gs) cs in ofTrain t (acceptedOf k es) ≡ ofTrain t (sentOf k es) ++ queued k t es)
 unfolding InOrder
-in-order-queued gs k t cs = let es = trace (fresh gs) cs in in-order gs cs k t ∙ ap (λ (q : List round.Rec). ofTrain t (sentOf k es) ++ q) (sym (queued-is gs k t cs))
+in-order-queued gs k t cs = let es = trace (fresh gs) cs in in-order gs cs k t ∙ ap (λ (q : List round.BareRec). ofTrain t (sentOf k es) ++ q) (sym (queued-is gs k t cs))
 
 pub in-turn : (gs : List Setting) → InTurn gs
 unfolding InTurn SaysAhead

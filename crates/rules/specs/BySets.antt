@@ -1,11 +1,11 @@
 -- The choice through the sets, as QFQ finds it, and that it is the plain choice.
 --
---   standsAt       the lane is of group i and has the rounded start r
---   firstIn        the first in a list that passes a test
---   laneOfGroup    the lane of group i with this rounded start that stands first in the tie order
---   chooseBySets   that of the first set bit's group, at the group's start
---   laneOf         the lane that is chosen, if one is
---   SameChoice     R4.7: on every good state both choose the same lane
+--   standsAt        the lane is of group i and has the rounded start r
+--   firstIn         the first in a list that passes a test
+--   laneOfGroup     the lane of group i with this rounded start that stands first in the tie order
+--   chooseBySets    that of the first set bit's group, at the group's start
+--   candidateLane   the lane that is chosen, if one is
+--   SameChoice      R4.7: on every good state both choose the same lane
 --
 -- Assumes nothing.
 use Prim.Native.Nat.{ℕ}
@@ -34,9 +34,9 @@ laneOfGroup s i (some r) = firstIn (λ k. standsAt i r (laneAt s k)) (s .order)
 unfoldable pub chooseBySets : State → Option ℕ
 chooseBySets s = laneOfGroup s (firstGroup s) (groupStart (s .lanes) (firstGroup s))
 
-abbrev pub laneOf : Option Candidate → Option ℕ
-laneOf none = none
-laneOf (some c) = some (c .lane)
+abbrev pub candidateLane : Option Candidate → Option ℕ
+candidateLane none = none
+candidateLane (some c) = some (c .lane)
 
 unfoldable pub SameChoice : Type 0
-SameChoice = (s : State) → Good s → chooseBySets s ≡ laneOf (choose s)
+SameChoice = (s : State) → Good s → chooseBySets s ≡ candidateLane (choose s)

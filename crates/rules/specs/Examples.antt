@@ -1,10 +1,10 @@
 -- The first session (R16.3) over the rules, and figures for its two lanes.
 --
---   twoLanes   the session's setup: lane 0 of weight 512, lane 1 of weight 256, longest 1,500
---   Session    its eight requests and the rules' replies to them
---   Waits      in any list of calls, while lane 0 holds a record and none of its bytes is sent, fewer than 17,884 bytes are
---   SideBySide in any list of calls, while both lanes hold records: lane 0's bytes and twice lane 1's differ by less than 26,076
---   TakenBack  a put that takes the clock back, with its numbers
+--   twoLanes      the session's setup: lane 0 of weight 512, lane 1 of weight 256, longest 1,500
+--   Session       its eight requests and the rules' replies to them
+--   WaitsAtMost   in any list of calls, while lane 0 holds a record and none of its bytes is sent, fewer than 17,884 bytes are
+--   SideBySide    in any list of calls, while both lanes hold records: lane 0's bytes and twice lane 1's differ by less than 26,076
+--   TakenBack     a put that takes the clock back, with its numbers
 --
 -- Assumes nothing.
 use Prim.Native.Nat.{ℕ, _+_, _*_, _<_}
@@ -32,8 +32,8 @@ Session =
     ≡ accepted 0 ∷ accepted 0 ∷ accepted 1 ∷ words 12582912 0 0 0 ∷ taken 0 0 1 1000 ∷ taken 0 0 3 500 ∷ taken 1 0 2 1000 ∷ refused 16 none ∷ []
 
 -- R16.11, by R15.8 with O = 0: 4 slots of 2^22 and 1,536,000 make 18,313,216, which is 1,024 times 17,884
-unfoldable pub Waits : Type 0
-Waits = (calls : List Call) (past stretch rest : List Event)
+unfoldable pub WaitsAtMost : Type 0
+WaitsAtMost = (calls : List Call) (past stretch rest : List Event)
     → trace (fresh twoLanes) calls ≡ past ++ stretch ++ rest
     → ((p q : List Event) → p ++ q ≡ stretch → Holding 0 (past ++ p))
     → bytesSentOf twoLanes 0 stretch ≡ 0

@@ -87,7 +87,7 @@ sentOf k [] = []
 sentOf k (e ∷ es) = ofLane k (sentIn (e .reply)) ++ sentOf k es
 
 -- those of one train of lane k, in order
-unfoldable pub ofTrain : ℕ → List Rec → List round.Rec
+unfoldable pub ofTrain : ℕ → List Rec → List round.BareRec
 ofTrain t [] = []
 ofTrain t (r ∷ rs) = (if eqb (r .train) t then bare r ∷ [] else []) ++ ofTrain t rs
 

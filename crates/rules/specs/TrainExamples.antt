@@ -1,9 +1,9 @@
 -- A shared lane, computed.
 --
---   junction        the setup: lane 0 is shared, its longest 100 bytes; lane 1 is not
---   Turns           two trains take turns
---   TrainRefusals   70 before 12, in either lane; a train's ninth record
---   Reached         two trains that hold records throughout, of which one is sent three times the longest less 2 more than the other
+--   junction          the setup: lane 0 is shared, its longest 100 bytes; lane 1 is not
+--   TrainsTakeTurns   two trains take turns
+--   TrainRefusals     70 before 12, in either lane; a train's ninth record
+--   Reached           two trains that hold records throughout, of which one is sent three times the longest less 2 more than the other
 --
 -- Assumes nothing.
 use mathlib.Core.Path.{_≡_}
@@ -14,7 +14,7 @@ use lib.ListN.{replicate}
 use Rattle.rules.specs.State.{Setting, noSetting}
 use Rattle.rules.specs.Calls.{Call, put, take, accepted, taken, refused, fresh}
 use Rattle.rules.specs.Runs.{after, trace}
-use Rattle.rules.specs.Even.{bytesOf}
+use Rattle.rules.specs.Even.{trainBytes}
 use Rattle.rules.specs.Examples.{replies}
 
 -- R18.10
@@ -24,8 +24,8 @@ junction =
 
 -- R18.10: train 5's turn begins with the first put: its 100 bytes cover one record, and with nothing left over it goes behind train 2. That one sends 60, keeps
 -- 40, which does not cover the next 60, and goes behind train 5. With its next turn it has 140, so that it sends two.
-unfoldable pub Turns : Type 0
-Turns =
+unfoldable pub TrainsTakeTurns : Type 0
+TrainsTakeTurns =
     replies (trace (fresh junction)
     (put 0 5 1 100 ∷ put 0 5 2 100 ∷ put 0 2 3 60 ∷ put 0 2 4 60 ∷ put 0 2 5 60 ∷ take ∷ take ∷ take ∷ take ∷ take ∷ take ∷ []))
     ≡ accepted 0 ∷ accepted 1 ∷ accepted 0 ∷ accepted 1 ∷ accepted 2
@@ -51,5 +51,5 @@ unevenPast = put 0 0 1 1 ∷ put 0 0 2 64 ∷ put 0 0 3 63 ∷ put 0 0 4 64 ∷ 
 unfoldable pub Reached : Type 0
 Reached =
     (replies (trace (after (fresh uneven) unevenPast) (take ∷ take ∷ take ∷ take ∷ [])) ≡ taken 0 0 2 64 ∷ taken 0 0 3 63 ∷ taken 0 1 7 1 ∷ taken 0 0 4 64 ∷ [])
-    × (bytesOf 0 0 (trace (after (fresh uneven) unevenPast) (take ∷ take ∷ take ∷ take ∷ [])) ≡ 191)
-    × (bytesOf 0 1 (trace (after (fresh uneven) unevenPast) (take ∷ take ∷ take ∷ take ∷ [])) ≡ 1)
+    × (trainBytes 0 0 (trace (after (fresh uneven) unevenPast) (take ∷ take ∷ take ∷ take ∷ [])) ≡ 191)
+    × (trainBytes 0 1 (trace (after (fresh uneven) unevenPast) (take ∷ take ∷ take ∷ take ∷ [])) ≡ 1)

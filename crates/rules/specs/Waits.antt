@@ -34,7 +34,7 @@ use Rattle.rules.specs.Fair.{bytesSent, bytesSentOf, Holding}
 abbrev pub accepts : ℕ → Rec → ℕ → Event
 accepts k r n = record { call = put k (r .train) (r .mark) (r .len); reply = accepted n }
 
-abbrev pub queued : ℕ → ℕ → List Event → List round.Rec
+abbrev pub queued : ℕ → ℕ → List Event → List round.BareRec
 queued k t es = drop (length (ofTrain t (sentOf k es))) (ofTrain t (acceptedOf k es))
 
 -- Any list of calls from a fresh table of the setup gs, any put in it that is accepted, and any point after it.
@@ -50,7 +50,7 @@ NotYet k r n since = length (ofTrain (r .train) (sentOf k since)) ≤ n
 
 -- they were, then the record, then perhaps others
 abbrev pub Out : ℕ → Rec → List Event → List Event → Type 0
-Out k r past since = (later : List round.Rec) × (ofTrain (r .train) (sentOf k since) ≡ queued k (r .train) past ++ bare r ∷ later)
+Out k r past since = (later : List round.BareRec) × (ofTrain (r .train) (sentOf k since) ≡ queued k (r .train) past ++ bare r ∷ later)
 
 -- any lane, shared or not
 unfoldable pub Waits : ℕ → List Setting → Type 0

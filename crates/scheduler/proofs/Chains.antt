@@ -13,7 +13,7 @@ use Rattle.pages.specs.Claims.{GoodDevice}
 use Rattle.pages.proofs.Run.{Run, step-run, run-all}
 use Rattle.page.specs.Read.{readPage, PageReply, pageRead, pageRefused}
 use Rattle.plan.specs.Accepted.{setupRefusals, among}
-use Rattle.page.specs.Promises.{PagesWithin, RefusesInside}
+use Rattle.page.specs.Promises.{PagesWithin, PageRefusesInside}
 use Rattle.page.proofs.Promises.{pages-within, refuses-inside}
 use Rattle.paged.specs.Paged.{EncodesDevice, GoodUnit, EncodesGoodDevice}
 use Rattle.paged.proofs.Units.{units-good}
@@ -22,7 +22,7 @@ use Rattle.scheduler.specs.Chain.{Chain, done, then, offers, callsOf, Le
 
 -- a page that the reader reads is a setup within the numbers, and 10 is none of the reader's own numbers
 pub page-read : (bytes : List ℕ) → Read (offered bytes)
-unfolding Read PagesWithin RefusesInside
+unfolding Read PagesWithin PageRefusesInside
 page-read bytes = go (readPage bytes) refl
   where
     go : (r : PageReply) → readPage bytes ≡ r → Read (offeredAs r)

@@ -5,7 +5,7 @@ use mathlib.Core.Path.{_≡_, ap, _∙_}
 use mathlib.Core.List.{List}
 use Rattle.rounds.proofs.Lists.{same-or}
 use Rattle.rules.specs.State.{Setting}
-use Rattle.rules.specs.Even.{bytesOf}
+use Rattle.rules.specs.Even.{trainBytes}
 use Rattle.pages.specs.Offers.{DeviceEvent, ofRules}
 use Rattle.pages.specs.Claims.{OthersPages, EvenTrainsPages}
 use Rattle.pages.proofs.Fair.{others-pages, even-trains-pages}
@@ -25,4 +25,4 @@ module _ (gs : List Setting) (es : List DeviceEvent) (u : List ℕ) (l : Led gs 
   pub even-calls : EvenCalls gs es
   unfolding EvenCalls EvenTightCalls
   even-calls past stretch rest e k a b h h′ =
-      same-or a b (λ q. omega (arith, ap (λ (x : ℕ). bytesOf k x (ofRules stretch)) q)) (λ n. omega (arith, even-tight-calls past stretch rest e k a b n h h′))
+      same-or a b (λ q. omega (arith, ap (λ (x : ℕ). trainBytes k x (ofRules stretch)) q)) (λ n. omega (arith, even-tight-calls past stretch rest e k a b n h h′))

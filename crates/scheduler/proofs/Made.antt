@@ -14,7 +14,7 @@ use Rattle.plan.specs.declared.Outcome.the-variants.{Read}
 use Rattle.plan.specs.declared.Outcome.the-variants as outcome
 use Rattle.plan.proofs.Accepted.{accepted-setup}
 use Rattle.table.specs.Layout.{tableSize}
-use Rattle.paged.specs.Settles.{Leads}
+use Rattle.paged.specs.Settles.{LeadsDevice}
 use Rattle.scheduler.specs.Make.{makeReply, TableBySetup, MakeStep}
 use Rattle.scheduler.specs.declared.Making.the-variants.{Made, Refused}
 
@@ -32,7 +32,7 @@ pub read-setup-good : (setup : List ℕ) (r : Reading) (p : ℕ) → setupReply 
 read-setup-good setup r p e o = accepted-setup r setup p e o .0 .setup
 
 pub make-made : (setup t u : List ℕ) → tableSize ≤ length t → (r : Reading) (p : ℕ) → setupReply r ≡ readSetup setup → r .outcome ≡ Read p → length u ≡ length t
-    → Leads t u (freshDevice (settings (r .plan))) → MakeStep setup t (Made (r .plan .count)) u
+    → LeadsDevice t u (freshDevice (settings (r .plan))) → MakeStep setup t (Made (r .plan .count)) u
 make-made setup t u h r p e o len m = record {
   short = λ q. absurd (omega arith);
   follows = λ _. subst (λ (y : SetupReply). TableBySetup y t (Made (r .plan .count)) u) (sym (ap (setupCame (r .plan)) o) ∙ e) (refl, m .encodes, m .rest);

@@ -16,7 +16,7 @@ use Rattle.rules.specs.Reads.{number, placeOf}
 use Rattle.rules.specs.declared.Refusal.{Refusal}
 use Rattle.pages.specs.Device.{Page, DeviceCall, offer, unread, answered, inForceNow, waitsNow, inForceOf, newestEdition, DeviceOutcome, doOffer, deviceStep, deviceStepBy}
 use Rattle.page.specs.Read.{readPage, pageCame, pageReply, pageRead, PageReply, pageRefused}
-use Rattle.page.specs.Promises.{PagesWithin, RefusesInside}
+use Rattle.page.specs.Promises.{PagesWithin, PageRefusesInside}
 use Rattle.page.specs.declared.Reading.{Reading}
 use Rattle.page.specs.declared.Outcome.the-variants as outcome
 use Rattle.page.proofs.Promises.{pages-within, refuses-inside}
@@ -25,7 +25,7 @@ use Rattle.plan.specs.Read.{settings}
 use Rattle.editions.specs.Part.{lastIn, newIn, planOf, waitingIn}
 use Rattle.table.specs.Means.{meant}
 use Rattle.paged.specs.Paged.{partOf, deviceOf, EncodesDevice, GoodUnit}
-use Rattle.paged.specs.Settles.{Leads}
+use Rattle.paged.specs.Settles.{LeadsDevice}
 use Rattle.paged.proofs.Units.{device-encoded}
 use Rattle.scheduler.specs.Step.{UnitStep, placeIn, offeredAs, offering, OfferStep}
 use Rattle.scheduler.specs.declared.Offering.{Offering}
@@ -74,14 +74,14 @@ module _ (t : List ℕ) (q : Page) (g : GoodUnit t) where
       (subst (λ (o : DeviceOutcome). EncodesDevice t (o .device)) (sym is) (device-encoded t g)) refl refl refl
 
   pub offer-waits : (u : List ℕ) → lastIn (partOf t) < q .edition → newIn (partOf t) < q .edition → anyHolds (meant t .lanes) ≡ true → length u ≡ length t
-      → Leads t u (record { state = meant t; edition = lastIn (partOf t); waiting = some q }) → UnitStep (offer q) t (offering Waits) u
+      → LeadsDevice t u (record { state = meant t; edition = lastIn (partOf t); waiting = some q }) → UnitStep (offer q) t (offering Waits) u
   offer-waits u h k any len l =
       let is = waits-is (above h k) any in
       unit-step (offer q) t (offering Waits) u g (sym (ap (λ (o : DeviceOutcome). o .reply) is))
       (subst (λ (o : DeviceOutcome). EncodesDevice u (o .device)) (sym is) (l .encodes)) tt (l .rest) len
 
   pub offer-forced : (u : List ℕ) → lastIn (partOf t) < q .edition → newIn (partOf t) < q .edition → anyHolds (meant t .lanes) ≡ false → length u ≡ length t
-      → Leads t u (inForceOf q) → UnitStep (offer q) t (offering InForce) u
+      → LeadsDevice t u (inForceOf q) → UnitStep (offer q) t (offering InForce) u
   offer-forced u h k any len l =
       let is = forced-is (above h k) any in
       unit-step (offer q) t (offering InForce) u g (sym (ap (λ (o : DeviceOutcome). o .reply) is))
@@ -102,7 +102,7 @@ module _ (bytes : List ℕ) (r : Reading) (e : pageReply r ≡ readPage bytes) w
   offer-read n t u o is p = subst (λ (x : PageReply). UnitStep (offeredAs x) t (offering o) u) (sym (read-is n is)) p
 
   pub offer-refused : (x : Refusal) (t : List ℕ) → GoodUnit t → r .outcome ≡ outcome.Refused x → OfferStep bytes t (Refused x) t
-  unfolding RefusesInside deviceStepBy
+  unfolding PageRefusesInside deviceStepBy
   offer-refused x t g o =
       let is : readPage bytes ≡ pageRefused (number x) (placeOf x) = sym e ∙ ap (pageCame (r .plan)) o in
       let at = refuses-inside bytes (number x) (placeOf x) is in

@@ -44,10 +44,10 @@ use Rattle.scheduler.proofs.Chains.{page-read}
 
 -- ---- one call of a unit
 
-abbrev acceptedBy : ℕ → ℕ → List Event → List round.Rec
+abbrev acceptedBy : ℕ → ℕ → List Event → List round.BareRec
 acceptedBy k i es = ofTrain i (acceptedOf k es)
 
-abbrev sentBy : ℕ → ℕ → List Event → List round.Rec
+abbrev sentBy : ℕ → ℕ → List Event → List round.BareRec
 sentBy k i es = ofTrain i (sentOf k es)
 
 free-queue : (s : State) → AllSound s → anyHolds (s .lanes) ≡ false → (k i : ℕ) → queueAt s k i ≡ []
@@ -79,7 +79,7 @@ device-passed d w (ruled c) k i =
     let e : Event = record { call = c; reply = o .reply } in
     ap (λ (x : List Rec). queueAt s k i ++ ofTrain i x) (append-nil (ofLane k (acceptedIn e)))
     ∙ step-passed k s c .fifo w i
-    ∙ ap (λ (x : List round.Rec). ofTrain i (ofLane k (sentIn (o .reply))) ++ x) (settled-queue (o .state) (d .edition) (d .waiting) (step-sound s c w) k i)
+    ∙ ap (λ (x : List round.BareRec). ofTrain i (ofLane k (sentIn (o .reply))) ++ x) (settled-queue (o .state) (d .edition) (d .waiting) (step-sound s c w) k i)
     ∙ ap (λ (x : List Rec). ofTrain i x ++ queueAt ((settledDevice (o .state) (d .edition) (d .waiting)) .state) k i) (sym (append-nil (ofLane k (sentIn (o .reply)))))
 device-passed d w (offer p) k i = append-nil (queueAt (d .state) k i) ∙ offer-queue d p w k i
 device-passed d w (unread n at) k i = append-nil (queueAt (d .state) k i)
@@ -108,7 +108,7 @@ encoded-keeps t d e g =
       part = record { fits = e .fits; page = subst (GoodWait (anyHolds (meant t .lanes)) (lastIn (partOf t))) (sym (e .waiting)) w₂ };
     }
 
-abbrev heldOf : List ℕ → ℕ → ℕ → List round.Rec
+abbrev heldOf : List ℕ → ℕ → ℕ → List round.BareRec
 heldOf b k t = queueAt (meant b) k t
 
 record Kept (c : DeviceCall) (t : List ℕ) (r : DeviceReply) (u : List ℕ) : Type 0 where
@@ -145,8 +145,8 @@ module _ (c : DeviceCall) (t : List ℕ) (r : DeviceReply) (u : List ℕ) (p : U
         fifo = λ k i.
             let z = ten-none c k i in
             subst (λ (x : DeviceReply). heldOf t k i ++ acceptedBy k i (ofRule c x) ≡ sentBy k i (ofRule c x) ++ heldOf u k i) (sym ten)
-            (ap (λ (x : List round.Rec). heldOf t k i ++ x) (z .0) ∙ append-nil (heldOf t k i) ∙ ap (λ (x : List ℕ). heldOf x k i) (sym same)
-            ∙ ap (λ (x : List round.Rec). x ++ heldOf u k i) (sym (z .1)));
+            (ap (λ (x : List round.BareRec). heldOf t k i ++ x) (z .0) ∙ append-nil (heldOf t k i) ∙ ap (λ (x : List ℕ). heldOf x k i) (sym same)
+            ∙ ap (λ (x : List round.BareRec). x ++ heldOf u k i) (sym (z .1)));
         keeps = subst Keeps (sym same) h;
       }
 
@@ -167,13 +167,13 @@ more c r t u v es o k i on =
     let x = ofRule c r in
     let y = ofRules es in
     ap (λ (q : List Rec). heldOf t k i ++ ofTrain i q) (accepted-append k x y)
-    ∙ ap (λ (q : List round.Rec). heldOf t k i ++ q) (of-append i (acceptedOf k x) (acceptedOf k y))
+    ∙ ap (λ (q : List round.BareRec). heldOf t k i ++ q) (of-append i (acceptedOf k x) (acceptedOf k y))
     ∙ sym (append-assoc (heldOf t k i) (acceptedBy k i x) (acceptedBy k i y))
-    ∙ ap (λ (q : List round.Rec). q ++ acceptedBy k i y) (o .fifo k i)
+    ∙ ap (λ (q : List round.BareRec). q ++ acceptedBy k i y) (o .fifo k i)
     ∙ append-assoc (sentBy k i x) (heldOf u k i) (acceptedBy k i y)
-    ∙ ap (λ (q : List round.Rec). sentBy k i x ++ q) on
+    ∙ ap (λ (q : List round.BareRec). sentBy k i x ++ q) on
     ∙ sym (append-assoc (sentBy k i x) (sentBy k i y) (heldOf v k i))
-    ∙ ap (λ (q : List round.Rec). q ++ heldOf v k i) (sym (of-append i (sentOf k x) (sentOf k y)))
+    ∙ ap (λ (q : List round.BareRec). q ++ heldOf v k i) (sym (of-append i (sentOf k x) (sentOf k y)))
     ∙ ap (λ (q : List Rec). ofTrain i q ++ heldOf v k i) (sym (sent-append k x y))
 
 from : {t u : List ℕ} {es : List DeviceEvent} → Keeps t → Chain t es u → (k i : ℕ) → heldOf t k i ++ acceptedBy k i (ofRules es) ≡ sentBy k i (ofRules es) ++ heldOf u k i

@@ -18,7 +18,7 @@ use Rattle.pages.specs.Device.{Page, Device, DeviceCall, ruled, DeviceReply, an
 use Rattle.pages.specs.OneCall.{OnlyTake}
 use Rattle.pages.proofs.OneCall.{only-take}
 use Rattle.editions.specs.Part.{lastIn, waitingIn, Fits}
-use Rattle.table.specs.Layout.{SIZE, pageBytes, tableSize}
+use Rattle.table.specs.Layout.{SIZE, pagePartBytes, tableSize}
 use Rattle.table.specs.Means.{meant}
 use Rattle.table.specs.Encodes.{Encodes}
 use Rattle.choice.specs.Known.{Known}
@@ -26,7 +26,7 @@ use Rattle.good.specs.Table.{GoodTable}
 use Rattle.good.proofs.Encodes.{good-sound}
 use Rattle.paged.specs.Paged.{partOf, deviceOf, EncodesDevice, GoodUnit}
 use Rattle.paged.proofs.Units.{device-good, device-encoded}
-use Rattle.engine.specs.Does.{Says, Does}
+use Rattle.engine.specs.Does.{SaysReply, Does}
 use Rattle.engine.proofs.Still.{looks-does}
 use Rattle.scheduler.specs.Step.{KeptBy, UnitStep, Step}
 pub use Rattle.paged.proofs.Tested.{found-good, found-bad}
@@ -87,7 +87,7 @@ step-says c t r u g p = let e : answered r ≡ answered ((step (meant t) c) .rep
 
 -- bytes that are alike behind the core are so behind the table
 pub past-table : (t u : List ℕ) → drop SIZE u ≡ drop SIZE t → drop tableSize u ≡ drop tableSize t
-past-table t u e = sym (drop-drop pageBytes SIZE u) ∙ ap (drop pageBytes) e ∙ drop-drop pageBytes SIZE t
+past-table t u e = sym (drop-drop pagePartBytes SIZE u) ∙ ap (drop pagePartBytes) e ∙ drop-drop pagePartBytes SIZE t
 
 -- a call of the engine leaves the page's part
 pub core-encoded : (t u : List ℕ) (s : State) → GoodUnit t → Encodes u s → drop SIZE u ≡ drop SIZE t → length u ≡ length t
@@ -123,5 +123,5 @@ does-step c t a u h g len d =
     (subst (EncodesDevice u) (sym (others-stay c t h g)) (core-encoded t u ((step (meant t) c) .state) g (d .encodes) (d .rest) len)) (d .unchanged) (past-table t u (d .rest)) len
 
 -- the calls that change nothing
-pub says-step : (c : Call) (t : List ℕ) (a : Answer) → takes c ≡ false → GoodUnit t → (step (meant t) c) .state ≡ meant t → Says c t a → Step c t a t
+pub says-step : (c : Call) (t : List ℕ) (a : Answer) → takes c ≡ false → GoodUnit t → (step (meant t) c) .state ≡ meant t → SaysReply c t a → Step c t a t
 says-step c t a h g e d = does-step c t a t h g refl (looks-does c t a (good-known t (g .core)) e d)

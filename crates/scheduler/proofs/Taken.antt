@@ -27,7 +27,7 @@ use Rattle.editions.specs.Part.{lastIn, waitingIn, Fits}
 use Rattle.table.specs.Layout.{tableSize}
 use Rattle.table.specs.Means.{meant}
 use Rattle.paged.specs.Paged.{partOf, deviceOf, EncodesDevice, GoodUnit}
-use Rattle.paged.specs.Settles.{Ready, Rests, Leads}
+use Rattle.paged.specs.Settles.{PageReady, Rests, LeadsDevice}
 use Rattle.paged.proofs.Units.{device-good, device-encoded, good-rests, encodes-filed}
 use Rattle.engine.specs.Does.{Unchanged, Does}
 use Rattle.scheduler.specs.Step.{Step}
@@ -81,7 +81,7 @@ take-rests t a u g len d =
       room = omega (arith, g .room, len);
       filed = encodes-filed u s (d .encodes) (subst Setup (sym (same-setup (meant t) take)) (g .core .good .setup)) (step-sound (meant t) take (g .core .good .waiting));
       fits = subst Fits (sym (d .rest)) (g .part .fits);
-      page = subst (λ (p : List ℕ). Ready (waitingIn p)) (sym (d .rest)) (old .page);
+      page = subst (λ (p : List ℕ). PageReady (waitingIn p)) (sym (d .rest)) (old .page);
     }
 
 -- of states alike, one page comes into force or waits on
@@ -99,7 +99,7 @@ settled-on v s s′ a n (some p) e =
 
 -- and one that hands a record out brings the page into force where nothing is held any more
 pub took-one : (t : List ℕ) (a : Answer) (u v : List ℕ) (r : Record) → GoodUnit t → length u ≡ length t → length v ≡ length u → Does take t a u → a ≡ Taken r
-    → Leads u v (settledDevice (meant u) (lastIn (partOf u)) (waitingIn (partOf u))) → Step take t a v
+    → LeadsDevice u v (settledDevice (meant u) (lastIn (partOf u)) (waitingIn (partOf u))) → Step take t a v
 unfolding deviceOf deviceStepBy
 took-one t a u v r g len len′ d e leads =
     let s = (step (meant t) take) .state in

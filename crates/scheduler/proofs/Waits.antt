@@ -16,7 +16,7 @@ use Rattle.pages.proofs.OneRecord.{out-more-of}
 use Rattle.pages.proofs.Waits.{in-turn-pages, waits-pages, waits-by-pages, out-by-pages}
 use Rattle.pages.proofs.MoreWaits.{waits-shared-pages, out-by-shared-pages, waits-from-pages, waits-from-by-pages, out-by-takes-pages}
 use Rattle.scheduler.specs.Chain.{callsOf, Led}
-use Rattle.scheduler.specs.Waits.{asAsked, byCostliest, InTurnCalls, NthCalls, WaitsCalls, WaitsByCalls, OutByCalls, OutByTakesCalls, WaitsSharedCalls, OutBySharedCalls, WaitsFromCalls, WaitsFromByCalls, Bounded, Waiting}
+use Rattle.scheduler.specs.Waits.{asAsked, byCostliest, InTurnCalls, NthCalls, WaitsCalls, WaitsByCalls, OutByCalls, OutByTakesCalls, WaitsSharedCalls, OutBySharedCalls, WaitsFromCalls, WaitsFromByCalls, Bounded, WaitingCalls}
 
 module _ (gs : List Setting) (es : List DeviceEvent) (u : List ℕ) (l : Led gs es u) where
   in-turn : InTurnCalls es
@@ -75,7 +75,7 @@ module _ (gs : List Setting) (es : List DeviceEvent) (u : List ℕ) (l : Led gs 
   unfolding OutByTakesCalls OutByTakesPages
   by-takes past since rest k r n e alone much = out-by-takes-pages gs (l .setup) (callsOf es) (l .read) past since rest k r n (l .answers ∙ e) alone much
 
-  pub waiting-calls : Waiting gs es
+  pub waiting-calls : WaitingCalls gs es
   unfolding Demand3Pages FairTightPages
   waiting-calls = record {
     in-turn = in-turn;

@@ -2,8 +2,8 @@
 --
 --   ComparedBy           for any stretch and any two lanes that both hold a record before it and after each call in it, with a figure M of the setup
 --   ComparedCalls        R15.10: M as R15.8 has it
---   ComparedTight        R15.10: M by the setup's own greatest charge
---   FairTight            R15.9: R15.8 by the setup's own greatest charge
+--   ComparedTightCalls   R15.10: M by the setup's own greatest charge
+--   FairTightCalls       R15.9: R15.8 by the setup's own greatest charge
 --
 -- Assumes nothing.
 use Prim.Native.Nat.{ℕ, _+_, _*_, _<_}
@@ -33,11 +33,11 @@ ComparedCalls = ComparedBy (λ (gs : List Setting). margin (framingOf gs))
 abbrev pub tightest : List Setting → ℕ
 tightest gs = lineRate * longestCharge gs
 
-abbrev pub ComparedTight : List Setting → List DeviceEvent → Type 0
-ComparedTight = ComparedBy tightest
+abbrev pub ComparedTightCalls : List Setting → List DeviceEvent → Type 0
+ComparedTightCalls = ComparedBy tightest
 
-unfoldable pub FairTight : List Setting → List DeviceEvent → Type 0
-FairTight gs es =
+unfoldable pub FairTightCalls : List Setting → List DeviceEvent → Type 0
+FairTightCalls gs es =
     (past stretch rest : List DeviceEvent) → es ≡ past ++ stretch ++ rest
     → (k : ℕ) → HeldThroughout k past stretch
     → lineRate * bytesSent (inForce gs past) (ofRules stretch)

@@ -44,9 +44,9 @@ use Rattle.paged.specs.Paged.{partOf, EncodesDevice, GoodUnit}
 use Rattle.scheduler.specs.Step.{Step}
 use Rattle.scheduler.specs.Chain.{Chain, Begins, Led}
 use Rattle.scheduler.specs.Ahead.{AheadTold}
-use Rattle.scheduler.specs.Compared.{ComparedCalls, ComparedTight, FairTight}
+use Rattle.scheduler.specs.Compared.{ComparedCalls, ComparedTightCalls, FairTightCalls}
 use Rattle.scheduler.specs.Even.{EvenCalls, EvenTightCalls, OthersTightCalls}
-use Rattle.scheduler.specs.Waits.{Waiting}
+use Rattle.scheduler.specs.Waits.{WaitingCalls}
 use Rattle.scheduler.specs.Drained.{Drained}
 use Rattle.scheduler.specs.Endless.{EndlessCalls, ClockEarly}
 pub use Rattle.scheduler.specs.Chain.{callsOf}
@@ -113,14 +113,14 @@ pub record Demands (gs : List Setting) (es : List DeviceEvent) (u : List ℕ) : 
   -- R15.2: every answer, and the table after the list, is what the rules give; so the list may go on
   pub led : Led gs es u
   pub fair : FairCalls gs es
-  pub fair-tight : FairTight gs es
+  pub fair-tight : FairTightCalls gs es
   pub compared : ComparedCalls gs es
-  pub compared-tight : ComparedTight gs es
+  pub compared-tight : ComparedTightCalls gs es
   pub even : EvenCalls gs es
   pub even-tight : EvenTightCalls gs es
   pub others-tight : OthersTightCalls gs es
   -- how long one record waits
-  pub waiting : Waiting gs es
+  pub waiting : WaitingCalls gs es
   pub same-setup : SameSetup gs es
   pub endless : EndlessCalls gs es u
   pub clock-early : ClockEarly u

@@ -10,7 +10,7 @@ use Prim.Native.Nat.{ℕ, _+_, _*_, _≤_}
 use mathlib.Core.Path.{_≡_}
 use mathlib.Core.List.{List, _++_}
 use Rattle.rules.specs.State.{Setting, settingAt}
-use Rattle.rules.specs.Even.{HoldingTrain, bytesOf}
+use Rattle.rules.specs.Even.{HoldingTrain, trainBytes}
 use Rattle.pages.specs.Offers.{DeviceEvent, ofRules, inForce}
 
 -- a train holds a record before the stretch and after each call in it
@@ -23,17 +23,17 @@ unfoldable pub EvenCalls : List Setting → List DeviceEvent → Type 0
 EvenCalls gs es =
     (past stretch rest : List DeviceEvent) → es ≡ past ++ stretch ++ rest
     → (k a b : ℕ) → TrainThroughout k a past stretch → TrainThroughout k b past stretch
-    → bytesOf k a (ofRules stretch) ≤ bytesOf k b (ofRules stretch) + 3 * (settingAt (inForce gs past) k) .longest
+    → trainBytes k a (ofRules stretch) ≤ trainBytes k b (ofRules stretch) + 3 * (settingAt (inForce gs past) k) .longest
 
 unfoldable pub EvenTightCalls : List Setting → List DeviceEvent → Type 0
 EvenTightCalls gs es =
     (past stretch rest : List DeviceEvent) → es ≡ past ++ stretch ++ rest
     → (k a b : ℕ) → (a ≡ b → ⊥) → TrainThroughout k a past stretch → TrainThroughout k b past stretch
-    → bytesOf k a (ofRules stretch) + 2 ≤ bytesOf k b (ofRules stretch) + 3 * (settingAt (inForce gs past) k) .longest
+    → trainBytes k a (ofRules stretch) + 2 ≤ trainBytes k b (ofRules stretch) + 3 * (settingAt (inForce gs past) k) .longest
 
 -- train a holds a record throughout, and b may come and go
 unfoldable pub OthersTightCalls : List Setting → List DeviceEvent → Type 0
 OthersTightCalls gs es =
     (past stretch rest : List DeviceEvent) → es ≡ past ++ stretch ++ rest
     → (k a b : ℕ) → (a ≡ b → ⊥) → TrainThroughout k a past stretch
-    → bytesOf k b (ofRules stretch) + 2 ≤ bytesOf k a (ofRules stretch) + 3 * (settingAt (inForce gs past) k) .longest
+    → trainBytes k b (ofRules stretch) + 2 ≤ trainBytes k a (ofRules stretch) + 3 * (settingAt (inForce gs past) k) .longest

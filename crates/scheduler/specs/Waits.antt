@@ -2,15 +2,15 @@
 -- and any point after it; T is the bytes charged of all lanes since. Counted from the list's own calls and answers, by the setup in force where the record was
 -- put; the words are those of rules/specs/Waits.antt.
 --
---   InTurnCalls           n is how many of its train were queued before it; they are handed out, then the record, then those put later
---   NthCalls              so its train's (n + 1)th record that is handed out from there on is the record; in a lane that is not shared, the lane's
---   WaitsCalls M          while it is not out: 1,024 T < c O + 4 slots + M, O being the bytes of its own lane
---   WaitsByCalls M        .. in a lane that is not shared: 1,024 T < n c (longest + h) + 4 slots + M
---   OutByCalls M          so once that many bytes are out, rounded up, the record is out, right after those that were ahead of it
---   OutByTakesCalls       as many takes as that are enough, whatever is called between
+--   InTurnCalls                              n is how many of its train were queued before it; they are handed out, then the record, then those put later
+--   NthCalls                                 so its train's (n + 1)th record that is handed out from there on is the record; in a lane that is not shared, the lane's
+--   WaitsCalls M                             while it is not out: 1,024 T < c O + 4 slots + M, O being the bytes of its own lane
+--   WaitsByCalls M                           .. in a lane that is not shared: 1,024 T < n c (longest + h) + 4 slots + M
+--   OutByCalls M                             so once that many bytes are out, rounded up, the record is out, right after those that were ahead of it
+--   OutByTakesCalls                          as many takes as that are enough, whatever is called between
 --   WaitsSharedCalls M, OutBySharedCalls M   a bound by n in any lane, shared ones too: n is of its own train
 --   WaitsFromCalls M, WaitsFromByCalls M     where lag was asked right after the put, two of the four slots give way to its answer
---   Waiting               all of them: with M as demand 3 has it, 1,024 (1,500 + h), and by the costliest record of the setup in force
+--   WaitingCalls                             all of them: with M as demand 3 has it, 1,024 (1,500 + h), and by the costliest record of the setup in force
 --
 -- Assumes nothing.
 use Prim.Native.Nat.{ℕ, _+_, _*_, _≤_, _<_}
@@ -115,7 +115,7 @@ pub record Bounded (M : List Setting → ℕ) (gs : List Setting) (es : List Dev
   pub waits-from : WaitsFromCalls M gs es
   pub waits-from-by : WaitsFromByCalls M gs es
 
-pub record Waiting (gs : List Setting) (es : List DeviceEvent) : Type 0 where
+pub record WaitingCalls (gs : List Setting) (es : List DeviceEvent) : Type 0 where
   pub in-turn : InTurnCalls es
   pub nth : NthCalls es
   pub asked : Bounded asAsked gs es

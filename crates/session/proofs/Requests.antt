@@ -23,7 +23,7 @@ use Rattle.requests.specs.Request.{RequestItem, request, last, badRequest, requ
 use Rattle.answers.specs.Lines.{lineBy}
 use Rattle.walk.specs.Script.{Walked, closing, sessionWalk, sessionBegun, script, nothingDone, runOf}
 use Rattle.walk.proofs.Walking.{walked}
-use Rattle.session.specs.Requests.{requestsOf, linesOf, Lists, RunLists}
+use Rattle.session.specs.Requests.{requestsOf, linesOf, ListsRequests, RunLists}
 
 -- one turn of `requestsOf`, as a function of what stands at the place
 abbrev asked : ℕ → List ℕ → RequestItem → List Call
@@ -65,7 +65,7 @@ walk-lists (suc left) s at n lines σ = go (requestItemAt s at) (λ q m ls τ. w
         }
 
 module _ (s : List ℕ) (limit : ℕ) (σ : State) where
-  begun-lists : (r : SetupReply) → readPlan s 0 ≡ r → sessionBegun s limit r .state ≡ some σ → Lists s limit (sessionBegun s limit r)
+  begun-lists : (r : SetupReply) → readPlan s 0 ≡ r → sessionBegun s limit r .state ≡ some σ → ListsRequests s limit (sessionBegun s limit r)
   unfolding Demand3 TwoLanes
   begun-lists (setupRefused n p) e h = let z : _≡_ {A = ℕ} 0 1 = cc in absurd (omega arith)
   begun-lists (setupRead v gs lanes at) e h =
@@ -93,7 +93,7 @@ unfolding RunLists runOf script
 run-lists s limit table area σ = go (ltb 1000 limit || ltb area (64 * (limit + 2))) (ltb table tableSize)
   where
     go : (a b : Bool) → (if a then nothingDone 17 none else (if b then nothingDone 7 (some 0) else sessionBegun s limit (readPlan s 0))) .state ≡ some σ
-        → Lists s limit (if a then nothingDone 17 none else (if b then nothingDone 7 (some 0) else sessionBegun s limit (readPlan s 0)))
+        → ListsRequests s limit (if a then nothingDone 17 none else (if b then nothingDone 7 (some 0) else sessionBegun s limit (readPlan s 0)))
     go true b h = let z : _≡_ {A = ℕ} 0 1 = cc in absurd (omega arith)
     go false true h = let z : _≡_ {A = ℕ} 0 1 = cc in absurd (omega arith)
     go false false h = begun-lists s limit σ (readPlan s 0) refl h

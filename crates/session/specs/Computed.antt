@@ -15,7 +15,7 @@ use mathlib.Core.Option.{some}
 use Rattle.plan.specs.Examples.{sessionSetup}
 use Rattle.lines.specs.Line.{noLine}
 use Rattle.walk.specs.Script.{Why, atEnd, atLimit, refusal, Script, script}
-use Rattle.session.specs.Examples.{session, output, lanesTwo, putOk, setsLine, takeFirst, takeThird, takeSecond, noSixteen, endEight, endNone}
+use Rattle.session.specs.Examples.{session, output, lanesTwo, putOkLine, setsLine, takeFirst, takeThird, takeSecond, noSixteen, endEight, endNone}
 
 pub record RunShows (x : Script) (text : List ℕ) (count : ℕ) (why : Why) : Type 0 where
   pub text-is : x .text ≡ text
@@ -34,7 +34,7 @@ LimitReached = RunShows (script session 8) output 8 atLimit
 unfoldable pub ByteAfter : Type 0
 ByteAfter =
     RunShows (script (session ++ (0 ∷ [])) 1000)
-    (lanesTwo ++ putOk 0 ++ putOk 0 ++ putOk 1 ++ setsLine ++ takeFirst ++ takeThird ++ takeSecond ++ noSixteen ++ noLine 4 (some 72) ++ endEight) 8 (refusal 4 (some 72))
+    (lanesTwo ++ putOkLine 0 ++ putOkLine 0 ++ putOkLine 1 ++ setsLine ++ takeFirst ++ takeThird ++ takeSecond ++ noSixteen ++ noLine 4 (some 72) ++ endEight) 8 (refusal 4 (some 72))
 
 unfoldable pub EndsEarly : Type 0
 EndsEarly = RunShows (script sessionSetup 1000) (lanesTwo ++ noLine 1 (some 24) ++ endNone) 0 (refusal 1 (some 24))

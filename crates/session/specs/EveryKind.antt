@@ -11,7 +11,7 @@ use mathlib.Core.List.{List, [], _∷_, _++_}
 use mathlib.Core.Option.{some}
 use Rattle.plan.specs.Examples.{sessionSetup}
 use Rattle.walk.specs.Script.{refusal, script}
-use Rattle.session.specs.Examples.{putFirst, putSecond, putThird, setsField, takeField, lanesTwo, putOk, setsLine, takeFirst, takeThird, takeSecond}
+use Rattle.session.specs.Examples.{putFirst, putSecond, putThird, setsField, takeField, lanesTwo, putOkLine, setsLine, takeFirst, takeThird, takeSecond}
 use Rattle.session.specs.Computed.{RunShows}
 
 -- ---- the fields
@@ -88,7 +88,7 @@ endFifteen = 101 ∷ 110 ∷ 100 ∷ 32 ∷ 49 ∷ 53 ∷ 10 ∷ []
 
 abbrev pub everyOutput : List ℕ
 everyOutput =
-    lanesTwo ++ putOk 0 ++ putOk 0 ++ putOk 1 ++ setsLine ++ lookFirst ++ takeFirst ++ lagAbove ++ takeThird ++ takeSecond ++ putOk 0 ++ lagBelow
+    lanesTwo ++ putOkLine 0 ++ putOkLine 0 ++ putOkLine 1 ++ setsLine ++ lookFirst ++ takeFirst ++ lagAbove ++ takeThird ++ takeSecond ++ putOkLine 0 ++ lagBelow
     ++ noFifteen ++ takeFourth ++ restartLine ++ lagNought ++ noTwo ++ endFifteen
 
 -- 15 requests are answered; the sixteenth field, at byte 100, is refused by 2

@@ -40,8 +40,8 @@ abbrev pub lanesTwo : List ℕ
 lanesTwo = 108 ∷ 97 ∷ 110 ∷ 101 ∷ 115 ∷ 32 ∷ 50 ∷ 10 ∷ []
 
 -- "put ok N", N of one digit
-abbrev pub putOk : ℕ → List ℕ
-putOk n = 112 ∷ 117 ∷ 116 ∷ 32 ∷ 111 ∷ 107 ∷ 32 ∷ (48 + n) ∷ 10 ∷ []
+abbrev pub putOkLine : ℕ → List ℕ
+putOkLine n = 112 ∷ 117 ∷ 116 ∷ 32 ∷ 111 ∷ 107 ∷ 32 ∷ (48 + n) ∷ 10 ∷ []
 
 -- "sets 12582912 0 0 0"
 abbrev pub setsLine : List ℕ
@@ -72,4 +72,4 @@ abbrev pub endNone : List ℕ
 endNone = 101 ∷ 110 ∷ 100 ∷ 32 ∷ 48 ∷ 10 ∷ []
 
 abbrev pub output : List ℕ
-output = lanesTwo ++ putOk 0 ++ putOk 0 ++ putOk 1 ++ setsLine ++ takeFirst ++ takeThird ++ takeSecond ++ noSixteen ++ endEight
+output = lanesTwo ++ putOkLine 0 ++ putOkLine 0 ++ putOkLine 1 ++ setsLine ++ takeFirst ++ takeThird ++ takeSecond ++ noSixteen ++ endEight

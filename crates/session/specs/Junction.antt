@@ -11,7 +11,7 @@ use mathlib.Core.List.{List, [], _∷_, _++_}
 use Rattle.plan.specs.Examples.{formatField, endField}
 use Rattle.lines.specs.Line.{takeWord, lookWord, noWord}
 use Rattle.walk.specs.Script.{atEnd, script}
-use Rattle.session.specs.Examples.{takeField, lanesTwo, putOk, noSixteen}
+use Rattle.session.specs.Examples.{takeField, lanesTwo, putOkLine, noSixteen}
 use Rattle.session.specs.Computed.{RunShows}
 use Rattle.session.specs.EveryKind.{lookField}
 
@@ -22,20 +22,20 @@ abbrev pub junctionSetup : List ℕ
 junctionSetup = formatField ++ (16 ∷ 0 ∷ 5 ∷ 0 ∷ 2 ∷ 0 ∷ 0 ∷ 100 ∷ 18 ∷ 0 ∷ 1 ∷ 0 ∷ 16 ∷ 0 ∷ 5 ∷ 1 ∷ 1 ∷ 0 ∷ 0 ∷ 100 ∷ []) ++ endField
 
 -- put of lane j, mark m and length n, each below 256: 20 0007 .., of train 0
-abbrev pub put : ℕ → ℕ → ℕ → List ℕ
-put j m n = 32 ∷ 0 ∷ 7 ∷ j ∷ 0 ∷ 0 ∷ 0 ∷ m ∷ 0 ∷ n ∷ []
+abbrev pub putField : ℕ → ℕ → ℕ → List ℕ
+putField j m n = 32 ∷ 0 ∷ 7 ∷ j ∷ 0 ∷ 0 ∷ 0 ∷ m ∷ 0 ∷ n ∷ []
 
 -- put of lane j and train t: 26 0008 ..
-abbrev pub putTrain : ℕ → ℕ → ℕ → ℕ → List ℕ
-putTrain j t m n = 38 ∷ 0 ∷ 8 ∷ j ∷ t ∷ 0 ∷ 0 ∷ 0 ∷ m ∷ 0 ∷ n ∷ []
+abbrev pub putTrainField : ℕ → ℕ → ℕ → ℕ → List ℕ
+putTrainField j t m n = 38 ∷ 0 ∷ 8 ∷ j ∷ t ∷ 0 ∷ 0 ∷ 0 ∷ m ∷ 0 ∷ n ∷ []
 
 -- three trains wait in lane 0, and a record of lane 1
 abbrev pub junctionPuts : List ℕ
-junctionPuts = putTrain 0 5 1 100 ++ putTrain 0 5 2 100 ++ put 0 3 60 ++ put 0 4 60 ++ putTrain 0 2 5 80 ++ put 1 6 100
+junctionPuts = putTrainField 0 5 1 100 ++ putTrainField 0 5 2 100 ++ putField 0 3 60 ++ putField 0 4 60 ++ putTrainField 0 2 5 80 ++ putField 1 6 100
 
 -- a train that the lane does not know, which goes before the length 0; one that it knows, with that length
 abbrev pub junctionRefused : List ℕ
-junctionRefused = putTrain 1 1 7 0 ++ putTrain 0 8 7 0 ++ putTrain 0 7 7 0
+junctionRefused = putTrainField 1 1 7 0 ++ putTrainField 0 8 7 0 ++ putTrainField 0 7 7 0
 
 abbrev pub junctionTakes : List ℕ
 junctionTakes = lookField ++ takeField ++ takeField ++ takeField ++ takeField ++ takeField ++ lookField ++ takeField ++ takeField
@@ -43,8 +43,8 @@ junctionTakes = lookField ++ takeField ++ takeField ++ takeField ++ takeField ++
 -- train 3's queue is full at 8; train 0 has room
 abbrev pub junctionFull : List ℕ
 junctionFull =
-    putTrain 0 3 8 10 ++ putTrain 0 3 8 10 ++ putTrain 0 3 8 10 ++ putTrain 0 3 8 10 ++ putTrain 0 3 8 10 ++ putTrain 0 3 8 10 ++ putTrain 0 3 8 10
-    ++ putTrain 0 3 8 10 ++ putTrain 0 3 8 10 ++ put 0 9 10
+    putTrainField 0 3 8 10 ++ putTrainField 0 3 8 10 ++ putTrainField 0 3 8 10 ++ putTrainField 0 3 8 10 ++ putTrainField 0 3 8 10 ++ putTrainField 0 3 8 10 ++ putTrainField 0 3 8 10
+    ++ putTrainField 0 3 8 10 ++ putTrainField 0 3 8 10 ++ putField 0 9 10
 
 abbrev pub junctionSession : List ℕ
 junctionSession = junctionSetup ++ junctionPuts ++ junctionRefused ++ junctionTakes ++ junctionFull ++ endField
@@ -90,8 +90,8 @@ junctionSent =
 
 abbrev pub junctionOutput : List ℕ
 junctionOutput =
-    lanesTwo ++ putOk 0 ++ putOk 1 ++ putOk 0 ++ putOk 1 ++ putOk 0 ++ putOk 0 ++ noSeventy ++ noSeventy ++ noTwelve ++ junctionSent
-    ++ putOk 0 ++ putOk 1 ++ putOk 2 ++ putOk 3 ++ putOk 4 ++ putOk 5 ++ putOk 6 ++ putOk 7 ++ noSeventyOne ++ putOk 0 ++ endTwentyEight
+    lanesTwo ++ putOkLine 0 ++ putOkLine 1 ++ putOkLine 0 ++ putOkLine 1 ++ putOkLine 0 ++ putOkLine 0 ++ noSeventy ++ noSeventy ++ noTwelve ++ junctionSent
+    ++ putOkLine 0 ++ putOkLine 1 ++ putOkLine 2 ++ putOkLine 3 ++ putOkLine 4 ++ putOkLine 5 ++ putOkLine 6 ++ putOkLine 7 ++ noSeventyOne ++ putOkLine 0 ++ endTwentyEight
 
 unfoldable pub Junction : Type 0
 Junction = RunShows (script junctionSession 1000) junctionOutput 28 atEnd

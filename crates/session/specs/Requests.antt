@@ -1,10 +1,10 @@
 -- The requests of a run as a list of calls (R10.16). A run that makes a table answers its requests as the rules do, from the fresh table of its setup; so
 -- what holds of every list of the rules' calls holds of a run's answers, R15.8 included.
 --
---   requestsOf   the requests that stand from a place on, up to the limit
---   linesOf      the lines of their answers, by the setup
---   Lists        what a script comes to, said by these
---   RunLists     every run that makes a table comes to this
+--   requestsOf      the requests that stand from a place on, up to the limit
+--   linesOf         the lines of their answers, by the setup
+--   ListsRequests   what a script comes to, said by these
+--   RunLists        every run that makes a table comes to this
 --
 -- Assumes nothing.
 use Prim.Native.Nat.{ℕ, zero, suc, _≤_}
@@ -36,7 +36,7 @@ unfoldable pub linesOf : List Setting → List Event → List ℕ
 linesOf gs [] = []
 linesOf gs (e ∷ es) = lineBy gs (e .reply) ++ linesOf gs es
 
-pub record Lists (s : List ℕ) (limit : ℕ) (x : Script) : Type 0 where
+pub record ListsRequests (s : List ℕ) (limit : ℕ) (x : Script) : Type 0 where
   pub settings : List Setting
   pub format : ℕ
   pub lanes : ℕ
@@ -56,4 +56,4 @@ pub record Lists (s : List ℕ) (limit : ℕ) (x : Script) : Type 0 where
   pub compared : Compared (margin (framingOf settings)) settings
 
 unfoldable pub RunLists : Type 0
-RunLists = (s : List ℕ) (limit table area : ℕ) (σ : State) → runOf s limit table area .state ≡ some σ → Lists s limit (runOf s limit table area)
+RunLists = (s : List ℕ) (limit table area : ℕ) (σ : State) → runOf s limit table area .state ≡ some σ → ListsRequests s limit (runOf s limit table area)

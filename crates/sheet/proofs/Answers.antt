@@ -6,33 +6,33 @@ use mathlib.Core.Path.{_≡_, refl}
 use mathlib.Core.Bool.{Bool, true, false, _&&_}
 use lib.Dec.{leb, ltb, eqb}
 use borrow.Author.Tests.{leb-true, ltb-true, eq-eqb, ne-eqb}
-use Rattle.sheet.specs.Form.{digit, extends, stop, grown, numberClosed, lineStep}
+use Rattle.sheet.specs.Form.{isDigit, extends, stop, grown, numberClosed, lineStep}
 use Rattle.sheet.specs.declared.form.Line.{Line}
 use Rattle.sheet.specs.declared.form.Step.the-variants.{More, Wrong}
 use Rattle.sheet.proofs.Steps.{and-true}
 
 module _ (f : Line) (at b : ℕ) where
-  pub step-digit : digit b ≡ true → extends (f .begun) (f .last .value) ≡ true → More (grown f b) ≡ lineStep f at b
+  pub step-digit : isDigit b ≡ true → extends (f .begun) (f .last .value) ≡ true → More (grown f b) ≡ lineStep f at b
   unfolding lineStep
   step-digit d o = rw (d, o)
 
-  pub step-many : digit b ≡ true → extends (f .begun) (f .last .value) ≡ false → Wrong ≡ lineStep f at b
+  pub step-many : isDigit b ≡ true → extends (f .begun) (f .last .value) ≡ false → Wrong ≡ lineStep f at b
   unfolding lineStep
   step-many d o = rw (d, o)
 
-  pub step-stop : digit b ≡ false → f .begun ≡ true → b ≡ stop (f .part) → numberClosed (f .part) f (at + 1) ≡ lineStep f at b
+  pub step-stop : isDigit b ≡ false → f .begun ≡ true → b ≡ stop (f .part) → numberClosed (f .part) f (at + 1) ≡ lineStep f at b
   unfolding lineStep
   step-stop d h e = let t : (f .begun && eqb b (stop (f .part))) ≡ true = rw h (eq-eqb b (stop (f .part)) e) in rw (d, t)
 
-  pub step-other : digit b ≡ false → (b ≡ stop (f .part) → ⊥) → f .begun ≡ true → Wrong ≡ lineStep f at b
+  pub step-other : isDigit b ≡ false → (b ≡ stop (f .part) → ⊥) → f .begun ≡ true → Wrong ≡ lineStep f at b
   unfolding lineStep
   step-other d e h = let t : (f .begun && eqb b (stop (f .part))) ≡ false = rw h (ne-eqb b (stop (f .part)) e) in rw (d, t)
 
-  pub step-none : digit b ≡ false → f .begun ≡ false → Wrong ≡ lineStep f at b
+  pub step-none : isDigit b ≡ false → f .begun ≡ false → Wrong ≡ lineStep f at b
   unfolding lineStep
   step-none d h = let t : (f .begun && eqb b (stop (f .part))) ≡ false = rw h in rw (d, t)
 
-pub digit-is : (b : ℕ) → digit b ≡ true → (48 ≤ b) × (b ≤ 57)
+pub digit-is : (b : ℕ) → isDigit b ≡ true → (48 ≤ b) × (b ≤ 57)
 digit-is b d = let t = and-true (leb 48 b) (leb b 57) d in (leb-true 48 b (t .0), leb-true b 57 (t .1))
 
 pub extends-low : (begun : Bool) (v : ℕ) → extends begun v ≡ true → (begun ≡ false → v ≡ 0) → v ≤ 9999

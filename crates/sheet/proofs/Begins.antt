@@ -12,7 +12,7 @@ use mathlib.Core.List.{List, [], _∷_, _++_}
 use Rattle.rules.specs.Reads.{number}
 use Rattle.plan.specs.declared.parse.SetupField.the-variants.{Lane}
 use Rattle.text.specs.Decimal.{decimal}
-use Rattle.sheet.specs.Text.{Entry, entryBytes, Short, linesBytes, AllShort, Begins}
+use Rattle.sheet.specs.Text.{Entry, entryBytes, ShortNumbers, linesBytes, AllShort, BeginsSheet}
 use Rattle.sheet.specs.declared.form.Part as part
 use Rattle.sheet.specs.declared.form.Part.the-variants as parts
 use Rattle.sheet.specs.declared.form.Line.{Line}
@@ -23,7 +23,7 @@ use Rattle.sheet.proofs.Steps.{soFar, lastBytes, soFar-append, bytesOf,
 pub record Ends (t : List ℕ) : Type 0 where
   pub rest : List ℕ
   pub entry : Entry
-  pub short : Short entry
+  pub short : ShortNumbers entry
   pub bytes : t ++ rest ≡ entryBytes entry
 
 -- the last number, with a digit 0 if it has none
@@ -68,14 +68,14 @@ ends-line parts.Longest a w b v ha hw hv = record {
 ends : (f : Line) (at : ℕ) → Sane f at → Ends (bytesOf f)
 ends f at s = ends-line (f .part) (f .lane .value) (f .weight .value) (f .begun) (f .last .value) (s .lane) (s .weight) (s .last)
 
-pub begins-line : (f : Line) (at : ℕ) → Sane f at → Begins (bytesOf f)
+pub begins-line : (f : Line) (at : ℕ) → Sane f at → BeginsSheet (bytesOf f)
 unfolding linesBytes AllShort
 begins-line f at s =
     let e = ends f at s in
     record { rest = e .rest; sheet = record { head = e .entry; rest = []; short = (e .short, tt); bytes = append-nil (entryBytes (e .entry)) ∙ sym (e .bytes) } }
 
 -- a line before them
-pub begins-behind : (r : Row) (m : ℕ) (t : List ℕ) → SaneRow r m → Begins t → Begins (rowBytes r ++ t)
+pub begins-behind : (r : Row) (m : ℕ) (t : List ℕ) → SaneRow r m → BeginsSheet t → BeginsSheet (rowBytes r ++ t)
 unfolding linesBytes AllShort
 begins-behind r m t s h =
     let e : Entry = record { first = r .lane .value; second = r .weight .value; third = r .longest .value } in

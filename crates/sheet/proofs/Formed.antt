@@ -21,7 +21,7 @@ use Rattle.plan.specs.declared.parse.SetupField.the-variants.{Lane}
 use Rattle.sheet.specs.Form.{newLine}
 use Rattle.sheet.specs.Judge.{verdict, rowField}
 use Rattle.sheet.specs.Read.{sheetFormat, noneSeen, sheetWalk, readSheet}
-use Rattle.sheet.specs.Text.{Entry, Short, linesBytes, AllShort, Formed}
+use Rattle.sheet.specs.Text.{Entry, ShortNumbers, linesBytes, AllShort, Formed}
 use Rattle.sheet.specs.Promises.{place₃, rowAt}
 use Rattle.sheet.specs.declared.form.Row.{Row}
 use Rattle.sheet.specs.declared.judge.Verdict.{Verdict}
@@ -36,7 +36,7 @@ pub line-not : (n m : ℕ) → lineNumber n ≡ true → n ≡ m → lineNumber 
 line-not n m h e = subst (λ (k : ℕ). lineNumber k ≡ true) e h
 
 module _ (n : ℕ) (q : Option ℕ) (other : lineNumber n ≡ false) where
-  module _ (e : Entry) (es : List Entry) (seen : Seen) (gs : List Setting) (at : ℕ) (s : Short e) where
+  module _ (e : Entry) (es : List Entry) (seen : Seen) (gs : List Setting) (at : ℕ) (s : ShortNumbers e) where
     abbrev row : Row
     row = rowAt (e .first) (e .second) (e .third) at
 

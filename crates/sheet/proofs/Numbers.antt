@@ -16,7 +16,7 @@ use borrow.Author.Tests.{le-leb, lt-ltb}
 use Rattle.rules.specs.State.{Setting}
 use Rattle.plan.specs.declared.judge.Seen.{Seen}
 use Rattle.text.specs.Decimal.{decimal}
-use Rattle.sheet.specs.Form.{digit, extends, stop, noDigits, newLine, numberClosed, lineStep}
+use Rattle.sheet.specs.Form.{isDigit, extends, stop, noDigits, newLine, numberClosed, lineStep}
 use Rattle.sheet.specs.Judge.{verdict}
 use Rattle.sheet.specs.Read.{sheetWalk}
 use Rattle.sheet.specs.Text.{lineBytes}
@@ -35,10 +35,10 @@ pub walk-byte : (seen : Seen) (gs : List Setting) (f : Line) (at b : ℕ) (bs : 
 unfolding sheetWalk
 walk-byte seen gs f at b bs s e = ap (λ (t : Step). after-byte seen gs at t (λ seen₁ gs₁ f₁. sheetWalk seen₁ gs₁ f₁ (at + 1) bs)) (sym e)
 
-pub digit-of : (d : ℕ) → d < 10 → digit (48 + d) ≡ true
+pub digit-of : (d : ℕ) → d < 10 → isDigit (48 + d) ≡ true
 digit-of d h = rw (le-leb 48 (48 + d) (omega arith), le-leb (48 + d) 57 (omega arith))
 
-stop-digit : (p : Part) → digit (stop p) ≡ false
+stop-digit : (p : Part) → isDigit (stop p) ≡ false
 stop-digit Lane = refl
 stop-digit Weight = refl
 stop-digit Longest = refl

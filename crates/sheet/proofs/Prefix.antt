@@ -22,7 +22,7 @@ use Rattle.plan.specs.declared.parse.SetupField.the-variants.{Lane}
 use Rattle.sheet.specs.Form.{newLine, lineStep}
 use Rattle.sheet.specs.Judge.{verdict, rowField}
 use Rattle.sheet.specs.Read.{sheetFormat, noneSeen, blank, sheetWalk, readSheet}
-use Rattle.sheet.specs.Text.{Begins}
+use Rattle.sheet.specs.Text.{BeginsSheet}
 use Rattle.sheet.specs.Promises.{WrongByte, Unfinished}
 use Rattle.sheet.specs.declared.form.Line.{Line}
 use Rattle.sheet.specs.declared.form.Row.{Row}
@@ -47,7 +47,7 @@ pub record Wronged (seen : Seen) (gs : List Setting) (f : Line) (at p : ℕ) (bs
   pub back : List ℕ
   pub is : front ++ byte ∷ back ≡ bs
   pub place : p ≡ at + length front
-  pub begins : Begins (bytesOf f ++ front)
+  pub begins : BeginsSheet (bytesOf f ++ front)
   pub always : (t : List ℕ) → sheetWalk seen gs f at (front ++ byte ∷ t) ≡ setupRefused 80 (some p)
 
 module _ (p : ℕ) where
@@ -58,7 +58,7 @@ module _ (p : ℕ) where
 
     module _ (s : Step) (e : lineStep f at b ≡ s) (seen₁ : Seen) (gs₁ : List Setting) (f₁ : Line)
         (same : (t : List ℕ) → after-byte seen gs at s (λ seen₂ gs₂ f₂. sheetWalk seen₂ gs₂ f₂ (at + 1) t) ≡ sheetWalk seen₁ gs₁ f₁ (at + 1) t)
-        (x : List ℕ) (begun : Begins x) (w : Wronged seen₁ gs₁ f₁ (at + 1) p bs) (y : bytesOf f ++ b ∷ w .front ≡ x) where
+        (x : List ℕ) (begun : BeginsSheet x) (w : Wronged seen₁ gs₁ f₁ (at + 1) p bs) (y : bytesOf f ++ b ∷ w .front ≡ x) where
       wronged-on : Wronged seen gs f at p (b ∷ bs)
       wronged-on = record {
         front = b ∷ w .front;
@@ -66,7 +66,7 @@ module _ (p : ℕ) where
         back = w .back;
         is = ap (λ (l : List ℕ). b ∷ l) (w .is);
         place = omega (arith, w .place);
-        begins = subst Begins (sym y) begun;
+        begins = subst BeginsSheet (sym y) begun;
         always = λ t. walk-byte seen gs f at b (w .front ++ w .byte ∷ t) s (sym e) ∙ same (w .front ++ w .byte ∷ t) ∙ w .always t;
       }
 
@@ -88,7 +88,7 @@ module _ (p : ℕ) where
           back = bs;
           is = refl;
           place = omega arith;
-          begins = subst Begins (sym (append-nil (bytesOf f))) (begins-line f at sane);
+          begins = subst BeginsSheet (sym (append-nil (bytesOf f))) (begins-line f at sane);
           always = λ t. walk-byte seen gs f at b t Wrong (sym e) ∙ ap (λ (k : ℕ). setupRefused 80 (some k)) q;
         }
     wronged-step (More g) e x h =
@@ -110,7 +110,7 @@ module _ (p : ℕ) where
 
 module _ (p : ℕ) where
   abbrev Cut : Line → ℕ → List ℕ → Type 0
-  Cut f at bs = (p ≡ at + length bs) × Begins (bytesOf f ++ bs)
+  Cut f at bs = (p ≡ at + length bs) × BeginsSheet (bytesOf f ++ bs)
 
   module _ (seen : Seen) (gs : List Setting) (f : Line) (at b : ℕ) (bs : List ℕ)
       (more : (seen₁ : Seen) (gs₁ : List Setting) (f₁ : Line) → Sane f₁ (at + 1) → sheetWalk seen₁ gs₁ f₁ (at + 1) bs ≡ setupRefused 81 (some p) → Cut f₁ (at + 1) bs) where
@@ -121,16 +121,16 @@ module _ (p : ℕ) where
     cut-line r s x (Refused y) j h = true-false (sym (line-not (number y) 81 (j .listed) cc))
     cut-line r s x Taken j h =
         let w = more (seenAfter seen (Lane (rowField r))) (placed sheetFormat 0 gs (Lane (rowField r))) (newLine (at + 1)) (sane-begin (at + 1)) h in
-        (omega (arith, w .0), subst Begins (sym (add-byte f (rowBytes r) b bs x)) (begins-behind r at bs s (w .1)))
+        (omega (arith, w .0), subst BeginsSheet (sym (add-byte f (rowBytes r) b bs x)) (begins-behind r at bs s (w .1)))
 
     cut-step : (s : Step) → Stepped f at b s → after-byte seen gs at s onward ≡ setupRefused 81 (some p) → Cut f at (b ∷ bs)
     cut-step Wrong x h = absurd (let z : _≡_ {A = ℕ} 80 81 = cc in omega arith)
-    cut-step (More g) x h = let w = more seen gs g (x .0) h in (omega (arith, w .0), subst Begins (sym (add-byte f (bytesOf g) b bs (x .1))) (w .1))
+    cut-step (More g) x h = let w = more seen gs g (x .0) h in (omega (arith, w .0), subst BeginsSheet (sym (add-byte f (bytesOf g) b bs (x .1))) (w .1))
     cut-step (Whole r) x h = cut-line r (x .0) (x .1) (verdict seen r) (judged-fault seen r at (x .0)) h
 
   cut-end : (seen : Seen) (gs : List Setting) (f : Line) (at : ℕ) → Sane f at → (c : Bool) → (if c then setupRead sheetFormat gs (seen .count) at else setupRefused 81 (some at)) ≡ setupRefused 81 (some p) → Cut f at []
   cut-end seen gs f at sane true h = read-refused h
-  cut-end seen gs f at sane false h = let q : at ≡ p = cc in (omega arith, subst Begins (sym (append-nil (bytesOf f))) (begins-line f at sane))
+  cut-end seen gs f at sane false h = let q : at ≡ p = cc in (omega arith, subst BeginsSheet (sym (append-nil (bytesOf f))) (begins-line f at sane))
 
   cut : (bs : List ℕ) (seen : Seen) (gs : List Setting) (f : Line) (at : ℕ) → Sane f at → sheetWalk seen gs f at bs ≡ setupRefused 81 (some p) → Cut f at bs
   unfolding sheetWalk

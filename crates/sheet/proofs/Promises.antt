@@ -1,6 +1,6 @@
 -- What specs/Promises.antt promises. Assumes nothing.
 use mathlib.Core.Path.{refl}
-use Rattle.sheet.specs.Promises.{ReadsBack, WritesBack, LineByLine, RefusesInside, FirstWrong, CutShort, FormIsRead}
+use Rattle.sheet.specs.Promises.{SheetFormReadsBack, SheetFormWritesBack, LineByLine, SheetRefusesInside, FirstWrong, CutShort, FormIsRead}
 use Rattle.sheet.proofs.Back.{accepted-sheet}
 use Rattle.sheet.proofs.Faults.{fault}
 use Rattle.sheet.proofs.Forth.{written-read}
@@ -8,20 +8,20 @@ use Rattle.sheet.proofs.Numbers.{line-walk}
 use Rattle.sheet.proofs.Formed.{never-formed}
 use Rattle.sheet.proofs.Prefix.{wrong-byte, cut-short}
 
-pub reads-back : ReadsBack
-unfolding ReadsBack
+pub reads-back : SheetFormReadsBack
+unfolding SheetFormReadsBack
 reads-back gs s none un = written-read gs s none un
 
-pub writes-back : WritesBack
-unfolding WritesBack
+pub writes-back : SheetFormWritesBack
+unfolding SheetFormWritesBack
 writes-back s v gs n p h = accepted-sheet s v gs n p h
 
 pub line-by-line : LineByLine
 unfolding LineByLine
 line-by-line a b c at seen gs bs ha hb hc = line-walk a b c at seen gs bs ha hb hc
 
-pub refuses-inside : RefusesInside
-unfolding RefusesInside
+pub refuses-inside : SheetRefusesInside
+unfolding SheetRefusesInside
 refuses-inside s n q h = fault n q s h
 
 pub first-wrong : FirstWrong

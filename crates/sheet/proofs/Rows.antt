@@ -19,7 +19,7 @@ use Rattle.plan.specs.Judge.{lastLane, within, misplaced, laneOutside, over}
 use Rattle.plan.specs.declared.judge.Fault.the-variants.{NoFault, BadLane, BadWeight, BadLongest, TotalOver}
 use Rattle.plan.specs.declared.judge.Seen.{Seen}
 use Rattle.plan.specs.declared.parse.SetupField.the-variants.{Lane}
-use Rattle.sheet.specs.Judge.{told, verdict, rowField}
+use Rattle.sheet.specs.Judge.{rowVerdict, verdict, rowField}
 use Rattle.sheet.specs.Read.{sheetFormat}
 use Rattle.sheet.specs.declared.form.Row.{Row}
 use Rattle.sheet.specs.declared.judge.Verdict.{Verdict}
@@ -62,8 +62,8 @@ module _ (seen : Seen) (r : Row) where
   -- the answer by its tests
   abbrev pub byTests : Bool → Bool → Bool → Bool → Bool → Verdict
   byTests a b c d e =
-      told r (if not a then BadLane else (if not b then BadWeight else (if not c then BadLongest else NoFault)))
-      (if d then Refused (OutOfOrder (r .lane .place)) else told r (if e then TotalOver else NoFault) Taken)
+      rowVerdict r (if not a then BadLane else (if not b then BadWeight else (if not c then BadLongest else NoFault)))
+      (if d then Refused (OutOfOrder (r .lane .place)) else rowVerdict r (if e then TotalOver else NoFault) Taken)
 
   tests : (a b c d e : Bool) → number ≡ a → weight ≡ b → longest ≡ c → falls ≡ d → heavy ≡ e → byTests a b c d e ≡ Taken → TakenRow seen r
   unfolding laneOutside

@@ -14,7 +14,7 @@ use lib.Dec.{leb, ltb, eqb}
 use borrow.Author.Tests.{leb-true, ltb-true, eqb-true}
 use Rattle.units.specs.Plain.{if_then_else_}
 use Rattle.text.specs.Decimal.{decimal}
-use Rattle.sheet.specs.Form.{digit, extends, stop, noDigits, newLine, grown, numberClosed, lineStep}
+use Rattle.sheet.specs.Form.{isDigit, extends, stop, noDigits, newLine, grown, numberClosed, lineStep}
 use Rattle.sheet.specs.Text.{lineBytes}
 use Rattle.sheet.specs.declared.form.Part.{Part}
 use Rattle.sheet.specs.declared.form.Part.the-variants.{Lane, Weight, Longest}
@@ -92,7 +92,7 @@ module _ (f : Line) (at b : ℕ) (sane : Sane f at) where
   v = f .last .value
 
   -- a digit
-  module _ (d : digit b ≡ true) where
+  module _ (d : isDigit b ≡ true) where
     ten : (48 ≤ b) × (b - 48 < 10)
     ten = let t = and-true (leb 48 b) (leb b 57) d in let lo = leb-true 48 b (t .0) in let hi = leb-true b 57 (t .1) in omega arith
 
@@ -180,9 +180,9 @@ module _ (f : Line) (at b : ℕ) (sane : Sane f at) where
 
   pub stepped : Stepped f at b (lineStep f at b)
   unfolding lineStep
-  stepped = go (digit b) (extends (f .begun) v) (f .begun && eqb b (stop (f .part))) refl refl refl
+  stepped = go (isDigit b) (extends (f .begun) v) (f .begun && eqb b (stop (f .part))) refl refl refl
     where
-      go : (d o e : Bool) → digit b ≡ d → extends (f .begun) v ≡ o → (f .begun && eqb b (stop (f .part))) ≡ e
+      go : (d o e : Bool) → isDigit b ≡ d → extends (f .begun) v ≡ o → (f .begun && eqb b (stop (f .part))) ≡ e
           → Stepped f at b (if d then (if o then More (grown f b) else Wrong) else (if e then numberClosed (f .part) f (at + 1) else Wrong))
       go true true e p q r = stepped-digit p q
       go true false e p q r = tt

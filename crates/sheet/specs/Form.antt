@@ -1,11 +1,11 @@
 -- The form of a sheet (R12.1), as a machine over bytes: lines of three decimal numbers (lane, weight, longest) with one space between them and a line feed
 -- behind each line. A number has one to five digits, and no 0 before another digit.
 --
---   digit     a byte that is a decimal digit
---   extends   a digit may follow
---   stop      the byte that ends a number: a space, or the line feed after the third
---   newLine   a line of which nothing is read
---   lineStep  what the byte at a place does to a line: the line goes on, it is whole, or the form can't have the byte there
+--   isDigit    a byte that is a decimal digit
+--   extends    a digit may follow
+--   stop       the byte that ends a number: a space, or the line feed after the third
+--   newLine    a line of which nothing is read
+--   lineStep   what the byte at a place does to a line: the line goes on, it is whole, or the form can't have the byte there
 --
 -- specs/Text.antt says what the sheets of the form are without the machine, and specs/Promises.antt that the two agree.
 --
@@ -22,8 +22,8 @@ use Rattle.sheet.specs.declared.form.Step.{Step}
 use Rattle.sheet.specs.declared.form.Step.the-variants.{More, Whole, Wrong}
 
 -- '0' is 48, '9' is 57
-abbrev pub digit : ℕ → Bool
-digit b = leb 48 b && leb b 57
+abbrev pub isDigit : ℕ → Bool
+isDigit b = leb 48 b && leb b 57
 
 -- A first digit may follow; and another one where the number so far is not 0 and has fewer than five digits. As no number begins with 0, that is below
 -- 10,000.
@@ -63,5 +63,5 @@ numberClosed Longest f at = Whole (record { lane = f .lane; weight = f .weight; 
 -- The byte b at a place.
 unfoldable pub lineStep : Line → ℕ → ℕ → Step
 lineStep f at b =
-    if digit b then (if extends (f .begun) (f .last .value) then More (grown f b) else Wrong)
+    if isDigit b then (if extends (f .begun) (f .last .value) then More (grown f b) else Wrong)
     else (if f .begun && eqb b (stop (f .part)) then numberClosed (f .part) f (at + 1) else Wrong)

@@ -1,12 +1,12 @@
 -- What is promised of reading a sheet, of every input. Theorems of these names in small letters are in proofs/Promises.antt.
 --
---   ReadsBack       R12.9: the sheet of a setup with no framing bytes and no shared lane is read as that setup, of format 2
---   WritesBack      R12.6: a sheet that is read is, byte for byte, the sheet of what was read: a setup of format 2 with no framing bytes and no shared lane
---   LineByLine      R12.2: a line of the form is judged as a whole before a byte behind it is looked at, its numbers with the places of their first digits
---   RefusesInside   R12.5: a refusal has a number of `sheetRefusals` and a place in the sheet, at its length only for 81
---   FirstWrong      R12.3, of 80: the bytes before the place begin a sheet of the form, and with the byte at the place none goes on
---   CutShort        R12.4, of 81: the place is the sheet's length; its bytes begin a sheet of the form and are none
---   FormIsRead      R12.3: a sheet of the form is refused by 80 or 81 never
+--   SheetFormReadsBack    R12.9: the sheet of a setup with no framing bytes and no shared lane is read as that setup, of format 2
+--   SheetFormWritesBack   R12.6: a sheet that is read is, byte for byte, the sheet of what was read: a setup of format 2 with no framing bytes and no shared lane
+--   LineByLine            R12.2: a line of the form is judged as a whole before a byte behind it is looked at, its numbers with the places of their first digits
+--   SheetRefusesInside    R12.5: a refusal has a number of `sheetRefusals` and a place in the sheet, at its length only for 81
+--   FirstWrong            R12.3, of 80: the bytes before the place begin a sheet of the form, and with the byte at the place none goes on
+--   CutShort              R12.4, of 81: the place is the sheet's length; its bytes begin a sheet of the form and are none
+--   FormIsRead            R12.3: a sheet of the form is refused by 80 or 81 never
 --
 -- Assumes nothing.
 use Prim.Native.Nat.{ℕ, _+_, _≤_, _<_}
@@ -27,7 +27,7 @@ use Rattle.text.specs.Decimal.{decimal}
 use Rattle.sheet.specs.Form.{newLine}
 use Rattle.sheet.specs.Judge.{verdict, rowField}
 use Rattle.sheet.specs.Read.{sheetFormat, sheetWalk, readSheet}
-use Rattle.sheet.specs.Text.{lineBytes, Formed, Begins, sheetBytes}
+use Rattle.sheet.specs.Text.{lineBytes, Formed, BeginsSheet, sheetBytes}
 use Rattle.sheet.specs.declared.form.Row.{Row}
 use Rattle.sheet.specs.declared.judge.Verdict.the-variants as verdicts
 
@@ -35,8 +35,8 @@ use Rattle.sheet.specs.declared.judge.Verdict.the-variants as verdicts
 abbrev pub Unshared : List Setting → Type 0
 Unshared gs = (k : ℕ) → (settingAt gs k) .shared ≡ false
 
-unfoldable pub ReadsBack : Type 0
-ReadsBack = (gs : List Setting) → Setup gs → framingOf gs ≡ 0 → Unshared gs → readSheet (sheetBytes gs) ≡ setupRead sheetFormat gs (present gs) (length (sheetBytes gs))
+unfoldable pub SheetFormReadsBack : Type 0
+SheetFormReadsBack = (gs : List Setting) → Setup gs → framingOf gs ≡ 0 → Unshared gs → readSheet (sheetBytes gs) ≡ setupRead sheetFormat gs (present gs) (length (sheetBytes gs))
 
 -- R12.6. A sheet that was read as a format, these settings, so many lanes, as far as a place.
 pub record AcceptedSheet (s : List ℕ) (v : ℕ) (gs : List Setting) (n p : ℕ) : Type 0 where
@@ -49,8 +49,8 @@ pub record AcceptedSheet (s : List ℕ) (v : ℕ) (gs : List Setting) (n p : ℕ
   pub some-lane : 1 ≤ n
   pub end : p ≡ length s
 
-unfoldable pub WritesBack : Type 0
-WritesBack = (s : List ℕ) (v : ℕ) (gs : List Setting) (n p : ℕ) → readSheet s ≡ setupRead v gs n p → AcceptedSheet s v gs n p
+unfoldable pub SheetFormWritesBack : Type 0
+SheetFormWritesBack = (s : List ℕ) (v : ℕ) (gs : List Setting) (n p : ℕ) → readSheet s ≡ setupRead v gs n p → AcceptedSheet s v gs n p
 
 module _ (a b c at : ℕ) where
   -- Behind the lane's digits and a space, behind the weight's and a space, behind the longest's and the line feed.
@@ -88,8 +88,8 @@ pub record RefusedSheet (s : List ℕ) (n : ℕ) (q : Option ℕ) : Type 0 where
   pub within : place ≤ length s
   pub at-end : place ≡ length s → n ≡ 81
 
-unfoldable pub RefusesInside : Type 0
-RefusesInside = (s : List ℕ) (n : ℕ) (q : Option ℕ) → readSheet s ≡ setupRefused n q → RefusedSheet s n q
+unfoldable pub SheetRefusesInside : Type 0
+SheetRefusesInside = (s : List ℕ) (n : ℕ) (q : Option ℕ) → readSheet s ≡ setupRefused n q → RefusedSheet s n q
 
 -- A place where a byte stands with which no sheet of the form goes on, and the first such.
 pub record WrongByte (s : List ℕ) (p : ℕ) : Type 0 where
@@ -98,7 +98,7 @@ pub record WrongByte (s : List ℕ) (p : ℕ) : Type 0 where
   pub back : List ℕ
   pub is : front ++ byte ∷ back ≡ s
   pub place : p ≡ length front
-  pub begins : Begins front
+  pub begins : BeginsSheet front
   pub none : (t : List ℕ) → Formed (front ++ byte ∷ t) → ⊥
 
 unfoldable pub FirstWrong : Type 0
@@ -106,7 +106,7 @@ FirstWrong = (s : List ℕ) (p : ℕ) → readSheet s ≡ setupRefused 80 (some 
 
 pub record Unfinished (s : List ℕ) (p : ℕ) : Type 0 where
   pub place : p ≡ length s
-  pub begins : Begins s
+  pub begins : BeginsSheet s
   pub none : Formed s → ⊥
 
 unfoldable pub CutShort : Type 0

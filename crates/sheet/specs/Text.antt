@@ -1,11 +1,11 @@
 -- A sheet as text (R12.1).
 --
---   lineBytes    a line of three numbers
---   Entry        the three numbers of a line; Short: none has a sixth digit
---   linesBytes   the bytes of lines, one after another
---   Formed       a sheet of the form
---   Begins       bytes with which a sheet of the form begins
---   sheetBytes   R12.7: the sheet of a plan: a line for each of its lanes, by number
+--   lineBytes     a line of three numbers
+--   Entry         the three numbers of a line; Short: none has a sixth digit
+--   linesBytes    the bytes of lines, one after another
+--   Formed        a sheet of the form
+--   BeginsSheet   bytes with which a sheet of the form begins
+--   sheetBytes    R12.7: the sheet of a plan: a line for each of its lanes, by number
 --
 -- Assumes nothing.
 use Prim.Native.Nat.{ℕ, zero, suc, _<_}
@@ -29,7 +29,7 @@ abbrev pub entryBytes : Entry → List ℕ
 entryBytes e = lineBytes (e .first) (e .second) (e .third)
 
 -- at most five digits
-pub record Short (e : Entry) : Type 0 where
+pub record ShortNumbers (e : Entry) : Type 0 where
   pub first : e .first < 100000
   pub second : e .second < 100000
   pub third : e .third < 100000
@@ -40,7 +40,7 @@ linesBytes (e ∷ es) = entryBytes e ++ linesBytes es
 
 unfoldable pub AllShort : List Entry → Type 0
 AllShort [] = Unit
-AllShort (e ∷ es) = Short e × AllShort es
+AllShort (e ∷ es) = ShortNumbers e × AllShort es
 
 -- A sheet of the form: one line or more.
 pub record Formed (s : List ℕ) : Type 0 where
@@ -50,7 +50,7 @@ pub record Formed (s : List ℕ) : Type 0 where
   pub bytes : linesBytes (head ∷ rest) ≡ s
 
 -- Some bytes more make a sheet of the form.
-pub record Begins (t : List ℕ) : Type 0 where
+pub record BeginsSheet (t : List ℕ) : Type 0 where
   pub rest : List ℕ
   pub sheet : Formed (t ++ rest)
 

@@ -3,7 +3,7 @@
 ghost use mathlib.Core.Path.{_≡_};
 ghost use mathlib.Core.Bool.{true, false};
 ghost use Prim.Native.Nat.{_+_, _^_, _≤_, _<_};
-ghost use Rattle.sheet.specs.Form.{digit, extends, stop, noDigits, newLine, grown, numberClosed, lineStep};
+ghost use Rattle.sheet.specs.Form.{isDigit, extends, stop, noDigits, newLine, grown, numberClosed, lineStep};
 
 const ZERO: u64 = b'0' as u64;
 
@@ -54,7 +54,7 @@ pub enum Step {
 }
 
 fn digit(b: u64) -> bool
-    ensures { λ r. ⌜ r ≡ digit b ⌝ }
+    ensures { λ r. ⌜ r ≡ isDigit b ⌝ }
 {
     if ZERO <= b { b <= NINE } else { false }
 }

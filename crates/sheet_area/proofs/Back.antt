@@ -1,4 +1,4 @@
--- Sheets and areas go back and forth: the promises WritesBack and ReadsBack of specs/Step.antt.
+-- Sheets and areas go back and forth: the promises SheetAreaWritesBack and SheetAreaReadsBack of specs/Step.antt.
 -- Assumes nothing.
 use Prim.Native.Nat.{ℕ, _≤_, _<_}
 use mathlib.Core.Path.{_≡_, refl, sym, ap, subst, _∙_}
@@ -21,10 +21,10 @@ use Rattle.sheet.proofs.Forth.{written-read}
 use Rattle.sheet_writer.specs.Write.{sheetOf, sheetSize, Bare, sheetWriteReply}
 use Rattle.sheet_writer.specs.declared.Written.{Written}
 use Rattle.sheet_writer.proofs.Calls.{bare-or-not, none-shared, no-shareds}
-use Rattle.sheet_area.specs.Step.{SheetWriteStep, WritesBack, ReadsBack}
+use Rattle.sheet_area.specs.Step.{SheetWriteStep, SheetAreaWritesBack, SheetAreaReadsBack}
 
-pub writes-back-area : WritesBack
-unfolding WritesBack
+pub writes-back-area : SheetAreaWritesBack
+unfolding SheetAreaWritesBack
 writes-back-area s area area′ g n r e before after a h room =
     let into = read-into (readSheet s) area area′ g n r e in
     let p = into .plan in
@@ -59,8 +59,8 @@ module _ (area before after : List ℕ) (a : Written) (k : ℕ) (h : SheetWriteS
       (λ (o : AreaWithin area → ⊥). size-refused (sym e ∙ h .outside o .0))
       (within-area area)
 
-pub reads-back-area : ReadsBack
-unfolding ReadsBack
+pub reads-back-area : SheetAreaReadsBack
+unfolding SheetAreaReadsBack
 reads-back-area area before after a k h e area₁ area₂ g room r =
     let s = wrote-size area before after a k h e in
     let p = planIn area in

@@ -1,9 +1,9 @@
 -- The promises of the two calls on a sheet and a plan area (R12.10), whole: for all bytes and every length.
 --
---   SheetReadStep    the promise of `read_sheet`
---   SheetWriteStep   the promise of `write_sheet`
---   WritesBack       a sheet that is read into an area comes back as its own bytes
---   ReadsBack        what was written from an area is read, into any area, as the same lanes; the format is not given back
+--   SheetReadStep         the promise of `read_sheet`
+--   SheetWriteStep        the promise of `write_sheet`
+--   SheetAreaWritesBack   a sheet that is read into an area comes back as its own bytes
+--   SheetAreaReadsBack    what was written from an area is read, into any area, as the same lanes; the format is not given back
 --
 -- Theorems of the last two names in small letters are in proofs/Back.antt. Assumes nothing.
 use Prim.Native.Nat.{ℕ, _+_, _≤_, _<_}
@@ -32,14 +32,14 @@ pub record SheetWriteStep (a before : List ℕ) (answer : Written) (after : List
   pub written : AreaWithin a → Bare (planIn a) → sheetSize (planIn a) ≤ length before
       → (sheetWriteReply answer ≡ writtenSize (sheetSize (planIn a))) × (after ≡ sheetOf (planIn a) ++ drop (sheetSize (planIn a)) before)
 
-unfoldable pub WritesBack : Type 0
-WritesBack =
+unfoldable pub SheetAreaWritesBack : Type 0
+SheetAreaWritesBack =
     (s area area′ : List ℕ) (g : Got) (n : ℕ) → SheetReadStep s area g area′ → areaReply g ≡ areaLanes n
     → (before after : List ℕ) (a : Written) → SheetWriteStep area′ before a after → length s ≤ length before
     → (sheetWriteReply a ≡ writtenSize (length s)) × (after ≡ s ++ drop (length s) before)
 
-unfoldable pub ReadsBack : Type 0
-ReadsBack =
+unfoldable pub SheetAreaReadsBack : Type 0
+SheetAreaReadsBack =
     (area before after : List ℕ) (a : Written) (k : ℕ) → SheetWriteStep area before a after → sheetWriteReply a ≡ writtenSize k
     → (area₁ area₂ : List ℕ) (g : Got) → AreaRoom area₁ → SheetReadStep (take k after) area₁ g area₂
     → (areaReply g ≡ areaLanes (planIn area .count)) × ((i : ℕ) → i < 64 → wordAt area₂ (i + 1) ≡ wordAt area (i + 1))

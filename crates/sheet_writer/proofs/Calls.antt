@@ -29,7 +29,7 @@ use Rattle.sheet.specs.Promises.{Unshared}
 use Rattle.sheet.proofs.Back.{accepted-sheet}
 use Rattle.sheet.proofs.Forth.{written-read}
 use Rattle.sheet_writer.specs.Write.{sheetOf, sheetSize, Bare, sheetWriteReply, WritesSheet}
-use Rattle.sheet_writer.specs.RoundTrip.{ReadsBack, WritesBack, SizeMost}
+use Rattle.sheet_writer.specs.RoundTrip.{SheetReadsBack, SheetWritesBack, SheetSizeMost}
 use Rattle.sheet_writer.specs.declared.Unwritten.the-variants.{Outside, NoSheet, Short}
 use Rattle.sheet_writer.specs.declared.Written.{Written}
 use Rattle.sheet_writer.specs.declared.Written.the-variants.{Size, Refused}
@@ -107,8 +107,8 @@ module _ (p : Planned) (before after : List ℕ) (a : Written) (h : WritesSheet 
       (λ (o : Within p → ⊥). size-refused (sym e ∙ h .outside o .0))
       (within-or-not p)
 
-pub reads-back-calls : ReadsBack
-unfolding ReadsBack
+pub reads-back-calls : SheetReadsBack
+unfolding SheetReadsBack
 reads-back-calls plan before after a k h e =
     let p = planned plan in
     let s = wrote-size p before after a h k e in
@@ -120,8 +120,8 @@ reads-back-calls plan before after a k h e =
     ∙ ap (λ (n : ℕ). setupRead sheetFormat (p .lanes) n (sheetSize p)) (s .within .count)
     ∙ ap (setupRead sheetFormat (p .lanes) (plan .count)) (sym (s .is))
 
-pub writes-back-calls : WritesBack
-unfolding WritesBack
+pub writes-back-calls : SheetWritesBack
+unfolding SheetWritesBack
 writes-back-calls s r k e o before after a h room =
     let p : Planned = record { format = r .plan .format; lanes = settings (r .plan); count = r .plan .count } in
     let is : readSheet s ≡ setupRead (p .format) (p .lanes) (p .count) k = sym e ∙ ap (setupCame (r .plan)) o in
@@ -132,6 +132,6 @@ writes-back-calls s r k e o before after a h room =
     let done = h₁ .written w (x .bare, no-shareds (p .lanes) (x .unshared)) (omega (arith, long, room)) in
     (done .0 ∙ ap writtenSize long, done .1 ∙ ap (λ (y : List ℕ). y ++ drop (sheetSize p) before) (x .same) ∙ ap (λ (i : ℕ). s ++ drop i before) long)
 
-pub size-most-calls : SizeMost
-unfolding SizeMost
+pub size-most-calls : SheetSizeMost
+unfolding SheetSizeMost
 size-most-calls p w = sheet-most (p .lanes) (w .setup)

@@ -13,7 +13,7 @@ use Rattle.units.specs.Plain.{if_then_else_}
 use Rattle.waiting.specs.Waiting.{Waiting, plain, held, queueOf, GoodWaiting}
 use Rattle.words.proofs.Runs.{getD-tab}
 use Rattle.rules.specs.State.{Lane, group, holds, laneAt, laneDepth, noLane}
-use Rattle.table.specs.Layout.{cells, rowAt, placeOf, entryAt}
+use Rattle.table.specs.Layout.{cells, rowAt, placeInLane, entryAt}
 use Rattle.table.specs.Means.{presentAt, givenOf, meant, RowAgrees}
 use Rattle.table.specs.declared.LaneRow.{LaneRow}
 use Rattle.table.specs.declared.Entry.{Entry}

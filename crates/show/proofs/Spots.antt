@@ -18,8 +18,8 @@ use Rattle.waiting.specs.Waiting.{Waiting, plain, shared, queueOf, known, isSha
 use Rattle.waiting.specs.Waiting.{withTrain}
 use Rattle.waiting.proofs.Laws.{held-most, queue-nothing}
 use Rattle.rules.specs.State.{Lane, laneAt, laneDepth}
-use Rattle.table.specs.Layout.{cells, rowAt, placeOf, entryAt, trainNumber, roundAt}
-use Rattle.table.specs.Means.{recOf, recAt, ringOf, sharedAt, waitingOf, meant}
+use Rattle.table.specs.Layout.{cells, rowAt, placeInLane, entryAt, trainNumber, roundAt}
+use Rattle.table.specs.Means.{recOf, recAt, laneRing, sharedAt, waitingOf, meant}
 use Rattle.table.specs.declared.LaneRow.{LaneRow}
 use Rattle.table.specs.declared.Entry.{Entry}
 use Rattle.table.proofs.Footprint.{lane-is}
@@ -74,7 +74,7 @@ module _ (t : List ℕ) (k : ℕ) (l : LaneRow) (f : RowFound t k l) where
       abbrev n : ℕ
       n = trainNumber (cells t) k j
 
-      train-queue : queueOf q j ≡ turns.ringOf (recAt (cells t) k) j (headOf n) (countOf n)
+      train-queue : queueOf q j ≡ turns.trainRing (recAt (cells t) k) j (headOf n) (countOf n)
       unfolding queueOf sharedAt sharedOf trainOf
       train-queue =
           ap (λ (w : Waiting). queueOf w j) (waits-is ∙ waiting-shared (cells t) k l is some-held)
@@ -89,11 +89,11 @@ module _ (t : List ℕ) (k : ℕ) (l : LaneRow) (f : RowFound t k l) where
         spot-past p = (knows h, omega (arith, size, ap countOf e))
 
         pub spot-train : i < countOf m → SpotIs t k j i (At (8 * j + (headOf m + i) % 8))
-        unfolding turns.ringOf recAt
+        unfolding turns.trainRing recAt
         spot-train p = rw e (
           knows h,
           omega (arith, size, ap countOf e),
-          ap (λ (x : List round.Rec). getD x i noRec) train-queue ∙ getD-tab (countOf n) i (λ a. recAt (cells t) k (turns.placeOf j (headOf n + a))) noRec (omega (arith, ap countOf e)),
+          ap (λ (x : List round.BareRec). getD x i noRec) train-queue ∙ getD-tab (countOf n) i (λ a. recAt (cells t) k (turns.placeInTrain j (headOf n + a))) noRec (omega (arith, ap countOf e)),
         )
 
   -- ---- a lane that is not shared
@@ -102,7 +102,7 @@ module _ (t : List ℕ) (k : ℕ) (l : LaneRow) (f : RowFound t k l) where
     pub spot-other : (j : ℕ) → (j ≡ 0 → ⊥) → SpotIs t k j i NoTrain
     spot-other j n = known-plain q j (kind ∙ is) ∙ lt-leb j 0 (omega arith)
 
-    queue-is : queueOf q 0 ≡ ringOf (cells t) k (l .head) (l .count)
+    queue-is : queueOf q 0 ≡ laneRing (cells t) k (l .head) (l .count)
     unfolding queueOf
     queue-is = ap (λ (w : Waiting). queueOf w 0) (waits-is ∙ waiting-plain (cells t) k l is)
 
@@ -116,10 +116,10 @@ module _ (t : List ℕ) (k : ℕ) (l : LaneRow) (f : RowFound t k l) where
     spot-none j e p = subst (λ (x : ℕ). SpotIs t k x i Nothing) (sym e) (knows-0, omega (arith, size-plain))
 
     pub spot-plain : (j : ℕ) → j ≡ 0 → i < l .count → SpotIs t k j i (At (l .head + i))
-    unfolding ringOf
+    unfolding laneRing
     spot-plain j e p =
         subst (λ (x : ℕ). SpotIs t k x i (At (l .head + i))) (sym e)
-        (knows-0, omega (arith, size-plain), ap (λ (x : List round.Rec). getD x i noRec) queue-is ∙ getD-tab (l .count) i _ noRec p)
+        (knows-0, omega (arith, size-plain), ap (λ (x : List round.BareRec). getD x i noRec) queue-is ∙ getD-tab (l .count) i _ noRec p)
 
   -- ---- what the lane shows by it
 
@@ -135,7 +135,7 @@ module _ (t : List ℕ) (k : ℕ) (l : LaneRow) (f : RowFound t k l) where
     unfolding view deviceOf
     shows-nothing is = let e = spot-as Nothing is in rw (weighs t k l f, e .0, le-ltb i (length (queueOf q j)) (e .1))
 
-    pub shows-record : (p : ℕ) → r ≡ At p → (e : Entry) → e ≡ entryAt (cells t) (placeOf k p) → recordIs k (withTrain j (recOf e)) ≡ view (deviceOf t) (waits k j i)
+    pub shows-record : (p : ℕ) → r ≡ At p → (e : Entry) → e ≡ entryAt (cells t) (placeInLane k p) → recordIs k (withTrain j (recOf e)) ≡ view (deviceOf t) (waits k j i)
     unfolding view deviceOf
     shows-record p is x read =
         let e = spot-as (At p) is in

@@ -15,7 +15,7 @@ use Rattle.rules.specs.Waits.{worstOf}
 use Rattle.rules.proofs.SameSetup.{setting-lane}
 use Rattle.rules.proofs.Fair.{longest-most, framing-most}
 use Rattle.rules.specs.declared.Refusal.{Refusal}
-use Rattle.waits.specs.Lane.{settingOf, InRange}
+use Rattle.waits.specs.Lane.{settingOfNumbers, InRange}
 use Rattle.waits.specs.declared.LaneNumbers.{LaneNumbers}
 use Rattle.table.specs.Layout.{cells}
 use Rattle.table.specs.Means.{givenOf, presentAt, meant}
@@ -108,9 +108,9 @@ module _ (t : List ℕ) (k : ℕ) (l : LaneRow) (f : FindIs t k (Row l)) where
   row-most-is = ap (λ (g : Setting). charge g (g .longest)) (sym given-is)
 
   -- x are its numbers and m its room, as they were read; n records are ahead
-  module _ (x : LaneNumbers) (is : x ≡ numbersOf l) (m : ℕ) (has : m ≡ roomOf (settingOf x)) (n : ℕ) where
+  module _ (x : LaneNumbers) (is : x ≡ numbersOf l) (m : ℕ) (has : m ≡ roomOf (settingOfNumbers x)) (n : ℕ) where
     room-is : m ≡ roomOf (givenOf l)
-    room-is = has ∙ ap (λ (y : LaneNumbers). roomOf (settingOf y)) is
+    room-is = has ∙ ap (λ (y : LaneNumbers). roomOf (settingOfNumbers y)) is
 
     pub in-range : n < m → InRange x n
     in-range low =

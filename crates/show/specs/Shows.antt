@@ -15,7 +15,7 @@ use lib.ListN.{length, getD}
 use Rattle.waiting.specs.Waiting.{queueOf, known}
 use Rattle.rules.specs.State.{laneAt, laneDepth, noLane}
 use Rattle.rules.specs.Reads as rules
-use Rattle.table.specs.Layout.{cells, rowAt, placeOf, entryAt}
+use Rattle.table.specs.Layout.{cells, rowAt, placeInLane, entryAt}
 use Rattle.table.specs.Means.{presentAt, recOf, meant}
 use Rattle.table.specs.declared.LaneRow.{LaneRow}
 use Rattle.pages.specs.Device.{Device}
@@ -59,4 +59,4 @@ SpotIs t k j i Nothing = (known (laneAt (meant t) k .waiting) j ≡ true) × (le
 SpotIs t k j i (At p) =
     (known (laneAt (meant t) k .waiting) j ≡ true)
     × (i < length (queueOf (laneAt (meant t) k .waiting) j))
-    × (getD (queueOf (laneAt (meant t) k .waiting) j) i noRec ≡ recOf (entryAt (cells t) (placeOf k p)))
+    × (getD (queueOf (laneAt (meant t) k .waiting) j) i noRec ≡ recOf (entryAt (cells t) (placeInLane k p)))

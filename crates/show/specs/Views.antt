@@ -55,7 +55,7 @@ pub data View : Type 0 where
 abbrev pub timeOf : Lane → ℕ
 timeOf l = if holds l then l .start else l .finish
 
-abbrev pub noRec : round.Rec
+abbrev pub noRec : round.BareRec
 noRec = record { mark = 0; len = 0 }
 
 -- R17.5, R17.7: of train t of lane k; the records stand in the order in which the lane hands out those of this train. A lane that is not shared knows train 0
@@ -67,8 +67,8 @@ recordOf k l t i =
     else viewRefused 16 none
 
 -- R17.3: 11 for a lane that is not in the setup
-abbrev pub ofLane : Lane → View → View
-ofLane l v = if ltb (l .given .weight) 1 then viewRefused 11 none else v
+abbrev pub ofPresent : Lane → View → View
+ofPresent l v = if ltb (l .given .weight) 1 then viewRefused 11 none else v
 
 -- R17.9: no page that waits has edition 0 (crate editions)
 abbrev pub waitingEdition : Option Page → ℕ
@@ -84,8 +84,8 @@ waitOf gs g n =
 -- R17.9, R17.2 to R17.5, R17.7, R17.10
 unfoldable pub view : Device → Ask → View
 view d clock = clockIs (d .state .clock)
-view d (lane k) = ofLane (laneAt (d .state) k) (settingIs (laneAt (d .state) k .given) (group (laneAt (d .state) k .given)))
-view d (backlog k) = ofLane (laneAt (d .state) k) (backlogIs (held (laneAt (d .state) k .waiting)) (timeOf (laneAt (d .state) k)))
-view d (waits k t i) = ofLane (laneAt (d .state) k) (recordOf k (laneAt (d .state) k) t i)
+view d (lane k) = ofPresent (laneAt (d .state) k) (settingIs (laneAt (d .state) k .given) (group (laneAt (d .state) k .given)))
+view d (backlog k) = ofPresent (laneAt (d .state) k) (backlogIs (held (laneAt (d .state) k .waiting)) (timeOf (laneAt (d .state) k)))
+view d (waits k t i) = ofPresent (laneAt (d .state) k) (recordOf k (laneAt (d .state) k) t i)
 view d edition = editionIs (d .edition) (waitingEdition (d .waiting))
-view d (wait k n) = ofLane (laneAt (d .state) k) (waitOf (setupOf (d .state)) (laneAt (d .state) k .given) n)
+view d (wait k n) = ofPresent (laneAt (d .state) k) (waitOf (setupOf (d .state)) (laneAt (d .state) k .given) n)

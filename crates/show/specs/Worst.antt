@@ -17,7 +17,7 @@ use Rattle.rules.specs.Setup.{longestCharge, margin}
 use Rattle.rules.specs.Waits.{worstOf}
 use Rattle.rules.specs.declared.Refusal.{Refusal}
 use Rattle.rules.specs.declared.Refusal.the-variants.{TrainFull, LaneFull}
-use Rattle.waits.specs.Lane.{settingOf}
+use Rattle.waits.specs.Lane.{settingOfNumbers}
 use Rattle.waits.specs.declared.LaneNumbers.{LaneNumbers}
 use Rattle.table.specs.Means.{meant}
 use Rattle.table.specs.declared.LaneRow.{LaneRow}
@@ -34,5 +34,5 @@ noRoom shared = if shared then TrainFull else LaneFull
 
 abbrev pub BothWorst : List ℕ → LaneNumbers → ℕ → WorstWait → Type 0
 BothWorst t l n r =
-    (r .asked ≡ worstOf (margin (l .framing .0)) (settingOf l) n)
-    × (r .tight ≡ worstOf (lineRate * longestCharge (setupOf (meant t))) (settingOf l) n)
+    (r .asked ≡ worstOf (margin (l .framing .0)) (settingOfNumbers l) n)
+    × (r .tight ≡ worstOf (lineRate * longestCharge (setupOf (meant t))) (settingOfNumbers l) n)

@@ -13,7 +13,7 @@ ghost use Rattle.table.specs.Means.{meant};
 ghost use Rattle.editions.specs.Part.{lastIn, newIn};
 ghost use Rattle.paged.specs.Paged.{partOf, GoodUnit};
 ghost use Rattle.show.specs.Views as Views;
-ghost use Rattle.waits.specs.Lane.{settingOf, InRange};
+ghost use Rattle.waits.specs.Lane.{settingOfNumbers, InRange};
 ghost use Rattle.show.specs.Worst.{laneMost, numbersOf, noRoom, BothWorst};
 ghost use Rattle.show.specs.Shows.{Shows, FindIs, RowFound, SpotIs};
 use paged::good_unit;
@@ -291,7 +291,7 @@ fn both(t: &[u8], l: LaneNumbers, ahead: u64) -> WorstWait
 
 // How many records may wait in a lane before one that is accepted; in a shared lane, of its own train.
 fn room(l: LaneNumbers) -> u64
-    ensures { λ r. ⌜ r ≡ roomOf (settingOf l) ⌝ }
+    ensures { λ r. ⌜ r ≡ roomOf (settingOfNumbers l) ⌝ }
 {
     if l.shared { 8 } else { 64 }
 }

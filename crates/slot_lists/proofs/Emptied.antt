@@ -12,7 +12,7 @@ use Rattle.words.proofs.Bits.{bit-above}
 use Rattle.words.proofs.Laws.{length-putWord, wordAt-putWord-same, wordAt-putWord-other}
 use Rattle.rings.specs.Rings.{Long}
 use Rattle.slot_lists.specs.Lists.{groupsWord, backWord, groupsAt, mapOf, listAt, startAt, Fills, Solid, Empty}
-use Rattle.slot_lists.specs.Changes.{Emptied}
+use Rattle.slot_lists.specs.Changes.{ListsEmptied}
 use Rattle.slot_lists.proofs.Laws.{map-off, start-off, list-off, rest-word}
 
 no-bit : (b x : ℕ) → x ≡ 0 → bit b x ≡ 1 → ⊥
@@ -39,7 +39,7 @@ module _ (t : List ℕ) (m : Empty t) where
         back-small = omega (arith, m .back);
       }
 
-pub emptied-as : (t : List ℕ) → Long t → Emptied t (putWord (putWord t groupsWord 0) backWord 0)
+pub emptied-as : (t : List ℕ) → Long t → ListsEmptied t (putWord (putWord t groupsWord 0) backWord 0)
 emptied-as t long =
     let u = putWord t groupsWord 0 in
     record {

@@ -1,12 +1,12 @@
 -- What the functions on slot lists leave.
 --
---   Moved     one list was changed, m and m′ being the words of the group's lists before and after; no word is stored yet
---   Apart     the words below this part, what was taken off the clock, and the bytes past the rings stay
---   Stored    a group's words were stored
---   Emptied   all groups were cleared
---   Lowered   the clock was taken back
---   Nearest   the first set bit of a word of lists from one of them on, in circular order
---   WithBit   a word with one bit set, or not
+--   Moved          one list was changed, m and m′ being the words of the group's lists before and after; no word is stored yet
+--   Apart          the words below this part, what was taken off the clock, and the bytes past the rings stay
+--   Stored         a group's words were stored
+--   ListsEmptied   all groups were cleared
+--   Lowered        the clock was taken back
+--   Nearest        the first set bit of a word of lists from one of them on, in circular order
+--   WithBit        a word with one bit set, or not
 --
 -- Assumes nothing.
 use mathlib.Core.Path.{_≡_}
@@ -47,7 +47,7 @@ pub record Stored (before after : List ℕ) (g m r : ℕ) : Type 0 where
   pub high : groupsAt before < 2 ^ (highestGroup + 1) → groupsAt after < 2 ^ (highestGroup + 1)
   pub rings : (i : ℕ) → i < ringCount → ringAt after i ≡ ringAt before i
 
-pub record Emptied (before after : List ℕ) : Type 0 where
+pub record ListsEmptied (before after : List ℕ) : Type 0 where
   pub empty : Empty after
   pub below : (j : ℕ) → j < listsFrom → wordAt after j ≡ wordAt before j
   pub rest : drop ringsEnd after ≡ drop ringsEnd before

@@ -14,7 +14,7 @@ ghost use Rattle.words.specs.Bits.{bit};
 ghost use Rattle.rings.specs.Rings.{Long};
 ghost use Rattle.words.specs.Words.{wordAt};
 ghost use Rattle.slot_lists.specs.Lists.{startWord, ringNumber, groupsAt, backAt, mapOf, listIn, Fills};
-ghost use Rattle.slot_lists.specs.Changes.{Moved, Stored, Emptied, Lowered, Nearest};
+ghost use Rattle.slot_lists.specs.Changes.{Moved, Stored, ListsEmptied, Lowered, Nearest};
 use parts::LISTS;
 use rings::begin;
 use rings::entry;
@@ -141,7 +141,7 @@ pub fn clear_group(t: &mut [u8], g: u32, groups: u64)
 // No group has lanes any more, whatever was stored; and nothing was taken off the clock.
 pub fn empty(t: &mut [u8])
     requires { ⌜ Long (now t) ⌝ }
-    ensures { λ _. ⌜ Emptied (now (t .entry)) (now (t .exit)) ⌝ }
+    ensures { λ _. ⌜ ListsEmptied (now (t .entry)) (now (t .exit)) ⌝ }
 {
     set_word(t, GROUPS, 0);
     set_word(t, BACK, 0);

@@ -10,12 +10,12 @@ use lib.Seq.{getD-set-same, getD-set-other}
 use Rattle.words.specs.Runs.{tab}
 use Rattle.words.proofs.Runs.{eq-or-ne, tab-ext, tab-set, getD-tab}
 use Rattle.parts.specs.Parts.{rowsFrom}
-use Rattle.rounds.specs.Round.{Shared, held}
+use Rattle.rounds.specs.Round.{Shared, sharedHeld}
 use Rattle.turns.specs.Turns.{sharedOf, Ordered}
 use Rattle.turns.proofs.Train.{shared-same}
 use Rattle.rules.specs.State.{noLane, laneAt}
-use Rattle.table.specs.Layout.{CELLS, presentWord, depthWord, framingWord, laneWord, roundWord, roundAt, lengthsCell, lengthWords, marksCell, markWords, trainsCell, placeOf, entryAt, rowAt, rowOf, trainNumber}
-use Rattle.table.specs.Means.{presentAt, recOf, recAt, ringOf, sharedAt, waitingOf, rowLane, laneOf, stateOf, RowAgrees, PlacesFit, TrainsFit, Housed, Beside, withClock, withLane}
+use Rattle.table.specs.Layout.{CELLS, presentWord, depthWord, framingWord, laneWord, roundWord, roundAt, lengthsCell, lengthWords, marksCell, markWords, trainsCell, placeInLane, entryAt, rowAt, rowOf, trainNumber}
+use Rattle.table.specs.Means.{presentAt, recOf, recAt, laneRing, sharedAt, waitingOf, rowLane, laneOf, stateOf, RowAgrees, PlacesFit, TrainsFit, Housed, RowsFit, withClock, withLane}
 use Rattle.table.specs.declared.LaneRow.{LaneRow}
 use Rattle.table.specs.declared.Entry.{Entry}
 use Rattle.table.proofs.Stores.{rowOf-eq}
@@ -42,11 +42,11 @@ row-kept w u k h s =
 -- a lane's places
 module _ (w u : List ℕ) (k : ℕ) (lengths : (i : ℕ) → lengthsCell + lengthWords * k ≤ i → i < lengthsCell + lengthWords * k + lengthWords → getD u i 0 ≡ getD w i 0)
     (marks : (i : ℕ) → marksCell + markWords * k ≤ i → i < marksCell + markWords * k + markWords → getD u i 0 ≡ getD w i 0) where
-  pub place-kept : (i : ℕ) → entryAt u (placeOf k i) ≡ entryAt w (placeOf k i)
-  place-kept i = entry-kept w u (placeOf k i) (lengths _ (omega arith) (omega arith)) (marks _ (omega arith) (omega arith))
+  pub place-kept : (i : ℕ) → entryAt u (placeInLane k i) ≡ entryAt w (placeInLane k i)
+  place-kept i = entry-kept w u (placeInLane k i) (lengths _ (omega arith) (omega arith)) (marks _ (omega arith) (omega arith))
 
-  pub ring-kept : (h n : ℕ) → ringOf u k h n ≡ ringOf w k h n
-  unfolding ringOf
+  pub ring-kept : (h n : ℕ) → laneRing u k h n ≡ laneRing w k h n
+  unfolding laneRing
   ring-kept h n = tab-ext n _ _ (λ i p. ap recOf (place-kept (h + i)))
 
   pub fit-kept : (l : LaneRow) → PlacesFit w k l → PlacesFit u k l
@@ -69,7 +69,7 @@ module _ (w u : List ℕ) (k : ℕ) (lengths : (i : ℕ) → lengthsCell + lengt
         record {
           paced = h .paced;
           places = fit-kept l (h .places);
-          trains = λ e. record { counted = ap held shared-kept ∙ h .trains e .counted; ordered = subst Ordered (sym round) (h .trains e .ordered) };
+          trains = λ e. record { counted = ap sharedHeld shared-kept ∙ h .trains e .counted; ordered = subst Ordered (sym round) (h .trains e .ordered) };
         }
 
 module _ (w u : List ℕ) (k : ℕ) (s : SameLane w u k) where
@@ -123,7 +123,7 @@ pub row-agrees : (h s x y x′ y′ : ℕ) → RowAgrees (rowOf h s x y) → Row
 row-agrees h s x y x′ y′ a = record { numbers = a .numbers; framing = a .framing }
 
 -- a lane that is as it was
-module _ (w u : List ℕ) (k : ℕ) (s : SameLane w u k) (b : Beside w) (hk : k < 64) (p : presentAt u k ≡ true) where
+module _ (w u : List ℕ) (k : ℕ) (s : SameLane w u k) (b : RowsFit w) (hk : k < 64) (p : presentAt u k ≡ true) where
   pub agrees-kept : RowAgrees (rowAt u k)
   agrees-kept = rw (same-row w u k s) (b .rows k hk (sym (s .present) ∙ p))
 
@@ -132,7 +132,7 @@ module _ (w u : List ℕ) (k : ℕ) (s : SameLane w u k) (b : Beside w) (hk : k 
       rw (same-row w u k s) (housed-kept w u k (s .lengths) (s .marks) (s .trains) (same-round w u k s) (rowAt w k) (b .housed k hk (sym (s .present) ∙ p) (rw (same-row w u k s) at n)))
 
 -- a change in one lane's words but its setting: that lane has to be housed again
-pub beside-changed : (w u : List ℕ) (k : ℕ) → k < 64 → Outside w u k → (Beside w → presentAt u k ≡ true → 0 < rowAt u k .count → Housed u k (rowAt u k)) → Beside w → Beside u
+pub beside-changed : (w u : List ℕ) (k : ℕ) → k < 64 → Outside w u k → (RowsFit w → presentAt u k ≡ true → 0 < rowAt u k .count → Housed u k (rowAt u k)) → RowsFit w → RowsFit u
 unfolding rowAt
 beside-changed w u k hk o f b =
     record {
@@ -169,7 +169,7 @@ module _ (w : List ℕ) (v : ℕ) where
       let lanes : tab 64 (laneOf (set w 0 v)) ≡ tab 64 (laneOf w) = tab-ext 64 _ _ (λ k b. lane-kept w (set w 0 v) k (clock-lane k)) in
       rw (getD-set-same w 0 v 0 (omega arith), lanes)
 
-  pub clock-beside : Beside w → Beside (set w 0 v)
+  pub clock-beside : RowsFit w → RowsFit (set w 0 v)
   clock-beside b =
       record {
         depth = clock-other depthWord (omega arith) ∙ b .depth;

@@ -9,7 +9,7 @@ use Rattle.rules.specs.State.{Lane, State}
 use Rattle.slot_lists.specs.Lists.{listAt}
 use Rattle.filing.specs.Filing.{inARow}
 use Rattle.table.specs.Layout.{Now, cells, rowAt}
-use Rattle.table.specs.Means.{presentAt, Housed, Beside, laneOf, stateOf, meant, Sound, Leaves, withLane}
+use Rattle.table.specs.Means.{presentAt, Housed, RowsFit, laneOf, stateOf, meant, Sound, Leaves, withLane}
 use Rattle.table.proofs.Stores.{behind-then}
 use Rattle.table.proofs.Footprint.{Outside, lane-changed, beside-changed}
 use Rattle.table.proofs.Lists.{row-stays}
@@ -24,7 +24,7 @@ meant-now t t′ u n = ap (λ (w : List ℕ). stateOf w (inARow (listAt t′))) 
 
 -- a lane's words were changed, and the lane is now l
 pub leave-lane : (t t′ u : List ℕ) (k : ℕ) (l : Lane) → k < 64 → Now t t′ u → Outside (cells t) u k → laneOf u k ≡ l
-    → (Beside (cells t) → presentAt u k ≡ true → 0 < rowAt u k .count → Housed u k (rowAt u k))
+    → (RowsFit (cells t) → presentAt u k ≡ true → 0 < rowAt u k .count → Housed u k (rowAt u k))
     → Leaves t t′ (withLane (meant t) k l)
 leave-lane t t′ u k l hk n o e f =
     record {

@@ -12,7 +12,7 @@ use Rattle.words.proofs.Runs.{eq-or-ne, tab-ext}
 use Rattle.slot_lists.specs.Lists.{listAt}
 use Rattle.filing.specs.Filing.{inARow}
 use Rattle.table.specs.Layout.{CELLS, Now, cells, presentWord, depthWord, framingWord, laneWord, roundWord, pacedWord, putPace, rowAt}
-use Rattle.table.specs.Means.{presentAt, waitingOf, rowLane, laneOf, stateOf, meant, RowAgrees, Beside, Leaves}
+use Rattle.table.specs.Means.{presentAt, waitingOf, rowLane, laneOf, stateOf, meant, RowAgrees, RowsFit, Leaves}
 use Rattle.table.specs.declared.LaneRow.{LaneRow}
 use Rattle.table.proofs.Stores.{length-cells}
 use Rattle.table.proofs.Footprint.{SameLane, present-kept, waiting-kept, lane-kept, agrees-kept, lane-housed}
@@ -99,7 +99,7 @@ module _ (w : List ℕ) (k c i : ℕ) (size : length w ≡ CELLS) (hk : k < 64) 
       let lanes : tab 64 (laneOf u) ≡ tab 64 (laneOf w) = tab-ext 64 (laneOf u) (laneOf w) each-lane in
       rw (other 0 (omega arith), lanes)
 
-  pace-beside : rowAt w k .count ≡ 0 → Beside w → Beside u
+  pace-beside : rowAt w k .count ≡ 0 → RowsFit w → RowsFit u
   pace-beside idle b =
       record {
         depth = other depthWord (omega arith) ∙ b .depth;

@@ -9,7 +9,7 @@ use Rattle.words.specs.Words.{wordAt, putWord}
 use Rattle.rings.specs.Rings.{ringsEnd}
 use Rattle.digits.specs.Digits.{digit, putDigit, Stored}
 use Rattle.digits.proofs.Bytes.{word-stored}
-use Rattle.table.specs.Layout.{CELLS, placeCount, halfCount, lengthsCell, marksCell, lengthCell, markCell, wordOf, Now, cells, entryAt, putLength, putMark, clearCells, trainPlace, trainNumber, putTrain}
+use Rattle.table.specs.Layout.{CELLS, placeCount, halfCount, lengthsCell, marksCell, lengthCell, markCell, wordOfCell, Now, cells, entryAt, putLength, putMark, clearCells, trainPlace, trainNumber, putTrain}
 use Rattle.table.specs.declared.Entry.{Entry}
 use Rattle.table.proofs.Stores.{cell-is, word-before, word-behind, now-stored, now-then, behind-refl, behind-then}
 
@@ -21,7 +21,7 @@ abbrev halfOf : ℕ → ℕ
 halfOf p = 2 * (ringsEnd / 8) + p
 
 module _ (p : ℕ) (hp : p < halfCount) where
-  mark-word : halfOf p / 2 ≡ wordOf (markCell p)
+  mark-word : halfOf p / 2 ≡ wordOfCell (markCell p)
   mark-word = let at : halfOf p / 2 ≡ markCell p - marksCell + ringsEnd / 8 = omega arith in at ∙ sym (word-behind (markCell p) (omega arith))
 
   mark-digit : halfOf p % 2 ≡ p % 2
@@ -32,7 +32,7 @@ module _ (p : ℕ) (hp : p < halfCount) where
   mark-stored t u m s = rw (cell-is t (markCell p) (omega arith)) (now-stored t u (markCell p) _ (omega arith) (rw (mark-word, mark-digit) at s))
 
 module _ (p : ℕ) (hp : p < placeCount) where
-  length-word : quarterOf p / 4 ≡ wordOf (lengthCell p)
+  length-word : quarterOf p / 4 ≡ wordOfCell (lengthCell p)
   length-word = let at : quarterOf p / 4 ≡ lengthCell p = omega arith in at ∙ sym (word-before (lengthCell p) (omega arith))
 
   length-digit : quarterOf p % 4 ≡ p % 4

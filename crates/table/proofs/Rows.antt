@@ -8,8 +8,8 @@ use lib.ListN.{length, getD, set, length-set}
 use lib.Seq.{getD-set-same, getD-set-other}
 use Rattle.units.specs.Plain.{if_then_else_}
 use Rattle.words.specs.Runs.{tab, tabFrom}
-use Rattle.table.specs.Layout.{CELLS, presentWord, framingWord, laneWord, roundWord, roundAt, placeOf, lengthsCell, rowAt, putRow, entryAt}
-use Rattle.table.specs.Means.{presentAt, ringOf, givenOf, sharedAt, sharedIf, waitingOf, timed, rowLane, laneOf, stateOf, Housed}
+use Rattle.table.specs.Layout.{CELLS, presentWord, framingWord, laneWord, roundWord, roundAt, placeInLane, lengthsCell, rowAt, putRow, entryAt}
+use Rattle.table.specs.Means.{presentAt, laneRing, givenOf, sharedAt, sharedIf, waitingOf, timedByWord, rowLane, laneOf, stateOf, Housed}
 use Rattle.table.specs.declared.LaneRow.{LaneRow}
 use Rattle.words.proofs.Runs.{length-tab}
 use Rattle.rounds.specs.Round.{empty}
@@ -47,7 +47,7 @@ pub places-put : (w : List ℕ) (k i : ℕ) (l : LaneRow) → k < 64 → lengths
 unfolding putRow
 places-put w k i l hk h = getD-set-other (set w (laneWord k + 1) (l .time .0)) (laneWord k + 2) i (l .head + laneDepth * l .count) 0 (omega arith) ∙ getD-set-other w (laneWord k + 1) i (l .time .0) 0 (omega arith)
 
-pub entry-put : (w : List ℕ) (k i : ℕ) (l : LaneRow) → k < 64 → entryAt (putRow w k l) (placeOf k i) ≡ entryAt w (placeOf k i)
+pub entry-put : (w : List ℕ) (k i : ℕ) (l : LaneRow) → k < 64 → entryAt (putRow w k l) (placeInLane k i) ≡ entryAt w (placeInLane k i)
 entry-put w k i l hk = place-kept w (putRow w k l) k (λ j p q. places-put w k j l hk (omega arith)) (λ j p q. places-put w k j l hk (omega arith)) i
 
 -- and its round
@@ -63,7 +63,7 @@ module _ (w : List ℕ) (k : ℕ) (l : LaneRow) (hk : k < 64) where
   housed-put = housed-kept w (putRow w k l) k (λ j p q. places-put w k j l hk (omega arith)) (λ j p q. places-put w k j l hk (omega arith)) (λ j p q. places-put w k j l hk (omega arith)) (round-put w k l)
 
 -- the lane, once its row is stored
-pub lane-put : (w : List ℕ) (k x h n : ℕ) → length w ≡ CELLS → k < 64 → h < laneDepth → presentAt w k ≡ true → laneOf (putRow w k (retimed (rowAt w k) x h n)) k ≡ timed (givenOf (rowAt w k)) x (waitingOf w k (retimed (rowAt w k) x h n))
+pub lane-put : (w : List ℕ) (k x h n : ℕ) → length w ≡ CELLS → k < 64 → h < laneDepth → presentAt w k ≡ true → laneOf (putRow w k (retimed (rowAt w k) x h n)) k ≡ timedByWord (givenOf (rowAt w k)) x (waitingOf w k (retimed (rowAt w k) x h n))
 unfolding laneOf rowLane
 lane-put w k x h n len hk small p =
     rw (present-put w k (retimed (rowAt w k) x h n), p, row-put w k x h n len hk small, waiting-put w k (retimed (rowAt w k) x h n) hk (retimed (rowAt w k) x h n))
@@ -74,7 +74,7 @@ row-framing w k = refl
 
 -- ---- which lanes are in the setup, and what their rows say of them
 
-pub lane-present : (w : List ℕ) (k : ℕ) → presentAt w k ≡ true → laneOf w k ≡ timed (givenOf (rowAt w k)) (rowAt w k .time .0) (waitingOf w k (rowAt w k))
+pub lane-present : (w : List ℕ) (k : ℕ) → presentAt w k ≡ true → laneOf w k ≡ timedByWord (givenOf (rowAt w k)) (rowAt w k .time .0) (waitingOf w k (rowAt w k))
 unfolding laneOf rowLane
 lane-present w k p = rw p
 
@@ -100,18 +100,18 @@ holds-present w o k hk h = by-holds w k (presentAt w k) refl (rw (lane-is w o k 
 
 -- ---- what its row says of a lane in the setup
 
-pub length-ring : (w : List ℕ) (k h n : ℕ) → length (ringOf w k h n) ≡ n
-unfolding ringOf
+pub length-ring : (w : List ℕ) (k h n : ℕ) → length (laneRing w k h n) ≡ n
+unfolding laneRing
 length-ring w k h n = length-tab n _
 
 -- what waits in a lane, by its row
 module _ (w : List ℕ) (k : ℕ) (l : LaneRow) where
-  pub waiting-plain : l .shared ≡ false → waitingOf w k l ≡ plain (ringOf w k (l .head) (l .count))
+  pub waiting-plain : l .shared ≡ false → waitingOf w k l ≡ plain (laneRing w k (l .head) (l .count))
   unfolding waitingOf
   waiting-plain e = rw e
 
   pub waiting-none : l .count ≡ 0 → waitingOf w k l ≡ nothing (l .shared)
-  unfolding waitingOf sharedIf ringOf tab tabFrom
+  unfolding waitingOf sharedIf laneRing tab tabFrom
   waiting-none e = rw e (go (l .shared))
     where
       go : (b : Bool) → (if b then shared empty else plain []) ≡ nothing b
@@ -131,7 +131,7 @@ module _ (w : List ℕ) (k : ℕ) (l : LaneRow) where
   unfolding waitingOf isShared sharedIf
   waiting-kind = go (l .shared) (l .count)
     where
-      go : (b : Bool) (n : ℕ) → isShared (if b then sharedIf n (sharedAt w k) else plain (ringOf w k (l .head) (l .count))) ≡ b
+      go : (b : Bool) (n : ℕ) → isShared (if b then sharedIf n (sharedAt w k) else plain (laneRing w k (l .head) (l .count))) ≡ b
       go false n = refl
       go true zero = refl
       go true (suc n) = refl
@@ -141,7 +141,7 @@ module _ (w : List ℕ) (k : ℕ) (l : LaneRow) where
   unfolding waitingOf held sharedIf
   waiting-held h = go (l .shared) (l .count) refl refl
     where
-      go : (b : Bool) (n : ℕ) → l .shared ≡ b → l .count ≡ n → held (if b then sharedIf n (sharedAt w k) else plain (ringOf w k (l .head) (l .count))) ≡ l .count
+      go : (b : Bool) (n : ℕ) → l .shared ≡ b → l .count ≡ n → held (if b then sharedIf n (sharedAt w k) else plain (laneRing w k (l .head) (l .count))) ≡ l .count
       go false n e q = length-ring w k _ _
       go true zero e q = held-nothing true ∙ sym q
       go true (suc n) e q = h (omega arith) .trains e .counted

@@ -8,7 +8,7 @@ use Rattle.waiting.specs.Waiting.{Waiting, nothing, first, enter, handOut}
 use Rattle.waiting.proofs.Laws.{first-nothing}
 use Rattle.rules.specs.Calls as rules
 use Rattle.rules.specs.Calls.{appended, woken, served, idle}
-use Rattle.table.specs.Means.{timed}
+use Rattle.table.specs.Means.{timedByWord}
 
 -- ---- its parts
 
@@ -28,25 +28,25 @@ start-by g x w none h = absurd (false≢true h)
 start-by g x w (some r) h = refl
 
 module _ (g : Setting) (x : ℕ) (w : Waiting) where
-  pub timed-given : timed g x w .given ≡ g
-  unfolding timed
+  pub timed-given : timedByWord g x w .given ≡ g
+  unfolding timedByWord
   timed-given = given-by g x w (first w)
 
-  pub timed-waiting : timed g x w .waiting ≡ w
-  unfolding timed
+  pub timed-waiting : timedByWord g x w .waiting ≡ w
+  unfolding timedByWord
   timed-waiting = waiting-by g x w (first w)
 
   -- a holding lane's clock word is its S, and an idle one's is its F
-  pub timed-start : some? (first w) ≡ true → timed g x w .start ≡ x
-  unfolding timed
+  pub timed-start : some? (first w) ≡ true → timedByWord g x w .start ≡ x
+  unfolding timedByWord
   timed-start = start-by g x w (first w)
 
-  pub timed-none : first w ≡ none → timed g x w ≡ record { given = g; start = 0; finish = x; waiting = w }
-  unfolding timed rules.timed
+  pub timed-none : first w ≡ none → timedByWord g x w ≡ record { given = g; start = 0; finish = x; waiting = w }
+  unfolding timedByWord rules.timed
   timed-none e = rw e
 
-  pub timed-some : (r : Rec) → first w ≡ some r → timed g x w ≡ record { given = g; start = x; finish = x + charge g (r .len) * rate g; waiting = w }
-  unfolding timed rules.timed
+  pub timed-some : (r : Rec) → first w ≡ some r → timedByWord g x w ≡ record { given = g; start = x; finish = x + charge g (r .len) * rate g; waiting = w }
+  unfolding timedByWord rules.timed
   timed-some r e = rw e
 
 -- ---- changed by a call
@@ -57,21 +57,21 @@ appended-by g x w none r = refl
 appended-by g x w (some y) r = refl
 
 -- put on a holding lane: its first record stays
-pub timed-appended : (g : Setting) (x : ℕ) (w : Waiting) (r : Rec) → first (enter (g .longest) w r) ≡ first w → appended (timed g x w) r ≡ timed g x (enter (g .longest) w r)
-unfolding timed
+pub timed-appended : (g : Setting) (x : ℕ) (w : Waiting) (r : Rec) → first (enter (g .longest) w r) ≡ first w → appended (timedByWord g x w) r ≡ timedByWord g x (enter (g .longest) w r)
+unfolding timedByWord
 timed-appended g x w r e = rw e (appended-by g x w (first w) r)
 
 -- put on an idle lane
-pub timed-woken : (g : Setting) (v x : ℕ) (w : Waiting) (r : Rec) → first w ≡ none → first (enter (g .longest) w r) ≡ some r → woken v (timed g x w) r ≡ timed g (max x v) (enter (g .longest) w r)
+pub timed-woken : (g : Setting) (v x : ℕ) (w : Waiting) (r : Rec) → first w ≡ none → first (enter (g .longest) w r) ≡ some r → woken v (timedByWord g x w) r ≡ timedByWord g (max x v) (enter (g .longest) w r)
 unfolding woken
 timed-woken g v x w r none-first e = rw (timed-none g x w none-first, timed-some g (max x v) (enter (g .longest) w r) r e)
 
 -- take: the new clock word is F, whether the lane holds more or not
-pub timed-served : (g : Setting) (x : ℕ) (w : Waiting) (r : Rec) → first w ≡ some r → served (timed g x w) ≡ timed g (x + charge g (r .len) * rate g) (handOut (g .longest) w)
-unfolding timed served
+pub timed-served : (g : Setting) (x : ℕ) (w : Waiting) (r : Rec) → first w ≡ some r → served (timedByWord g x w) ≡ timedByWord g (x + charge g (r .len) * rate g) (handOut (g .longest) w)
+unfolding timedByWord served
 timed-served g x w r e = ap served (timed-some g x w r e)
 
 -- fresh
-pub timed-idle : (g : Setting) → idle g ≡ timed g 0 (nothing (g .shared))
+pub timed-idle : (g : Setting) → idle g ≡ timedByWord g 0 (nothing (g .shared))
 unfolding idle
 timed-idle g = rw (timed-none g 0 (nothing (g .shared)) (first-nothing (g .shared)))

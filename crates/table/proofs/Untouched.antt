@@ -5,7 +5,7 @@ use mathlib.Core.List.{List}
 use native.Mathlib.Omega.{arith}
 use lib.ListN.{getD, set}
 use lib.Seq.{getD-set-other}
-use Rattle.table.specs.Layout.{presentWord, framingWord, laneWord, roundWord, placeOf, lengthsCell, lengthWords, trainsCell, rowAt, putRow, putEntry, clearCells, putTrain}
+use Rattle.table.specs.Layout.{presentWord, framingWord, laneWord, roundWord, placeInLane, lengthsCell, lengthWords, trainsCell, rowAt, putRow, putEntry, clearCells, putTrain}
 use Rattle.table.specs.Means.{presentAt}
 use Rattle.table.specs.declared.LaneRow.{LaneRow}
 use Rattle.table.specs.declared.Entry.{Entry}
@@ -27,8 +27,8 @@ outside-row w k l =
           ∙ getD-set-other w (laneWord k + 1) i (l .time .0) 0 (λ e. p (omega arith) (omega arith));
     }
 
-pub outside-place : (w : List ℕ) (k i : ℕ) (e : Entry) → Outside w (putEntry w (placeOf k i) e) k
-outside-place w k i e = record { kept = λ j p q r y. put-other w (placeOf k i) e j (λ x. q (omega arith) (omega arith)) (λ x. r (omega arith) (omega arith)) }
+pub outside-place : (w : List ℕ) (k i : ℕ) (e : Entry) → Outside w (putEntry w (placeInLane k i) e) k
+outside-place w k i e = record { kept = λ j p q r y. put-other w (placeInLane k i) e j (λ x. q (omega arith) (omega arith)) (λ x. r (omega arith) (omega arith)) }
 
 pub outside-cleared : (w : List ℕ) (k : ℕ) → Outside w (clearCells w (lengthsCell + lengthWords * k) lengthWords) k
 outside-cleared w k = record { kept = λ j p q r x. clear-other w (lengthsCell + lengthWords * k) lengthWords j q }

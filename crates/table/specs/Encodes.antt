@@ -5,10 +5,10 @@ use mathlib.Core.List.{List}
 use Rattle.rules.specs.State.{State}
 use Rattle.alike.specs.Alike.{Alike}
 use Rattle.table.specs.Layout.{Room, cells}
-use Rattle.table.specs.Means.{Beside, Listed, meant}
+use Rattle.table.specs.Means.{RowsFit, Listed, meant}
 
 pub record Encodes (t : List ℕ) (s : State) : Type 0 where
   pub room : Room t
   pub alike : Alike (meant t) s
-  pub beside : Beside (cells t)
+  pub beside : RowsFit (cells t)
   pub listed : Listed t

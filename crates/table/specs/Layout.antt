@@ -1,29 +1,29 @@
 -- Where a table's parts lie (docs/TABLE.md), and what a store leaves. First come single words, the lanes' rows and their records' lengths, 1,360 words;
 -- then the slot lists (crate slot_lists); then the records' marks, and the numbers of the shared lanes' trains.
 --
---   SIZE, Room       the size, in bytes, of what the calls of the rules know: the core of a table; bytes that are long enough for it
---   pageBytes        the bytes behind the core, for the settings page that waits (crate editions)
---   tableSize        the fixed size of a table, in bytes: both
---   Front            bytes that are long enough for the words before the slot lists
---   CELLS, cells     the words before and behind the slot lists, one after another; their number
---   wordOf           the word that a cell is
---   Behind           the bytes that are no cell stay: the slot lists, and all past the core
---   Now              what a store in the cells leaves
---   laneWord         the first of lane k's words: its setting; timeWord, ringWord, roundWord: the others
+--   SIZE, Room                                    the size, in bytes, of what the calls of the rules know: the core of a table; bytes that are long enough for it
+--   pagePartBytes                                 the bytes behind the core, for the settings page that waits (crate editions)
+--   tableSize                                     the fixed size of a table, in bytes: both
+--   Front                                         bytes that are long enough for the words before the slot lists
+--   CELLS, cells                                  the words before and behind the slot lists, one after another; their number
+--   wordOfCell                                    the word that a cell is
+--   Behind                                        the bytes that are no cell stay: the slot lists, and all past the core
+--   Now                                           what a store in the cells leaves
+--   laneWord                                      the first of lane k's words: its setting; timeWord, ringWord, roundWord: the others
 --   weightFrom, groupFrom, rateFrom, sharedFrom   the first bits of the parts of a setting word
---   depthWord        the word of a lane's room, which tells this layout from those before it
---   framingWord      the word of h, the line's framing bytes
---   rowOf, rowAt     a lane's first three words, taken apart, with the line's framing bytes
---   pacedWord        a setting word with another c and group; putPace: the cells with lane k's setting word so
---   roundAt          a shared lane's fourth word: the round's number (crate turns)
---   placeCount       the places of all lanes; halfCount: with the trains' numbers, which lie behind their marks as marks would
---   placeOf          the number of lane k's place i among all places, i counted on past the ring's end
---   lengthWords      the words of the lengths of a lane's places; markWords: of their marks
---   lengthBits, markBits   the bits of a length, and of a mark
---   lengthCell       the cell of a place's length less one, four in a cell; markCell: of its mark, two in a cell
---   entryAt          the record at a place; putEntry: the cells with a record stored there
---   trainNumber      the number of lane k's train j (crate turns); trainPlace: its place, counted on behind those of the records
---   clearCells       the cells with n cells of 0 from a cell on
+--   depthWord                                     the word of a lane's room, which tells this layout from those before it
+--   framingWord                                   the word of h, the line's framing bytes
+--   rowOf, rowAt                                  a lane's first three words, taken apart, with the line's framing bytes
+--   pacedWord                                     a setting word with another c and group; putPace: the cells with lane k's setting word so
+--   roundAt                                       a shared lane's fourth word: the round's number (crate turns)
+--   placeCount                                    the places of all lanes; halfCount: with the trains' numbers, which lie behind their marks as marks would
+--   placeInLane                                   the number of lane k's place i among all places, i counted on past the ring's end
+--   lengthWords                                   the words of the lengths of a lane's places; markWords: of their marks
+--   lengthBits, markBits                          the bits of a length, and of a mark
+--   lengthCell                                    the cell of a place's length less one, four in a cell; markCell: of its mark, two in a cell
+--   entryAt                                       the record at a place; putEntry: the cells with a record stored there
+--   trainNumber                                   the number of lane k's train j (crate turns); trainPlace: its place, counted on behind those of the records
+--   clearCells                                    the cells with n cells of 0 from a cell on
 --
 -- Assumes nothing.
 use mathlib.Core.Path.{_≡_}
@@ -70,12 +70,12 @@ abbrev pub SIZE : ℕ
 SIZE = trainsEnd
 
 -- the last edition and a waiting page, and room for what is to come (docs/TABLE.md)
-abbrev pub pageBytes : ℕ
-pageBytes = 2048
+abbrev pub pagePartBytes : ℕ
+pagePartBytes = 2048
 
 -- R6.1, R13.7: 65,536
 abbrev pub tableSize : ℕ
-tableSize = SIZE + pageBytes
+tableSize = SIZE + pagePartBytes
 
 -- R6.1
 abbrev pub Room : List ℕ → Type 0
@@ -85,11 +85,11 @@ Room t = SIZE ≤ length t
 abbrev pub Front : List ℕ → Type 0
 Front t = marksCell * wordBytes ≤ length t
 
-unfoldable pub wordOf : ℕ → ℕ
-wordOf i = if ltb i marksCell then i else i - marksCell + ringsEnd / wordBytes
+unfoldable pub wordOfCell : ℕ → ℕ
+wordOfCell i = if ltb i marksCell then i else i - marksCell + ringsEnd / wordBytes
 
 unfoldable pub cells : List ℕ → List ℕ
-cells t = tab CELLS (λ i. wordAt t (wordOf i))
+cells t = tab CELLS (λ i. wordAt t (wordOfCell i))
 
 pub record Behind (before after : List ℕ) : Type 0 where
   pub lists : (a : ℕ) → listsFrom * wordBytes ≤ a → a < ringsEnd → getD after a 0 ≡ getD before a 0
@@ -178,8 +178,8 @@ putRing w k head count = set w (ringWord k) (head + laneDepth * count)
 
 -- ---- a record
 
-abbrev pub placeOf : ℕ → ℕ → ℕ
-placeOf k i = laneDepth * k + i % laneDepth
+abbrev pub placeInLane : ℕ → ℕ → ℕ
+placeInLane k i = laneDepth * k + i % laneDepth
 
 -- 16 and 32
 abbrev pub lengthWords : ℕ

@@ -10,7 +10,7 @@
 ghost use mathlib.Core.Path.{_≡_};
 ghost use Prim.Native.Nat.{_+_, _*_, _^_, _<_, _≤_};
 ghost use lib.ListN.{getD, set};
-ghost use Rattle.table.specs.Layout.{Room, Front, marksCell, lengthsCell, lengthWords, trainsCell, Now, cells, rowAt, putRow, putPace, putRing, entryAt, putEntry, placeOf, clearCells, roundWord, roundAt, trainNumber, putTrain};
+ghost use Rattle.table.specs.Layout.{Room, Front, marksCell, lengthsCell, lengthWords, trainsCell, Now, cells, rowAt, putRow, putPace, putRing, entryAt, putEntry, placeInLane, clearCells, roundWord, roundAt, trainNumber, putTrain};
 ghost use Rattle.rules.specs.State.{charge, laneDepth};
 ghost use Rattle.table.specs.Means.{presentAt, Next, givenOf, meant, RowAgrees, Paces, Sound, Leaves, withClock};
 use digits::half;
@@ -189,7 +189,7 @@ pub fn set_ring(t: &mut [u8], k: usize, head: u64, count: u64)
 // The record at place `i` of lane `k`'s ring, `i` counted on past the ring's end.
 pub fn record_at(t: &[u8], k: usize, i: u64) -> Entry
     requires { ⌜ Room (now t) × (k < 64) ⌝ }
-    ensures { λ r. ⌜ (r ≡ entryAt (cells (now (t .entry))) (placeOf k i)) × (r .length .0 ≤ 2 ^ 16) ⌝ }
+    ensures { λ r. ⌜ (r ≡ entryAt (cells (now (t .entry))) (placeInLane k i)) × (r .length .0 ≤ 2 ^ 16) ⌝ }
 {
     let place = PLACES * k + (i % DEPTH) as usize;
     let length = quarter(t, 4 * LENGTHS + place) + 1;
@@ -203,7 +203,7 @@ pub fn record_at(t: &[u8], k: usize, i: u64) -> Entry
 // Stores a record at place `i` of lane `k`'s ring.
 pub fn set_record(t: &mut [u8], k: usize, i: u64, e: Entry)
     requires { ⌜ Room (now t) × (k < 64) × (0 < e .length .0) × (e .length .0 ≤ 2 ^ 16) ⌝ }
-    ensures { λ _. ⌜ Now (now (t .entry)) (now (t .exit)) (putEntry (cells (now (t .entry))) (placeOf k i) e) ⌝ }
+    ensures { λ _. ⌜ Now (now (t .entry)) (now (t .exit)) (putEntry (cells (now (t .entry))) (placeInLane k i) e) ⌝ }
 {
     let place = PLACES * k + (i % DEPTH) as usize;
     set_quarter(t, 4 * LENGTHS + place, e.length.0 - 1);

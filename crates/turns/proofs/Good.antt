@@ -9,11 +9,11 @@ use lib.Dec.{eqb}
 use lib.ListN.{length, getD}
 use borrow.Author.Tests.{eq-eqb, ne-eqb}
 use Rattle.units.specs.Plain.{if_then_else_, times}
-use Rattle.rounds.specs.Round.{Rec, Train, Shared, Moving, noTrain, some?, trainAt, inTurn, firstOf, firstIn, first}
-use Rattle.rounds.specs.Good.{Lengths, Deficit, GoodTrain, Good}
+use Rattle.rounds.specs.Round.{BareRec, Train, Shared, TrainItem, noTrain, queued?, trainAt, inTurn, firstOfTrain, firstInTurn, sharedFirst}
+use Rattle.rounds.specs.Good.{Lengths, Deficit, GoodTrain, GoodShared}
 use Rattle.rounds.proofs.Lists.{same-or}
 use Rattle.rounds.proofs.KeepHand.{named-holds, held-inside, turn-holds}
-use Rattle.turns.specs.Turns.{headOf, countOf, deficitOf, placeOf, ringOf, trainOf, trainsOf, sharedOf, fours, namedOf, orderOf, roundOf, turnOf, Ordered, Known, Light}
+use Rattle.turns.specs.Turns.{headOf, countOf, deficitOf, placeInTrain, trainRing, trainOf, trainsOf, sharedOf, fours, namedOf, orderOf, roundOf, turnOf, Ordered, Known, Light}
 use Rattle.turns.proofs.Round.{length-fours, round-cons}
 use Rattle.turns.proofs.Train.{length-ring, ring-none, ring-cons, train-is}
 
@@ -71,14 +71,14 @@ count-less f (suc n) i h p z =
 
 -- ---- by the rule for a good lane
 
-module _ (L r : ℕ) (at : ℕ → Rec) (ts : ℕ → ℕ) (good : Good L (sharedOf at ts r)) where
+module _ (L r : ℕ) (at : ℕ → BareRec) (ts : ℕ → ℕ) (good : GoodShared L (sharedOf at ts r)) where
   pub good-each : (k : ℕ) → k < 8 → GoodTrain L (inTurn k (roundOf r)) (times k (roundOf r)) (trainOf at k (ts k))
   unfolding sharedOf
   good-each k h = subst (GoodTrain L (inTurn k (roundOf r)) (times k (roundOf r))) (train-is ts at k h) (good .each k)
 
   pub good-once : (k : ℕ) → times k (roundOf r) ≤ 1
   unfolding sharedOf
-  good-once k = go (some? (trainAt (sharedOf at ts r) k .queue)) (good .each k .named-once)
+  good-once k = go (queued? (trainAt (sharedOf at ts r) k .queue)) (good .each k .named-once)
     where
       go : (b : Bool) → times k (roundOf r) ≡ (if b then 1 else 0) → times k (roundOf r) ≤ 1
       go true e = omega arith
@@ -94,9 +94,9 @@ module _ (L r : ℕ) (at : ℕ → Rec) (ts : ℕ → ℕ) (good : Good L (share
 
   pub good-light : L ≤ 1500 → (k : ℕ) → k < 8 → Light (ts k)
   unfolding trainOf
-  good-light short k h = (good-count k h, below (inTurn k (roundOf r)) (ringOf at k (headOf (ts k)) (countOf (ts k))) (good-each k h .deficit) (good-each k h .lengths))
+  good-light short k h = (good-count k h, below (inTurn k (roundOf r)) (trainRing at k (headOf (ts k)) (countOf (ts k))) (good-each k h .deficit) (good-each k h .lengths))
     where
-      below : (turn : Bool) (q : List Rec) → Deficit L turn (deficitOf (ts k)) q → Lengths L q → deficitOf (ts k) < 3000
+      below : (turn : Bool) (q : List BareRec) → Deficit L turn (deficitOf (ts k)) q → Lengths L q → deficitOf (ts k) < 3000
       below turn [] d l = omega (arith, d)
       below true (x ∷ xs) d l = omega (arith, d .1)
       below false (x ∷ xs) d l = omega (arith, d, l .1)
@@ -105,7 +105,7 @@ module _ (L r : ℕ) (at : ℕ → Rec) (ts : ℕ → ℕ) (good : Good L (share
   pub good-room : (k : ℕ) → k < 8 → countOf (ts k) ≡ 0 → namedOf r < 8
   unfolding trainOf roundOf
   good-room k h z =
-      let none-held : some? (ringOf at k (headOf (ts k)) (countOf (ts k))) ≡ false = ap some? (ap (ringOf at k (headOf (ts k))) z ∙ ring-none at k (headOf (ts k))) in
+      let none-held : queued? (trainRing at k (headOf (ts k)) (countOf (ts k))) ≡ false = ap queued? (ap (trainRing at k (headOf (ts k))) z ∙ ring-none at k (headOf (ts k))) in
       let none-named : times k (roundOf r) ≡ 0 = good-each k h .named-once ∙ ap (λ (b : Bool). if b then 1 else 0) none-held in
       omega (
         arith,
@@ -139,25 +139,25 @@ module _ (L r : ℕ) (at : ℕ → Rec) (ts : ℕ → ℕ) (good : Good L (share
     in-turn : GoodTrain L true (times k (roundOf r)) (trainOf at k (ts k))
     in-turn = subst (λ (b : Bool). GoodTrain L b (times k (roundOf r)) (trainOf at k (ts k))) (ap (inTurn k) cons ∙ eq-eqb k k refl) (good-each k turn-known)
 
-    holds-k : some? (trainOf at k (ts k) .queue) ≡ true
+    holds-k : queued? (trainOf at k (ts k) .queue) ≡ true
     holds-k =
-        subst (λ (t : Train). some? (t .queue) ≡ true) (train-is ts at k turn-known) (turn-holds L (trainsOf at ts) k ks (subst (Good L) lane-is good))
+        subst (λ (t : Train). queued? (t .queue) ≡ true) (train-is ts at k turn-known) (turn-holds L (trainsOf at ts) k ks (subst (GoodShared L) lane-is good))
 
     pub turn-count : 0 < countOf (ts k)
     unfolding trainOf
     turn-count = go (countOf (ts k)) refl
       where
         go : (c : ℕ) → countOf (ts k) ≡ c → 0 < countOf (ts k)
-        go zero z = absurd (false≢true (ap some? (sym (ap (ringOf at k h) z ∙ ring-none at k h)) ∙ holds-k))
+        go zero z = absurd (false≢true (ap queued? (sym (ap (trainRing at k h) z ∙ ring-none at k h)) ∙ holds-k))
         go (suc c) z = omega arith
 
-    queue-is : ringOf at k h (countOf (ts k)) ≡ at (placeOf k h) ∷ ringOf at k ((h + 1) % 8) (countOf (ts k) - 1)
-    queue-is = let c : countOf (ts k) ≡ suc (countOf (ts k) - 1) = omega (arith, turn-count) in ap (ringOf at k h) c ∙ ring-cons at k h (countOf (ts k) - 1)
+    queue-is : trainRing at k h (countOf (ts k)) ≡ at (placeInTrain k h) ∷ trainRing at k ((h + 1) % 8) (countOf (ts k) - 1)
+    queue-is = let c : countOf (ts k) ≡ suc (countOf (ts k) - 1) = omega (arith, turn-count) in ap (trainRing at k h) c ∙ ring-cons at k h (countOf (ts k) - 1)
 
-    pub turn-covers : at (placeOf k h) .len ≤ deficitOf (ts k)
+    pub turn-covers : at (placeInTrain k h) .len ≤ deficitOf (ts k)
     unfolding trainOf
     turn-covers = (subst (Deficit L true (deficitOf (ts k))) queue-is (in-turn .deficit)) .0
 
-    pub chosen-is : first (sharedOf at ts r) ≡ some (record { train = k; item = at (placeOf k h) })
-    unfolding first firstIn firstOf trainOf
-    chosen-is = ap first lane-is ∙ ap (λ (t : Train). firstOf k (t .queue)) (train-is ts at k turn-known) ∙ ap (firstOf k) queue-is
+    pub chosen-is : sharedFirst (sharedOf at ts r) ≡ some (record { train = k; item = at (placeInTrain k h) })
+    unfolding sharedFirst firstInTurn firstOfTrain trainOf
+    chosen-is = ap sharedFirst lane-is ∙ ap (λ (t : Train). firstOfTrain k (t .queue)) (train-is ts at k turn-known) ∙ ap (firstOfTrain k) queue-is

@@ -7,9 +7,9 @@ use mathlib.Core.List.{List, [], _∷_, _++_}
 use lib.ListN.{length, set}
 use borrow.Author.Tests.{le-leb, lt-leb, eq-eqb}
 use Rattle.units.specs.Plain.{times}
-use Rattle.rounds.specs.Round.{Rec, Train, noTrain, begin, handOf, handIn, handOut}
+use Rattle.rounds.specs.Round.{BareRec, Train, noTrain, begin, handOf, handIn, sharedHandOut}
 use Rattle.rounds.proofs.Lists.{times-append}
-use Rattle.turns.specs.Turns.{headOf, countOf, deficitOf, placeOf, ringOf, trainOf, trainsOf, sharedOf, fours, namedOf, orderOf, roundOf, turnOf, Ordered, Known, Light, with, begun, HandsOut}
+use Rattle.turns.specs.Turns.{headOf, countOf, deficitOf, placeInTrain, trainRing, trainOf, trainsOf, sharedOf, fours, namedOf, orderOf, roundOf, turnOf, Ordered, Known, Light, with, begun, HandsOutTurn}
 use Rattle.turns.proofs.Round.{round-cons, ordered-rest, round-rest, named-rest, ordered-turned, round-turned, named-turned}
 use Rattle.turns.proofs.Train.{ring-none, ring-cons, train-made, trains-with, train-is, begin-is, not-begun}
 
@@ -54,12 +54,12 @@ module _ (t r : ℕ) (light : Light t) (some-held : 0 < countOf t) (o : Ordered 
   turned-turn : turnOf turned < 8
   turned-turn = turn-of turned m (ordered-turned r m o named) (named-turned r m o named) (λ i p. turned-known i (subst (λ (x : List ℕ). 0 < times i x) (round-turned r m o named) p))
 
-  module _ (L : ℕ) (at : ℕ → Rec) (ts : ℕ → ℕ) (is : ts k ≡ t) where
-    abbrev e : Rec
-    e = at (placeOf k (headOf t))
+  module _ (L : ℕ) (at : ℕ → BareRec) (ts : ℕ → ℕ) (is : ts k ≡ t) where
+    abbrev e : BareRec
+    e = at (placeInTrain k (headOf t))
 
-    handed-is : handOut L (sharedOf at ts r) ≡ handOf L (trainsOf at ts) k ks (deficitOf t) (ringOf at k (headOf t) (countOf t))
-    unfolding handOut handIn trainOf sharedOf
+    handed-is : sharedHandOut L (sharedOf at ts r) ≡ handOf L (trainsOf at ts) k ks (deficitOf t) (trainRing at k (headOf t) (countOf t))
+    unfolding sharedHandOut handIn trainOf sharedOf
     handed-is = rw (round-cons r m o named) (ap (λ (x : Train). handOf L (trainsOf at ts) k ks (x .deficit) (x .queue)) (train-is ts at k turn-small ∙ ap (trainOf at k) is))
 
     -- the only record: the train leaves the round
@@ -68,16 +68,16 @@ module _ (t r : ℕ) (light : Light t) (some-held : 0 < countOf t) (o : Ordered 
       last-trains =
           let number : h ≡ h + 8 * 0 + 128 * 0 = omega arith in
           trains-with ts at k h turn-small
-          ∙ ap (set (trainsOf at ts) k) (ap (trainOf at k) number ∙ train-made at k h 0 0 (omega arith) (omega arith) ∙ ap (λ (q : List Rec). record { deficit = 0; queue = q }) (ring-none at k h))
+          ∙ ap (set (trainsOf at ts) k) (ap (trainOf at k) number ∙ train-made at k h 0 0 (omega arith) (omega arith) ∙ ap (λ (q : List BareRec). record { deficit = 0; queue = q }) (ring-none at k h))
 
-      last-is : handOut L (sharedOf at ts r) ≡ begin L (trainsOf at (with ts k h)) ks
+      last-is : sharedHandOut L (sharedOf at ts r) ≡ begin L (trainsOf at (with ts k h)) ks
       unfolding handOf
       last-is =
           handed-is
-          ∙ ap (handOf L (trainsOf at ts) k ks (deficitOf t)) (ap (ringOf at k (headOf t)) one ∙ ring-cons at k (headOf t) 0 ∙ ap (λ (q : List Rec). e ∷ q) (ring-none at k h))
+          ∙ ap (handOf L (trainsOf at ts) k ks (deficitOf t)) (ap (trainRing at k (headOf t)) one ∙ ring-cons at k (headOf t) 0 ∙ ap (λ (q : List BareRec). e ∷ q) (ring-none at k h))
           ∙ ap (λ (x : List Train). begin L x ks) (sym last-trains)
 
-      last-none : m ≡ 0 → sharedOf at (begun L false (with ts k h) left) left ≡ handOut L (sharedOf at ts r)
+      last-none : m ≡ 0 → sharedOf at (begun L false (with ts k h) left) left ≡ sharedHandOut L (sharedOf at ts r)
       unfolding fours begin
       last-none z =
           not-begun (with ts k h) at L left
@@ -90,7 +90,7 @@ module _ (t r : ℕ) (light : Light t) (some-held : 0 < countOf t) (o : Ordered 
           over : begin L (trainsOf at (with ts k h)) [] ≡ record { trains = trainsOf at (with ts k h); round = [] }
           over = refl
 
-      last-some : (n : ℕ) → m ≡ suc n → sharedOf at (begun L true (with ts k h) left) left ≡ handOut L (sharedOf at ts r)
+      last-some : (n : ℕ) → m ≡ suc n → sharedOf at (begun L true (with ts k h) left) left ≡ sharedHandOut L (sharedOf at ts r)
       last-some n z =
           let cons : roundOf left ≡ turnOf left ∷ fours n (orderOf left / 16) = round-cons left n (ordered-rest r m o named) (named-rest r m o named ∙ z) in
           begin-is (with ts k h) at L left (turnOf left) (fours n (orderOf left / 16)) cons refl (left-turn n z)
@@ -102,18 +102,18 @@ module _ (t r : ℕ) (light : Light t) (some-held : 0 < countOf t) (o : Ordered 
       abbrev x : ℕ
       x = h + 8 * suc c + 128 * d
 
-      abbrev f : Rec
-      f = at (placeOf k h)
+      abbrev f : BareRec
+      f = at (placeInTrain k h)
 
-      queue-is : ringOf at k (headOf t) (countOf t) ≡ e ∷ f ∷ ringOf at k ((h + 1) % 8) c
-      queue-is = ap (ringOf at k (headOf t)) more ∙ ring-cons at k (headOf t) (suc c) ∙ ap (λ (q : List Rec). e ∷ q) (ring-cons at k h c)
+      queue-is : trainRing at k (headOf t) (countOf t) ≡ e ∷ f ∷ trainRing at k ((h + 1) % 8) c
+      queue-is = ap (trainRing at k (headOf t)) more ∙ ring-cons at k (headOf t) (suc c) ∙ ap (λ (q : List BareRec). e ∷ q) (ring-cons at k h c)
 
-      left-trains : trainsOf at (with ts k x) ≡ set (trainsOf at ts) k (record { deficit = deficitOf t - e .len; queue = f ∷ ringOf at k ((h + 1) % 8) c })
+      left-trains : trainsOf at (with ts k x) ≡ set (trainsOf at ts) k (record { deficit = deficitOf t - e .len; queue = f ∷ trainRing at k ((h + 1) % 8) c })
       left-trains =
           trains-with ts at k x turn-small
           ∙ ap (set (trainsOf at ts) k) (train-made at k h (suc c) d (omega arith) (omega (arith, light .0)) ∙ rw (d-is, ring-cons at k h c))
 
-      stays-lane : f .len ≤ d → sharedOf at (begun L false (with ts k x) r) r ≡ handOut L (sharedOf at ts r)
+      stays-lane : f .len ≤ d → sharedOf at (begun L false (with ts k x) r) r ≡ sharedHandOut L (sharedOf at ts r)
       unfolding handOf
       stays-lane p =
           not-begun (with ts k x) at L r
@@ -121,7 +121,7 @@ module _ (t r : ℕ) (light : Light t) (some-held : 0 < countOf t) (o : Ordered 
           ∙ ap (λ (y : List Train). record { trains = y; round = k ∷ ks }) left-trains
           ∙ sym (handed-is ∙ ap (handOf L (trainsOf at ts) k ks (deficitOf t)) queue-is ∙ simp (le-leb (f .len) (deficitOf t - e .len) (omega arith)))
 
-      goes-lane : d < f .len → sharedOf at (begun L true (with ts k x) turned) turned ≡ handOut L (sharedOf at ts r)
+      goes-lane : d < f .len → sharedOf at (begun L true (with ts k x) turned) turned ≡ sharedHandOut L (sharedOf at ts r)
       unfolding handOf
       goes-lane p =
           begin-round
@@ -137,10 +137,10 @@ module _ (t r : ℕ) (light : Light t) (some-held : 0 < countOf t) (o : Ordered 
   -- ---- what it leaves
 
   module _ (length next : ℕ) where
-    pub hands-last-none : countOf t ≡ 1 → m ≡ 0 → HandsOut t r length next (record { train = h; round = left; begins = false })
+    pub hands-last-none : countOf t ≡ 1 → m ≡ 0 → HandsOutTurn t r length next (record { train = h; round = left; begins = false })
     hands-last-none one z = record { lane = λ L at ts is a b. last-none L at ts is one z; ordered = ordered-rest r m o named; small = omega arith; turn = λ q. absurd (false≢true q) }
 
-    pub hands-last-some : (n : ℕ) → countOf t ≡ 1 → m ≡ suc n → HandsOut t r length next (record { train = h; round = left; begins = true })
+    pub hands-last-some : (n : ℕ) → countOf t ≡ 1 → m ≡ suc n → HandsOutTurn t r length next (record { train = h; round = left; begins = true })
     hands-last-some n one z = record { lane = λ L at ts is a b. last-some L at ts is one n z; ordered = ordered-rest r m o named; small = omega arith; turn = λ q. left-turn n z }
 
     module _ (c : ℕ) (more : countOf t ≡ suc (suc c)) where
@@ -153,10 +153,10 @@ module _ (t r : ℕ) (light : Light t) (some-held : 0 < countOf t) (o : Ordered 
       small-x : fewer < 2 ^ 20
       small-x = omega (arith, light .0, light .1)
 
-      next-place : (at : ℕ → Rec) → at (placeOf k (headOf t + 1)) .len ≡ next → at (placeOf k h) .len ≡ next
-      next-place at q = let p : placeOf k h ≡ placeOf k (headOf t + 1) = omega arith in ap (λ (i : ℕ). at i .len) p ∙ q
+      next-place : (at : ℕ → BareRec) → at (placeInTrain k (headOf t + 1)) .len ≡ next → at (placeInTrain k h) .len ≡ next
+      next-place at q = let p : placeInTrain k h ≡ placeInTrain k (headOf t + 1) = omega arith in ap (λ (i : ℕ). at i .len) p ∙ q
 
-      pub hands-stays : next ≤ d → HandsOut t r length next (record { train = fewer; round = r; begins = false })
+      pub hands-stays : next ≤ d → HandsOutTurn t r length next (record { train = fewer; round = r; begins = false })
       hands-stays p = record {
         lane = λ L at ts is a b. stays-lane L at ts is c more d (ap (λ (y : ℕ). deficitOf t - y) (sym a)) (omega (arith, next-place at b));
         ordered = o;
@@ -164,7 +164,7 @@ module _ (t r : ℕ) (light : Light t) (some-held : 0 < countOf t) (o : Ordered 
         turn = λ q. absurd (false≢true q);
       }
 
-      pub hands-goes : d < next → HandsOut t r length next (record { train = fewer; round = turned; begins = true })
+      pub hands-goes : d < next → HandsOutTurn t r length next (record { train = fewer; round = turned; begins = true })
       hands-goes p = record {
         lane = λ L at ts is a b. goes-lane L at ts is c more d (ap (λ (y : ℕ). deficitOf t - y) (sym a)) (omega (arith, next-place at b));
         ordered = ordered-turned r m o named;

@@ -7,8 +7,8 @@ use mathlib.Core.List.{List, [], _∷_, _++_}
 use lib.ListN.{length, getD, set}
 use lib.Seq.{set-set, getD-set-same}
 use Rattle.units.specs.Plain.{if_then_else_}
-use Rattle.rounds.specs.Round.{Rec, Train, Shared, noTrain, some?, holds, trainAt, raised, added, join, put, begin}
-use Rattle.turns.specs.Turns.{headOf, countOf, deficitOf, placeOf, ringOf, trainOf, trainsOf, sharedOf, fours, namedOf, orderOf, roundOf, turnOf, Ordered, Light, with, begun, Puts}
+use Rattle.rounds.specs.Round.{BareRec, Train, Shared, noTrain, queued?, trainHolds, trainAt, raised, added, join, sharedPut, begin}
+use Rattle.turns.specs.Turns.{headOf, countOf, deficitOf, placeInTrain, trainRing, trainOf, trainsOf, sharedOf, fours, namedOf, orderOf, roundOf, turnOf, Ordered, Light, with, begun, Puts}
 use Rattle.turns.proofs.Round.{round-made, ordered-made, ordered-joined, round-joined, joined-small}
 use Rattle.turns.proofs.Train.{parts, ring-none, ring-cons, train-more, train-raised, trains-with, train-is, length-trains}
 
@@ -17,25 +17,25 @@ positive : ℕ → Bool
 positive zero = false
 positive (suc c) = true
 
-some-ring : (at : ℕ → Rec) (k h c : ℕ) → some? (ringOf at k h c) ≡ positive c
+some-ring : (at : ℕ → BareRec) (k h c : ℕ) → queued? (trainRing at k h c) ≡ positive c
 unfolding positive
-some-ring at k h zero = ap some? (ring-none at k h)
-some-ring at k h (suc c) = ap some? (ring-cons at k h c)
+some-ring at k h zero = ap queued? (ring-none at k h)
+some-ring at k h (suc c) = ap queued? (ring-cons at k h c)
 
 module _ (L t r k : ℕ) (hk : k < 8) (light : Light t) (room : countOf t < 8) (o : Ordered r) (short : L ≤ 1500) where
   pub more-small : t + 8 < 2 ^ 20
   more-small = omega (arith, parts t, light .1)
 
-  module _ (at : ℕ → Rec) (ts : ℕ → ℕ) (is : ts k ≡ t) where
-    abbrev new : Rec
-    new = at (placeOf k (headOf t + countOf t))
+  module _ (at : ℕ → BareRec) (ts : ℕ → ℕ) (is : ts k ≡ t) where
+    abbrev new : BareRec
+    new = at (placeInTrain k (headOf t + countOf t))
 
     abbrev lane : Shared
     lane = sharedOf at ts r
 
-    holds-is : holds lane k ≡ positive (countOf t)
+    holds-is : trainHolds lane k ≡ positive (countOf t)
     unfolding sharedOf trainOf
-    holds-is = ap (λ (x : Train). some? (x .queue)) (train-is ts at k hk) ∙ rw is (some-ring at k (headOf t) (countOf t))
+    holds-is = ap (λ (x : Train). queued? (x .queue)) (train-is ts at k hk) ∙ rw is (some-ring at k (headOf t) (countOf t))
 
     added-is : set (trainsOf at ts) k (added (trainAt lane k) new) ≡ trainsOf at (with ts k (t + 8))
     unfolding sharedOf
@@ -43,25 +43,25 @@ module _ (L t r k : ℕ) (hk : k < 8) (light : Light t) (room : countOf t < 8) (
         ap (λ (x : Train). set (trainsOf at ts) k (added x new)) (train-is ts at k hk ∙ ap (trainOf at k) is)
         ∙ sym (trains-with ts at k (t + 8) hk ∙ ap (set (trainsOf at ts) k) (train-more at k t room))
 
-    put-by : (b : Bool) → holds lane k ≡ b
-        → put L lane k new ≡ (if b then record { trains = trainsOf at (with ts k (t + 8)); round = roundOf r } else join L (trainsOf at (with ts k (t + 8))) (roundOf r) k)
-    unfolding put sharedOf
+    put-by : (b : Bool) → trainHolds lane k ≡ b
+        → sharedPut L lane k new ≡ (if b then record { trains = trainsOf at (with ts k (t + 8)); round = roundOf r } else join L (trainsOf at (with ts k (t + 8))) (roundOf r) k)
+    unfolding sharedPut sharedOf
     put-by b e = rw (e, added-is)
 
     -- the train held records: nothing else changes
-    more-lane : 0 < countOf t → sharedOf at (with ts k (t + 8)) r ≡ put L lane k new
+    more-lane : 0 < countOf t → sharedOf at (with ts k (t + 8)) r ≡ sharedPut L lane k new
     unfolding sharedOf positive
     more-lane q = sym (put-by true (holds-is ∙ ap positive is-suc))
       where
         is-suc : countOf t ≡ suc (countOf t - 1)
         is-suc = omega arith
 
-    idle : countOf t ≡ 0 → holds lane k ≡ false
+    idle : countOf t ≡ 0 → trainHolds lane k ≡ false
     unfolding positive
     idle z = holds-is ∙ ap positive z
 
     -- the lane was empty: the train's turn begins
-    first-lane : countOf t ≡ 0 → namedOf r ≡ 0 → sharedOf at (with ts k (t + 8 + 128 * L)) (2 ^ 32 + k) ≡ put L lane k new
+    first-lane : countOf t ≡ 0 → namedOf r ≡ 0 → sharedOf at (with ts k (t + 8 + 128 * L)) (2 ^ 32 + k) ≡ sharedPut L lane k new
     unfolding sharedOf join begin fours roundOf
     first-lane z e =
         let one : k % 16 ≡ k = omega arith in
@@ -79,7 +79,7 @@ module _ (L t r k : ℕ) (hk : k < 8) (light : Light t) (room : countOf t < 8) (
         ∙ sym (put-by false (idle z) ∙ ap (λ (x : List ℕ). join L (trainsOf at (with ts k (t + 8))) x k) empty-is)
 
     -- others hold records: the train joins the end of the round
-    joins-lane : countOf t ≡ 0 → 0 < namedOf r → namedOf r < 8 → sharedOf at (with ts k (t + 8)) (r + 2 ^ 32 + k * 16 ^ namedOf r) ≡ put L lane k new
+    joins-lane : countOf t ≡ 0 → 0 < namedOf r → namedOf r < 8 → sharedOf at (with ts k (t + 8)) (r + 2 ^ 32 + k * 16 ^ namedOf r) ≡ sharedPut L lane k new
     unfolding sharedOf join fours roundOf
     joins-lane z some-named few =
         ap (λ (x : List ℕ). record { trains = trainsOf at (with ts k (t + 8)); round = x }) (round-joined r k o few hk)

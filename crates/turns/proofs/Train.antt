@@ -11,8 +11,8 @@ use borrow.Author.Tests.{eq-eqb, ne-eqb}
 use Rattle.units.specs.Plain.{if_then_else_}
 use Rattle.words.specs.Runs.{tab, tabFrom}
 use Rattle.words.proofs.Runs.{tab-ext, tab-set, tab-cons, tab-snoc, length-tab, getD-tab}
-use Rattle.rounds.specs.Round.{Rec, Train, Shared, noTrain, empty, raised, added, begin}
-use Rattle.turns.specs.Turns.{headOf, countOf, deficitOf, placeOf, ringOf, trainOf, trainsOf, sharedOf, fours, roundOf, turnOf, with, begun}
+use Rattle.rounds.specs.Round.{BareRec, Train, Shared, noTrain, empty, raised, added, begin}
+use Rattle.turns.specs.Turns.{headOf, countOf, deficitOf, placeInTrain, trainRing, trainOf, trainsOf, sharedOf, fours, roundOf, turnOf, with, begun}
 
 -- ---- parts of a number
 
@@ -65,32 +65,32 @@ module _ (t : ℕ) where
 
 -- ---- the records of a train
 
-module _ (at : ℕ → Rec) (k : ℕ) where
-  pub length-ring : (h n : ℕ) → length (ringOf at k h n) ≡ n
-  unfolding ringOf
+module _ (at : ℕ → BareRec) (k : ℕ) where
+  pub length-ring : (h n : ℕ) → length (trainRing at k h n) ≡ n
+  unfolding trainRing
   length-ring h n = length-tab n _
 
-  pub ring-none : (h : ℕ) → ringOf at k h 0 ≡ []
-  unfolding ringOf tab tabFrom
+  pub ring-none : (h : ℕ) → trainRing at k h 0 ≡ []
+  unfolding trainRing tab tabFrom
   ring-none h = refl
 
-  pub ring-cons : (h n : ℕ) → ringOf at k h (suc n) ≡ at (placeOf k h) ∷ ringOf at k ((h + 1) % 8) n
-  unfolding ringOf
+  pub ring-cons : (h n : ℕ) → trainRing at k h (suc n) ≡ at (placeInTrain k h) ∷ trainRing at k ((h + 1) % 8) n
+  unfolding trainRing
   ring-cons h n =
-      let next : (i : ℕ) → placeOf k (h + suc i) ≡ placeOf k ((h + 1) % 8 + i) = λ i. omega arith in
-      tab-cons n (λ i. at (placeOf k (h + i))) (λ i. at (placeOf k ((h + 1) % 8 + i))) (λ i. ap at (next i)) ∙ rw add-zero
+      let next : (i : ℕ) → placeInTrain k (h + suc i) ≡ placeInTrain k ((h + 1) % 8 + i) = λ i. omega arith in
+      tab-cons n (λ i. at (placeInTrain k (h + i))) (λ i. at (placeInTrain k ((h + 1) % 8 + i))) (λ i. ap at (next i)) ∙ rw add-zero
 
-  pub ring-snoc : (h n : ℕ) → ringOf at k h (n + 1) ≡ ringOf at k h n ++ (at (placeOf k (h + n)) ∷ [])
-  unfolding ringOf
-  ring-snoc h n = tab-snoc n (λ i. at (placeOf k (h + i)))
+  pub ring-snoc : (h n : ℕ) → trainRing at k h (n + 1) ≡ trainRing at k h n ++ (at (placeInTrain k (h + n)) ∷ [])
+  unfolding trainRing
+  ring-snoc h n = tab-snoc n (λ i. at (placeInTrain k (h + i)))
 
-  pub train-made : (h n d : ℕ) → h < 8 → n < 16 → trainOf at k (h + 8 * n + 128 * d) ≡ record { deficit = d; queue = ringOf at k h n }
+  pub train-made : (h n d : ℕ) → h < 8 → n < 16 → trainOf at k (h + 8 * n + 128 * d) ≡ record { deficit = d; queue = trainRing at k h n }
   unfolding trainOf
   train-made h n d a b = rw (made-head h n d a b, made-count h n d a b, made-deficit h n d a b)
 
-  pub train-more : (t : ℕ) → countOf t < 8 → trainOf at k (t + 8) ≡ added (trainOf at k t) (at (placeOf k (headOf t + countOf t)))
+  pub train-more : (t : ℕ) → countOf t < 8 → trainOf at k (t + 8) ≡ added (trainOf at k t) (at (placeInTrain k (headOf t + countOf t)))
   unfolding trainOf added
-  train-more t room = rw (more-head t, more-count t room, more-deficit t room) (ap (λ (q : List Rec). record { deficit = deficitOf t; queue = q }) (ring-snoc (headOf t) (countOf t)))
+  train-more t room = rw (more-head t, more-count t room, more-deficit t room) (ap (λ (q : List BareRec). record { deficit = deficitOf t; queue = q }) (ring-snoc (headOf t) (countOf t)))
 
   pub train-raised : (t L : ℕ) → trainOf at k (t + 128 * L) ≡ raised L (trainOf at k t)
   unfolding trainOf raised
@@ -110,7 +110,7 @@ module _ (ts : ℕ → ℕ) where
   unfolding with
   with-other k t i n = rw (ne-eqb i k n)
 
-  module _ (at : ℕ → Rec) where
+  module _ (at : ℕ → BareRec) where
     pub trains-with : (k t : ℕ) → k < 8 → trainsOf at (with ts k t) ≡ set (trainsOf at ts) k (trainOf at k t)
     unfolding trainsOf
     trains-with k t h =
@@ -138,26 +138,26 @@ module _ (ts : ℕ → ℕ) where
     not-begun L r = refl
 
 -- only the numbers of the 8 trains and the records in their places count
-pub shared-same : (at bt : ℕ → Rec) (ts us : ℕ → ℕ) (r : ℕ) → ((p : ℕ) → p < 64 → at p ≡ bt p) → ((k : ℕ) → k < 8 → ts k ≡ us k) → sharedOf at ts r ≡ sharedOf bt us r
-unfolding sharedOf trainsOf trainOf ringOf
+pub shared-same : (at bt : ℕ → BareRec) (ts us : ℕ → ℕ) (r : ℕ) → ((p : ℕ) → p < 64 → at p ≡ bt p) → ((k : ℕ) → k < 8 → ts k ≡ us k) → sharedOf at ts r ≡ sharedOf bt us r
+unfolding sharedOf trainsOf trainOf trainRing
 shared-same at bt ts us r f g =
     ap (λ (x : List Train). record { trains = x; round = roundOf r })
-    (tab-ext 8 _ _ (λ k h. rw (g k h) (ap (λ (q : List Rec). record { deficit = deficitOf (us k); queue = q }) (tab-ext (countOf (us k)) _ _ (λ i p. f (placeOf k (headOf (us k) + i)) (omega arith))))))
+    (tab-ext 8 _ _ (λ k h. rw (g k h) (ap (λ (q : List BareRec). record { deficit = deficitOf (us k); queue = q }) (tab-ext (countOf (us k)) _ _ (λ i p. f (placeInTrain k (headOf (us k) + i)) (omega arith))))))
 
 -- nor does the place behind a train's last record, where it has one
-module _ (at bt : ℕ → Rec) (ts : ℕ → ℕ) (r j : ℕ) (room : countOf (ts j) < 8) (f : (p : ℕ) → p < 64 → (p ≡ placeOf j (headOf (ts j) + countOf (ts j)) → ⊥) → at p ≡ bt p) where
-  apart : (k i : ℕ) → k < 8 → i < countOf (ts k) → placeOf k (headOf (ts k) + i) ≡ placeOf j (headOf (ts j) + countOf (ts j)) → ⊥
+module _ (at bt : ℕ → BareRec) (ts : ℕ → ℕ) (r j : ℕ) (room : countOf (ts j) < 8) (f : (p : ℕ) → p < 64 → (p ≡ placeInTrain j (headOf (ts j) + countOf (ts j)) → ⊥) → at p ≡ bt p) where
+  apart : (k i : ℕ) → k < 8 → i < countOf (ts k) → placeInTrain k (headOf (ts k) + i) ≡ placeInTrain j (headOf (ts j) + countOf (ts j)) → ⊥
   apart k i h p e =
       let same : k ≡ j = omega arith in
-      subst (λ (x : ℕ). i < countOf (ts x) → placeOf x (headOf (ts x) + i) ≡ placeOf j (headOf (ts j) + countOf (ts j)) → ⊥) (sym same) (λ a b. omega arith) p e
+      subst (λ (x : ℕ). i < countOf (ts x) → placeInTrain x (headOf (ts x) + i) ≡ placeInTrain j (headOf (ts j) + countOf (ts j)) → ⊥) (sym same) (λ a b. omega arith) p e
 
   pub shared-but : sharedOf at ts r ≡ sharedOf bt ts r
-  unfolding sharedOf trainsOf trainOf ringOf
+  unfolding sharedOf trainsOf trainOf trainRing
   shared-but =
       ap (λ (x : List Train). record { trains = x; round = roundOf r })
-      (tab-ext 8 _ _ (λ k h. ap (λ (q : List Rec). record { deficit = deficitOf (ts k); queue = q }) (tab-ext (countOf (ts k)) _ _ (λ i p. f (placeOf k (headOf (ts k) + i)) (omega arith) (apart k i h p)))))
+      (tab-ext 8 _ _ (λ k h. ap (λ (q : List BareRec). record { deficit = deficitOf (ts k); queue = q }) (tab-ext (countOf (ts k)) _ _ (λ i p. f (placeInTrain k (headOf (ts k) + i)) (omega arith) (apart k i h p)))))
 
 -- numbers of 0 are those of a lane in which nothing waits
-pub shared-none : (at : ℕ → Rec) → sharedOf at (λ (k : ℕ). 0) 0 ≡ empty
-unfolding sharedOf trainsOf trainOf ringOf roundOf fours empty tab tabFrom
+pub shared-none : (at : ℕ → BareRec) → sharedOf at (λ (k : ℕ). 0) 0 ≡ empty
+unfolding sharedOf trainsOf trainOf trainRing roundOf fours empty tab tabFrom
 shared-none at = refl

@@ -1,7 +1,7 @@
 -- A shared lane in numbers: one for each of its 8 trains, and one for the round.
 --
 --   headOf, countOf, deficitOf   the parts of a train's number: head + 8 count + 128 deficit; countRange, deficitUnit: how far a count goes, and this 128
---   placeOf k i                  which of the lane's 64 places is place i of train k, i counted on past the end of the train's 8
+--   placeInTrain k i             which of the lane's 64 places is place i of train k, i counted on past the end of the train's 8
 --   fours n r                    the n lowest numbers of four bits; nameRange: how far such a number goes
 --   namedOf, orderOf             the parts of the round's number: how many trains it names, from orderEnd on, and these, four bits each, the one in turn lowest
 --   roundOf, turnOf              the round, and the train in turn
@@ -10,7 +10,7 @@
 --   Ordered                      nothing stands behind the trains that the round names
 --   Known                        the round names trains only
 --   Light                        a train's number is that of a good lane
---   Puts, HandsOut               what the two functions leave
+--   Puts, HandsOutTurn           what the two functions leave
 --
 -- L is the lane's longest record, in bytes. Assumes nothing.
 use Prim.Native.Nat.{ℕ, zero, suc, _+_, _*_, _/_, _%_, _^_, _≤_, _<_}
@@ -20,7 +20,7 @@ use mathlib.Core.List.{List, [], _∷_}
 use lib.Dec.{eqb}
 use Rattle.units.specs.Plain.{if_then_else_, times}
 use Rattle.words.specs.Runs.{tab}
-use Rattle.rounds.specs.Round.{Rec, Train, Shared, trainCount, trainDepth, put, handOut}
+use Rattle.rounds.specs.Round.{BareRec, Train, Shared, trainCount, trainDepth, sharedPut, sharedHandOut}
 use Rattle.turns.specs.declared.Change.{Change}
 
 -- ---- a train
@@ -42,15 +42,15 @@ countOf t = t / trainDepth % countRange
 abbrev pub deficitOf : ℕ → ℕ
 deficitOf t = t / deficitUnit
 
-abbrev pub placeOf : ℕ → ℕ → ℕ
-placeOf k i = trainDepth * k + i % trainDepth
+abbrev pub placeInTrain : ℕ → ℕ → ℕ
+placeInTrain k i = trainDepth * k + i % trainDepth
 
 -- the n records of train k from place h on
-unfoldable pub ringOf : (ℕ → Rec) → ℕ → ℕ → ℕ → List Rec
-ringOf at k h n = tab n (λ i. at (placeOf k (h + i)))
+unfoldable pub trainRing : (ℕ → BareRec) → ℕ → ℕ → ℕ → List BareRec
+trainRing at k h n = tab n (λ i. at (placeInTrain k (h + i)))
 
-unfoldable pub trainOf : (ℕ → Rec) → ℕ → ℕ → Train
-trainOf at k t = record { deficit = deficitOf t; queue = ringOf at k (headOf t) (countOf t) }
+unfoldable pub trainOf : (ℕ → BareRec) → ℕ → ℕ → Train
+trainOf at k t = record { deficit = deficitOf t; queue = trainRing at k (headOf t) (countOf t) }
 
 -- ---- the round
 
@@ -90,11 +90,11 @@ Known r = (i : ℕ) → 0 < times i (roundOf r) → i < trainCount
 
 -- ---- the lane
 
-unfoldable pub trainsOf : (ℕ → Rec) → (ℕ → ℕ) → List Train
+unfoldable pub trainsOf : (ℕ → BareRec) → (ℕ → ℕ) → List Train
 trainsOf at ts = tab trainCount (λ k. trainOf at k (ts k))
 
 -- R18.9
-unfoldable pub sharedOf : (ℕ → Rec) → (ℕ → ℕ) → ℕ → Shared
+unfoldable pub sharedOf : (ℕ → BareRec) → (ℕ → ℕ) → ℕ → Shared
 sharedOf at ts r = record { trains = trainsOf at ts; round = roundOf r }
 
 unfoldable pub with : (ℕ → ℕ) → ℕ → ℕ → ℕ → ℕ
@@ -108,8 +108,8 @@ Light t = (countOf t ≤ trainDepth) × (deficitOf t < 3000)
 
 -- The records are those after the put: the new one stands in the place behind the train's last.
 pub record Puts (L t r k : ℕ) (c : Change) : Type 0 where
-  pub lane : (at : ℕ → Rec) (ts : ℕ → ℕ) → ts k ≡ t
-      → sharedOf at (with ts k (c .train)) (c .round) ≡ put L (sharedOf at ts r) k (at (placeOf k (headOf t + countOf t)))
+  pub lane : (at : ℕ → BareRec) (ts : ℕ → ℕ) → ts k ≡ t
+      → sharedOf at (with ts k (c .train)) (c .round) ≡ sharedPut L (sharedOf at ts r) k (at (placeInTrain k (headOf t + countOf t)))
   pub ordered : Ordered (c .round)
   pub small : c .train < 2 ^ 32
 
@@ -118,10 +118,10 @@ unfoldable pub begun : ℕ → Bool → (ℕ → ℕ) → ℕ → ℕ → ℕ
 begun L b ts r = if b then with ts (turnOf r) (ts (turnOf r) + deficitUnit * L) else ts
 
 -- of a lane whose first record is of this length, and the one behind it, where there is one, of the next length
-pub record HandsOut (t r length next : ℕ) (c : Change) : Type 0 where
-  pub lane : (L : ℕ) (at : ℕ → Rec) (ts : ℕ → ℕ) → ts (turnOf r) ≡ t
-      → at (placeOf (turnOf r) (headOf t)) .len ≡ length → at (placeOf (turnOf r) (headOf t + 1)) .len ≡ next
-      → sharedOf at (begun L (c .begins) (with ts (turnOf r) (c .train)) (c .round)) (c .round) ≡ handOut L (sharedOf at ts r)
+pub record HandsOutTurn (t r length next : ℕ) (c : Change) : Type 0 where
+  pub lane : (L : ℕ) (at : ℕ → BareRec) (ts : ℕ → ℕ) → ts (turnOf r) ≡ t
+      → at (placeInTrain (turnOf r) (headOf t)) .len ≡ length → at (placeInTrain (turnOf r) (headOf t + 1)) .len ≡ next
+      → sharedOf at (begun L (c .begins) (with ts (turnOf r) (c .train)) (c .round)) (c .round) ≡ sharedHandOut L (sharedOf at ts r)
   pub ordered : Ordered (c .round)
   -- so small that a turn may still add its longest
   pub small : c .train < 2 ^ 20

@@ -10,15 +10,15 @@ use lib.ListN.{length, length-append}
 use borrow.Author.Tests.{leb-true, leb-false, ltb-true, le-leb, eq-eqb, ne-eqb}
 use Rattle.units.specs.Plain.{if_then_else_}
 use Rattle.rounds.specs.Round as round
-use Rattle.rounds.specs.Round.{Moving, Shared, trainAt, trainCount, trainDepth}
-use Rattle.rounds.specs.Good.{Good}
-use Rattle.rounds.specs.Runs.{ofTrain}
+use Rattle.rounds.specs.Round.{TrainItem, Shared, trainAt, trainCount, trainDepth}
+use Rattle.rounds.specs.Good.{GoodShared, every, lengthTest}
+use Rattle.rounds.specs.Runs.{itemOfTrain}
 use Rattle.rounds.proofs.Keep as keep
 use Rattle.rounds.proofs.Order as order
 use Rattle.rounds.proofs.Held as heldLaws
 use Rattle.rounds.proofs.Test as test
 use Rattle.rounds.proofs.Lists.{and-parts}
-use Rattle.waiting.specs.Waiting.{laneDepth, Rec, bare, Waiting, plain, shared, nothing, itemOf, isShared, tail, first, enter, handOut, held, queueOf, full, known, Lengths, GoodWaiting, lengthsTest, waitingTest}
+use Rattle.waiting.specs.Waiting.{laneDepth, Rec, bare, Waiting, plain, shared, nothing, itemOf, isShared, tail, first, enter, handOut, held, queueOf, full, known, GoodWaiting, waitingTest}
 
 -- what an accepted record has
 pub record Enters (L : ℕ) (w : Waiting) (r : Rec) : Type 0 where
@@ -34,21 +34,21 @@ pub some-inj : (x y : Rec) → some x ≡ some y → x ≡ y
 some-inj x y e = cc
 
 -- a shared lane's choice, taken apart
-item-none : (o : Option Moving) → itemOf o ≡ none → o ≡ none
+item-none : (o : Option TrainItem) → itemOf o ≡ none → o ≡ none
 item-none none e = refl
 item-none (some x) e = clash _ (sym e)
 
-abbrev pub moved : Rec → Moving
+abbrev pub moved : Rec → TrainItem
 moved r = record { train = r .train; item = bare r }
 
-pub item-some : (o : Option Moving) (r : Rec) → itemOf o ≡ some r → o ≡ some (moved r)
+pub item-some : (o : Option TrainItem) (r : Rec) → itemOf o ≡ some r → o ≡ some (moved r)
 item-some none r e = clash r e
 item-some (some x) r e = ap (λ (z : Rec). some (moved z)) (some-inj _ r e)
 
 -- ---- nothing waits
 
 pub first-nothing : (b : Bool) → first (nothing b) ≡ none
-unfolding round.first round.firstIn round.empty
+unfolding round.sharedFirst round.firstInTurn round.empty
 first-nothing false = refl
 first-nothing true = refl
 
@@ -70,7 +70,7 @@ good-nothing L true = heldLaws.empty-good L
 
 -- ---- the first record
 
-inside : (L : ℕ) (s : Shared) (r : Rec) → Good L s → Enters L (shared s) r → r .train < length (s .trains)
+inside : (L : ℕ) (s : Shared) (r : Rec) → GoodShared L s → Enters L (shared s) r → r .train < length (s .trains)
 unfolding known
 inside L s r g a = omega (arith, ltb-true (r .train) trainCount (a .train), g .size)
 
@@ -82,21 +82,21 @@ pub first-enter : (L : ℕ) (w : Waiting) (r : Rec) → GoodWaiting L w → Ente
 unfolding enter GoodWaiting known
 first-enter L (plain []) r g a e = ap (λ (n : ℕ). some (record { train = n; mark = r .mark; len = r .len })) (sym (zero-train r (a .train)))
 first-enter L (plain (x ∷ xs)) r g a e = clash _ (sym e)
-first-enter L (shared s) r g a e = ap itemOf (heldLaws.first-put L s (r .train) (bare r) g (inside L s r g a) (item-none (round.first s) e))
+first-enter L (shared s) r g a e = ap itemOf (heldLaws.first-put L s (r .train) (bare r) g (inside L s r g a) (item-none (round.sharedFirst s) e))
 
 -- and no later one takes its place
 pub first-stays : (L : ℕ) (w : Waiting) (r x : Rec) → GoodWaiting L w → Enters L w r → first w ≡ some x → first (enter L w r) ≡ some x
 unfolding enter GoodWaiting
 first-stays L (plain []) r x g a e = clash x e
 first-stays L (plain (y ∷ ys)) r x g a e = e
-first-stays L (shared s) r x g a e = ap itemOf (order.first-stays L s (r .train) (bare r) (moved x) (inside L s r g a) (item-some (round.first s) x e))
+first-stays L (shared s) r x g a e = ap itemOf (order.first-stays L s (r .train) (bare r) (moved x) (inside L s r g a) (item-some (round.sharedFirst s) x e))
 
 pub first-fits : (L : ℕ) (w : Waiting) (x : Rec) → GoodWaiting L w → first w ≡ some x → (0 < x .len) × (x .len ≤ L)
 unfolding GoodWaiting
 first-fits L (plain []) x g e = clash x e
 first-fits L (plain (y ∷ ys)) x g e =
     let h = some-inj _ x e in (omega (arith, g .1 .0, ap (λ (z : Rec). z .len) h), omega (arith, g .1 .1, ap (λ (z : Rec). z .len) h))
-first-fits L (shared s) x g e = order.first-fits L s (moved x) g (item-some (round.first s) x e)
+first-fits L (shared s) x g e = order.first-fits L s (moved x) g (item-some (round.sharedFirst s) x e)
 
 -- ---- how many wait
 
@@ -109,13 +109,13 @@ pub held-hand : (L : ℕ) (w : Waiting) (x : Rec) → GoodWaiting L w → first 
 unfolding held handOut tail GoodWaiting
 held-hand L (plain []) x g e = clash x e
 held-hand L (plain (y ∷ ys)) x g e = refl
-held-hand L (shared s) x g e = heldLaws.hand-held L s (moved x) g (item-some (round.first s) x e)
+held-hand L (shared s) x g e = heldLaws.hand-held L s (moved x) g (item-some (round.sharedFirst s) x e)
 
 pub held-none : (L : ℕ) (w : Waiting) → GoodWaiting L w → first w ≡ none → held w ≡ 0
 unfolding held GoodWaiting
 held-none L (plain []) g e = refl
 held-none L (plain (y ∷ ys)) g e = clash _ (sym e)
-held-none L (shared s) g e = heldLaws.none-held L s g (item-none (round.first s) e)
+held-none L (shared s) g e = heldLaws.none-held L s g (item-none (round.sharedFirst s) e)
 
 pub held-most : (L : ℕ) (w : Waiting) → GoodWaiting L w → held w ≤ laneDepth
 unfolding held GoodWaiting
@@ -125,24 +125,24 @@ held-most L (shared s) g = heldLaws.held-most L s g
 -- ---- the order of each train
 
 pub queue-enter : (L : ℕ) (w : Waiting) (r : Rec) → GoodWaiting L w → Enters L w r → (t : ℕ) → queueOf w t ++ (if eqb (r .train) t then bare r ∷ [] else []) ≡ queueOf (enter L w r) t
-unfolding queueOf enter known GoodWaiting ofTrain
+unfolding queueOf enter known GoodWaiting itemOfTrain
 queue-enter L (plain q) r g a zero = simp (eq-eqb (r .train) 0 (zero-train r (a .train)))
 queue-enter L (plain q) r g a (suc t) = simp (ne-eqb (r .train) (suc t) (λ e. omega (arith, zero-train r (a .train))))
 queue-enter L (shared s) r g a t = order.put-fifo L s (r .train) t (bare r) (inside L s r g a)
 
 pub queue-hand : (L : ℕ) (w : Waiting) (x : Rec) → GoodWaiting L w → first w ≡ some x → (t : ℕ) → queueOf w t ≡ (if eqb (x .train) t then bare x ∷ [] else []) ++ queueOf (handOut L w) t
-unfolding queueOf handOut tail GoodWaiting ofTrain
+unfolding queueOf handOut tail GoodWaiting itemOfTrain
 queue-hand L (plain []) x g e t = clash x e
 queue-hand L (plain (y ∷ ys)) x g e zero = let h = some-inj _ x e in rw (eq-eqb (x .train) 0 (sym (ap (λ (z : Rec). z .train) h))) (ap (λ (z : Rec). bare z ∷ ys) h)
 queue-hand L (plain (y ∷ ys)) x g e (suc t) = simp (ne-eqb (x .train) (suc t) (λ q. omega (arith, ap (λ (z : Rec). z .train) (some-inj _ x e))))
-queue-hand L (shared s) x g e t = order.hand-fifo L s g t ∙ ap (λ (o : Option Moving). ofTrain t o ++ trainAt (round.handOut L s) t .queue) (item-some (round.first s) x e)
+queue-hand L (shared s) x g e t = order.hand-fifo L s g t ∙ ap (λ (o : Option TrainItem). itemOfTrain t o ++ trainAt (round.sharedHandOut L s) t .queue) (item-some (round.sharedFirst s) x e)
 
 pub queue-none : (L : ℕ) (w : Waiting) → GoodWaiting L w → first w ≡ none → (t : ℕ) → queueOf w t ≡ []
 unfolding queueOf GoodWaiting
 queue-none L (plain []) g e zero = refl
 queue-none L (plain []) g e (suc t) = refl
 queue-none L (plain (y ∷ ys)) g e t = clash _ (sym e)
-queue-none L (shared s) g e t = heldLaws.none-queue L s g (item-none (round.first s) e) t
+queue-none L (shared s) g e t = heldLaws.none-queue L s g (item-none (round.sharedFirst s) e) t
 
 -- a train that has room holds fewer than it may
 pub queue-room : (w : Waiting) (k : ℕ) → known w k ≡ true → full w k ≡ false → length (queueOf w k) < (if isShared w then trainDepth else laneDepth)
@@ -155,11 +155,7 @@ queue-room (shared s) k t e = leb-false trainDepth (length (trainAt s k .queue))
 
 pub good-enter : (L : ℕ) (w : Waiting) (r : Rec) → GoodWaiting L w → Enters L w r → GoodWaiting L (enter L w r)
 unfolding GoodWaiting enter full known
-good-enter L (plain q) r g a = (omega (arith, length-append q (bare r ∷ []), leb-false laneDepth (length q) (a .room)), more q (g .1))
-  where
-    more : (q : List round.Rec) → Lengths L q → Lengths L (q ++ (bare r ∷ []))
-    more [] l = (a .some-bytes, a .fits, tt)
-    more (x ∷ xs) l = (l .0, l .1, more xs (l .2))
+good-enter L (plain q) r g a = (omega (arith, length-append q (bare r ∷ []), leb-false laneDepth (length q) (a .room)), keep.added-lengths L q (bare r) (a .some-bytes) (a .fits) (g .1))
 good-enter L (shared s) r g a =
     keep.put-good L s g (r .train) (bare r) (record { train = ltb-true (r .train) trainCount (a .train); some-bytes = a .some-bytes; fits = a .fits; room = leb-false trainDepth (length (trainAt s (r .train) .queue)) (a .room) })
 
@@ -170,23 +166,12 @@ good-hand L (plain (r ∷ rs)) g = (omega (arith, g .0), g .1 .2)
 good-hand L (shared s) g = keep.hand-out-good L s g
 
 pub test-good : (L : ℕ) (w : Waiting) → waitingTest L w ≡ true → GoodWaiting L w
-unfolding GoodWaiting waitingTest lengthsTest
+unfolding GoodWaiting waitingTest
 test-good L (plain q) e =
-    let a = and-parts (leb (length q) laneDepth) (lengthsTest L q) e in (leb-true (length q) laneDepth (a .0), go q (a .1))
-  where
-    go : (q : List round.Rec) → lengthsTest L q ≡ true → Lengths L q
-    go [] e = tt
-    go (r ∷ rs) e =
-        let a = and-parts (leb 1 (r .len) && leb (r .len) L) (lengthsTest L rs) e in
-        let b = and-parts (leb 1 (r .len)) (leb (r .len) L) (a .0) in
-        (leb-true 1 (r .len) (b .0), leb-true (r .len) L (b .1), go rs (a .1))
+    let a = and-parts (leb (length q) laneDepth) (every (lengthTest L) q) e in (leb-true (length q) laneDepth (a .0), test.lengths-true L q (a .1))
 test-good L (shared s) e = test.test-good L s e
 
 pub good-test : (L : ℕ) (w : Waiting) → GoodWaiting L w → waitingTest L w ≡ true
-unfolding GoodWaiting waitingTest lengthsTest
-good-test L (plain q) g = simp (le-leb (length q) laneDepth (g .0), go q (g .1))
-  where
-    go : (q : List round.Rec) → Lengths L q → lengthsTest L q ≡ true
-    go [] l = refl
-    go (r ∷ rs) l = simp (le-leb 1 (r .len) (l .0), le-leb (r .len) L (l .1), go rs (l .2))
+unfolding GoodWaiting waitingTest
+good-test L (plain q) g = simp (le-leb (length q) laneDepth (g .0), test.true-lengths L q (g .1))
 good-test L (shared s) g = test.good-test L s g

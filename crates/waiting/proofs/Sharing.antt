@@ -46,7 +46,7 @@ known-train (shared s) t u e = absurd (false≢true (sym u))
 pub first-known : (L : ℕ) (w : Waiting) (x : Rec) → GoodWaiting L w → first w ≡ some x → x .train < trainCount
 unfolding GoodWaiting isShared
 first-known L (plain q) x g e = omega (arith, first-train (plain q) x refl e)
-first-known L (shared s) x g e = heldLaws.first-inside L s (moved x) g (item-some (round.first s) x e)
+first-known L (shared s) x g e = heldLaws.first-inside L s (moved x) g (item-some (round.sharedFirst s) x e)
 
 pub known-inside : (w : Waiting) (t : ℕ) → known w t ≡ true → t < trainCount
 unfolding known

@@ -18,8 +18,8 @@ use mathlib.Core.Option.{Option, none, some}
 use lib.Dec.{leb, ltb}
 use lib.ListN.{length}
 use Rattle.rounds.specs.Round as round
-use Rattle.rounds.specs.Round.{Moving, Shared, trainAt, trainCount, trainDepth}
-use Rattle.rounds.specs.Good.{Good, goodTest}
+use Rattle.rounds.specs.Round.{TrainItem, Shared, trainAt, trainCount, trainDepth}
+use Rattle.rounds.specs.Good.{Lengths, GoodShared, every, lengthTest, goodTest}
 
 -- R1.7: how many records a lane has room for; lanes share no room
 abbrev pub laneDepth : ℕ
@@ -31,15 +31,15 @@ pub record Rec : Type 0 where
   pub mark : ℕ
   pub len : ℕ
 
-abbrev pub bare : Rec → round.Rec
+abbrev pub bare : Rec → round.BareRec
 bare r = record { mark = r .mark; len = r .len }
 
-abbrev pub withTrain : ℕ → round.Rec → Rec
+abbrev pub withTrain : ℕ → round.BareRec → Rec
 withTrain k r = record { train = k; mark = r .mark; len = r .len }
 
 -- R2.1, R18.1: a queue; in a shared lane one for each train, and their turns
 pub data Waiting : Type 0 where
-  plain : List round.Rec → Waiting
+  plain : List round.BareRec → Waiting
   shared : Shared → Waiting
 
 -- what waits in a lane, shared or not, at first
@@ -47,37 +47,37 @@ abbrev pub nothing : Bool → Waiting
 nothing false = plain []
 nothing true = shared round.empty
 
-abbrev pub head : List round.Rec → Option Rec
+abbrev pub head : List round.BareRec → Option Rec
 head [] = none
 head (r ∷ rs) = some (withTrain 0 r)
 
-unfoldable pub tail : List round.Rec → List round.Rec
+unfoldable pub tail : List round.BareRec → List round.BareRec
 tail [] = []
 tail (r ∷ rs) = rs
 
-abbrev pub itemOf : Option Moving → Option Rec
+abbrev pub itemOf : Option TrainItem → Option Rec
 itemOf none = none
 itemOf (some x) = some (withTrain (x .train) (x .item))
 
 -- R18.4: in a shared lane that of the train in turn
 abbrev pub first : Waiting → Option Rec
 first (plain q) = head q
-first (shared s) = itemOf (round.first s)
+first (shared s) = itemOf (round.sharedFirst s)
 
 unfoldable pub enter : ℕ → Waiting → Rec → Waiting
 enter L (plain q) r = plain (q ++ (bare r ∷ []))
-enter L (shared s) r = shared (round.put L s (r .train) (bare r))
+enter L (shared s) r = shared (round.sharedPut L s (r .train) (bare r))
 
 unfoldable pub handOut : ℕ → Waiting → Waiting
 handOut L (plain q) = plain (tail q)
-handOut L (shared s) = shared (round.handOut L s)
+handOut L (shared s) = shared (round.sharedHandOut L s)
 
 unfoldable pub held : Waiting → ℕ
 held (plain q) = length q
-held (shared s) = round.held s
+held (shared s) = round.sharedHeld s
 
 -- R18.3: a lane that is not shared holds records of train 0 only
-unfoldable pub queueOf : Waiting → ℕ → List round.Rec
+unfoldable pub queueOf : Waiting → ℕ → List round.BareRec
 queueOf (plain q) zero = q
 queueOf (plain q) (suc k) = []
 queueOf (shared s) k = trainAt s k .queue
@@ -99,20 +99,11 @@ isShared (shared s) = true
 
 -- ---- good
 
--- R1.5: each length 1 to the longest
-abbrev pub Lengths : ℕ → List round.Rec → Type 0
-Lengths L [] = Unit {0}
-Lengths L (r ∷ rs) = (1 ≤ r .len) × (r .len ≤ L) × Lengths L rs
-
 -- R6.4: no more records than the lane has room for
 unfoldable pub GoodWaiting : ℕ → Waiting → Type 0
 GoodWaiting L (plain q) = (length q ≤ laneDepth) × Lengths L q
-GoodWaiting L (shared s) = Good L s
-
-unfoldable pub lengthsTest : ℕ → List round.Rec → Bool
-lengthsTest L [] = true
-lengthsTest L (r ∷ rs) = (leb 1 (r .len) && leb (r .len) L) && lengthsTest L rs
+GoodWaiting L (shared s) = GoodShared L s
 
 unfoldable pub waitingTest : ℕ → Waiting → Bool
-waitingTest L (plain q) = leb (length q) laneDepth && lengthsTest L q
+waitingTest L (plain q) = leb (length q) laneDepth && every (lengthTest L) q
 waitingTest L (shared s) = goodTest L s

@@ -8,7 +8,7 @@ ghost use mathlib.Core.Path.{_≡_};
 ghost use Prim.Native.Nat.{_+_, _*_, _/_, _^_, _≤_, _<_};
 ghost use Rattle.units.specs.Numbers.{lineRate};
 ghost use Rattle.rules.specs.Waits.{worstOf};
-ghost use Rattle.waits.specs.Lane.{settingOf, InRange, fourSlots};
+ghost use Rattle.waits.specs.Lane.{settingOfNumbers, InRange, fourSlots};
 use units::Bytes;
 use units::Clock;
 use units::LINE_RATE;
@@ -53,7 +53,7 @@ fn four_slots(charged: Bytes, c: Rate) -> Clock
 // Of a record that finds `ahead` others before it, in a shared lane of its own train; `margin` is what the fair share adds.
 pub fn worst_wait(l: LaneNumbers, ahead: u64, margin: Clock) -> u64
     requires { ⌜ InRange l ahead × (margin .0 < 2 ^ 32) ⌝ }
-    ensures { λ r. ⌜ r ≡ worstOf (margin .0) (settingOf l) ahead ⌝ }
+    ensures { λ r. ⌜ r ≡ worstOf (margin .0) (settingOfNumbers l) ahead ⌝ }
 {
     let c = lane_rate(l.weight);
     let most = l.longest.0 + l.framing.0;

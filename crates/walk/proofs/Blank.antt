@@ -10,7 +10,7 @@ use lib.Seq.{drop-drop}
 use Rattle.rules.specs.State.{State}
 use Rattle.editions.specs.Part.{partBytes, lastIn, waitingIn, Fits, Stores}
 use Rattle.editions.proofs.Lent.{tail-all, lent-tail}
-use Rattle.table.specs.Layout.{SIZE, pageBytes, tableSize}
+use Rattle.table.specs.Layout.{SIZE, pagePartBytes, tableSize}
 use Rattle.table.specs.Encodes.{Encodes}
 use Rattle.paged.specs.Paged.{partOf}
 use Rattle.walk.specs.Follows.{Tabled}
@@ -35,8 +35,8 @@ blank-stored t p room st =
       waiting = ap waitingIn tail ∙ st .0 .waiting;
       fits = subst Fits (sym tail) (st .1);
       rest =
-          sym (drop-drop pageBytes SIZE r) ∙ ap (drop pageBytes) tail ∙ further partBytes (pageBytes - partBytes) q p (st .0 .rest) ∙ ap (drop pageBytes) (tail-all SIZE t)
-          ∙ drop-drop pageBytes SIZE t;
+          sym (drop-drop pagePartBytes SIZE r) ∙ ap (drop pagePartBytes) tail ∙ further partBytes (pagePartBytes - partBytes) q p (st .0 .rest) ∙ ap (drop pagePartBytes) (tail-all SIZE t)
+          ∙ drop-drop pagePartBytes SIZE t;
     }
 
 -- the requests leave it
@@ -49,5 +49,5 @@ blank-tabled t t₀ t′ σ room b e kept = record {
     waiting = ap waitingIn kept ∙ b .waiting;
     fits = subst Fits (sym kept) (b .fits);
   };
-  rest = further SIZE pageBytes t₀ t′ kept ∙ b .rest;
+  rest = further SIZE pagePartBytes t₀ t′ kept ∙ b .rest;
 }

@@ -10,7 +10,7 @@ use Rattle.scheduler.proofs.Chains.{led-by, all-ruled}
 use Rattle.scheduler.proofs.Demands.{every-list}
 use Rattle.walk.specs.Follows.{TableLeft}
 use Rattle.session.specs.Requests.{requestsOf}
-use Rattle.zenfrosta.specs.AfterRun.{answered, ByRun, AfterRun}
+use Rattle.zenfrosta.specs.AfterRun.{runEvents, ByRun, AfterRun}
 
 pub by-run : ByRun
 unfolding ByRun WithoutOffers
@@ -21,4 +21,4 @@ by-run s limit t t′ a a′ r p l =
 
 pub after-run : AfterRun
 unfolding AfterRun ByRun EveryList
-after-run s limit t t′ a a′ r p l calls u ch = every-list (l .settings) (answered s limit (l .settings) (l .at)) calls t′ u (by-run s limit t t′ a a′ r p l) ch
+after-run s limit t t′ a a′ r p l calls u ch = every-list (l .settings) (runEvents s limit (l .settings) (l .at)) calls t′ u (by-run s limit t t′ a a′ r p l) ch

@@ -2,7 +2,7 @@
 ghost use mathlib.Core.Path.{_≡_};
 ghost use Prim.Native.Nat.{_≤_};
 ghost use lib.ListN.{length};
-ghost use Rattle.journal.specs.Reads.{listed, told, shown, beginning, refusedBy};
+ghost use Rattle.journal.specs.Reads.{boardListed, told, shown, beginning, refusedBy};
 ghost use Rattle.journal.specs.Step.{boardSize};
 ghost use Rattle.zenfrosta.specs.Crossing.{Spoken};
 ghost use Rattle.zenfrosta.specs.Board.{boardCode, boardValues, CrossesBegin, CrossesRecord, CrossesClear, CrossesLine};
@@ -16,7 +16,7 @@ use journal::Told;
 
 // The number of a refusal.
 fn number(x: Refusal) -> u64
-    ensures { λ r. ⌜ r ≡ (listed x) .0 ⌝ }
+    ensures { λ r. ⌜ r ≡ (boardListed x) .0 ⌝ }
 {
     match x {
         Refusal::Cut(_) => 1,

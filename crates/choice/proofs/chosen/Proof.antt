@@ -7,7 +7,7 @@ use native.Mathlib.Omega.{arith}
 use lib.ListN.{length, getD}
 use Rattle.slot_lists.specs.Lists.{listIn, listAt, listOf}
 use Rattle.slot_lists.proofs.Laws.{map-on, start-some}
-use Rattle.filing.specs.Filing.{headOf}
+use Rattle.filing.specs.Filing.{frontOf}
 use Rattle.table.specs.Means.{meant}
 use Rattle.choice.proofs.Leading.{starts-early, found-none, found-at, two-slots, start-is, list-some, found-head, found-lane}
 use borrow.Author.Needs.{needs}
@@ -102,7 +102,7 @@ returns-2 c =
       low = a .low;
       high = a .high;
       start = a .start ∙ ap some (sym e₀);
-      first = ap (λ (y : ℕ). headOf (listAt t g (listOf t g y))) e₀ ∙ found-head t (meant t) (p .good) (p .listed .solid .back-whole) (p .listed .agrees) _ (c .before .before .before .before .before .before .before .before .clock .ensures) f (c .before .before .before .before .before .before .before .next-group .ensures) a _ e;
+      first = ap (λ (y : ℕ). frontOf (listAt t g (listOf t g y))) e₀ ∙ found-head t (meant t) (p .good) (p .listed .solid .back-whole) (p .listed .agrees) _ (c .before .before .before .before .before .before .before .before .clock .ensures) f (c .before .before .before .before .before .before .before .next-group .ensures) a _ e;
     }
 
 pub chosen-spec : {M : Type 1} → statement M

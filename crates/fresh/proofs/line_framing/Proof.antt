@@ -1,5 +1,5 @@
 use Rattle.fresh.proofs.Writing.{found-framing, weightless-at, none-framing}
-use Rattle.fresh.specs.Makes.{settings}
+use Rattle.fresh.specs.Makes.{laneSettings}
 use Rattle.rules.specs.State.{settingAt}
 use borrow.Author.Count.{below-none, below-more}
 use borrow.Author.Needs.{needs}
@@ -10,7 +10,7 @@ use Rattle.fresh.proofs.line_framing.Statement.{statement}
 use Rattle.fresh.proofs.line_framing.Tie as tie
 
 abbrev Inv-loop : tie.InvT-loop
-Inv-loop lanes k₀ k = (k ≤ 64) × ((j : ℕ) → j < k → settingAt (settings lanes) j .weight ≡ 0)
+Inv-loop lanes k₀ k = (k ≤ 64) × ((j : ℕ) → j < k → settingAt (laneSettings lanes) j .weight ≡ 0)
 
 abbrev μ-loop : tie.MeasureT-loop
 μ-loop lanes k₀ k = 64 - k
@@ -42,7 +42,7 @@ loop-again : tie.Need-loop-again Inv-loop μ-loop
 loop-again c =
     let s = c .before .before .before .before .before in
     let l = c .before .before .before .before .loop in
-    (omega (arith, c .before .before .before .loop-test .taken), below-more (λ j. settingAt (settings (s .args .t1)) j .weight ≡ 0) (l .k) (l .inv .1) (weightless-at (s .args .t1) (s .pre) (l .k) (c .if1 .left)))
+    (omega (arith, c .before .before .before .loop-test .taken), below-more (λ j. settingAt (laneSettings (s .args .t1)) j .weight ≡ 0) (l .k) (l .inv .1) (weightless-at (s .args .t1) (s .pre) (l .k) (c .if1 .left)))
 
 returns-2 : tie.Need-returns-2 Inv-loop μ-loop
 returns-2 c =

@@ -1,5 +1,5 @@
 use Rattle.fresh.proofs.Writing.{makes-sound, write-none, write-weight, framed-most, framed-numbers, framed-more, write-skip, write-all}
-use Rattle.fresh.specs.Makes.{Makes, settings, upTo}
+use Rattle.fresh.specs.Makes.{Makes, laneSettings, upTo}
 use Rattle.table.specs.Layout.{Room, cells, framingWord}
 use lib.ListN.{length, getD}
 use mathlib.Core.Logic.{⊎-elim}
@@ -11,7 +11,7 @@ use Rattle.fresh.proofs.write.Statement.{statement}
 use Rattle.fresh.proofs.write.Tie as tie
 
 abbrev Inv-loop : tie.InvT-loop
-Inv-loop t₀ lanes h k₀ t k = Makes t₀ t (upTo k (settings lanes)) × Room t × (length t ≡ length t₀) × (k ≤ 64) × (getD (cells t) framingWord 0 ≡ h .0)
+Inv-loop t₀ lanes h k₀ t k = Makes t₀ t (upTo k (laneSettings lanes)) × Room t × (length t ≡ length t₀) × (k ≤ 64) × (getD (cells t) framingWord 0 ≡ h .0)
 
 abbrev μ-loop : tie.MeasureT-loop
 μ-loop t₀ lanes h k₀ t k = 64 - k

@@ -4,7 +4,7 @@ use native.Mathlib.Omega.{arith}
 use Rattle.words.specs.Bits.{bit}
 use Rattle.words.proofs.Bits.{add-below, shift-one}
 use Rattle.lane_test.proofs.Setting.{says-yes, says-no}
-use Rattle.lists_test.specs.Stored.{Fits, RingSays}
+use Rattle.lists_test.specs.Stored.{FitsSlot, RingSays}
 use Rattle.lists_test.proofs.RingWalk.{Read, read-none, read-far, read-twice, read-misfit, read-more, read-all}
 use borrow.Author.Needs.{needs}
 use Rattle.lists_test.proofs.ring_met.Statement.{statement}
@@ -56,7 +56,7 @@ stands-requires c κs = search needs
 returns-4 : tie.Need-returns-4 Inv-loop μ-loop
 unfolding RingSays
 returns-4 c = let r = c .before .before .before .before .before .before .loop in
-    read-misfit _ _ _ _ _ _ _ (r .inv .0) (omega (arith, c .before .before .before .before .before .loop-test .taken, c .before .before .before .before .before .before .before .before .held .ensures .0)) (λ f. says-no (c .before .stands .result) (c .before .stands .ensures) (c .if4 .taken) (subst (λ (x : ℕ). Fits (c .before .before .before .before .before .before .before .before .before .before .args .t .now) x (c .before .before .before .before .before .before .before .before .before .before .args .g) (c .before .before .before .before .before .before .before .before .before .before .args .at)) (sym (c .before .before .before .before .entry .ensures .0)) f))
+    read-misfit _ _ _ _ _ _ _ (r .inv .0) (omega (arith, c .before .before .before .before .before .loop-test .taken, c .before .before .before .before .before .before .before .before .held .ensures .0)) (λ f. says-no (c .before .stands .result) (c .before .stands .ensures) (c .if4 .taken) (subst (λ (x : ℕ). FitsSlot (c .before .before .before .before .before .before .before .before .before .before .args .t .now) x (c .before .before .before .before .before .before .before .before .before .before .args .g) (c .before .before .before .before .before .before .before .before .before .before .args .at)) (sym (c .before .before .before .before .entry .ensures .0)) f))
 
 cast-met : tie.Need-cast-met Inv-loop μ-loop
 cast-met c = search needs
@@ -87,8 +87,8 @@ loop-again c =
     let new : bit k (r .met) ≡ 0 = omega (arith, c .before .before .if3 .left) in
     let small = c .before .before .before .if2 .left in
     let e = c .before .before .before .before .entry .ensures .0 in
-    let fits : Fits (c .before .before .before .before .before .before .before .before .before .before .args .t .now) k (c .before .before .before .before .before .before .before .before .before .before .args .g) (c .before .before .before .before .before .before .before .before .before .before .args .at) = says-yes (c .before .stands .result) (c .before .stands .ensures) (c .if4 .left) in
-    let more = read-more _ _ _ _ _ _ _ (r .inv .0) (omega (arith, c .before .before .before .before .before .loop-test .taken, c .before .before .before .before .before .before .before .before .held .ensures .0)) (subst (λ (x : ℕ). x < 64) e small) (subst (λ (x : ℕ). bit x (r .met) ≡ 0) e new) (subst (λ (x : ℕ). Fits (c .before .before .before .before .before .before .before .before .before .before .args .t .now) x (c .before .before .before .before .before .before .before .before .before .before .args .g) (c .before .before .before .before .before .before .before .before .before .before .args .at)) e fits) in
+    let fits : FitsSlot (c .before .before .before .before .before .before .before .before .before .before .args .t .now) k (c .before .before .before .before .before .before .before .before .before .before .args .g) (c .before .before .before .before .before .before .before .before .before .before .args .at) = says-yes (c .before .stands .result) (c .before .stands .ensures) (c .if4 .left) in
+    let more = read-more _ _ _ _ _ _ _ (r .inv .0) (omega (arith, c .before .before .before .before .before .loop-test .taken, c .before .before .before .before .before .before .before .before .held .ensures .0)) (subst (λ (x : ℕ). x < 64) e small) (subst (λ (x : ℕ). bit x (r .met) ≡ 0) e new) (subst (λ (x : ℕ). FitsSlot (c .before .before .before .before .before .before .before .before .before .before .args .t .now) x (c .before .before .before .before .before .before .before .before .before .before .args .g) (c .before .before .before .before .before .before .before .before .before .before .args .at)) e fits) in
     (rw (shift-one k small) (subst (λ (x : ℕ). Read (c .before .before .before .before .before .before .before .before .before .before .args .t .now) (c .before .before .before .before .before .before .before .before .before .before .args .i) (c .before .before .before .before .before .before .before .before .before .before .args .g) (c .before .before .before .before .before .before .before .before .before .before .args .at) (c .before .before .before .before .before .before .before .before .before .before .args .before) (r .j + 1) (r .met + 2 ^ x)) (sym e) more), omega (arith, add-below 64 k (r .met) small (r .inv .1) new, shift-one k small))
 
 returns-5 : tie.Need-returns-5 Inv-loop μ-loop

@@ -2,7 +2,7 @@ use mathlib.Core.Path.{_≡_, sym, subst}
 use Prim.Native.Nat.{_≤_}
 use native.Mathlib.Omega.{arith}
 use Rattle.rules.specs.Older.{oldDepth}
-use Rattle.waiting.specs.Waiting.{Lengths}
+use Rattle.rounds.specs.Good.{Lengths}
 use Rattle.table.specs.Layout.{cells}
 use Rattle.table.specs.Means.{RowAgrees, RowPaced}
 use Rattle.table.specs.declared.LaneRow.{LaneRow}

@@ -1,7 +1,7 @@
 use mathlib.Core.Path.{_≡_, sym, subst}
 use mathlib.Core.Bool.{true}
 use Prim.Native.Nat.{_<_}
-use Rattle.rounds.specs.Good.{Good}
+use Rattle.rounds.specs.Good.{GoodShared}
 use Rattle.turns.specs.Turns.{namedOf, Ordered}
 use Rattle.table.specs.Layout.{cells, roundAt}
 use Rattle.table.specs.Means.{sharedAt}
@@ -19,7 +19,7 @@ front-requires c κs =
     let s = c .before .before in
     let t = s .args .t .now in
     let k = s .args .k in
-    let x = subst (λ (l : LaneRow). (0 < l .count) × (l .shared ≡ true → Good (l .longest .0) (sharedAt (cells t) k) × Ordered (roundAt (cells t) k) × (0 < namedOf (roundAt (cells t) k)))) (sym (c .row .ensures .0)) (busy-row t k (s .pre .0) (s .pre .1) (s .pre .2) (s .pre .3), front-shared t k (s .pre .0) (s .pre .1) (s .pre .2) (s .pre .3)) in
+    let x = subst (λ (l : LaneRow). (0 < l .count) × (l .shared ≡ true → GoodShared (l .longest .0) (sharedAt (cells t) k) × Ordered (roundAt (cells t) k) × (0 < namedOf (roundAt (cells t) k)))) (sym (c .row .ensures .0)) (busy-row t k (s .pre .0) (s .pre .1) (s .pre .2) (s .pre .3), front-shared t k (s .pre .0) (s .pre .1) (s .pre .2) (s .pre .3)) in
     (s .pre .0 .room, s .pre .1, x .0, x .1)
 
 record-at-requires : tie.Need-record-at-requires

@@ -53,7 +53,7 @@ returns c =
         change = p .result;
         now = now-then _ _ _ (c .before .before .before .before .before .before .set-train .ensures) (c .before .before .set-round .ensures);
         puts = subst (λ (y : ℕ). Puts (s .args .longest) (trainNumber w (s .args .k) j) y j (p .result)) (q .ensures) (subst (λ (y : ℕ). Puts (s .args .longest) y (q .result) j (p .result)) (n .ensures .0) (p .ensures));
-        place = ap (λ (x : ℕ). turns.placeOf j (headOf x + countOf x)) (n .ensures .0);
+        place = ap (λ (x : ℕ). turns.placeInTrain j (headOf x + countOf x)) (n .ensures .0);
       },
       omega (arith, s .pre .2 .train),
     )

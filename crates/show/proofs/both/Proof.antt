@@ -4,7 +4,7 @@ use mathlib.Core.Path.{ap, _∙_}
 use borrow.Author.Needs.{needs}
 use Rattle.units.specs.Numbers.{lineRate}
 use Rattle.rules.specs.Waits.{worstOf}
-use Rattle.waits.specs.Lane.{settingOf}
+use Rattle.waits.specs.Lane.{settingOfNumbers}
 use Rattle.show.proofs.both.Statement.{statement}
 use Rattle.show.proofs.both.Tie as tie
 use Rattle.show.proofs.both.Reads as reads
@@ -36,7 +36,7 @@ returns c =
     let most = c .before .before in
     let first = most .before in
     let s = first .before .before .before .before .before in
-    let worst : ℕ → ℕ = λ M. worstOf M (settingOf (s .args .l)) (s .args .ahead) in (
+    let worst : ℕ → ℕ = λ M. worstOf M (settingOfNumbers (s .args .l)) (s .args .ahead) in (
       first .worst-wait .ensures ∙ ap worst (first .before .line-charge .ensures),
       c .worst-wait2 .ensures ∙ ap worst (c .before .line-charge2 .ensures ∙ ap (λ (x : ℕ). lineRate * x) (most .costliest .ensures .0)),
     )

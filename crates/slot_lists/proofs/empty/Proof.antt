@@ -4,7 +4,7 @@ use Prim.Native.Nat.{ℕ}
 use mathlib.Core.List.{List}
 use Rattle.words.specs.Words.{putWord}
 use Rattle.slot_lists.specs.Lists.{backWord}
-use Rattle.slot_lists.specs.Changes.{Emptied}
+use Rattle.slot_lists.specs.Changes.{ListsEmptied}
 use Rattle.slot_lists.proofs.Emptied.{emptied-as}
 use borrow.Author.Needs.{needs}
 use Rattle.slot_lists.proofs.empty.Statement.{statement}
@@ -24,7 +24,7 @@ returns c =
     let s = c .before .before .before .before .before .before .before .before .before in
     let t = s .args .t .now in
     let made = c .before .before .set-word2 .ensures ∙ ap (λ (u : List ℕ). putWord u backWord 0) (c .before .before .before .before .before .before .set-word .ensures) in
-    subst (λ (u : List ℕ). Emptied t u) (sym made) (emptied-as t (s .pre))
+    subst (λ (u : List ℕ). ListsEmptied t u) (sym made) (emptied-as t (s .pre))
 
 pub empty-spec : {M : Type 1} → statement M
 empty-spec = tie.close (tie.spec set-word-requires set-word-requires-2 same-length returns)

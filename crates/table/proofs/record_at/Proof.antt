@@ -1,5 +1,5 @@
 use native.Mathlib.Omega.{arith}
-use Rattle.table.specs.Layout.{placeOf}
+use Rattle.table.specs.Layout.{placeInLane}
 use Rattle.table.proofs.Places.{entry-read}
 use borrow.Author.Needs.{needs}
 use Rattle.table.proofs.record_at.Statement.{statement}
@@ -37,7 +37,7 @@ cast-t10 c = search needs
 
 returns : tie.Need-returns
 returns c = let s = c .before .before .before in
-    (entry-read (placeOf (s .args .k) (s .args .i)) (omega (arith, s .pre .1)) (s .args .t .now) (c .before .quarter .result) (c .half .result) (c .before .quarter .ensures .0) (c .half .ensures .0), omega (arith, c .before .quarter .ensures .1))
+    (entry-read (placeInLane (s .args .k) (s .args .i)) (omega (arith, s .pre .1)) (s .args .t .now) (c .before .quarter .result) (c .half .result) (c .before .quarter .ensures .0) (c .half .ensures .0), omega (arith, c .before .quarter .ensures .1))
 
 pub record-at-spec : {M : Type 1} → statement M
 record-at-spec =

@@ -1,5 +1,5 @@
 use native.Mathlib.Omega.{arith}
-use Rattle.table.specs.Layout.{placeOf}
+use Rattle.table.specs.Layout.{placeInLane}
 use Rattle.table.proofs.Places.{length-stored, mark-stored, entry-stored}
 use borrow.Author.Needs.{needs}
 use Rattle.table.proofs.set_record.Statement.{statement}
@@ -40,7 +40,7 @@ same-length c = search needs
 
 returns : tie.Need-returns
 returns c = let s = c .before .before .before .before .before .before .before .before .before .before .before in
-    let p = placeOf (s .args .k) (s .args .i) in
+    let p = placeInLane (s .args .k) (s .args .i) in
     entry-stored p (omega (arith, s .pre .1)) (s .args .t .now) _ _ (s .args .e) (length-stored p (omega (arith, s .pre .1)) _ _ _ (c .before .before .before .before .before .before .before .set-quarter .ensures)) (mark-stored p (omega (arith, s .pre .1)) _ _ _ (c .before .before .set-half .ensures))
 
 pub set-record-spec : {M : Type 1} → statement M

@@ -3,7 +3,7 @@ use native.Mathlib.Omega.{arith}
 use mathlib.Core.Path.{_≡_, _∙_}
 use mathlib.Core.Bool.{true, false}
 use borrow.Author.Needs.{needs}
-use Rattle.waits.specs.Lane.{settingOf}
+use Rattle.waits.specs.Lane.{settingOfNumbers}
 use Rattle.waits.proofs.Laws.{room-plain, room-shared, plain-as, shared-as}
 use Rattle.waits.proofs.worst_wait.Statement.{statement}
 use Rattle.waits.proofs.worst_wait.Tie as tie
@@ -49,7 +49,7 @@ returns c =
     let own = c .before .charge-of in
     let shared : s .args .l .shared ≡ true = search needs in
     c .line-bytes .ensures
-    ∙ shared-as (settingOf (s .args .l)) _ (s .args .ahead) (s .args .margin .0) (own .result .0) (four .four-slots .result .0) (four .before .before .lane-rate .ensures .0)
+    ∙ shared-as (settingOfNumbers (s .args .l)) _ (s .args .ahead) (s .args .margin .0) (own .result .0) (four .four-slots .result .0) (four .before .before .lane-rate .ensures .0)
     (four .four-slots .ensures .0) shared (own .ensures .0)
 
 charge-of-requires-2 : tie.Need-charge-of-requires-2
@@ -68,7 +68,7 @@ returns-2 c =
     let own = c .before .charge-of2 in
     let alone : s .args .l .shared ≡ false = search needs in
     c .line-bytes2 .ensures
-    ∙ plain-as (settingOf (s .args .l)) _ (s .args .ahead) (s .args .margin .0) (own .result .0) (four .four-slots .result .0) (four .before .before .lane-rate .ensures .0)
+    ∙ plain-as (settingOfNumbers (s .args .l)) _ (s .args .ahead) (s .args .margin .0) (own .result .0) (four .four-slots .result .0) (four .before .before .lane-rate .ensures .0)
     (four .four-slots .ensures .0) alone (own .ensures .0)
 
 pub worst-wait-spec : {M : Type 1} → statement M
