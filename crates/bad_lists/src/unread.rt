@@ -4,59 +4,63 @@ use base_table as base;
 pub fn words() {
     base::two(
         b"first and last free word below the rows",
-        base::FREE,
+        poked::FREE,
         77,
-        base::LAST_FREE,
+        poked::LAST_FREE,
         77,
     );
     base::one(
         b"the round of a lane that is not shared",
-        base::LANE_0 + base::ROUND,
+        poked::LANE_0 + poked::ROUND,
         77,
     );
-    base::one(b"an absent lane's words", base::LANE_2, 77);
+    base::one(b"an absent lane's words", poked::LANE_2, 77);
 }
 
 // A mark is any number, a record there or not.
 pub fn marks() {
     let mut t = [0u8; base::SIZE];
     base::base(&mut t);
-    base::mark(&mut t, 1, 0, 255);
+    poked::mark(&mut t, 1, 0, 255);
     base::say(b"another mark", &t);
-    base::mark(&mut t, 1, 1, 255);
+    poked::mark(&mut t, 1, 1, 255);
     base::say(b"the mark of a place without a record", &t);
 }
 
 pub fn kept() {
-    base::spot(b"a train of a lane that is not shared", base::TRAINS, 255);
-    base::spot(b"first kept byte", base::KEPT, 255);
+    base::spot(b"a train of a lane that is not shared", poked::TRAINS, 255);
+    base::spot(b"first kept byte", poked::KEPT, 255);
     base::spot(b"last kept byte", base::SIZE - 1, 255);
 }
 
 pub fn lists() {
     base::two(
         b"first and last free word of the lists",
-        base::FREE_OF_LISTS,
+        poked::FREE_OF_LISTS,
         77,
-        base::LAST_FREE_OF_LISTS,
+        poked::LAST_FREE_OF_LISTS,
         77,
     );
     base::two(
         b"words of a group without lanes",
-        base::STARTS + 24,
+        poked::STARTS + 24,
         77,
-        base::MAPS + 24,
+        poked::MAPS + 24,
         77,
     );
     base::spot(
         b"number of a list without a mark",
-        base::COUNTS + base::ring(23, 1),
+        poked::COUNTS + poked::ring(23, 1),
         77,
     );
-    base::spot(b"place of a list without a lane", base::place(23, 0, 1), 77);
+    base::spot(
+        b"place of a list without a lane",
+        poked::place(23, 0, 1),
+        77,
+    );
     base::spot(
         b"first place of a list without a mark",
-        base::HEADS + base::ring(23, 1),
+        poked::HEADS + poked::ring(23, 1),
         77,
     );
 }

@@ -13,33 +13,33 @@ fn late(name: &[u8], s: u64, start: u64, b: usize, map: u64) {
 }
 
 pub fn edges() {
-    base::rest(b"V at its last", base::CLOCK, CLOCK_END - 1);
-    base::rest(b"V at its end", base::CLOCK, CLOCK_END);
+    base::rest(b"V at its last", poked::CLOCK, CLOCK_END - 1);
+    base::rest(b"V at its end", poked::CLOCK, CLOCK_END);
     late(b"S just below V + 2s", 16777215, 8388608, 1, 2);
     late(b"S at V + 2s", 16777216, 16777216, 2, 4);
 }
 
 pub fn starts() {
-    base::one(b"V at R's edge", base::CLOCK, 9924608);
-    base::one(b"V just below it", base::CLOCK, 9924607);
+    base::one(b"V at R's edge", poked::CLOCK, 9924608);
+    base::one(b"V just below it", poked::CLOCK, 9924607);
 }
 
 pub fn idles() {
     base::rest(
         b"idle F just below V + 2s",
-        base::LANE_0 + base::TIME,
+        poked::LANE_0 + poked::TIME,
         8388607,
     );
-    base::rest(b"idle F at V + 2s", base::LANE_0 + base::TIME, 8388608);
+    base::rest(b"idle F at V + 2s", poked::LANE_0 + poked::TIME, 8388608);
 }
 
 // Lane 0 is idle with this setting and F: the group that stands in its word means nothing, and the slot is that of its own.
 fn idle_with(name: &[u8], setting: u64, f: u64) {
-    base::rest_two(name, base::LANE_0, setting, base::LANE_0 + base::TIME, f);
+    base::rest_two(name, poked::LANE_0, setting, poked::LANE_0 + poked::TIME, f);
 }
 
 pub fn idle_slots() {
-    let bare = base::setting(512, 1500, 0, 0);
+    let bare = poked::setting(512, 1500, 0, 0);
     idle_with(
         b"no c and no group, idle F just below V + 2s",
         bare,
@@ -48,10 +48,10 @@ pub fn idle_slots() {
     idle_with(b"no c and no group, idle F at V + 2s", bare, 8388608);
     idle_with(
         b"group one more, idle F at V + 2s",
-        base::setting(512, 1500, 23, 2048),
+        poked::setting(512, 1500, 23, 2048),
         8388608,
     );
-    let least = base::setting(512, 64, 0, 0);
+    let least = poked::setting(512, 64, 0, 0);
     idle_with(b"longest 64, idle F just below V + 2s", least, 262143);
     idle_with(b"longest 64, idle F at V + 2s", least, 262144);
 }
@@ -60,11 +60,11 @@ pub fn idle_slots() {
 pub fn lowest_slots() {
     let mut t = [0u8; base::SIZE];
     base::idle(&mut t);
-    base::put(&mut t, base::PRESENT, 1);
-    base::put(&mut t, base::LANE_0, base::setting(1024, 64, 0, 0));
-    base::put(&mut t, base::LANE_0 + base::TIME, 131071);
+    poked::put(&mut t, poked::PRESENT, 1);
+    poked::put(&mut t, poked::LANE_0, poked::setting(1024, 64, 0, 0));
+    poked::put(&mut t, poked::LANE_0 + poked::TIME, 131071);
     base::say(b"group 16, idle F just below V + 2s", &t);
-    base::put(&mut t, base::LANE_0 + base::TIME, 131072);
+    poked::put(&mut t, poked::LANE_0 + poked::TIME, 131072);
     base::say(b"group 16, idle F at V + 2s", &t);
 }
 
@@ -72,9 +72,9 @@ pub fn lowest_slots() {
 pub fn eligible() {
     let mut t = [0u8; base::SIZE];
     base::base(&mut t);
-    base::put(&mut t, base::LANE_0 + base::TIME, 4194304);
-    base::group(&mut t, 22, 4194304, 2);
-    base::alone(&mut t, 22, 1, 0);
+    poked::put(&mut t, poked::LANE_0 + poked::TIME, 4194304);
+    poked::group(&mut t, 22, 4194304, 2);
+    poked::alone(&mut t, 22, 1, 0);
     base::say(b"one lane eligible", &t);
     base::later(&mut t, 8388608, 8388608, 1, 2);
     base::say(b"no lane eligible", &t);
@@ -82,22 +82,30 @@ pub fn eligible() {
 
 // The line's framing bytes: the whole of word 4, at most 64, and charged in the group and in R's edge.
 pub fn framings() {
-    base::one(b"framing 64", base::FRAMING, 64);
-    base::one(b"framing 65", base::FRAMING, 65);
-    base::one(b"framing 256", base::FRAMING, 256);
-    base::one(b"framing's highest bit", base::FRAMING, 9223372036854775808);
+    base::one(b"framing 64", poked::FRAMING, 64);
+    base::one(b"framing 65", poked::FRAMING, 65);
+    base::one(b"framing 256", poked::FRAMING, 256);
+    base::one(
+        b"framing's highest bit",
+        poked::FRAMING,
+        9223372036854775808,
+    );
 }
 
 // Lane 1 holds a record of 64 bytes, its longest, with group `g` and its list there; `groups` is the word of the groups that have lanes.
 fn short(name: &[u8], g: usize, groups: u64, framing: u64) {
     let mut t = [0u8; base::SIZE];
     base::base(&mut t);
-    base::put(&mut t, base::LANE_1, base::setting(256, 64, g as u64, 4096));
-    base::length(&mut t, 1, 0, 64);
-    base::put(&mut t, base::FRAMING, framing);
-    base::put(&mut t, base::GROUPS, groups);
-    base::group(&mut t, g, 0, 1);
-    base::alone(&mut t, g, 0, 1);
+    poked::put(
+        &mut t,
+        poked::LANE_1,
+        poked::setting(256, 64, g as u64, 4096),
+    );
+    poked::length(&mut t, 1, 0, 64);
+    poked::put(&mut t, poked::FRAMING, framing);
+    poked::put(&mut t, poked::GROUPS, groups);
+    poked::group(&mut t, g, 0, 1);
+    poked::alone(&mut t, g, 0, 1);
     base::say(name, &t);
 }
 
@@ -107,16 +115,16 @@ pub fn framed() {
     short(b"group of the longest and framing 1", 19, 4718592, 1);
     base::two(
         b"V at R's edge, framing 64",
-        base::CLOCK,
+        poked::CLOCK,
         9990144,
-        base::FRAMING,
+        poked::FRAMING,
         64,
     );
     base::two(
         b"V just below it, framing 64",
-        base::CLOCK,
+        poked::CLOCK,
         9990143,
-        base::FRAMING,
+        poked::FRAMING,
         64,
     );
 }

@@ -5,39 +5,39 @@ use base_table as base;
 fn moved(name: &[u8], setting: u64, groups: u64, g: usize) {
     let mut t = [0u8; base::SIZE];
     base::base(&mut t);
-    base::put(&mut t, base::LANE_1, setting);
-    base::put(&mut t, base::GROUPS, groups);
-    base::group(&mut t, g, 0, 1);
-    base::alone(&mut t, g, 0, 1);
+    poked::put(&mut t, poked::LANE_1, setting);
+    poked::put(&mut t, poked::GROUPS, groups);
+    poked::group(&mut t, g, 0, 1);
+    poked::alone(&mut t, g, 0, 1);
     base::say(name, &t);
 }
 
 pub fn settings() {
     base::one(
         b"present lane of weight 0",
-        base::LANE_0,
-        base::setting(0, 1500, 22, 2048),
+        poked::LANE_0,
+        poked::setting(0, 1500, 22, 2048),
     );
     moved(
         b"weight 1",
-        base::setting(1, 1500, 31, 1048576),
+        poked::setting(1, 1500, 31, 1048576),
         2151677952,
         31,
     );
     base::rest(
         b"longest 63",
-        base::LANE_1,
-        base::setting(256, 63, 18, 4096),
+        poked::LANE_1,
+        poked::setting(256, 63, 18, 4096),
     );
     base::rest(
         b"longest 64",
-        base::LANE_1,
-        base::setting(256, 64, 18, 4096),
+        poked::LANE_1,
+        poked::setting(256, 64, 18, 4096),
     );
     base::one(
         b"longest 1501",
-        base::LANE_1,
-        base::setting(256, 1501, 23, 4096),
+        poked::LANE_1,
+        poked::setting(256, 1501, 23, 4096),
     );
 }
 
@@ -45,78 +45,78 @@ pub fn settings() {
 fn together(name: &[u8], setting: u64) {
     let mut t = [0u8; base::SIZE];
     base::base(&mut t);
-    base::put(&mut t, base::LANE_1, setting);
-    base::put(&mut t, base::GROUPS, 4194304);
-    base::byte(&mut t, base::COUNTS + base::ring(22, 0), 2);
-    base::byte(&mut t, base::place(22, 0, 1), 1);
+    poked::put(&mut t, poked::LANE_1, setting);
+    poked::put(&mut t, poked::GROUPS, 4194304);
+    poked::byte(&mut t, poked::COUNTS + poked::ring(22, 0), 2);
+    poked::byte(&mut t, poked::place(22, 0, 1), 1);
     base::say(name, &t);
 }
 
 pub fn sums() {
-    together(b"weights 1024", base::setting(512, 1500, 22, 2048));
-    together(b"weights 1025", base::setting(513, 1500, 22, 2045));
+    together(b"weights 1024", poked::setting(512, 1500, 22, 2048));
+    together(b"weights 1025", poked::setting(513, 1500, 22, 2045));
 }
 
 pub fn rates() {
     base::one(
         b"c one more",
-        base::LANE_1,
-        base::setting(256, 1500, 23, 4097),
+        poked::LANE_1,
+        poked::setting(256, 1500, 23, 4097),
     );
     base::one(
         b"c one less",
-        base::LANE_1,
-        base::setting(256, 1500, 23, 4095),
+        poked::LANE_1,
+        poked::setting(256, 1500, 23, 4095),
     );
     moved(
         b"group one more",
-        base::setting(256, 1500, 24, 4096),
+        poked::setting(256, 1500, 24, 4096),
         20971520,
         24,
     );
-    together(b"group one less", base::setting(256, 1500, 22, 4096));
+    together(b"group one less", poked::setting(256, 1500, 22, 4096));
 }
 
 // While a lane is idle, c and group mean nothing.
 pub fn rates_unread() {
     base::rest(
         b"an idle lane's c one more",
-        base::LANE_1,
-        base::setting(256, 1500, 23, 4097),
+        poked::LANE_1,
+        poked::setting(256, 1500, 23, 4097),
     );
     base::rest(
         b"an idle lane's group one more",
-        base::LANE_1,
-        base::setting(256, 1500, 24, 4096),
+        poked::LANE_1,
+        poked::setting(256, 1500, 24, 4096),
     );
     base::rest(
         b"an idle lane with no c and no group",
-        base::LANE_1,
-        base::setting(256, 1500, 0, 0),
+        poked::LANE_1,
+        poked::setting(256, 1500, 0, 0),
     );
     base::rest(
         b"an idle lane of weight 1025, no c and no group",
-        base::LANE_1,
-        base::setting(1025, 1500, 0, 0),
+        poked::LANE_1,
+        poked::setting(1025, 1500, 0, 0),
     );
 }
 
 pub fn present() {
-    base::one(b"lane present, words 0", base::PRESENT, 7);
-    base::rest(b"no lane", base::PRESENT, 0);
+    base::one(b"lane present, words 0", poked::PRESENT, 7);
+    base::rest(b"no lane", poked::PRESENT, 0);
     base::rest_two(
         b"weight 1024 alone",
-        base::PRESENT,
+        poked::PRESENT,
         1,
-        base::LANE_0,
-        base::setting(1024, 64, 16, 1024),
+        poked::LANE_0,
+        poked::setting(1024, 64, 16, 1024),
     );
     base::rest_two(
         b"weight 1025 alone",
-        base::PRESENT,
+        poked::PRESENT,
         1,
-        base::LANE_0,
-        base::setting(1025, 64, 16, 1024),
+        poked::LANE_0,
+        poked::setting(1025, 64, 16, 1024),
     );
 }
 
@@ -145,34 +145,34 @@ pub fn places_unread() {
     base::sized(b"an absent lane's place of 65536", 2, 0, 65536);
     let mut t = [0u8; base::SIZE];
     base::idle(&mut t);
-    base::length(&mut t, 0, 0, 1501);
-    base::length(&mut t, 1, 63, 65536);
+    poked::length(&mut t, 0, 0, 1501);
+    poked::length(&mut t, 1, 63, 65536);
     base::say(b"idle lanes' places of 1501 and 65536", &t);
 }
 
 // The depth number is the whole of its word.
 pub fn depths() {
-    base::one(b"depth 0", base::DEPTH, 0);
-    base::one(b"depth 16", base::DEPTH, 16);
-    base::one(b"depth 63", base::DEPTH, 63);
-    base::one(b"depth 65", base::DEPTH, 65);
-    base::one(b"depth 2^32 + 64", base::DEPTH, 4294967360);
-    base::rest(b"depth 16, nothing held", base::DEPTH, 16);
+    base::one(b"depth 0", poked::DEPTH, 0);
+    base::one(b"depth 16", poked::DEPTH, 16);
+    base::one(b"depth 63", poked::DEPTH, 63);
+    base::one(b"depth 65", poked::DEPTH, 65);
+    base::one(b"depth 2^32 + 64", poked::DEPTH, 4294967360);
+    base::rest(b"depth 16, nothing held", poked::DEPTH, 16);
 }
 
 pub fn rings() {
-    base::one(b"64 records", base::LANE_1 + base::RING, 64 * base::ROOM);
-    base::one(b"65 records", base::LANE_1 + base::RING, 65 * base::ROOM);
-    base::one(b"held lane counted idle", base::LANE_1 + base::RING, 0);
+    base::one(b"64 records", poked::LANE_1 + poked::RING, 64 * poked::ROOM);
+    base::one(b"65 records", poked::LANE_1 + poked::RING, 65 * poked::ROOM);
+    base::one(b"held lane counted idle", poked::LANE_1 + poked::RING, 0);
     base::one(
         b"another first place",
-        base::LANE_1 + base::RING,
-        63 + base::ROOM,
+        poked::LANE_1 + poked::RING,
+        63 + poked::ROOM,
     );
     base::one(
         b"ring past its end",
-        base::LANE_1 + base::RING,
-        63 + 2 * base::ROOM,
+        poked::LANE_1 + poked::RING,
+        63 + 2 * poked::ROOM,
     );
 }
 
@@ -180,7 +180,7 @@ pub fn rings() {
 pub fn ring_over() {
     let mut t = [0u8; base::SIZE];
     base::base(&mut t);
-    base::put(&mut t, base::LANE_1 + base::RING, 63 + 2 * base::ROOM);
-    base::record(&mut t, 1, 63, 9, 1501);
+    poked::put(&mut t, poked::LANE_1 + poked::RING, 63 + 2 * poked::ROOM);
+    poked::record(&mut t, 1, 63, 9, 1501);
     base::say(b"ring past its end, length 1501", &t);
 }

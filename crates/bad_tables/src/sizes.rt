@@ -15,9 +15,9 @@ pub fn sizes() {
 
 // No part may be left out, the kept bytes neither.
 fn shorter(t: &[u8]) {
-    base::part(b"without the kept bytes", t, base::KEPT);
-    base::part(b"without the trains", t, base::TRAINS);
-    base::part(b"without the marks", t, base::MARKS);
-    base::part(b"without the lists", t, base::LISTS);
+    base::part(b"without the kept bytes", t, poked::KEPT);
+    base::part(b"without the trains", t, poked::TRAINS);
+    base::part(b"without the marks", t, poked::MARKS);
+    base::part(b"without the lists", t, poked::LISTS);
     base::part(b"empty", t, 0);
 }

@@ -4,26 +4,26 @@ use base_table as base;
 // The row of lane 0 has so many records.
 fn row(t: &mut [u8], held: u64) {
     if held < 256 {
-        base::put(t, base::LANE_0 + base::RING, held * base::ROOM);
+        poked::put(t, poked::LANE_0 + poked::RING, held * poked::ROOM);
     }
 }
 
 // The base with a shared lane 0. Train 0, in turn with a deficit of 1,500, holds records of 1,000 and 500 bytes; train 3, behind it, one of 700.
 fn lane(t: &mut [u8]) {
     base::base(t);
-    base::put(t, base::LANE_0, base::shared(512, 1500, 22, 2048));
+    poked::put(t, poked::LANE_0, poked::shared(512, 1500, 22, 2048));
     row(t, 3);
-    base::record(t, 0, 24, 4, 700);
-    base::round(t, 2, 48);
-    base::train(t, 0, 0, 2, 1500);
-    base::train(t, 3, 0, 1, 0);
+    poked::record(t, 0, 24, 4, 700);
+    poked::round(t, 2, 48);
+    poked::train(t, 0, 0, 2, 1500);
+    poked::train(t, 3, 0, 1, 0);
 }
 
 // That lane with another number for train `j`, and so many records in its row.
 fn one(name: &[u8], held: u64, j: usize, head: u64, count: u64, deficit: u64) {
     let mut t = [0u8; base::SIZE];
     lane(&mut t);
-    base::train(&mut t, j, head, count, deficit);
+    poked::train(&mut t, j, head, count, deficit);
     row(&mut t, held);
     base::say(name, &t);
 }
@@ -32,7 +32,7 @@ fn one(name: &[u8], held: u64, j: usize, head: u64, count: u64, deficit: u64) {
 fn round(name: &[u8], named: u64, order: u64) {
     let mut t = [0u8; base::SIZE];
     lane(&mut t);
-    base::round(&mut t, named, order);
+    poked::round(&mut t, named, order);
     base::say(name, &t);
 }
 
@@ -40,7 +40,7 @@ fn round(name: &[u8], named: u64, order: u64) {
 fn sized(name: &[u8], i: usize, n: u64) {
     let mut t = [0u8; base::SIZE];
     lane(&mut t);
-    base::length(&mut t, 0, i, n);
+    poked::length(&mut t, 0, i, n);
     base::say(name, &t);
 }
 
@@ -111,8 +111,8 @@ pub fn rounds() {
     round(b"a round of 9 trains", 9, 48);
     let mut t = [0u8; base::SIZE];
     lane(&mut t);
-    base::round(&mut t, 3, 1328);
-    base::train(&mut t, 5, 0, 1, 0);
+    poked::round(&mut t, 3, 1328);
+    poked::train(&mut t, 5, 0, 1, 0);
     row(&mut t, 4);
     base::say(b"a round of 3 trains", &t);
 }
@@ -121,9 +121,9 @@ pub fn rounds() {
 pub fn unread() {
     let mut t = [0u8; base::SIZE];
     base::idle(&mut t);
-    base::put(&mut t, base::LANE_0, base::shared(512, 1500, 22, 2048));
+    poked::put(&mut t, poked::LANE_0, poked::shared(512, 1500, 22, 2048));
     base::say(b"an idle shared lane", &t);
-    base::round(&mut t, 9, 48);
-    base::train(&mut t, 0, 0, 9, 3000);
+    poked::round(&mut t, 9, 48);
+    poked::train(&mut t, 0, 0, 9, 3000);
     base::say(b"with anything for its trains and its round", &t);
 }

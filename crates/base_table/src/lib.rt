@@ -2,220 +2,27 @@
 // c 2,048, group 22) holds records of 1,000 and 500 bytes, lane 1 (weight 256, longest 1,500, c 4,096, group 23) one of 1,000; V and both S are 0, so each
 // lane stands in list 0 of its group.
 //
-// It is written word by word and byte by byte from docs/TABLE.md, and not by the library's own functions. Each case has a name, and is written with
-// whether its table is good.
-ghost use Prim.Native.Nat.{_<_};
+// It is written word by word and byte by byte (crate `poked`), and not by the library's own functions. Each case has a name, and is written with whether its
+// table is good.
 use libc::STDOUT_FILENO;
-use words::set_word;
+use poked::DEPTH;
+use poked::GROUPS;
+use poked::LANE_0;
+use poked::LANE_1;
+use poked::PRESENT;
+use poked::RING;
+use poked::ROOM;
+use poked::TIME;
+use poked::alone;
+use poked::byte;
+use poked::group;
+use poked::length;
+use poked::put;
+use poked::record;
+use poked::setting;
 
 // The fixed size of a table, in bytes.
 pub const SIZE: usize = 65536;
-
-// The words up to the rings of the slot lists.
-const WORDS: usize = 1408;
-
-// The words of the clock, of the present lanes, the first and the last free one below the rows, and those of the depth number and of the line's framing bytes.
-pub const CLOCK: usize = 0;
-
-pub const PRESENT: usize = 1;
-
-pub const FREE: usize = 2;
-
-pub const LAST_FREE: usize = 79;
-
-pub const DEPTH: usize = 3;
-
-pub const FRAMING: usize = 4;
-
-// The first word of each lane's row, and where the parts of a row lie from there: setting, clock word, ring, and the round of a shared lane.
-pub const LANE_0: usize = 80;
-
-pub const LANE_1: usize = 84;
-
-pub const LANE_2: usize = 88;
-
-pub const TIME: usize = 1;
-
-pub const RING: usize = 2;
-
-pub const ROUND: usize = 3;
-
-// Places of a lane, which is the depth number too. A ring word is the first place and this many times the number of records.
-pub const ROOM: u64 = 64;
-
-// The words of the groups that have lanes and of what was taken off the clock; the first and the last free one behind them; those of group 0's start and
-// lists, if there were a group 0.
-pub const GROUPS: usize = 1360;
-
-pub const BACK: usize = 1361;
-
-pub const FREE_OF_LISTS: usize = 1362;
-
-pub const LAST_FREE_OF_LISTS: usize = 1375;
-
-pub const STARTS: usize = 1360;
-
-pub const MAPS: usize = 1376;
-
-// The first byte of the lengths, of the slot lists, of the first ring's first place, number and places, of the marks, of the shared lanes' trains, and of the
-// bytes that are kept behind them.
-const LENGTHS: usize = 2688;
-
-pub const LISTS: usize = 10880;
-
-pub const HEADS: usize = 11264;
-
-pub const COUNTS: usize = 11776;
-
-pub const PLACES: usize = 12288;
-
-pub const MARKS: usize = 45056;
-
-pub const TRAINS: usize = 61440;
-
-pub const KEPT: usize = 63488;
-
-// 2^16, 2^32 and 2^40: where the parts of a setting word begin. 2^63 says that trains share the lane.
-const WEIGHT: u64 = 65536;
-
-const GROUP: u64 = 4294967296;
-
-const RATE: u64 = 1099511627776;
-
-const SHARED: u64 = 9223372036854775808;
-
-// 2^32: where the number of trains begins in a round.
-const NAMED: u64 = 4294967296;
-
-pub fn put(t: &mut [u8], i: usize, v: u64) {
-    if i < WORDS {
-        if t.len() >= SIZE {
-            set_word(t, i, v);
-        }
-    }
-}
-
-pub fn byte(t: &mut [u8], a: usize, v: u8) {
-    if a < t.len() {
-        t[a] = v;
-    }
-}
-
-pub fn setting(weight: u64, longest: u64, group: u64, c: u64) -> u64 {
-    if weight < 65536 {
-        if longest < 65536 {
-            if group < 256 {
-                if c < 16777216 {
-                    return longest + weight * WEIGHT + group * GROUP + c * RATE;
-                }
-            }
-        }
-    }
-    0
-}
-
-// The same of a lane that trains share.
-pub fn shared(weight: u64, longest: u64, group: u64, c: u64) -> u64 {
-    let plain = setting(weight, longest, group, c);
-    if plain < SHARED {
-        return plain + SHARED;
-    }
-    plain
-}
-
-// Lane 0's round names so many trains, four bits each, the one in turn lowest.
-pub fn round(t: &mut [u8], named: u64, order: u64) {
-    if named < 16 {
-        if order < NAMED {
-            put(t, LANE_0 + ROUND, order + named * NAMED);
-        }
-    }
-}
-
-// Train `j` of lane 0: its first place, how many records it holds, and its deficit.
-pub fn train(t: &mut [u8], j: usize, head: u64, count: u64, deficit: u64) {
-    if j < 8 {
-        if head < 8 {
-            if count < 16 {
-                if deficit < 65536 {
-                    let n = head + 8 * count + 128 * deficit;
-                    let a = TRAINS + 4 * j;
-                    byte(t, a, (n % 256) as u8);
-                    byte(t, a + 1, (n / 256 % 256) as u8);
-                    byte(t, a + 2, (n / 65536 % 256) as u8);
-                }
-            }
-        }
-    }
-}
-
-// The number of lane `k`'s place `i` among the places of all lanes.
-fn numbered(k: usize, i: usize) -> usize
-    ensures { λ r. ⌜ r < 4096 ⌝ }
-{
-    if k < 64 {
-        if i < 64 {
-            return 64 * k + i;
-        }
-    }
-    0
-}
-
-// Lane `k`'s place `i` has this length, which is kept less one: 1 to 65,536.
-pub fn length(t: &mut [u8], k: usize, i: usize, n: u64) {
-    if n > 0 {
-        let a = LENGTHS + 2 * numbered(k, i);
-        byte(t, a, ((n - 1) % 256) as u8);
-        byte(t, a + 1, ((n - 1) / 256 % 256) as u8);
-    }
-}
-
-// A byte of its mark.
-pub fn mark(t: &mut [u8], k: usize, i: usize, v: u8) {
-    byte(t, MARKS + 4 * numbered(k, i), v);
-}
-
-// Lane `k`'s place `i` holds a record.
-pub fn record(t: &mut [u8], k: usize, i: usize, v: u8, n: u64) {
-    mark(t, k, i, v);
-    length(t, k, i, n);
-}
-
-// The ring of list `b` of group `g`.
-pub fn ring(g: usize, b: usize) -> usize
-    ensures { λ r. ⌜ r < 512 ⌝ }
-{
-    if g >= 16 {
-        if g < 32 {
-            if b < 32 {
-                return 32 * (g - 16) + b;
-            }
-        }
-    }
-    0
-}
-
-// Place `j` of that ring.
-pub fn place(g: usize, b: usize, j: usize) -> usize {
-    if j < 64 {
-        return PLACES + 64 * ring(g, b) + j;
-    }
-    PLACES
-}
-
-// Group `g` has lanes: its start, and the word of its lists.
-pub fn group(t: &mut [u8], g: usize, start: u64, map: u64) {
-    if g < 32 {
-        put(t, STARTS + g, start);
-        put(t, MAPS + g, map);
-    }
-}
-
-// Lane `k` stands alone in list `b` of group `g`.
-pub fn alone(t: &mut [u8], g: usize, b: usize, k: u8) {
-    byte(t, COUNTS + ring(g, b), 1);
-    byte(t, place(g, b, 0), k);
-}
 
 // Lanes 0 and 1 of that session (R16.2), and nothing held.
 pub fn idle(t: &mut [u8]) {
@@ -234,14 +41,19 @@ fn records(t: &mut [u8]) {
     record(t, 1, 0, 2, 1000);
 }
 
-pub fn base(t: &mut [u8]) {
-    idle(t);
+// With them, each lane alone in a list of its group.
+fn hold(t: &mut [u8]) {
     records(t);
     put(t, GROUPS, 12582912);
     group(t, 22, 0, 1);
     alone(t, 22, 0, 0);
     group(t, 23, 0, 1);
     alone(t, 23, 0, 1);
+}
+
+pub fn base(t: &mut [u8]) {
+    idle(t);
+    hold(t);
 }
 
 // Lane 1 has this S, which lies in slot `b` of its group; its list goes along.
@@ -268,21 +80,41 @@ pub fn part(name: &[u8], t: &[u8], n: usize) {
     }
 }
 
+// The base, or the idle table.
+fn begin(t: &mut [u8], held: bool) {
+    idle(t);
+    if held {
+        hold(t);
+    }
+}
+
+// With two words changed.
+fn changed(name: &[u8], held: bool, i: usize, v: u64, j: usize, w: u64) {
+    let mut t = [0u8; SIZE];
+    begin(&mut t, held);
+    put(&mut t, i, v);
+    put(&mut t, j, w);
+    say(name, &t);
+}
+
 // The base with word `i` changed.
 pub fn one(name: &[u8], i: usize, v: u64) {
-    let mut t = [0u8; SIZE];
-    base(&mut t);
-    put(&mut t, i, v);
-    say(name, &t);
+    changed(name, true, i, v, i, v);
 }
 
 // The base with two words changed.
 pub fn two(name: &[u8], i: usize, v: u64, j: usize, w: u64) {
-    let mut t = [0u8; SIZE];
-    base(&mut t);
-    put(&mut t, i, v);
-    put(&mut t, j, w);
-    say(name, &t);
+    changed(name, true, i, v, j, w);
+}
+
+// The idle table with word `i` changed.
+pub fn rest(name: &[u8], i: usize, v: u64) {
+    changed(name, false, i, v, i, v);
+}
+
+// The idle table with two words changed.
+pub fn rest_two(name: &[u8], i: usize, v: u64, j: usize, w: u64) {
+    changed(name, false, i, v, j, w);
 }
 
 // The base with the byte at `a` changed.
@@ -307,22 +139,5 @@ pub fn sized(name: &[u8], k: usize, i: usize, n: u64) {
     let mut t = [0u8; SIZE];
     base(&mut t);
     length(&mut t, k, i, n);
-    say(name, &t);
-}
-
-// The idle table with word `i` changed.
-pub fn rest(name: &[u8], i: usize, v: u64) {
-    let mut t = [0u8; SIZE];
-    idle(&mut t);
-    put(&mut t, i, v);
-    say(name, &t);
-}
-
-// The idle table with two words changed.
-pub fn rest_two(name: &[u8], i: usize, v: u64, j: usize, w: u64) {
-    let mut t = [0u8; SIZE];
-    idle(&mut t);
-    put(&mut t, i, v);
-    put(&mut t, j, w);
     say(name, &t);
 }

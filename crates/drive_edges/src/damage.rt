@@ -15,7 +15,7 @@ fn with_word(name: &[u8], i: usize, v: u64) {
     let mut t = [bytes::FILL; bytes::LONG];
     tables::setup(&mut t);
     tables::puts(&mut t);
-    bytes::poke(&mut t, i, v);
+    poked::put(&mut t, i, v);
     let before = t;
     calls::every(&mut t);
     bytes::compare(&before, &t);
@@ -47,8 +47,8 @@ pub fn idle_places() {
     printed::line(b"- places of an idle lane");
     let mut t = [bytes::FILL; bytes::LONG];
     tables::setup(&mut t);
-    bytes::poke(&mut t, bytes::LENGTHS_0, ALL_ONES);
-    bytes::poke(&mut t, bytes::LENGTHS_0 + 15, ALL_ONES);
+    poked::put(&mut t, bytes::LENGTHS_0, ALL_ONES);
+    poked::put(&mut t, bytes::LENGTHS_0 + 15, ALL_ONES);
     tables::puts(&mut t);
     calls::every(&mut t);
     calls::drain(&mut t, 3);

@@ -37,7 +37,7 @@ pub fn at_last() {
     printed::line(b"- clock at its last value");
     let mut t = [bytes::FILL; bytes::LONG];
     tables::setup(&mut t);
-    bytes::poke(&mut t, 0, LAST);
+    poked::put(&mut t, 0, LAST);
     let before = t;
     looks(&mut t);
     calls::take(&mut t);
@@ -52,7 +52,7 @@ pub fn at_last() {
 fn waiting(t: &mut [u8]) {
     calls::put(t, 0, 1, 100);
     calls::take(t);
-    bytes::poke(t, 0, FAR - 1);
+    poked::put(t, 0, FAR - 1);
     calls::fill(t, 1, 3);
     bytes::times(t);
     calls::take(t);
@@ -75,7 +75,7 @@ pub fn taken_back() {
 
 // Once nothing is held any more, a second time.
 fn again(t: &mut [u8]) {
-    bytes::poke(t, 0, FAR + 12345);
+    poked::put(t, 0, FAR + 12345);
     calls::put(t, 63, 11, 1500);
     calls::put(t, 0, 12, 1500);
     bytes::times(t);
@@ -87,7 +87,7 @@ pub fn groups() {
     printed::line(b"- clock taken back with four groups");
     let mut t = [bytes::FILL; bytes::LONG];
     tables::four_lanes(&mut t);
-    bytes::poke(&mut t, 0, FAR - 1000);
+    poked::put(&mut t, 0, FAR - 1000);
     tables::first(&mut t);
     tables::more(&mut t);
     tables::looks_and_takes(&mut t, 3);

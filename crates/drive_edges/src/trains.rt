@@ -90,9 +90,9 @@ pub fn damaged() {
     printed::line(b"- no train in the round");
     let mut t = [bytes::FILL; bytes::LONG];
     setup(&mut t);
-    bytes::poke(&mut t, bytes::ROUND_0, 77);
+    poked::put(&mut t, bytes::ROUND_0, 77);
     puts(&mut t);
-    bytes::poke(&mut t, bytes::ROUND_0, 0);
+    poked::put(&mut t, bytes::ROUND_0, 0);
     let before = t;
     calls::every(&mut t);
     bytes::compare(&before, &t);

@@ -1,5 +1,4 @@
 // A table's own words (docs/TABLE.md). A lane's clock word is S while it holds records and F while it is idle.
-use words::set_word;
 use words::word;
 
 // What a table is filled with before it is made.
@@ -41,15 +40,6 @@ fn cell(t: &[u8], i: usize) -> u64 {
         }
     }
     0
-}
-
-// Writes a word behind the library's back.
-pub fn poke(t: &mut [u8], i: usize, v: u64) {
-    if i < WORDS {
-        if t.len() >= scheduler::SIZE {
-            set_word(t, i, v);
-        }
-    }
 }
 
 // Prints the clock, and lane 0's clock word.

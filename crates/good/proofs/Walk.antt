@@ -9,7 +9,6 @@ use native.Mathlib.Omega.{arith}
 use lib.Bits.{bitAnd, and-le-r}
 use lib.Count.{trailingZeros}
 use lib.ListN.{getD}
-use Rattle.rules.specs.State.{Lane}
 use Rattle.rules.proofs.Word.{word-lt}
 use Rattle.table.specs.Layout.{presentWord, framingWord}
 use Rattle.table.specs.Means.{presentAt, Next}

@@ -1,8 +1,7 @@
-// Converting a case, and the calls on what it became.
+// Converting a case.
 use convert::Converting;
 use convert::NEW_SIZE;
 use convert::convert;
-use units::Bytes;
 
 // Room for a table and eight bytes behind it.
 pub const ROOM: usize = 65544;
@@ -52,24 +51,4 @@ pub fn over(name: &[u8], old: &[u8], new: &mut [u8]) {
 pub fn only(name: &[u8], old: &[u8]) {
     let mut new = [MARK; ROOM];
     over(name, old, &mut new);
-}
-
-pub fn put(t: &mut [u8], lane: u8, mark: u32, length: u64) {
-    printed::answer(scheduler::put(t, lane, 0, mark, Bytes(length)));
-}
-
-pub fn lag(t: &[u8], lane: u8) {
-    printed::answer(scheduler::lag(t, lane));
-}
-
-fn take(t: &mut [u8]) {
-    printed::answer(scheduler::take(t));
-}
-
-pub fn takes(t: &mut [u8], n: u32) {
-    let mut i: u32 = 0;
-    while i < n {
-        take(t);
-        i += 1;
-    }
 }

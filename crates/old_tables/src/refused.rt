@@ -25,7 +25,7 @@ pub fn cut() {
 fn one(name: &[u8], i: usize, v: u64) {
     let mut old = [0u8; bytes::SIZE];
     bytes::base(&mut old);
-    bytes::put(&mut old, i, v);
+    poked::put(&mut old, i, v);
     over::only(name, &old);
 }
 
@@ -38,40 +38,40 @@ pub fn records() {
         bytes::RECORDS,
         bytes::record(1, 66536),
     );
-    one(b"17 records", bytes::ROWS + 2, bytes::ring(0, 17));
+    one(b"17 records", poked::LANE_0 + 2, bytes::ring(0, 17));
 }
 
 pub fn rows() {
     one(
         b"c one more",
-        bytes::ROWS,
-        bytes::setting(512, 1500, 22, 2049),
+        poked::LANE_0,
+        poked::setting(512, 1500, 22, 2049),
     );
     one(
         b"c one less",
-        bytes::ROWS,
-        bytes::setting(512, 1500, 22, 2047),
+        poked::LANE_0,
+        poked::setting(512, 1500, 22, 2047),
     );
     one(
         b"c with its top bit",
-        bytes::ROWS,
-        bytes::setting(512, 1500, 22, 8390656),
+        poked::LANE_0,
+        poked::setting(512, 1500, 22, 8390656),
     );
     one(
         b"longest 1501",
-        bytes::ROWS,
-        bytes::setting(512, 1501, 22, 2048),
+        poked::LANE_0,
+        poked::setting(512, 1501, 22, 2048),
     );
-    one(b"framing 64", bytes::FRAMING, 64);
-    one(b"framing 65", bytes::FRAMING, 65);
+    one(b"framing 64", poked::FRAMING, 64);
+    one(b"framing 65", poked::FRAMING, 65);
 }
 
 // Lane 0 with this setting of group `g`, and its list there; `groups` is the word of the groups that have lanes.
 fn grouped(name: &[u8], setting: u64, groups: u64, g: usize) {
     let mut old = [0u8; bytes::SIZE];
     bytes::base(&mut old);
-    bytes::put(&mut old, bytes::ROWS, setting);
-    bytes::put(&mut old, bytes::GROUPS, groups);
+    poked::put(&mut old, poked::LANE_0, setting);
+    poked::put(&mut old, poked::GROUPS, groups);
     bytes::list(&mut old, g, 0, 1, 0, 0);
     over::only(name, &old);
 }
@@ -79,19 +79,19 @@ fn grouped(name: &[u8], setting: u64, groups: u64, g: usize) {
 pub fn groups() {
     grouped(
         b"weights 1024",
-        bytes::setting(768, 1500, 21, 1366),
+        poked::setting(768, 1500, 21, 1366),
         10485760,
         21,
     );
     grouped(
         b"weights 1025",
-        bytes::setting(769, 1500, 21, 1364),
+        poked::setting(769, 1500, 21, 1364),
         10485760,
         21,
     );
     grouped(
         b"group one less",
-        bytes::setting(512, 1500, 21, 2048),
+        poked::setting(512, 1500, 21, 2048),
         10485760,
         21,
     );
@@ -101,7 +101,7 @@ pub fn groups() {
 fn started(name: &[u8], s: u64, b: u32) {
     let mut old = [0u8; bytes::SIZE];
     bytes::base(&mut old);
-    bytes::put(&mut old, bytes::ROWS + 1, s);
+    poked::put(&mut old, poked::LANE_0 + 1, s);
     bytes::list(&mut old, 22, b, 1, 0, 0);
     over::only(name, &old);
 }
@@ -110,25 +110,25 @@ fn started(name: &[u8], s: u64, b: u32) {
 fn idle(name: &[u8], v: u64, f: u64) {
     let mut old = [0u8; bytes::SIZE];
     bytes::idle(&mut old);
-    bytes::put(&mut old, bytes::CLOCK, v);
-    bytes::put(&mut old, bytes::ROWS + 5, f);
+    poked::put(&mut old, poked::CLOCK, v);
+    poked::put(&mut old, poked::LANE_0 + 5, f);
     over::only(name, &old);
 }
 
 pub fn times() {
     started(b"S just below two slots ahead", 8388607, 1);
     started(b"S two slots ahead", 8388608, 2);
-    one(b"V as far ahead as it may be", bytes::CLOCK, 9924607);
-    one(b"V one further", bytes::CLOCK, 9924608);
+    one(b"V as far ahead as it may be", poked::CLOCK, 9924607);
+    one(b"V one further", poked::CLOCK, 9924608);
     idle(b"F two slots ahead", 0, 16777216);
     idle(b"clock at its end", 4611690416473899008, 0);
 }
 
 pub fn lists() {
-    one(b"no lane", bytes::PRESENT, 0);
-    one(b"a group without its bit", bytes::GROUPS, 4194304);
-    one(b"a group that has no lane", bytes::GROUPS, 29360128);
-    one(b"a back that is no whole slot", bytes::BACK, 5);
+    one(b"no lane", poked::PRESENT, 0);
+    one(b"a group without its bit", poked::GROUPS, 4194304);
+    one(b"a group that has no lane", poked::GROUPS, 29360128);
+    one(b"a back that is no whole slot", poked::BACK, 5);
 }
 
 // List 0 of group 22 with `n` lanes, `first` and lane 0.

@@ -7,7 +7,7 @@
 use Prim.Native.Nat.{ℕ, suc, _+_, _-_, _*_, _/_, _%_, _≤_, _<_}
 use mathlib.Core.Path.{_≡_, refl, sym, ap, subst, _∙_}
 use mathlib.Core.Bool.{Bool, true, false}
-use mathlib.Core.Logic.{_⊎_, ⊎-elim}
+use mathlib.Core.Logic.{⊎-elim}
 use mathlib.Core.List.{List, [], _∷_}
 use native.Mathlib.Decide.{decLe}
 use native.Mathlib.Omega.{arith}
@@ -21,11 +21,10 @@ use Rattle.words.proofs.Runs.{length-tab, getD-tab}
 use Rattle.rules.specs.State.{Setting, noSetting, settingAt}
 use Rattle.rules.specs.Setup.{InNumbers, weights, framingOf}
 use Rattle.plan.specs.Accepted.{present}
-use Rattle.plan_writer.specs.Write.{Planned, Within, Fitting, writtenSize}
+use Rattle.plan_writer.specs.Write.{Planned, Within, Fitting}
 use Rattle.plan_writer.proofs.Framing.{fitting-line}
 use Rattle.plan_writer.proofs.Parts.{format-small}
 use Rattle.plan_area.specs.Area.{AreaRoom, formatIn, framingIn, sharedIn, longestIn, settingIn, laneIn, lanesIn, planIn, sharedPart, planLaneWord, ShowsPlan, AreaWithin}
-use Rattle.plan_area.specs.Step.{areaLanes}
 
 -- ---- an area that shows a plan
 
@@ -96,12 +95,8 @@ some-lane (g ∷ gs) h =
       | no b ↦ let r = some-lane gs (omega (arith, h, b)) in (suc (r .0), r .1)
     ]
 
-framing-of : (h w : ℕ) → (settingIn h w .framing ≤ h) × ((w % 65536 ≡ 0 → ⊥) → settingIn h w .framing ≡ h)
-framing-of h w = (go (eqb (w % 65536) 0), λ z. rw (ne-eqb (w % 65536) 0 z))
-  where
-    go : (b : Bool) → (if b then 0 else h) ≤ h
-    go true = omega arith
-    go false = omega arith
+framing-of : (h w : ℕ) → (w % 65536 ≡ 0 → ⊥) → settingIn h w .framing ≡ h
+framing-of h w z = rw (ne-eqb (w % 65536) 0 z)
 
 module _ (a : List ℕ) (w : AreaWithin a) where
   abbrev gs : List Setting
@@ -109,13 +104,6 @@ module _ (a : List ℕ) (w : AreaWithin a) where
 
   past : (k : ℕ) → 64 ≤ k → settingAt gs k ≡ noSetting
   past k l = List·getD-eq-default gs noSetting (omega (arith, l, length-tab 64 (laneIn a)))
-
-  at-most : (k : ℕ) → settingAt gs k .framing ≤ framingIn a
-  at-most k =
-      elim (decLe (suc k) 64) [
-        | yes b ↦ omega (arith, ap (λ (g : Setting). g .framing) (getD-tab 64 k (laneIn a) noSetting b), framing-of (framingIn a) (wordAt a (k + 1)) .0)
-        | no b ↦ omega (arith, ap (λ (g : Setting). g .framing) (past k (omega arith)))
-      ]
 
   line : framingOf gs ≡ framingIn a
   line =
@@ -126,7 +114,7 @@ module _ (a : List ℕ) (w : AreaWithin a) where
         | yes b ↦
             let is : settingAt gs k ≡ laneIn a k = getD-tab 64 k (laneIn a) noSetting b in
             let weight : settingAt gs k .weight ≡ wordAt a (k + 1) % 65536 = ap (λ (g : Setting). g .weight) is in
-            sym f ∙ ap (λ (g : Setting). g .framing) is ∙ framing-of (framingIn a) (wordAt a (k + 1)) .1 (λ z. omega (arith, z, weight, found .1))
+            sym f ∙ ap (λ (g : Setting). g .framing) is ∙ framing-of (framingIn a) (wordAt a (k + 1)) (λ z. omega (arith, z, weight, found .1))
         | no b ↦ absurd (omega (arith, found .1, ap (λ (g : Setting). g .weight) (past k (omega (arith, b)))))
       ]
 
