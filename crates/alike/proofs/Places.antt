@@ -50,6 +50,13 @@ place-unique j k (x ∷ xs) h e = go (eqb j x) refl (eqb k x) refl (place-unique
     go false p true q r e = absurd (omega arith)
     go false p false q r e = r (omega (arith, simp (ne-eqb x j (λ t. eqb-false j x p (sym t))) at h)) (omega arith)
 
+-- one element put in front of two lists: of two numbers the same one comes first in both, if it did
+pub place-cons : (p q : Bool) (a b c d : ℕ) → ltb a b ≡ ltb c d → ltb (if p then 0 else suc a) (if q then 0 else suc b) ≡ ltb (if p then 0 else suc c) (if q then 0 else suc d)
+place-cons true true a b c d r = refl
+place-cons true false a b c d r = lt-ltb 0 (suc b) (omega arith) ∙ sym (lt-ltb 0 (suc d) (omega arith))
+place-cons false true a b c d r = le-ltb (suc a) 0 (omega arith) ∙ sym (le-ltb (suc c) 0 (omega arith))
+place-cons false false a b c d r = leb·suc-suc (suc a) b ∙ r ∙ sym (leb·suc-suc (suc c) d)
+
 -- taking j out does not change which of two others comes first
 pub place-without : (j a b : ℕ) (xs : List ℕ) → (j ≡ a → ⊥) → (j ≡ b → ⊥)
     → ltb (place a (without j xs)) (place b (without j xs)) ≡ ltb (place a xs) (place b xs)
@@ -60,20 +67,13 @@ place-without j a b (x ∷ xs) na nb = go (eqb j x) refl (place-without j a b xs
     ys : List ℕ
     ys = without j xs
 
-    both : (p q : Bool) → ltb (place a ys) (place b ys) ≡ ltb (place a xs) (place b xs)
-        → ltb (if p then 0 else suc (place a ys)) (if q then 0 else suc (place b ys)) ≡ ltb (if p then 0 else suc (place a xs)) (if q then 0 else suc (place b xs))
-    both true true r = refl
-    both true false r = lt-ltb 0 (suc (place b ys)) (omega arith) ∙ sym (lt-ltb 0 (suc (place b xs)) (omega arith))
-    both false true r = le-ltb (suc (place a ys)) 0 (omega arith) ∙ sym (le-ltb (suc (place a xs)) 0 (omega arith))
-    both false false r = leb·suc-suc (suc (place a ys)) (place b ys) ∙ r ∙ sym (leb·suc-suc (suc (place a xs)) (place b xs))
-
     go : (t : Bool) → eqb j x ≡ t → ltb (place a ys) (place b ys) ≡ ltb (place a xs) (place b xs)
         → ltb (place a (if t then ys else x ∷ ys)) (place b (if t then ys else x ∷ ys)) ≡ ltb (place a (x ∷ xs)) (place b (x ∷ xs))
     go true e r =
         let x≠a : a ≡ x → ⊥ = λ q. na (eqb-true j x e ∙ sym q) in
         let x≠b : b ≡ x → ⊥ = λ q. nb (eqb-true j x e ∙ sym q) in
         r ∙ simp (ne-eqb a x x≠a, ne-eqb b x x≠b) (sym (leb·suc-suc (suc (place a xs)) (place b xs)))
-    go false e r = both (eqb a x) (eqb b x) r
+    go false e r = place-cons (eqb a x) (eqb b x) (place a ys) (place b ys) (place a xs) (place b xs) r
 
 -- two lists, each with j put behind: they agree on which of two numbers comes first, if they did on any two but j
 pub place-last : (j a b : ℕ) (f f′ : List ℕ) → times j f ≡ 0 → times j f′ ≡ 0

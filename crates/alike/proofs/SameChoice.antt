@@ -11,12 +11,12 @@ use lib.Dec.{ltb}
 use lib.ListN.{length, getD, set}
 use borrow.Author.Tests.{ltb-true, ltb-false}
 use Rattle.units.specs.Plain.{if_then_else_, place, times}
+use Rattle.units.proofs.Lists.{set-cases}
 use Rattle.rules.specs.State.{firstOf, Lane, noLane, State, group, slot, finishR, holds}
 use Rattle.rules.specs.Choice.{Candidate, choose}
 use Rattle.rules.proofs.BySets.{candidateLane}
 use Rattle.rules.specs.Calls.{pickFirst, pickOf, picked}
 use Rattle.alike.specs.Alike.{Ties}
-use Rattle.rules.proofs.Lists.{set-cases}
 use Rattle.rules.proofs.Chosen.{Chosen, Choice, chosen}
 use Rattle.rules.proofs.Keep.{eligible-is}
 use Rattle.alike.proofs.Places.{place-unique, place-last}

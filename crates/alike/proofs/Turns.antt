@@ -8,10 +8,10 @@ use mathlib.Core.List.{List, [], _∷_, _++_, append-nil}
 use lib.Dec.{ltb}
 use lib.ListN.{length, getD, set}
 use Rattle.units.specs.Plain.{if_then_else_, place, without}
+use Rattle.units.proofs.Lists.{set-cases}
 use Rattle.rules.specs.State.{Rec, Lane, noLane, State, group, startR, holds, setupOf, anyHolds, laneAt}
 use Rattle.rules.specs.Calls.{Call, put, take, look, sets, lag, restart, Outcome, no, putRefusal, appended, woken, accept, putOf, doPut, served, serve, Pick, picked, takeOf, doTake, lookOf, doLook, doSets, lagOf, lagged, doLag, fresh, restarted, doRestart, step, shifted}
 use Rattle.alike.specs.Alike.{Ties}
-use Rattle.rules.proofs.Lists.{set-cases}
 use Rattle.rules.proofs.Claim.{weightOf, in-range}
 use Rattle.rules.proofs.Moves.{Sound, appended-holds}
 use Rattle.rules.proofs.Keep.{PickIs, pick-is, Allowed, allowed-enters, PutOk, put-ok}

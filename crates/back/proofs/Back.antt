@@ -12,19 +12,18 @@ use Rattle.rules.specs.Calls.{takenOff, lowerAll, shifted}
 use Rattle.rules.proofs.Further.{mapped, plus}
 use Rattle.rules.proofs.Shift.{takenOff-is}
 use Rattle.rules.proofs.GoodShift.{good-above, shifted-good}
-use Rattle.slot_lists.specs.Lists.{backAt, listAt, startAt, Solid}
+use Rattle.slot_lists.specs.Lists.{backAt, listAt, startAt}
 use Rattle.slot_lists.specs.Changes.{earlierBy, Lowered}
 use Rattle.slot_lists.proofs.Lowered.{lowered-lists, lowered-solid}
 use Rattle.filing.specs.Filing.{inARow, Agrees}
 use Rattle.filing.proofs.Flat.{flat-ext}
 use Rattle.filing.proofs.TakenBack.{start-above, shifted-agrees}
 use Rattle.table.specs.Layout.{Behind, cells}
-use Rattle.table.specs.Means.{RowsFit, stateOf, meant, Sound, Leaves, withClock}
+use Rattle.table.specs.Means.{stateOf, meant, Leaves, withClock}
 use Rattle.table.proofs.Stores.{behind-then}
-use Rattle.table.proofs.Leave.{leaves-then, sound-after}
 use Rattle.table.proofs.Lists.{cells-around, past-rings, back-stays, lists-stay, starts-stay, solid-stays}
+use Rattle.table.proofs.Footprint.{lanes-many}
 use Rattle.choice.specs.Known.{Known}
-use Rattle.fresh.proofs.Leaves.{lanes-size}
 use Rattle.back.specs.Back.{NotBelow, loweredTo, TakesBack}
 use Rattle.back.proofs.States.{lowered-all}
 
@@ -55,7 +54,7 @@ module _ (t : List ℕ) (v d : ℕ) (known : Known t) (ev : v ≡ meant t .clock
     unfolding shifted lowerAll
     state₂ =
         let clock : v - d ≡ meant t .clock - takenOff (meant t .clock) = omega (arith, off) in
-        let lanes = lowered-all d (meant t) (lanes-size t) in
+        let lanes = lowered-all d (meant t) (lanes-many t) in
         let state : withClock (loweredTo 64 d (meant t)) (v - d) ≡ lowerAll (takenOff (meant t .clock)) (meant t) = rw (clock, lanes, off) in
         let now : shifted (meant t) ≡ lowerAll (takenOff (meant t .clock)) (meant t) = simp (le-leb clockFar (meant t .clock) is-far) in
         b .state ∙ ap (λ (s : State). withClock s (v - d)) (a .state) ∙ state ∙ sym now

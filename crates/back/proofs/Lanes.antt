@@ -9,21 +9,21 @@ use lib.ListN.{length, getD, set}
 use lib.Seq.{getD-set-same, getD-set-other}
 use Rattle.words.specs.Bits.{bit}
 use Rattle.waiting.specs.Waiting.{Waiting, first}
-use Rattle.rules.specs.State.{Rec, Setting, Lane, State, laneAt, holds, some?, charge, rate}
+use Rattle.rules.specs.State.{Rec, Setting, Lane, State, laneAt, some?, charge, rate}
 use Rattle.rules.specs.Calls as rules
 use Rattle.rules.specs.Calls.{lowered}
 use Rattle.slot_lists.specs.Lists.{listAt}
 use Rattle.filing.specs.Filing.{inARow}
 use Rattle.table.specs.Layout.{CELLS, Now, cells, presentWord, framingWord, laneWord, roundWord, rowAt}
-use Rattle.table.specs.Means.{Next, presentAt, givenOf, waitingOf, timedByWord, rowLane, laneOf, Housed, RowsFit, meant, Sound, Leaves, withLane}
+use Rattle.table.specs.Means.{Next, presentAt, givenOf, waitingOf, timedByWord, rowLane, laneOf, Housed, RowsFit, meant, Leaves, withLane}
 use Rattle.table.specs.declared.LaneRow.{LaneRow}
 use Rattle.table.proofs.Stores.{length-cells, behind-refl}
-use Rattle.table.proofs.Footprint.{Outside, lane-is, present-kept, waiting-kept, housed-kept}
+use Rattle.table.proofs.Footprint.{Outside, lane-is, present-kept, waiting-kept, housed-kept, lanes-many}
 use Rattle.table.proofs.Leave.{leave-lane, leaves-then}
 use Rattle.table.proofs.Agrees.{paced-retimed}
 use Rattle.table.proofs.Rows.{retimed, lane-present, weight-present}
 use Rattle.table.proofs.Timed.{timed-waiting, timed-start}
-use Rattle.fresh.proofs.Leaves.{lanes-size, named-weight, unnamed-lane}
+use Rattle.fresh.proofs.Leaves.{unnamed-lane}
 use Rattle.back.specs.Back.{NotBelow, loweredTo}
 use Rattle.back.proofs.States.{lowered-first, lowered-here, lowered-more, lowered-next}
 
@@ -100,24 +100,21 @@ lower-leaves t t′ k d y x hk weight above ey ex n =
 module _ (t₀ : List ℕ) (d lanes : ℕ) (word : lanes ≡ getD (cells t₀) presentWord 0) where
   passed : (n k : ℕ) → Next lanes n k → loweredTo n d (meant t₀) ≡ loweredTo k d (meant t₀)
   passed n k x =
-      lowered-next d (meant t₀) (lanes-size t₀) n k (x .on) (x .ends) (λ i p q. unnamed-lane t₀ i (omega (arith, x .ends)) (subst (λ (m : ℕ). bit i m ≡ 0) word (x .absent i p q)))
+      lowered-next d (meant t₀) (lanes-many t₀) n k (x .on) (x .ends) (λ i p q. unnamed-lane t₀ i (omega (arith, x .ends)) (subst (λ (m : ℕ). bit i m ≡ 0) word (x .absent i p q)))
 
   pub lower-none : (k : ℕ) → Next lanes 0 k → Leaves t₀ t₀ (loweredTo k d (meant t₀))
-  lower-none k x = record { state = sym (lowered-first d (meant t₀) (lanes-size t₀)) ∙ passed 0 k x; beside = λ b. b; rest = behind-refl }
+  lower-none k x = record { state = sym (lowered-first d (meant t₀) (lanes-many t₀)) ∙ passed 0 k x; beside = λ b. b; rest = behind-refl }
 
   module _ (t : List ℕ) (k : ℕ) (hk : k < 64) (l : Leaves t₀ t (loweredTo k d (meant t₀))) where
-    same-lane : laneAt (meant t) k ≡ laneAt (meant t₀) k
-    same-lane = ap (λ (u : State). laneAt u k) (l .state) ∙ lowered-here d (meant t₀) (lanes-size t₀) k hk
-
-    pub lower-weight : Sound t₀ → bit k lanes ≡ 1 → 0 < laneAt (meant t) k .given .weight
-    lower-weight s b = subst (λ (x : Lane). 0 < x .given .weight) (sym same-lane) (named-weight t₀ k s hk (subst (λ (m : ℕ). bit k m ≡ 1) word b))
+    pub lower-same : laneAt (meant t) k ≡ laneAt (meant t₀) k
+    lower-same = ap (λ (u : State). laneAt u k) (l .state) ∙ lowered-here d (meant t₀) (lanes-many t₀) k hk
 
     pub lower-above : ((i : ℕ) → NotBelow d (laneAt (meant t₀) i)) → NotBelow d (laneAt (meant t) k)
-    lower-above a = subst (NotBelow d) (sym same-lane) (a k)
+    lower-above a = subst (NotBelow d) (sym lower-same) (a k)
 
     pub lower-more : (t′ : List ℕ) (k′ : ℕ) → Leaves t t′ (withLane (meant t) k (lowered d (laneAt (meant t) k))) → Next lanes (k + 1) k′ → Leaves t₀ t′ (loweredTo k′ d (meant t₀))
     lower-more t′ k′ r x =
         let step : withLane (meant t) k (lowered d (laneAt (meant t) k)) ≡ loweredTo k′ d (meant t₀)
-        = ap (λ (u : State). withLane u k (lowered d (laneAt u k))) (l .state) ∙ ap (λ (y : Lane). withLane (loweredTo k d (meant t₀)) k (lowered d y)) (lowered-here d (meant t₀) (lanes-size t₀) k hk)
-        ∙ lowered-more d (meant t₀) (lanes-size t₀) k hk ∙ passed (k + 1) k′ x in
+        = ap (λ (u : State). withLane u k (lowered d (laneAt u k))) (l .state) ∙ ap (λ (y : Lane). withLane (loweredTo k d (meant t₀)) k (lowered d y)) (lowered-here d (meant t₀) (lanes-many t₀) k hk)
+        ∙ lowered-more d (meant t₀) (lanes-many t₀) k hk ∙ passed (k + 1) k′ x in
         leaves-then l (record { state = r .state ∙ step; beside = r .beside; rest = r .rest })

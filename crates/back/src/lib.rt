@@ -5,7 +5,6 @@
 // another list.
 //
 // Units: times are `Clock`. These are inner functions: a `requires` says what the crates above keep.
-ghost use mathlib.Core.Path.{_≡_};
 ghost use Prim.Native.Nat.{ℕ, _<_};
 ghost use Rattle.rules.specs.State.{laneAt};
 ghost use Rattle.rules.specs.Calls.{lowered};

@@ -13,7 +13,7 @@ use Rattle.words.proofs.Runs.{le-or-lt, eq-or-ne, length-tab, getD-tab}
 use Rattle.words.specs.Words.{wordAt}
 use Rattle.desk.specs.Board.{Handover, Board, lineAt, isOf, Fine}
 use Rattle.desk.proofs.Lines.{beyond}
-use Rattle.board.specs.Layout.{BoardRoom, trainWord, cellWord, ShowsBoard, lineOfWords, boardOf, wellFormed, Tells, Parted}
+use Rattle.board.specs.Layout.{BoardRoom, trainWord, cellWord, ShowsBoard, lineOfWords, boardOf, wellFormed, TellsBoard, Parted}
 
 pub board-line : (t : List ℕ) (k : ℕ) → k < 64 → lineAt (boardOf t) k ≡ lineOfWords (wordAt t (k * 2)) (wordAt t (k * 2 + 1))
 unfolding boardOf
@@ -117,7 +117,7 @@ passed-more t n p h w e d = record {
   parted = λ j k u lt below. ⊎-elim (λ (q : k ≡ n). λ x y. d j u (omega arith) x (rw q at y)) (λ (q : k ≡ n → ⊥). p .parted j k u (omega arith) below) (eq-or-ne k n);
 }
 
-pub passed-all : (t : List ℕ) → BoardRoom t → Passed t 64 → Tells true t
+pub passed-all : (t : List ℕ) → BoardRoom t → Passed t 64 → TellsBoard true t
 passed-all t room p = record {
   room = room;
   makeable = record {
@@ -139,13 +139,13 @@ passed-all t room p = record {
         (λ (q : k < j). absurd (p .parted k j u (in-it j u x) q y x))
         (le-or-lt j k)
 
-pub fails-room : (t : List ℕ) → length t < 1024 → Tells false t
+pub fails-room : (t : List ℕ) → length t < 1024 → TellsBoard false t
 fails-room t h b s = omega (arith, s .room)
 
-pub fails-formed : (t : List ℕ) (k : ℕ) → k < 64 → wellFormed (wordAt t (k * 2)) (wordAt t (k * 2 + 1)) ≡ false → Tells false t
+pub fails-formed : (t : List ℕ) (k : ℕ) → k < 64 → wellFormed (wordAt t (k * 2)) (wordAt t (k * 2 + 1)) ≡ false → TellsBoard false t
 fails-formed t k h e b s = absurd (false≢true (sym e ∙ shows-formed t b s k h))
 
-pub fails-parted : (t : List ℕ) (k : ℕ) → Parted false (boardOf t) k → Tells false t
+pub fails-parted : (t : List ℕ) (k : ℕ) → Parted false (boardOf t) k → TellsBoard false t
 fails-parted t k d b s =
     let e : d .0 ≡ k = s .makeable .once (d .0) k (d .1) (rw (shows-is t b s) at (d .3)) (rw (shows-is t b s) at (d .4)) in
     absurd (omega (arith, d .2))

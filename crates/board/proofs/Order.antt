@@ -1,5 +1,5 @@
 -- Stores to different words, and to different lines, in either order. Assumes nothing.
-use Prim.Native.Nat.{ℕ, zero, suc, _+_, _*_, _/_, _≤_, _<_}
+use Prim.Native.Nat.{ℕ, suc, _+_, _*_, _≤_, _<_}
 use native.Mathlib.Omega.{arith}
 use mathlib.Core.Path.{_≡_, refl, ap, _∙_}
 use mathlib.Core.Logic.{_⊎_, inl, inr, ⊎-elim}
@@ -9,6 +9,7 @@ use lib.ListN.{length, set}
 use lib.Seq.{set-comm, sets}
 use Rattle.words.specs.Words.{leBytes, putWord}
 use Rattle.words.proofs.Runs.{le-or-lt}
+use Rattle.words.proofs.Laws.{length-leBytes}
 use Rattle.desk.specs.Board.{Handover}
 use Rattle.board.specs.Layout.{trainWord, cellWord, putLine}
 
@@ -28,11 +29,6 @@ sets-sets [] us l i j h = refl
 sets-sets (v ∷ vs) us l i j h =
     ap (λ x. sets x (suc j) vs) (set-sets us l i v j (⊎-elim (λ (x : i + length us ≤ j). inr x) (λ (x : j + suc (length vs) ≤ i). inl (omega arith)) h))
     ∙ sets-sets vs us (set l j v) i (suc j) (⊎-elim (λ (x : i + length us ≤ j). inl (omega arith)) (λ (x : j + suc (length vs) ≤ i). inr (omega arith)) h)
-
-length-leBytes : (k v : ℕ) → length (leBytes k v) ≡ k
-unfolding leBytes
-length-leBytes zero v = refl
-length-leBytes (suc k) v = ap suc (length-leBytes k (v / 256))
 
 pub put-put : (t : List ℕ) (i j v w : ℕ) → (i ≡ j → ⊥) → putWord (putWord t i v) j w ≡ putWord (putWord t j w) i v
 unfolding putWord Apart

@@ -14,7 +14,7 @@ use Rattle.words.specs.Bits.{bit}
 use Rattle.words.proofs.Runs.{le-or-lt, eq-or-ne}
 use Rattle.words.proofs.Bits.{bit-add-same, bit-add-other}
 use Rattle.desk.specs.Board.{Handover, Board, lineAt, isOf, isFree}
-use Rattle.board.specs.Layout.{Marked, TrainOf, SeenBelow, SeenHere, handoverOf, wellFormed, Parted, Found}
+use Rattle.board.specs.Layout.{BitMarked, TrainOf, SeenBelow, SeenHere, handoverOf, wellFormed, Parted, Found}
 use Rattle.desk_line.specs.declared.Line.{Line}
 
 -- ---- two words
@@ -90,10 +90,10 @@ parted-known b k v w p e = subst (λ x. Parted x b k) e p
 
 -- ---- the bits of the trains that were passed
 
-pub mark-set : (s k r : ℕ) → bit k s ≡ 1 → r ≡ s → Marked s k r
+pub mark-set : (s k r : ℕ) → bit k s ≡ 1 → r ≡ s → BitMarked s k r
 mark-set s k r h e = rw e (record { here = h; others = λ j q. q })
 
-pub mark-add : (s k r : ℕ) → bit k s ≡ 0 → r ≡ 2 ^ k + s → Marked s k r
+pub mark-add : (s k r : ℕ) → bit k s ≡ 0 → r ≡ 2 ^ k + s → BitMarked s k r
 mark-add s k r h e = rw e (record {
   here = bit-add-same k s h;
   others = λ j q. ⊎-elim (λ (z : k ≡ j). rw (← z) (bit-add-same k s h)) (λ (n : k ≡ j → ⊥). bit-add-other k j s n h ∙ q) (eq-or-ne k j);
@@ -120,7 +120,7 @@ seen-here b k u i w s seen f e q j v h x y =
     let g = seen j v h x in
     rw (q, e, ← z) g
 
-pub seen-more : (b : Board) (k u i w r : ℕ) (s : List ℕ) → length s ≡ 16 → SeenBelow b k s → TrainOf b k u → i ≡ u / 64 % 16 → w ≡ getD s i 0 → Marked w (u % 64) r → SeenBelow b (k + 1) (set s i r)
+pub seen-more : (b : Board) (k u i w r : ℕ) (s : List ℕ) → length s ≡ 16 → SeenBelow b k s → TrainOf b k u → i ≡ u / 64 % 16 → w ≡ getD s i 0 → BitMarked w (u % 64) r → SeenBelow b (k + 1) (set s i r)
 seen-more b k u i w r s size seen f e q m j v h x =
     ⊎-elim
     (λ (y : v / 64 % 16 ≡ i).

@@ -9,11 +9,11 @@
 --   handoverOf, lineOfWords   the line of a value; of two words
 --   boardOf                   the board that bytes mean
 --   wellFormed                two words are a line: the test of 29, for one line
---   NoBoard, Tells            R11.4: the bytes show none; what the test of 29 says of bytes
+--   NoBoard, TellsBoard       R11.4: the bytes show none; what the test of 29 says of bytes
 --   Decided                   bytes show a board or none
 --   Found                     where a test first passes on the lines below n
 --   Parted                    whether a line's train stands on no line below
---   Marked, TrainOf           a word with one more bit set; the train of a line
+--   BitMarked, TrainOf        a word with one more bit set; the train of a line
 --   SeenBelow, SeenHere       the bits of the trains that the test has passed: of all, and of one line's train
 --
 -- Assumes nothing.
@@ -93,9 +93,9 @@ wellFormed a c =
 abbrev pub NoBoard : List ℕ → Type 0
 NoBoard t = (b : Board) → ShowsBoard t b → ⊥
 
-abbrev pub Tells : Bool → List ℕ → Type 0
-Tells true t = ShowsBoard t (boardOf t)
-Tells false t = NoBoard t
+abbrev pub TellsBoard : Bool → List ℕ → Type 0
+TellsBoard true t = ShowsBoard t (boardOf t)
+TellsBoard false t = NoBoard t
 
 abbrev pub Decided : Type 0
 Decided = (t : List ℕ) → ShowsBoard t (boardOf t) ⊎ NoBoard t
@@ -113,7 +113,7 @@ pub record Found (p : Option Handover → Bool) (b : Board) (n r : ℕ) : Type 0
 -- ---- the bits of the trains that were passed
 
 -- r is s with bit k set
-pub record Marked (s k r : ℕ) : Type 0 where
+pub record BitMarked (s k r : ℕ) : Type 0 where
   pub here : bit k r ≡ 1
   pub others : (j : ℕ) → bit j s ≡ 1 → bit j r ≡ 1
 

@@ -6,10 +6,9 @@
 // `sound` is the test of 29 and takes any bytes. The others are inner functions: a `requires` says what the callers keep.
 ghost use mathlib.Core.Path.{_≡_};
 ghost use Prim.Native.Nat.{_+_, _*_, _/_, _%_, _^_, _<_, _≤_};
-ghost use lib.ListN.{length};
 ghost use Rattle.desk.specs.Board.{lineAt, isOf, isFree};
 ghost use Rattle.words.specs.Words.{wordAt, putWord};
-ghost use Rattle.board.specs.Layout.{BoardRoom, boardOf, handoverOf, wellFormed, Tells, Parted, Found, Marked, TrainOf, SeenHere};
+ghost use Rattle.board.specs.Layout.{BoardRoom, boardOf, handoverOf, wellFormed, TellsBoard, Parted, Found, BitMarked, TrainOf, SeenHere};
 ghost use Rattle.words.specs.Bits.{bit};
 ghost use lib.Dec.{eqb};
 use desk_line::Line;
@@ -171,7 +170,7 @@ fn marked(seen: u64, train: u32) -> bool
 
 // The same word with the train's bit set.
 fn mark(seen: u64, train: u32) -> u64
-    ensures { λ r. ⌜ Marked seen (train % 64) r ⌝ }
+    ensures { λ r. ⌜ BitMarked seen (train % 64) r ⌝ }
 {
     if marked(seen, train) {
         return seen;
@@ -196,7 +195,7 @@ fn parted(t: &[u8], k: usize, seen: u64) -> bool
 
 // Whether the bytes show a board that the rules can make.
 pub fn sound(t: &[u8]) -> bool
-    ensures { λ r. ⌜ Tells r (now (t .entry)) ⌝ }
+    ensures { λ r. ⌜ TellsBoard r (now (t .entry)) ⌝ }
 {
     if t.len() < SIZE {
         return false;

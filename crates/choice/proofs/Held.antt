@@ -5,34 +5,27 @@ use mathlib.Core.Path.{_≡_, subst}
 use mathlib.Core.Bool.{true}
 use mathlib.Core.List.{List}
 use mathlib.Core.Option.{Option, none, some}
-use lib.ListN.{length}
 use Rattle.units.proofs.Round.{round-le}
 use Rattle.rules.specs.State.{State, slot, startR, firstOf, holds, laneAt}
 use Rattle.rules.specs.Good.{Times, Good}
 use Rattle.rules.specs.Sets.{inGroup, groupStart}
 use Rattle.rules.proofs.Queues.{held-inside}
-use Rattle.rules.proofs.Bounds.{first-is}
 use Rattle.rules.proofs.Figures.{slot-at}
 use Rattle.rules.proofs.Lowest.{LowOf}
 use Rattle.rules.proofs.GroupRule.{in-group, group-low}
-use Rattle.words.proofs.Runs.{length-tab}
-use Rattle.table.specs.Layout.{cells}
-use Rattle.table.specs.Means.{laneOf, stateOf, meant}
-
--- a table has 64 lanes
-pub lanes-many : (t : List ℕ) → length (meant t .lanes) ≡ 64
-unfolding stateOf
-lanes-many t = length-tab 64 (laneOf (cells t))
+use Rattle.rules.proofs.Moves.{busy-first}
+use Rattle.table.specs.Means.{meant}
+use Rattle.table.proofs.Footprint.{lanes-many}
 
 pub held-small : (t : List ℕ) (k : ℕ) → holds (laneAt (meant t) k) ≡ true → k < 64
 held-small t k e =
-    let f = first-is (firstOf (laneAt (meant t) k)) e in
+    let f = busy-first (firstOf (laneAt (meant t) k)) e in
     omega (arith, held-inside (meant t .lanes) k (f .0) (f .1), lanes-many t)
 
 -- a holding lane's S is below 2 ^ 63
 pub start-small : (s : State) → Good s → (k : ℕ) → holds (laneAt s k) ≡ true → (laneAt s k) .start < 2 ^ 63
 start-small s g k e =
-    let f = first-is (firstOf (laneAt s k)) e in
+    let f = busy-first (firstOf (laneAt s k)) e in
     let n : Times (s .clock) (laneAt s k) (some (f .0)) = subst (Times (s .clock) (laneAt s k)) (f .1) (g .numbers k) in
     omega (arith, n .1, g .clock, slot-at s (g .setup) k)
 

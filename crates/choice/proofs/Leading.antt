@@ -1,15 +1,16 @@
 -- What the pass over the groups finds is the plain choice, of any state that the slot lists agree with. Assumes nothing.
-use mathlib.Core.Path.{_≡_, refl, sym, ap, subst, _∙_}
-use mathlib.Core.Option.{Option, none, some}
-use mathlib.Core.Logic.{_⊎_, inl, inr}
+use mathlib.Core.Path.{_≡_, sym, ap, subst, _∙_}
+use mathlib.Core.Option.{none, some}
+use mathlib.Core.Logic.{inl, inr}
 use Prim.Native.Nat.{ℕ, _+_, _-_, _*_, _/_, _%_, _^_, _≤_, _<_}
 use native.Mathlib.Nat.{mod-eq-of-lt}
 use mathlib.Core.List.{List, [], _∷_}
 use native.Mathlib.Omega.{arith}
 use lib.ListN.{length, getD}
 use lib.Pow.{pow-mono, shl-shr}
-use Rattle.units.specs.Plain.{if_then_else_, times}
-use Rattle.rules.specs.State.{Lane, State, laneAt}
+use Rattle.units.specs.Plain.{times}
+use Rattle.units.proofs.Lists.{times-length}
+use Rattle.rules.specs.State.{State, laneAt}
 use Rattle.rules.specs.Choice.{choose}
 use Rattle.rules.specs.Sets.{inGroup, groupStart}
 use Rattle.rules.specs.Good.{Good}
@@ -19,7 +20,7 @@ use Rattle.rules.proofs.GroupRule.{in-group, group-low}
 use Rattle.choice.proofs.Held.{start-early}
 use Rattle.slot_lists.specs.Lists.{backAt, listAt, startAt, slotOf, listOf}
 use Rattle.filing.specs.Filing.{frontOf, Whole, slotAt, Agrees, LeastGroup, never}
-use Rattle.filing.proofs.Slots.{start-slot, window}
+use Rattle.filing.proofs.Slots.{start-slot}
 use Rattle.filing.proofs.Starts.{in-list}
 use Rattle.filing.proofs.Choose.{choice-is, choice-none}
 use Rattle.groups.specs.Front.{LeadsAt, Leads}
@@ -38,11 +39,7 @@ module _ (t : List ℕ) (s : State) (good : Good s) (whole : Whole (backAt t)) (
       let i = in-group g (laneAt s (lead .at)) (lead .is) in
       let own : slotAt (backAt t) (laneAt s (lead .at)) ≡ slotOf t g r = sym (shl-shr (slotAt (backAt t) (laneAt s (lead .at))) g) ∙ ap (λ (x : ℕ). x / 2 ^ g) (sym (start-slot (backAt t) g (laneAt s (lead .at)) whole hi (i .1)) ∙ ap (λ (x : ℕ). x + backAt t) (lead .start)) in
       let n : times (lead .at) (listAt t g (listOf t g r)) ≡ 1 = ap (λ (x : ℕ). times (lead .at) (listAt t g (x % 32))) (sym own) ∙ in-list (backAt t) whole s (listAt t) g (ag .filed) (good .order) lo hi (lead .at) (lead .is) in
-      some-length (listAt t g (listOf t g r)) (lead .at) (omega (arith, n))
-    where
-      some-length : (l : List ℕ) (k : ℕ) → 0 < times k l → 0 < length l
-      some-length [] k h = absurd (omega arith)
-      some-length (x ∷ xs) k h = omega arith
+      times-length (lead .at) (listAt t g (listOf t g r)) (omega (arith, n))
 
   module _ (v : ℕ) (clock : v ≡ s .clock) (f : Front) (l : Leads (startAt t) v 64 f) where
     pub found-none : f .finish ≡ never → none ≡ candidateLane (choose s)

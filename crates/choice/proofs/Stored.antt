@@ -1,25 +1,25 @@
 -- The stored word of the groups, and their stored starts, are those of the lanes. Assumes nothing.
-use Prim.Native.Nat.{ℕ, _^_, _≤_, _<_}
+use Prim.Native.Nat.{ℕ, _^_, _≤_}
 use native.Mathlib.Decide.{decLt}
 use native.Mathlib.Omega.{arith}
 use mathlib.Core.Path.{_≡_, refl, sym, ap, subst, _∙_}
-use mathlib.Core.Bool.{true, false, false≢true}
+use mathlib.Core.Bool.{true, false≢true}
 use mathlib.Core.Logic.{⊎-elim}
 use mathlib.Core.List.{List}
 use mathlib.Core.Option.{Option, none, some}
 use lib.Pow.{pow-mono}
 use Rattle.units.specs.Plain.{wordOf, count}
+use Rattle.units.proofs.Bools.{not-passed}
 use Rattle.words.specs.Bits.{bit}
 use Rattle.words.specs.Words.{wordAt}
 use Rattle.words.proofs.Bits.{bits-same, bit-above}
 use Rattle.words.proofs.Runs.{eq-or-ne}
-use Rattle.rules.specs.State.{Lane, State, laneAt}
+use Rattle.rules.specs.State.{Lane, laneAt}
 use Rattle.rules.specs.Sets.{groups, inGroup, groupStart, heldStart, groupHolds}
-use Rattle.rules.proofs.Bools.{not-passed}
 use Rattle.rules.proofs.Word.{word-lt, word-bit}
 use Rattle.rules.proofs.Lowest.{LowOf, LowestOf}
 use Rattle.rules.proofs.GroupRule.{in-group, group-low}
-use Rattle.slot_lists.specs.Lists.{groupsAt, startWord, startAt}
+use Rattle.slot_lists.specs.Lists.{groupsAt, startWord}
 use Rattle.slot_lists.proofs.Bits.{bit-two}
 use Rattle.slot_lists.proofs.Laws.{start-on, start-some}
 use Rattle.filing.proofs.Slots.{group-held}

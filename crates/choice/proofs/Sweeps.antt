@@ -1,35 +1,27 @@
 -- The sweep over the groups from the highest down gives the four words. Assumes nothing.
 use Prim.Native.Nat.{ℕ, zero, suc, _+_, _-_, _*_, _^_, _≤_, _<_, min}
-use native.Mathlib.Nat.{eq-or-lt-of-le, le-of-suc-le-suc, not-suc-le-zero, le-refl}
+use native.Mathlib.Nat.{eq-or-lt-of-le, le-refl}
 use native.Mathlib.Decide.{decLe}
 use native.Mathlib.Omega.{arith}
 use lib.Pow.{pow-mono}
-use mathlib.Core.Path.{_≡_, refl, sym, ap, subst, _∙_}
-use mathlib.Core.Bool.{Bool, true, false, not, _&&_, _||_, false≢true, or-true}
+use mathlib.Core.Path.{_≡_, refl, sym, ap, _∙_}
+use mathlib.Core.Bool.{Bool, true, false, not, _&&_, false≢true}
 use mathlib.Core.Logic.{_⊎_, inl, inr, ⊎-elim}
 use mathlib.Core.List.{List}
-use mathlib.Core.Option.{Option, none, some}
+use mathlib.Core.Option.{none, some}
 use lib.Dec.{leb, ltb}
 use borrow.Author.Tests.{ltb-true, ltb-false, lt-ltb}
 use Rattle.units.specs.Plain.{if_then_else_, anyBelow, wordOf}
 use Rattle.rules.specs.State.{Lane, State}
 use Rattle.rules.specs.Sets.{groups, groupStart, heldStart, reached, finishFrom, groupHolds, groupEligible, groupFinish, blocks, blocked, ready, ineligibleReady, eligibleBlocked, ineligibleBlocked}
 use Rattle.units.specs.declared.Clock.{Clock}
+use Rattle.units.proofs.Bools.{and-parts, not-passed}
+use Rattle.units.proofs.Lists.{any-at}
 use Rattle.rules.specs.declared.SetWords.{SetWords}
-use Rattle.rules.proofs.Bools.{and-parts, not-passed}
 use Rattle.rules.proofs.Word.{word-lt}
 use Rattle.filing.specs.Filing.{never}
 use Rattle.choice.specs.Sweep.{sortedInto, swept, BitFits, AreWords}
 use Rattle.choice.specs.declared.Sweep.{Sweep}
-
-some-below : (p : ℕ → Bool) (n k : ℕ) → k < n → p k ≡ true → anyBelow p n ≡ true
-unfolding anyBelow
-some-below p zero k h e = absurd (not-suc-le-zero h)
-some-below p (suc n) k h e = go (eq-or-lt-of-le (le-of-suc-le-suc h)) (some-below p n k)
-  where
-    go : (k ≡ n) ⊎ (k < n) → (k < n → p k ≡ true → anyBelow p n ≡ true) → (p n || anyBelow p n) ≡ true
-    go (inl q) r = simp (ap p (sym q) ∙ e)
-    go (inr q) r = simp (r q e, or-true (p n))
 
 none-below : (p : ℕ → Bool) (n : ℕ) → ((k : ℕ) → k < n → p k ≡ false) → anyBelow p n ≡ false
 unfolding anyBelow
@@ -161,7 +153,7 @@ module _ (v : ℕ) (ls : List Lane) where
             let lt = ltb-true (a .least .0) f e in
             let p : 2 ^ i ≤ 2 ^ 31 = pow-mono {i = i} {j = 31} (omega arith) in
             let m = h .met (omega arith) in
-            some-below (blocks v ls i) groups (m .0) (m .2) (blocks-made i (m .0) (m .1) (m .3) (omega (arith, m .4, finish-is)))
+            any-at (blocks v ls i) groups (m .0) (m .2) (blocks-made i (m .0) (m .1) (m .3) (omega (arith, m .4, finish-is)))
         go false e =
             let le = ltb-false (a .least .0) f e in
             none-below (blocks v ls i) groups (λ k q. not-passed (blocks v ls i k) (λ t. let b = blocks-parts i k t in omega (arith, h .lower k (b .0) q (b .1), b .2, finish-is)))

@@ -4,12 +4,12 @@ use native.Mathlib.Nat.{eq-or-lt-of-le, le-of-suc-le-suc, le-antisymm, not-suc-l
 use native.Mathlib.Decide.{decLe}
 use native.Mathlib.Omega.{arith}
 use mathlib.Core.Path.{_≡_, refl, sym, ap, subst, _∙_}
-use mathlib.Core.Bool.{Bool, true, false, false≢true}
-use mathlib.Core.Logic.{_⊎_, inl, inr, ⊎-elim}
+use mathlib.Core.Bool.{Bool, true, false}
+use mathlib.Core.Logic.{_⊎_, ⊎-elim}
 use lib.Count.{leadingZeros, leading-top}
 use lib.Pow.{pow-mono}
 use Rattle.units.specs.Plain.{if_then_else_, wordOf}
-use Rattle.rules.proofs.Bools.{not-passed}
+use Rattle.units.proofs.Bools.{not-passed}
 use Rattle.rules.proofs.Word.{word-lt}
 
 -- ---- the highest number at which the test passes

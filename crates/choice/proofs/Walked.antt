@@ -2,15 +2,13 @@
 use Prim.Native.Nat.{ℕ, zero, suc, _+_, _-_, _^_, _≤_, _<_}
 use native.Mathlib.Nat.{eq-or-lt-of-le}
 use native.Mathlib.Omega.{arith}
-use mathlib.Core.Path.{_≡_, refl, sym, ap, subst, _∙_}
-use mathlib.Core.Bool.{Bool, true, false, false≢true}
+use mathlib.Core.Path.{_≡_, refl, sym, subst, _∙_}
+use mathlib.Core.Bool.{true, false, false≢true}
 use mathlib.Core.Logic.{⊎-elim}
 use mathlib.Core.List.{List}
 use mathlib.Core.Option.{Option, none, some}
 use lib.Count.{leadingZeros}
-use lib.Dec.{eqb}
-use lib.ListN.{getD}
-use Rattle.units.specs.Plain.{if_then_else_, wordOf}
+use Rattle.units.specs.Plain.{wordOf}
 use Rattle.rules.specs.State.{Lane}
 use Rattle.rules.specs.Sets.{groups, groupStart, heldStart, groupHolds}
 use Rattle.choice.specs.Sweep.{swept}

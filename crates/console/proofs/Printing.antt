@@ -14,7 +14,7 @@ use Rattle.session.specs.Ran.{Ran}
 use Rattle.walk.specs.declared.RunResult.{RunResult}
 use Rattle.walk.proofs.Texts.{written}
 use Rattle.session.proofs.Bounds.{run-right}
-use Rattle.console.specs.Prints.{printed, Prints}
+use Rattle.console.specs.Prints.{sessionText, Prints}
 
 -- a text at the front of an area is within it
 front : (text rest a : List ℕ) (n : ℕ) → a ≡ text ++ rest → n ≡ length text → n ≤ length a
@@ -24,11 +24,11 @@ pub prints-long : (s a a′ : List ℕ) (n : ℕ) → 32768 < length s → Line 
 prints-long s a a′ n h l m =
     let e : a′ ≡ noLine 18 none ++ drop (length (noLine 18 none)) a = written a a′ (noLine 18 none) (l .wrote) (omega (arith, l .most)) in
     let f : n ≡ length (noLine 18 none) = l .wrote .past ∙ zero-add _ in
-    let t : printed s ≡ noLine 18 none = rw (lt-ltb 32768 (length s) h) in
+    let t : sessionText s ≡ noLine 18 none = rw (lt-ltb 32768 (length s) h) in
     record { is = rw t e; size = rw t f; within = front (noLine 18 none) _ a′ n e f }
 
 pub prints-run : (s t t′ a a′ : List ℕ) (r : RunResult) → length s ≤ 32768 → tableSize ≤ length t → 64 * 1002 ≤ length a → Ran s 1000 t t′ a a′ r → Prints s a a′ (r .written)
 prints-run s t t′ a a′ r h room m ran =
     let x = rw (run-right s 1000 (length t) (length a) (omega arith) (omega arith) room) at ran in
-    let p : printed s ≡ script s 1000 .text = rw (le-ltb 32768 (length s) h) in
+    let p : sessionText s ≡ script s 1000 .text = rw (le-ltb 32768 (length s) h) in
     record { is = rw p (x .answers); size = rw p (x .written); within = front (script s 1000 .text) _ a′ (r .written) (x .answers) (x .written) }

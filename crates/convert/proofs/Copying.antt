@@ -1,7 +1,7 @@
 -- From bytes copied to what both layouts keep in the same places. Assumes nothing.
 use mathlib.Core.Path.{_≡_, refl, sym, ap, _∙_}
 use mathlib.Core.Logic.{⊎-elim}
-use Prim.Native.Nat.{ℕ, suc, _+_, _*_, _/_, _≤_, _<_}
+use Prim.Native.Nat.{ℕ, _+_, _*_, _<_}
 use mathlib.Core.List.{List}
 use native.Mathlib.Omega.{arith}
 use lib.ListN.{length, getD, set, drop}
@@ -9,7 +9,7 @@ use lib.Seq.{getD-set-same, getD-set-other, drop-set-lt}
 use Rattle.words.specs.Words.{leVal, wordAt}
 use Rattle.words.proofs.Runs.{eq-or-ne, reads-ext}
 use Rattle.rules.specs.State.{laneDepth}
-use Rattle.table.specs.Layout.{SIZE, CELLS, Room, Behind, Now, cells, depthWord, laneWord, marksCell}
+use Rattle.table.specs.Layout.{SIZE, Now, cells, depthWord, laneWord, marksCell}
 use Rattle.table.proofs.Stores.{length-cells, cell-is, word-before}
 use Rattle.old_table.specs.Old.{oldSize}
 use Rattle.convert.specs.Over.{Copied, Carried}

@@ -1,16 +1,14 @@
 -- All lanes taken over, the new bytes are a good table and encode the old table's state. Assumes nothing.
-use mathlib.Core.Path.{_≡_, refl, sym, subst, _∙_}
-use Prim.Native.Nat.{ℕ, _+_, _*_, _≤_, _<_}
+use mathlib.Core.Path.{_≡_, sym, subst, _∙_}
+use Prim.Native.Nat.{ℕ}
 use mathlib.Core.List.{List}
 use native.Mathlib.Omega.{arith}
-use lib.ListN.{length, getD}
 use Rattle.words.specs.Runs.{tab}
 use Rattle.words.proofs.Runs.{tab-ext}
-use Rattle.rules.specs.State.{State}
 use Rattle.alike.specs.Alike.{Alike}
 use Rattle.alike.proofs.Alike.{alike-refl}
 use Rattle.slot_lists.specs.Lists.{backAt, listAt, startAt}
-use Rattle.filing.specs.Filing.{inARow, Agrees}
+use Rattle.filing.specs.Filing.{Agrees}
 use Rattle.table.specs.Layout.{Room, cells, clockWord, presentWord, framingWord}
 use Rattle.table.specs.Means.{laneOf, stateOf, meant}
 use Rattle.table.specs.Encodes.{Encodes}

@@ -1,19 +1,18 @@
 -- The lanes taken over one after another. Assumes nothing.
-use mathlib.Core.Path.{_≡_, refl, sym, ap, subst, _∙_}
+use mathlib.Core.Path.{_≡_, sym, subst, _∙_}
 use mathlib.Core.Logic.{⊎-elim}
-use mathlib.Core.Bool.{true, false, false≢true}
-use Prim.Native.Nat.{ℕ, _+_, _*_, _≤_, _<_}
+use mathlib.Core.Bool.{false, false≢true}
+use Prim.Native.Nat.{ℕ, _+_, _≤_, _<_}
 use mathlib.Core.List.{List}
 use native.Mathlib.Omega.{arith}
 use lib.ListN.{getD}
 use Rattle.words.specs.Bits.{bit}
 use Rattle.words.proofs.Runs.{eq-or-ne, le-or-lt}
 use Rattle.table.specs.Layout.{cells, presentWord, depthWord, laneWord, roundWord, rowAt}
-use Rattle.table.specs.Means.{presentAt, Next, laneOf}
+use Rattle.table.specs.Means.{presentAt, Next}
 use Rattle.table.proofs.Next.{bit-absent}
-use Rattle.table.proofs.Footprint.{Outside, SameLane, others-kept, present-kept, row-kept, lane-kept, housed-kept}
+use Rattle.table.proofs.Footprint.{Outside, others-kept, present-kept, row-kept, lane-kept, housed-kept}
 use Rattle.table.proofs.Rows.{lane-absent}
-use Rattle.old_table.specs.Old.{oldLane}
 use Rattle.old_table.proofs.Reading.{old-absent}
 use Rattle.convert.specs.Over.{Carried, LaneOver, LaneMoved, Over}
 

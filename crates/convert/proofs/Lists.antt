@@ -1,7 +1,7 @@
 -- A list of calls that began before the update goes on after it. Assumes nothing.
 use Prim.Native.Nat.{ℕ, _<_}
 use mathlib.Core.Path.{_≡_, refl, sym, ap, subst}
-use mathlib.Core.List.{List, [], _∷_, _++_, map}
+use mathlib.Core.List.{List, [], _∷_, map}
 use mathlib.Core.Option.{Option, none, some}
 use borrow.Author.Tests.{lt-leb}
 use Rattle.rules.specs.State.{Rec, Setting, State, clockFar}
@@ -13,8 +13,7 @@ use Rattle.rules.proofs.Runs.{after-append}
 use Rattle.rules.proofs.AlwaysGood.{fresh-reached, reached, reached-good}
 use Rattle.alike.specs.Alike.{Alike}
 use Rattle.alike.proofs.Alike.{alike-sym, alike-trans, step-alike}
-use Rattle.pages.specs.Device.{Device, freshDevice, ruled}
-use Rattle.pages.specs.Offers.{deviceAfter}
+use Rattle.pages.specs.Device.{ruled}
 use Rattle.pages.specs.Carried.{WithoutOffers}
 use Rattle.pages.proofs.Carried.{without-offers}
 use Rattle.paged.specs.Paged.{EncodesDevice}

@@ -1,31 +1,30 @@
 -- A lane taken over: its row and its records give the lane that it was. Assumes nothing.
 use mathlib.Core.Path.{_≡_, refl, sym, ap, subst, _∙_}
-use mathlib.Core.Bool.{Bool, true, false, false≢true}
+use mathlib.Core.Bool.{true, false, false≢true}
 use Prim.Native.Nat.{ℕ, _+_, _*_, _/_, _%_, _^_, _≤_, _<_}
 use mathlib.Core.List.{List}
 use native.Mathlib.Omega.{arith}
 use lib.Dec.{eqb}
-use lib.ListN.{length, getD, set}
+use lib.ListN.{getD, set}
 use lib.Seq.{getD-set-other}
 use Rattle.words.specs.Runs.{tab, tabFrom}
 use Rattle.units.proofs.PerByte.{rate-le}
-use Rattle.rounds.specs.Round.{BareRec}
 use Rattle.rounds.specs.Good.{Lengths}
-use Rattle.waiting.specs.Waiting.{Waiting, plain}
+use Rattle.waiting.specs.Waiting.{plain}
 use Rattle.rules.specs.State.{Setting, laneDepth}
 use Rattle.rules.specs.Older.{oldDepth}
 use Rattle.parts.specs.Parts.{rowsFrom}
 use Rattle.table.specs.Layout.{Behind, Now, cells, presentWord, framingWord, laneWord, rowAt, putRow}
-use Rattle.table.specs.Means.{presentAt, laneRing, givenOf, waitingOf, timedByWord, laneOf, RowAgrees, RowPaced, PlacesFit}
+use Rattle.table.specs.Means.{presentAt, laneRing, givenOf, waitingOf, timedByWord, RowAgrees, RowPaced, PlacesFit}
 use Rattle.table.specs.declared.LaneRow.{LaneRow}
 use Rattle.table.proofs.Stores.{length-cells, behind-then}
 use Rattle.table.proofs.Footprint.{present-kept}
 use Rattle.table.proofs.Agrees.{paced-retimed}
 use Rattle.table.proofs.Rows.{retimed, row-put, lane-put, entry-put, waiting-plain}
-use Rattle.old_table.specs.Old.{oldRowAt, oldRing, oldQueue, oldLane, OldTable}
+use Rattle.old_table.specs.Old.{oldRowAt, oldRing, oldQueue, OldTable}
 use Rattle.old_table.proofs.Reading.{old-present}
 use Rattle.old_table.proofs.Whole.{old-lanes, lane-lengths}
-use Rattle.convert.specs.Over.{Carried, NoPlace, LaneOver, LaneMoved, unrolled}
+use Rattle.convert.specs.Over.{Carried, NoPlace, LaneMoved, unrolled}
 
 -- ---- what a good old table says of a lane's row
 

@@ -2,13 +2,12 @@
 use Prim.Native.Nat.{ℕ}
 use mathlib.Core.Path.{_≡_, refl, sym, _∙_}
 use mathlib.Core.Logic.{inl, inr}
-use mathlib.Core.List.{List, [], _∷_}
+use mathlib.Core.List.{List}
 use Rattle.rules.specs.State.{State}
-use mathlib.Core.Option.{none}
 use Rattle.rules.specs.Calls.{Reply, take, step}
 use Rattle.rules.specs.Good.{Good}
 use Rattle.pages.specs.Device.{ruled, answered, settledDevice, deviceStepBy}
-use Rattle.pages.specs.Claims.{GoodPage, GoodDevice}
+use Rattle.pages.specs.Claims.{GoodPage}
 use Rattle.alike.specs.Alike.{Alike}
 use Rattle.alike.proofs.Alike.{alike-refl, alike-sym, alike-trans, alike-good, step-alike}
 use Rattle.paged.specs.Paged.{EncodesDevice, GoodUnit}

@@ -10,7 +10,6 @@
 -- that had it is taken over all the same, its next put takes the clock back, and what is promised of it is what is promised of any good table.
 -- Assumes nothing.
 use Prim.Native.Nat.{ℕ, _<_}
-use mathlib.Core.Path.{_≡_}
 use mathlib.Core.List.{List, [], _∷_, _++_, map}
 use Rattle.rules.specs.State.{Setting, State, clockFar}
 use Rattle.rules.specs.Setup.{Setup}

@@ -10,7 +10,6 @@ ghost use mathlib.Core.Path.{_≡_};
 ghost use mathlib.Core.Bool.{true};
 ghost use Prim.Native.Nat.{_≤_, _<_};
 ghost use lib.ListN.{length, drop};
-ghost use Rattle.rules.specs.State.{laneDepth};
 ghost use Rattle.rules.specs.Older.{oldDepth};
 ghost use Rattle.rounds.specs.Good.{Lengths};
 ghost use Rattle.table.specs.Layout.{SIZE, Room, Behind, Now, cells, putRow};

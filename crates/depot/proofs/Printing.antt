@@ -32,6 +32,7 @@ use Rattle.plan_writer.specs.declared.Unwritten as setup-unwritten
 use Rattle.plan_writer.proofs.Numbered.{numbered-all}
 use Rattle.plan_writer.proofs.Round.{size-is, size-most}
 use Rattle.plan_writer.proofs.Writing.{stored-first}
+use Rattle.plan_writer.proofs.Calls.{size-refused}
 use Rattle.sheet.specs.Text.{sheetBytes}
 use Rattle.sheet.proofs.Back.{accepted-sheet}
 use Rattle.sheet_writer.specs.Write.{Bare, WritesSheet, sheetSize, sheetWriteReply}
@@ -44,7 +45,7 @@ use Rattle.plan.specs.Read.{settings, setupCame, setupReply}
 use Rattle.plan.specs.declared.Plan.{Plan}
 use Rattle.plan.specs.declared.Outcome.{Outcome}
 use Rattle.plan.specs.declared.Outcome.the-variants.{Read, Refused}
-use Rattle.depot.specs.Prints.{planOf, readOther, planText, replyText, printed, PrintsText}
+use Rattle.depot.specs.Prints.{asPlanned, readOther, planText, replyText, depotText, PrintsText}
 use Rattle.depot.specs.declared.Form.{Form}
 use Rattle.depot.specs.declared.Form.the-variants.{Setup, Sheet}
 
@@ -63,26 +64,23 @@ front text a a′ n f e =
     let g : a′ ≡ text ++ drop (length text) a = e ∙ ap (λ (k : ℕ). text ++ drop k a) f in
     record { is = g; size = f; within = omega (arith, ap length g, length-append text (drop (length text) a), f) }
 
-size-refused : {A : Type 0} {k n : ℕ} → setup.writtenSize k ≡ setup.notWritten n → A
-size-refused h = absurd (let z : _≡_ {A = ℕ} 0 1 = cc in omega arith)
-
 -- ---- an input
 
 module _ (form : Form) (s a a′ : List ℕ) (n : ℕ) (room : 1024 ≤ length a) where
-  pub prints-long : 32768 < length s → Line a a′ 0 (noLine 18 none) n → PrintsText (printed form s) a a′ n
-  prints-long long l = as-text (printed form s) (noLine 18 none) a a′ n (rw (lt-ltb 32768 (length s) long)) (prints-line (noLine 18 none) a a′ n l (omega (arith, room)))
+  pub prints-long : 32768 < length s → Line a a′ 0 (noLine 18 none) n → PrintsText (depotText form s) a a′ n
+  prints-long long l = as-text (depotText form s) (noLine 18 none) a a′ n (rw (lt-ltb 32768 (length s) long)) (prints-line (noLine 18 none) a a′ n l (omega (arith, room)))
 
   module _ (few : length s ≤ 32768) (r : Reading) (e : setupReply r ≡ readOther form s) where
-    came : (o : Outcome) → r .outcome ≡ o → printed form s ≡ replyText form (setupCame (r .plan) o)
+    came : (o : Outcome) → r .outcome ≡ o → depotText form s ≡ replyText form (setupCame (r .plan) o)
     came o h = rw (le-ltb 32768 (length s) few, ← e, h)
 
-    pub prints-refused : (x : Refusal) → r .outcome ≡ Refused x → Line a a′ 0 (noLine (number x) (placeOf x)) n → PrintsText (printed form s) a a′ n
+    pub prints-refused : (x : Refusal) → r .outcome ≡ Refused x → Line a a′ 0 (noLine (number x) (placeOf x)) n → PrintsText (depotText form s) a a′ n
     prints-refused x o l = as-text _ _ a a′ n (came (Refused x) o) (prints-line (noLine (number x) (placeOf x)) a a′ n l (omega (arith, room)))
 
-    pub prints-plan : (k : ℕ) → r .outcome ≡ Read k → PrintsText (planText form (planOf (r .plan))) a a′ n → PrintsText (printed form s) a a′ n
+    pub prints-plan : (k : ℕ) → r .outcome ≡ Read k → PrintsText (planText form (asPlanned (r .plan))) a a′ n → PrintsText (depotText form s) a a′ n
     prints-plan k o p = as-text _ _ a a′ n (came (Read k) o) p
 
-pub plan-good : (form : Form) (s : List ℕ) (r : Reading) → setupReply r ≡ readOther form s → (k : ℕ) → r .outcome ≡ Read k → Within (planOf (r .plan))
+pub plan-good : (form : Form) (s : List ℕ) (r : Reading) → setupReply r ≡ readOther form s → (k : ℕ) → r .outcome ≡ Read k → Within (asPlanned (r .plan))
 plan-good Setup s r e k o =
     let x = accepted-sheet s (r .plan .format) (settings (r .plan)) (r .plan .count) k (sym e ∙ ap (setupCame (r .plan)) o) in
     record { format = ap knownFormat (x .format); setup = x .setup; count = x .are-there }
@@ -92,9 +90,9 @@ plan-good Sheet s r e k o =
 
 -- ---- a plan
 
-module _ (plan : Plan) (within : Within (planOf plan)) (a : List ℕ) (room : 1024 ≤ length a) where
+module _ (plan : Plan) (within : Within (asPlanned plan)) (a : List ℕ) (room : 1024 ≤ length a) where
   abbrev p : Planned
-  p = planOf plan
+  p = asPlanned plan
 
   -- the writers speak of the lanes by number
   lanes-are : planned plan ≡ p

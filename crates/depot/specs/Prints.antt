@@ -1,9 +1,9 @@
 -- What the depot's two programs print (R12.11).
 --
---   planOf      a plan that was read, as the promises speak of it
+--   asPlanned   a plan that was read, as the promises speak of it
 --   readOther   what is read: a sheet where a setup is written, and a setup where a sheet is
 --   planText    a plan as a setup, or as a sheet; replyText: what was read, or the line of its refusal
---   printed     for an input: its plan in the other form, or the line of a refusal
+--   depotText   for an input: its plan in the other form, or the line of a refusal
 --   PrintsText      a text stands at the front of the lent bytes, and the bytes past it stay
 --
 -- Assumes nothing.
@@ -24,8 +24,8 @@ use Rattle.sheet.specs.Text.{sheetBytes}
 use Rattle.depot.specs.declared.Form.{Form}
 use Rattle.depot.specs.declared.Form.the-variants.{Setup, Sheet}
 
-abbrev pub planOf : Plan → Planned
-planOf p = record { format = p .format; lanes = settings p; count = p .count }
+abbrev pub asPlanned : Plan → Planned
+asPlanned p = record { format = p .format; lanes = settings p; count = p .count }
 
 abbrev pub readOther : Form → List ℕ → SetupReply
 readOther Setup s = readSheet s
@@ -41,8 +41,8 @@ replyText form (setupRefused n q) = noLine n q
 replyText form (setupRead v gs n at) = planText form (record { format = v; lanes = gs; count = n })
 
 -- R14.15: 18 for an input over 32,768 bytes.
-abbrev pub printed : Form → List ℕ → List ℕ
-printed form s = if ltb 32768 (length s) then noLine 18 none else replyText form (readOther form s)
+abbrev pub depotText : Form → List ℕ → List ℕ
+depotText form s = if ltb 32768 (length s) then noLine 18 none else replyText form (readOther form s)
 
 pub record PrintsText (text a a′ : List ℕ) (n : ℕ) : Type 0 where
   pub is : a′ ≡ text ++ drop (length text) a

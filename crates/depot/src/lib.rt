@@ -8,7 +8,7 @@ ghost use mathlib.Core.Path.{_≡_};
 ghost use lib.ListN.{length};
 ghost use Rattle.plan.specs.Read.{setupReply};
 ghost use Rattle.plan_writer.specs.Write.{Within};
-ghost use Rattle.depot.specs.Prints.{planOf, readOther, planText, printed, PrintsText};
+ghost use Rattle.depot.specs.Prints.{asPlanned, readOther, planText, depotText, PrintsText};
 use plan::Outcome;
 use plan::Plan;
 use plan::Reading;
@@ -40,8 +40,8 @@ fn read_other(input: &[u8], form: Form) -> Reading
 
 // Writes a plan that was read; how many bytes.
 fn write_plan(plan: Plan, out: &mut [u8], form: Form) -> usize
-    requires { ⌜ Within (planOf plan) × (1024 ≤ length (now out)) ⌝ }
-    ensures { λ r. ⌜ PrintsText (planText form (planOf plan)) (now (out .entry)) (now (out .exit)) r ⌝ }
+    requires { ⌜ Within (asPlanned plan) × (1024 ≤ length (now out)) ⌝ }
+    ensures { λ r. ⌜ PrintsText (planText form (asPlanned plan)) (now (out .entry)) (now (out .exit)) r ⌝ }
 {
     match form {
         Form::Setup => match plan_writer::write_setup(plan, out) {
@@ -60,7 +60,7 @@ fn write_plan(plan: Plan, out: &mut [u8], form: Form) -> usize
 // Writes the plan that an input has, or the line of its refusal; how many bytes.
 pub fn print(input: &[u8], out: &mut [u8], form: Form) -> usize
     requires { ⌜ 1024 ≤ length (now out) ⌝ }
-    ensures { λ r. ⌜ PrintsText (printed form (now (input .entry))) (now (out .entry)) (now (out .exit)) r ⌝ }
+    ensures { λ r. ⌜ PrintsText (depotText form (now (input .entry))) (now (out .entry)) (now (out .exit)) r ⌝ }
 {
     if input.len() > MOST_INPUT {
         return lines::put_no(out, 0, Refusal::InputLong);

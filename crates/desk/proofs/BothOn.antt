@@ -9,7 +9,7 @@ use lib.Seq.{set-comm}
 use borrow.Author.Tests.{ne-eqb}
 use Rattle.units.specs.Plain.{if_then_else_}
 use Rattle.desk.specs.Board.{Handover, Board, lineAt, trainLine, lowest}
-use Rattle.desk.specs.Calls.{enter, knownKind, recordJudged, recordRefusal, recordEntered, boardStep}
+use Rattle.desk.specs.Calls.{enterRecord, knownKind, recordJudged, recordRefusal, recordEntered, boardStep}
 use Rattle.desk.specs.Claims.{InEitherOrder}
 use Rattle.desk.proofs.Lines.{of-used, of-one, stands, target-old, place-stays, line-stays}
 
@@ -27,7 +27,7 @@ on-refusal b r h =
         → (if not (knownKind (r .kind)) then some 30 else recordJudged x (ltb (lowest b) (length b)) r) ≡ (if not (knownKind (r .kind)) then some 30 else recordJudged x true r)
     go x o e = rw e
 
-on-step : (b : Board) (r : Handover) → trainLine (r .train) b < length b → boardStep b (enter r) ≡ recordEntered (verdict (lineAt b (trainLine (r .train) b)) r) b (trainLine (r .train) b) r
+on-step : (b : Board) (r : Handover) → trainLine (r .train) b < length b → boardStep b (enterRecord r) ≡ recordEntered (verdict (lineAt b (trainLine (r .train) b)) r) b (trainLine (r .train) b) r
 unfolding boardStep
 on-step b r h = rw (on-refusal b r h, target-old b r h)
 
@@ -53,19 +53,19 @@ module _ (b : Board) (q r : Handover) (n : q .train ≡ r .train → ⊥) (hq : 
   next-size none = length-set b (trainLine (r .train) b) (some r)
 
   -- then q, judged as before
-  then-step : (v : Option ℕ) → boardStep (next v) (enter q) ≡ recordEntered (verdict (lineAt b (trainLine (q .train) b)) q) (next v) (trainLine (q .train) b) q
+  then-step : (v : Option ℕ) → boardStep (next v) (enterRecord q) ≡ recordEntered (verdict (lineAt b (trainLine (q .train) b)) q) (next v) (trainLine (q .train) b) q
   then-step v =
       let h : trainLine (q .train) (next v) < length (next v) = rw (next-place v, next-size v) hq in
       on-step (next v) q h ∙ rw (next-place v, next-line v)
 
-  after-r : (boardStep b (enter r)) .board ≡ next (verdict (lineAt b (trainLine (r .train) b)) r)
+  after-r : (boardStep b (enterRecord r)) .board ≡ next (verdict (lineAt b (trainLine (r .train) b)) r)
   unfolding next
   after-r = ap (λ o. o .board) (on-step b r hr)
 
-  pub then-q : boardStep ((boardStep b (enter r)) .board) (enter q)
+  pub then-q : boardStep ((boardStep b (enterRecord r)) .board) (enterRecord q)
       ≡ recordEntered (verdict (lineAt b (trainLine (q .train) b)) q) ((recordEntered (verdict (lineAt b (trainLine (r .train) b)) r) b (trainLine (r .train) b) r) .board) (trainLine (q .train) b) q
   unfolding next
-  then-q = ap (λ x. boardStep x (enter q)) after-r ∙ then-step (verdict (lineAt b (trainLine (r .train) b)) r)
+  then-q = ap (λ x. boardStep x (enterRecord q)) after-r ∙ then-step (verdict (lineAt b (trainLine (r .train) b)) r)
 
 pub reply-same : (v : Option ℕ) (b c : Board) (k : ℕ) (r : Handover) → (recordEntered v b k r) .reply ≡ (recordEntered v c k r) .reply
 reply-same none b c k r = refl

@@ -10,7 +10,7 @@ use lib.ListN.{length, set, length-set}
 use borrow.Author.Tests.{ne-eqb}
 use Rattle.units.specs.Plain.{if_then_else_}
 use Rattle.desk.specs.Board.{Handover, Board, lineAt, isOf, isFree, trainLine, lowest}
-use Rattle.desk.specs.Calls.{enter, told, knownKind, recordJudged, recordRefusal, target, recordEntered, boardStep}
+use Rattle.desk.specs.Calls.{enterRecord, told, knownKind, recordJudged, recordRefusal, target, recordEntered, boardStep}
 use Rattle.desk.specs.Claims.{InEitherOrder, Commutes}
 use Rattle.words.proofs.Runs.{le-or-lt}
 use Rattle.desk.proofs.Shows.{one-line}
@@ -22,8 +22,8 @@ use Rattle.desk.proofs.BothOn.{verdict, on-refusal, reply-same, swap, b
 
 -- two records that leave each other's judgement and line alone
 either : (b : Board) (q r : Handover)
-    → recordRefusal ((boardStep b (enter r)) .board) q ≡ recordRefusal b q → target ((boardStep b (enter r)) .board) q ≡ target b q
-    → recordRefusal ((boardStep b (enter q)) .board) r ≡ recordRefusal b r → target ((boardStep b (enter q)) .board) r ≡ target b r
+    → recordRefusal ((boardStep b (enterRecord r)) .board) q ≡ recordRefusal b q → target ((boardStep b (enterRecord r)) .board) q ≡ target b q
+    → recordRefusal ((boardStep b (enterRecord q)) .board) r ≡ recordRefusal b r → target ((boardStep b (enterRecord q)) .board) r ≡ target b r
     → (target b q ≡ target b r → ⊥) → InEitherOrder b q r
 unfolding boardStep
 either b q r e₁ t₁ e₂ t₂ n =
@@ -112,7 +112,7 @@ commutes b q r n hq =
 
 -- the lines that the two change are different
 pub lines-differ : (b : Board) (q r : Handover) (j k : ℕ) → (q .train ≡ r .train → ⊥) → trainLine (q .train) b < length b
-    → (boardStep b (enter q)) .reply ≡ told j → (boardStep b (enter r)) .reply ≡ told k → j ≡ k → ⊥
+    → (boardStep b (enterRecord q)) .reply ≡ told j → (boardStep b (enterRecord r)) .reply ≡ told k → j ≡ k → ⊥
 lines-differ b q r j k n hq x y e =
     ⊎-elim
     (λ (f : isOf (q .train) (lineAt b j) ≡ true). ⊎-elim

@@ -9,11 +9,12 @@ use mathlib.Core.Option.{Option, none, some}
 use lib.Dec.{eqb, ltb}
 use lib.ListN.{length, set, length-set, getD-replicate}
 use borrow.Author.Tests.{eqb-true}
+use Rattle.units.proofs.Bools.{and-parts}
 use Rattle.words.proofs.Runs.{le-or-lt, eq-or-ne}
 use Rattle.desk.specs.Board.{Handover, Board, emptyBoard, lineAt, isOf, trainLine, InField, Fine, Makeable}
-use Rattle.desk.specs.Calls.{BoardCall, enter, clear, recordRefusal, target, recordEntered, left, cleared, boardStep, boardAfter, Sayable, AllSayable}
+use Rattle.desk.specs.Calls.{BoardCall, enterRecord, clear, recordRefusal, target, recordEntered, left, recordCleared, boardStep, boardAfter, Sayable, AllSayable}
 use Rattle.desk.specs.Claims.{KeepsMakeable}
-use Rattle.desk.proofs.Lines.{both, known-cases, beyond, used-below, line-same, line-other, place-is, Accepts, later, newly, refusal-known, accepts, target-below}
+use Rattle.desk.proofs.Lines.{known-cases, beyond, used-below, line-same, line-other, place-is, Accepts, later, newly, refusal-known, accepts, target-below}
 
 -- what is said of the old line where it stays, and of the new one where it is changed, is said of the changed board
 cases : (P : Option Handover → Type 0) (b : Board) (k j : ℕ) (y : Option Handover) → k < length b → (j ≡ k → P y) → ((j ≡ k → ⊥) → P (lineAt b j)) → P (lineAt (set b k y) j)
@@ -48,7 +49,7 @@ fine-accepted b r c e = record { carried = c; kind = go (accepts b r e) (known-c
     go : Accepts b r → (r .kind ≡ 1) ⊎ (r .kind ≡ 2) → (r .kind ≡ 1) ⊎ ((r .kind ≡ 2) × (1 ≤ r .sequence))
     go (later o q p t i f) (inl k) = inl k
     go (later o q p t i f) (inr k) =
-        let s = both (ltb (o .sequence) 4294967295) (eqb (r .sequence) (o .sequence + 1)) i in
+        let s = and-parts (ltb (o .sequence) 4294967295) (eqb (r .sequence) (o .sequence + 1)) i in
         inr (k, omega (arith, eqb-true (r .sequence) (o .sequence + 1) (s .1)))
     go (newly a l t k) x = inl k
 
@@ -65,14 +66,14 @@ left-below b k e = let u = left-used (lineAt b k) e in used-below b k (u .0) (u 
 
 pub keeps : KeepsMakeable
 unfolding boardStep Sayable
-keeps b (enter r) m c = go (recordRefusal b r) refl
+keeps b (enterRecord r) m c = go (recordRefusal b r) refl
   where
     go : (x : Option ℕ) → recordRefusal b r ≡ x → Makeable ((recordEntered x b (target b r) r) .board)
     go none e = let a = accepts b r e in keep-set b (target b r) r m (target-below b r a) (fine-accepted b r c e) (only b r m a)
     go (some n) e = m
 keeps b (clear t) m c = go (left (lineAt b (trainLine t b))) refl
   where
-    go : (x : Bool) → left (lineAt b (trainLine t b)) ≡ x → Makeable ((cleared x b (trainLine t b)) .board)
+    go : (x : Bool) → left (lineAt b (trainLine t b)) ≡ x → Makeable ((recordCleared x b (trainLine t b)) .board)
     go true e = keep-free b (trainLine t b) m (left-below b (trainLine t b) e)
     go false e = m
 

@@ -10,9 +10,10 @@ use lib.Dec.{eqb, ltb}
 use lib.ListN.{length}
 use borrow.Author.Tests.{eq-eqb, ne-eqb, le-ltb}
 use Rattle.units.specs.Plain.{if_then_else_}
+use Rattle.units.proofs.Bools.{if-same}
 use Rattle.words.proofs.Runs.{eq-or-ne}
 use Rattle.desk.specs.Board.{Handover, Board, lineAt, trainLine, lowest, trainShown, Makeable}
-use Rattle.desk.specs.Calls.{BoardCall, BoardReply, enter, clear, boardRefused, knownKind, recordJudged, recordRefusal, left, cleared, boardStep, boardAfter, Sayable, AllSayable, isTold, noted}
+use Rattle.desk.specs.Calls.{BoardCall, enterRecord, clear, boardRefused, knownKind, recordJudged, recordRefusal, left, recordCleared, boardStep, boardAfter, Sayable, AllSayable, isTold, noted}
 use Rattle.desk.specs.Claims.{NotCleared, EndsAtLast}
 use Rattle.desk.proofs.Keep.{keeps}
 use Rattle.desk.proofs.Shows.{shown-step}
@@ -25,10 +26,6 @@ or-30 : (v : Bool) (x : Option ℕ) → x ≡ some 32 → (if not v then some 30
 or-30 true x e = e
 or-30 false x e = refl
 
-same : {A : Type 0} (v : Bool) (x : A) → (if v then x else x) ≡ x
-same true x = refl
-same false x = refl
-
 -- the board b shows o, which has the greatest sequence
 module _ (b : Board) (o : Handover) (m : Makeable b) (on : trainShown (o .train) b ≡ some o) (last : o .sequence ≡ 4294967295) where
   refused-last : (r : Handover) → r .train ≡ o .train → recordRefusal b r ≡ some (if knownKind (r .kind) then 32 else 30)
@@ -38,7 +35,7 @@ module _ (b : Board) (o : Handover) (m : Makeable b) (on : trainShown (o .train)
       or-30 (knownKind (r .kind)) (recordJudged (lineAt b (trainLine (r .train) b)) (ltb (lowest b) (length b)) r)
       (ap (λ x. recordJudged x (ltb (lowest b) (length b)) r) l ∙ judged-last o r (ltb (lowest b) (length b)) last)
 
-  pub refuses : (r : Handover) → r .train ≡ o .train → boardStep b (enter r) ≡ record { reply = boardRefused (if knownKind (r .kind) then 32 else 30); board = b }
+  pub refuses : (r : Handover) → r .train ≡ o .train → boardStep b (enterRecord r) ≡ record { reply = boardRefused (if knownKind (r .kind) then 32 else 30); board = b }
   unfolding boardStep
   refuses r e = rw (refused-last r e)
 
@@ -48,20 +45,20 @@ module _ (b : Board) (o : Handover) (m : Makeable b) (on : trainShown (o .train)
       shown-step b c (o .train) m (keeps b c m s)
       ∙ ap (λ x. if isTold ((boardStep b c) .reply) then noted (o .train) x c else x) on
       ∙ ap (λ x. if isTold ((boardStep b c) .reply) then x else some o) e
-      ∙ same (isTold ((boardStep b c) .reply)) (some o)
+      ∙ if-same (isTold ((boardStep b c) .reply)) (some o)
 
   stays-one : (c : BoardCall) → Sayable c → (c ≡ clear (o .train) → ⊥) ⊎ (o .kind ≡ 1) → trainShown (o .train) ((boardStep b c) .board) ≡ some o
   unfolding boardStep
-  stays-one (enter r) s k =
+  stays-one (enterRecord r) s k =
       ⊎-elim
       (λ (e : r .train ≡ o .train). ap (λ x. trainShown (o .train) (x .board)) (refuses r e) ∙ on)
-      (λ (n : r .train ≡ o .train → ⊥). other (enter r) s (rw (ne-eqb (r .train) (o .train) n)))
+      (λ (n : r .train ≡ o .train → ⊥). other (enterRecord r) s (rw (ne-eqb (r .train) (o .train) n)))
       (eq-or-ne (r .train) (o .train))
   stays-one (clear u) s k =
       ⊎-elim
       (λ (e : u ≡ o .train). ⊎-elim
       (λ (n : clear u ≡ clear (o .train) → ⊥). absurd (n (ap clear e)))
-      (λ (one : o .kind ≡ 1). ap (λ x. trainShown (o .train) ((cleared x b (trainLine u b)) .board)) (ap left (ap (λ t. trainShown t b) e ∙ on) ∙ ap (λ n. eqb n 2) one) ∙ on)
+      (λ (one : o .kind ≡ 1). ap (λ x. trainShown (o .train) ((recordCleared x b (trainLine u b)) .board)) (ap left (ap (λ t. trainShown t b) e ∙ on) ∙ ap (λ n. eqb n 2) one) ∙ on)
       k)
       (λ (n : u ≡ o .train → ⊥). other (clear u) s (rw (ne-eqb u (o .train) n)))
       (eq-or-ne u (o .train))

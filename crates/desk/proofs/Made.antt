@@ -16,7 +16,7 @@ use lib.Seq.{set-set, set-getD, ext-getD}
 use borrow.Author.Tests.{eq-eqb, lt-ltb}
 use Rattle.words.proofs.Runs.{eq-or-ne}
 use Rattle.desk.specs.Board.{Handover, Board, emptyBoard, lineAt, isOf, isFree, trainLine, lowest, Fine, Makeable}
-use Rattle.desk.specs.Calls.{BoardCall, enter, clear, knownKind, recordJudged, recordRefusal, target, boardStep, boardAfter, Sayable, AllSayable, MadeBoard}
+use Rattle.desk.specs.Calls.{BoardCall, enterRecord, clear, knownKind, recordJudged, recordRefusal, target, boardStep, boardAfter, Sayable, AllSayable, MadeBoard}
 use Rattle.desk.specs.Claims.{ExactlyMade}
 use Rattle.desk.proofs.First.{first-is, first-none}
 use Rattle.desk.proofs.Lines.{beyond, used-below, of-made, held, line-same, line-other, place-is, target-old, target-new}
@@ -52,7 +52,7 @@ pub refusal-is : (b : Board) (r : Handover) (x : Option Handover) (f : Bool) →
 unfolding recordRefusal
 refusal-is b r x f k e q = rw (k, e, q)
 
-accepted : (b : Board) (r : Handover) (k : ℕ) → recordRefusal b r ≡ none → target b r ≡ k → (boardStep b (enter r)) .board ≡ set b k (some r)
+accepted : (b : Board) (r : Handover) (k : ℕ) → recordRefusal b r ≡ none → target b r ≡ k → (boardStep b (enterRecord r)) .board ≡ set b k (some r)
 unfolding boardStep
 accepted b r k e t = rw (e, t)
 
@@ -62,7 +62,7 @@ known-one n e = rw e
 known-two : (n : ℕ) → n ≡ 2 → knownKind n ≡ true
 known-two n e = rw e
 
-joins : (b : Board) (r : Handover) (k : ℕ) → r .kind ≡ 1 → ((j : ℕ) → isOf (r .train) (lineAt b j) ≡ false) → lowest b ≡ k → k < length b → (boardStep b (enter r)) .board ≡ set b k (some r)
+joins : (b : Board) (r : Handover) (k : ℕ) → r .kind ≡ 1 → ((j : ℕ) → isOf (r .train) (lineAt b j) ≡ false) → lowest b ≡ k → k < length b → (boardStep b (enterRecord r)) .board ≡ set b k (some r)
 joins b r k one off low h =
     let p : trainLine (r .train) b ≡ length b = first-none (isOf (r .train)) b none off in
     let j : recordJudged none true r ≡ none = rw (eq-eqb (r .kind) 1 one) in
@@ -74,7 +74,7 @@ leave-follows o r f one two cell top next =
     rw (lt-ltb (o .sequence) 4294967295 top, eq-eqb (r .sequence) (o .sequence + 1) next, eq-eqb (r .kind) 2 two, eq-eqb (o .kind) 1 one, eq-eqb (r .cell) (o .cell) cell)
 
 leaves : (b : Board) (o r : Handover) (k : ℕ) → trainLine (r .train) b ≡ k → lineAt b k ≡ some o → o .kind ≡ 1 → r .kind ≡ 2 → r .cell ≡ o .cell → o .sequence < 4294967295 → r .sequence ≡ o .sequence + 1
-    → (boardStep b (enter r)) .board ≡ set b k (some r)
+    → (boardStep b (enterRecord r)) .board ≡ set b k (some r)
 leaves b o r k p l one two cell top next =
     let e : recordRefusal b r ≡ none = refusal-is b r (some o) (ltb (lowest b) (length b)) (known-two (r .kind) two) (ap (lineAt b) p ∙ l) refl ∙ leave-follows o r (ltb (lowest b) (length b)) one two cell top next in
     accepted b r k e (target-old b r (rw p (used-below b k o l)) ∙ p)
@@ -114,17 +114,17 @@ last-line b k r m h e full made = ⊎-elim joined gone (f .kind)
         no false q n = refl
 
     joined : r .kind ≡ 1 → MadeBoard b
-    joined one = more-to (set b k none) b (enter r) made (f .carried) (joins (set b k none) r k one off low below₀ ∙ back b k none (some r) e)
+    joined one = more-to (set b k none) b (enterRecord r) made (f .carried) (joins (set b k none) r k one off low below₀ ∙ back b k none (some r) e)
 
     gone : (r .kind ≡ 2) × (1 ≤ r .sequence) → MadeBoard b
     gone two =
         let c = f .carried in
         let q : Handover = record { train = r .train; cell = r .cell; kind = 1; sequence = r .sequence - 1 } in
         let b₁ = set (set b k none) k (some q) in
-        let made₁ : MadeBoard b₁ = more-to (set b k none) b₁ (enter q) made (record { train = c .train; cell = c .cell; kind = omega arith; sequence = omega (arith, c .sequence) }) (joins (set b k none) q k refl off low below₀) in
+        let made₁ : MadeBoard b₁ = more-to (set b k none) b₁ (enterRecord q) made (record { train = c .train; cell = c .cell; kind = omega arith; sequence = omega (arith, c .sequence) }) (joins (set b k none) q k refl off low below₀) in
         let l₁ : lineAt b₁ k ≡ some q = line-same (set b k none) k (some q) below₀ in
         let p₁ : trainLine (r .train) b₁ ≡ k = first-is (isOf (r .train)) b₁ none k (rw length-set below₀) (of-made (lineAt b₁ k) q (r .train) l₁ refl) (λ i lt. rw (line-other (set b k none) k i (some q) (omega arith)) (off i)) in
-        more-to b₁ b (enter r) made₁ c (leaves b₁ q r k p₁ l₁ refl (two .0) refl (omega (arith, two .1, c .sequence)) (omega (arith, two .1)) ∙ set-set (set b k none) k (some q) (some r) ∙ back b k none (some r) e)
+        more-to b₁ b (enterRecord r) made₁ c (leaves b₁ q r k p₁ l₁ refl (two .0) refl (omega (arith, two .1, c .sequence)) (omega (arith, two .1)) ∙ set-set (set b k none) k (some q) (some r) ∙ back b k none (some r) e)
 
 filled : (k : ℕ) (b : Board) → Makeable b → k ≤ 64 → ((j : ℕ) → j < k → isFree (lineAt b j) ≡ false) → ((j : ℕ) → k ≤ j → lineAt b j ≡ none) → MadeBoard b
 unfolding boardAfter AllSayable

@@ -11,7 +11,7 @@ use borrow.Author.Tests.{eq-eqb, ne-eqb}
 use Rattle.units.specs.Plain.{if_then_else_}
 use Rattle.words.proofs.Runs.{eq-or-ne}
 use Rattle.desk.specs.Board.{Handover, Board, emptyBoard, lineAt, isOf, isFree, trainLine, lowest, trainShown, Makeable}
-use Rattle.desk.specs.Calls.{BoardCall, enter, clear, told, recordRefusal, target, recordEntered, left, cleared, boardStep, boardAfter, boardTrace, AllSayable, isTold, noted, lastOf}
+use Rattle.desk.specs.Calls.{BoardCall, enterRecord, clear, told, recordRefusal, target, recordEntered, left, recordCleared, boardStep, boardAfter, boardTrace, AllSayable, isTold, noted, lastOf}
 use Rattle.desk.specs.Claims.{Changes, OneLine, ShowsLast}
 use Rattle.desk.proofs.First.{first-hit, first-miss, first-none}
 use Rattle.desk.proofs.Lines.{beyond, of-made, of-one, free-is, line-same, line-other, place-is, stands, Accepts, later, newly, accepts, target-below, shown-stays}
@@ -46,7 +46,7 @@ not-before : (b : Board) (r : Handover) (t : ℕ) → Accepts b r → (r .train 
 not-before b r t (later o q p e i f) n = rw e (of-one (lineAt b (trainLine (r .train) b)) t (r .train) (stands b (r .train) p) n)
 not-before b r t (newly a l e k) n = rw (e, free-is (lineAt b (lowest b)) (first-hit isFree b none l))
 
-shown-enter : (b : Board) (r : Handover) (t : ℕ) → Makeable (set b (target b r) (some r)) → Accepts b r → trainShown t (set b (target b r) (some r)) ≡ noted t (trainShown t b) (enter r)
+shown-enter : (b : Board) (r : Handover) (t : ℕ) → Makeable (set b (target b r) (some r)) → Accepts b r → trainShown t (set b (target b r) (some r)) ≡ noted t (trainShown t b) (enterRecord r)
 shown-enter b r t m a =
     ⊎-elim
     (λ (e : r .train ≡ t).
@@ -78,16 +78,16 @@ shown-clear b u t m h =
 pub shown-step : (b : Board) (c : BoardCall) (t : ℕ) → Makeable b → Makeable ((boardStep b c) .board)
     → trainShown t ((boardStep b c) .board) ≡ (if isTold ((boardStep b c) .reply) then noted t (trainShown t b) c else trainShown t b)
 unfolding boardStep
-shown-step b (enter r) t m s = go (recordRefusal b r) refl s
+shown-step b (enterRecord r) t m s = go (recordRefusal b r) refl s
   where
     go : (x : Option ℕ) → recordRefusal b r ≡ x → Makeable ((recordEntered (recordRefusal b r) b (target b r) r) .board)
-        → trainShown t ((recordEntered x b (target b r) r) .board) ≡ (if isTold ((recordEntered x b (target b r) r) .reply) then noted t (trainShown t b) (enter r) else trainShown t b)
+        → trainShown t ((recordEntered x b (target b r) r) .board) ≡ (if isTold ((recordEntered x b (target b r) r) .reply) then noted t (trainShown t b) (enterRecord r) else trainShown t b)
     go none e k = shown-enter b r t (rw e at k) (accepts b r e)
     go (some n) e k = refl
 shown-step b (clear u) t m s = go (left (lineAt b (trainLine u b))) refl
   where
     go : (x : Bool) → left (lineAt b (trainLine u b)) ≡ x
-        → trainShown t ((cleared x b (trainLine u b)) .board) ≡ (if isTold ((cleared x b (trainLine u b)) .reply) then noted t (trainShown t b) (clear u) else trainShown t b)
+        → trainShown t ((recordCleared x b (trainLine u b)) .board) ≡ (if isTold ((recordCleared x b (trainLine u b)) .reply) then noted t (trainShown t b) (clear u) else trainShown t b)
     go true e = shown-clear b u t m (left-below b (trainLine u b) e)
     go false e = refl
 

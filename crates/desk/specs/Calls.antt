@@ -20,7 +20,7 @@ use Rattle.units.specs.Plain.{if_then_else_}
 use Rattle.desk.specs.Board.{Handover, Board, emptyBoard, lineAt, trainLine, lowest, InField}
 
 pub data BoardCall : Type 0 where
-  enter : Handover → BoardCall
+  enterRecord : Handover → BoardCall
   clear : ℕ → BoardCall
 
 pub data BoardReply : Type 0 where
@@ -69,15 +69,15 @@ left none = false
 left (some r) = eqb (r .kind) 2
 
 -- R11.12, R14.34: 34 for a train on no line, whose place holds nothing, and for one that is joined
-abbrev pub cleared : Bool → Board → ℕ → BoardOutcome
-cleared true b k = record { reply = told k; board = set b k none }
-cleared false b k = record { reply = boardRefused 34; board = b }
+abbrev pub recordCleared : Bool → Board → ℕ → BoardOutcome
+recordCleared true b k = record { reply = told k; board = set b k none }
+recordCleared false b k = record { reply = boardRefused 34; board = b }
 
 -- ---- one call, and lists of calls
 
 unfoldable pub boardStep : Board → BoardCall → BoardOutcome
-boardStep b (enter r) = recordEntered (recordRefusal b r) b (target b r) r
-boardStep b (clear t) = cleared (left (lineAt b (trainLine t b))) b (trainLine t b)
+boardStep b (enterRecord r) = recordEntered (recordRefusal b r) b (target b r) r
+boardStep b (clear t) = recordCleared (left (lineAt b (trainLine t b))) b (trainLine t b)
 
 unfoldable pub boardAfter : Board → List BoardCall → Board
 boardAfter b [] = b
@@ -93,7 +93,7 @@ boardTrace b (c ∷ cs) = record { call = c; reply = (boardStep b c) .reply } �
 
 -- a call that can be made: its record's numbers are a field's
 unfoldable pub Sayable : BoardCall → Type 0
-Sayable (enter r) = InField r
+Sayable (enterRecord r) = InField r
 Sayable (clear t) = t < 4294967296
 
 unfoldable pub AllSayable : List BoardCall → Type 0
@@ -113,7 +113,7 @@ isTold (boardRefused n) = false
 
 -- what a call that was accepted leaves of train t, where `old` was there
 abbrev pub noted : ℕ → Option Handover → BoardCall → Option Handover
-noted t old (enter r) = if eqb (r .train) t then some r else old
+noted t old (enterRecord r) = if eqb (r .train) t then some r else old
 noted t old (clear u) = if eqb u t then none else old
 
 unfoldable pub lastOf : ℕ → Option Handover → List BoardEvent → Option Handover

@@ -17,7 +17,7 @@ use mathlib.Core.Option.{none, some}
 use lib.ListN.{length}
 use Rattle.units.specs.Plain.{if_then_else_}
 use Rattle.desk.specs.Board.{Handover, Board, emptyBoard, lineAt, isOf, isFree, trainLine, trainShown, Makeable}
-use Rattle.desk.specs.Calls.{BoardCall, enter, clear, told, boardRefused, knownKind, boardStep, boardAfter, boardTrace, Sayable, AllSayable, MadeBoard, lastOf}
+use Rattle.desk.specs.Calls.{BoardCall, enterRecord, clear, told, boardRefused, knownKind, boardStep, boardAfter, boardTrace, Sayable, AllSayable, MadeBoard, lastOf}
 
 abbrev pub KeepsMakeable : Type 0
 KeepsMakeable = (b : Board) (c : BoardCall) → Makeable b → Sayable c → Makeable ((boardStep b c) .board)
@@ -27,9 +27,9 @@ ExactlyMade = (b : Board) → (MadeBoard b → Makeable b) × (Makeable b → Ma
 
 -- q and then r, or r and then q
 pub record InEitherOrder (b : Board) (q r : Handover) : Type 0 where
-  pub reply-q : (boardStep ((boardStep b (enter r)) .board) (enter q)) .reply ≡ (boardStep b (enter q)) .reply
-  pub reply-r : (boardStep ((boardStep b (enter q)) .board) (enter r)) .reply ≡ (boardStep b (enter r)) .reply
-  pub board : (boardStep ((boardStep b (enter q)) .board) (enter r)) .board ≡ (boardStep ((boardStep b (enter r)) .board) (enter q)) .board
+  pub reply-q : (boardStep ((boardStep b (enterRecord r)) .board) (enterRecord q)) .reply ≡ (boardStep b (enterRecord q)) .reply
+  pub reply-r : (boardStep ((boardStep b (enterRecord q)) .board) (enterRecord r)) .reply ≡ (boardStep b (enterRecord r)) .reply
+  pub board : (boardStep ((boardStep b (enterRecord q)) .board) (enterRecord r)) .board ≡ (boardStep ((boardStep b (enterRecord r)) .board) (enterRecord q)) .board
 
 -- R11.15: r's train may be on the board or new. (Two new trains do not commute: the first takes the lower line.)
 abbrev pub Commutes : Type 0
@@ -44,7 +44,7 @@ pub record Changes (b : Board) (r : Handover) (k : ℕ) (b′ : Board) : Type 0 
   pub was : (isOf (r .train) (lineAt b k) ≡ true) ⊎ (((j : ℕ) → isOf (r .train) (lineAt b j) ≡ false) × (isFree (lineAt b k) ≡ true) × ((j : ℕ) → j < k → isFree (lineAt b j) ≡ false))
 
 abbrev pub OneLine : Type 0
-OneLine = (b : Board) (r : Handover) (k : ℕ) → (boardStep b (enter r)) .reply ≡ told k → Changes b r k ((boardStep b (enter r)) .board)
+OneLine = (b : Board) (r : Handover) (k : ℕ) → (boardStep b (enterRecord r)) .reply ≡ told k → Changes b r k ((boardStep b (enterRecord r)) .board)
 
 abbrev pub ShowsLast : Type 0
 ShowsLast =
@@ -60,7 +60,7 @@ NotCleared t (c ∷ cs) = (c ≡ clear t → ⊥) × NotCleared t cs
 -- R11.17: the board b shows o, which has the greatest sequence
 pub record Ended (b : Board) (o : Handover) : Type 0 where
   -- every record of the train is refused by 32, or by 30 which goes before it
-  pub refuses : (r : Handover) → r .train ≡ o .train → boardStep b (enter r) ≡ record { reply = boardRefused (if knownKind (r .kind) then 32 else 30); board = b }
+  pub refuses : (r : Handover) → r .train ≡ o .train → boardStep b (enterRecord r) ≡ record { reply = boardRefused (if knownKind (r .kind) then 32 else 30); board = b }
   -- its line stays, whatever the calls are, until it is cleared
   pub stays : (cs : List BoardCall) → AllSayable cs → NotCleared (o .train) cs → trainShown (o .train) (boardAfter b cs) ≡ some o
   -- a leave is cleared: then the train is on no line, and begins anew (R11.9)

@@ -1,19 +1,18 @@
 -- A run of bytes stored inside a word changes one of the word's digits, over the width and the place. Assumes nothing.
-use mathlib.Core.Path.{_≡_, refl, sym, ap, _∙_, subst}
+use mathlib.Core.Path.{_≡_, refl, sym, ap, _∙_}
 use mathlib.Core.Logic.{⊎-elim}
 use Prim.Native.Nat.{ℕ, zero, suc, _+_, _-_, _*_, _/_, _%_, _^_, _≤_, _<_}
 use mathlib.Core.List.{List, [], _∷_, _++_}
 use native.Mathlib.Nat.{pow-suc, mul-suc, zero-add, add-zero, add-suc, suc-add, mul-assoc}
 use native.Mathlib.Omega.{arith}
-use lib.Arith.{digits-lt}
-use lib.ListN.{length, drop, getD}
+use lib.ListN.{length, getD}
 use lib.Pow.{pow-add, high, low, shr-shr}
 use lib.Seq.{sets, length-sets}
 use Rattle.words.specs.Runs.{elementsFrom}
 use Rattle.words.specs.Words.{leVal, leBytes, wordAt, putWord}
 use Rattle.words.proofs.Runs.{length-reads, le-or-lt, getD-sets-below, getD-sets-above, reads-below, reads-above, reads-same, drop-sets-lt}
-use Rattle.words.proofs.Laws.{leVal-leBytes, wordAt-putWord-same, wordAt-putWord-other, length-putWord, drop-putWord}
-use Rattle.digits.specs.Digits.{digit, putDigit, Stored}
+use Rattle.words.proofs.Laws.{leVal-leBytes, wordAt-putWord-same, wordAt-putWord-other, length-putWord, drop-putWord, length-leBytes}
+use Rattle.digits.specs.Digits.{digit, putDigit, WordStored}
 
 -- ---- runs, cut in two
 
@@ -41,11 +40,6 @@ leVal-small : (t : List ℕ) (a n : ℕ) → ((i : ℕ) → getD t i 0 < 256) �
 unfolding leVal
 leVal-small t a zero small = omega arith
 leVal-small t a (suc n) small = omega (arith, small a, full-suc n, leVal-small t (suc a) n small)
-
-length-leBytes : (m v : ℕ) → length (leBytes m v) ≡ m
-unfolding leBytes
-length-leBytes zero v = refl
-length-leBytes (suc m) v = ap suc (length-leBytes m (v / 256))
 
 -- ---- m bytes stored at the place j of word i
 
@@ -108,7 +102,7 @@ module _ (t : List ℕ) (small : (n : ℕ) → getD t n 0 < 256) (i j m v : ℕ)
   unfolding putDigit
   changed = cut after ∙ rw (upper-stays, value, lower-stays, mul-assoc 8 m j, above, below)
 
-  pub digit-stored : Stored t after i (putDigit (8 * m) j v (wordAt t i))
+  pub digit-stored : WordStored t after i (putDigit (8 * m) j v (wordAt t i))
   unfolding wordAt
   digit-stored =
       record {
@@ -137,7 +131,7 @@ module _ (t : List ℕ) (small : (n : ℕ) → getD t n 0 < 256) (i j m v : ℕ)
 
 -- ---- a whole word
 
-pub word-stored : (t : List ℕ) (i v : ℕ) → i * 8 + 8 ≤ length t → v < 2 ^ 64 → Stored t (putWord t i v) i v
+pub word-stored : (t : List ℕ) (i v : ℕ) → i * 8 + 8 ≤ length t → v < 2 ^ 64 → WordStored t (putWord t i v) i v
 unfolding putWord
 word-stored t i v within narrow =
     record {

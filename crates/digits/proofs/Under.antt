@@ -92,21 +92,21 @@ module _ (L : ℕ) (some : 0 < L) (most : L ≤ 2 ^ 15) where
 
 -- ---- gathered
 
-or-bit : (a b : ℕ) → bit 15 (bitOr a b) ≡ max (bit 15 a) (bit 15 b)
-or-bit a b = ap (λ (x : ℕ). x % 2) (or-shr a b 15) ∙ omega (arith, or-step (a / 2 ^ 15) (b / 2 ^ 15))
+pub or-bit : (k a b : ℕ) → bit k (bitOr a b) ≡ max (bit k a) (bit k b)
+or-bit k a b = ap (λ (x : ℕ). x % 2) (or-shr a b k) ∙ omega (arith, or-step (a / 2 ^ k) (b / 2 ^ k))
 
 or-clear : (n a b : ℕ) → Clear n a → Clear n b → Clear n (bitOr a b)
 unfolding Clear
 or-clear zero a b p q = tt
 or-clear (suc n) a b p q =
-    (omega (arith, or-bit a b, p .0, q .0), subst (Clear n) (sym (or-shr a b 16)) (or-clear n (a / 65536) (b / 65536) (p .1) (q .1)))
+    (omega (arith, or-bit 15 a b, p .0, q .0), subst (Clear n) (sym (or-shr a b 16)) (or-clear n (a / 65536) (b / 65536) (p .1) (q .1)))
 
 clear-or : (n a b : ℕ) → Clear n (bitOr a b) → Clear n a × Clear n b
 unfolding Clear
 clear-or zero a b h = (tt, tt)
 clear-or (suc n) a b h =
     let rest = clear-or n (a / 65536) (b / 65536) (subst (Clear n) (or-shr a b 16) (h .1)) in
-    ((omega (arith, or-bit a b, h .0), rest .0), (omega (arith, or-bit a b, h .0), rest .1))
+    ((omega (arith, or-bit 15 a b, h .0), rest .0), (omega (arith, or-bit 15 a b, h .0), rest .1))
 
 zero-clear : (n : ℕ) → Clear n 0
 unfolding Clear

@@ -9,16 +9,13 @@ use lib.ListN.{length, getD, set}
 use lib.Seq.{sets}
 use Rattle.words.specs.Runs.{elementsFrom}
 use Rattle.words.specs.Words.{leVal, leBytes, wordAt}
-use Rattle.digits.specs.Digits.{digit, putDigit, Stored}
+use Rattle.words.proofs.Laws.{half-sum}
+use Rattle.digits.specs.Digits.{digit, putDigit, WordStored}
 use Rattle.digits.proofs.Bytes.{digit-read, digit-stored}
 
 quarter-sum : (t : List ℕ) (a : ℕ) → getD t a 0 + getD t (a + 1) 0 * 256 ≡ leVal (elementsFrom t a 2)
 unfolding leVal
 quarter-sum t a = simp towards-suc (omega arith)
-
-half-sum : (t : List ℕ) (a : ℕ) → getD t a 0 + getD t (a + 1) 0 * 256 + (getD t (a + 2) 0 + getD t (a + 3) 0 * 256) * 65536 ≡ leVal (elementsFrom t a 4)
-unfolding leVal
-half-sum t a = simp towards-suc (omega arith)
 
 quarter-stores : (t : List ℕ) (a v : ℕ) → set (set t a (v % 256)) (a + 1) (v / 256 % 256) ≡ sets t a (leBytes 2 v)
 unfolding leBytes
@@ -39,15 +36,15 @@ module _ (t : List ℕ) (small : (n : ℕ) → getD t n 0 < 256) (i : ℕ) where
       let at : i * 4 ≡ i / 2 * 8 + 4 * (i % 2) = omega arith in
       half-sum t (i * 4) ∙ ap (λ (a : ℕ). leVal (elementsFrom t a 4)) at ∙ digit-read t small (i / 2) (i % 2) 4 0 (omega arith) within (omega arith)
 
-  pub quarter-stored : (v : ℕ) → i / 4 * 8 + 8 ≤ length t → v < 2 ^ 16 → Stored t (set (set t (i * 2) (v % 256)) (i * 2 + 1) (v / 256 % 256)) (i / 4) (putDigit 16 (i % 4) v (wordAt t (i / 4)))
+  pub quarter-stored : (v : ℕ) → i / 4 * 8 + 8 ≤ length t → v < 2 ^ 16 → WordStored t (set (set t (i * 2) (v % 256)) (i * 2 + 1) (v / 256 % 256)) (i / 4) (putDigit 16 (i % 4) v (wordAt t (i / 4)))
   quarter-stored v within narrow =
       let at : i / 4 * 8 + 2 * (i % 4) ≡ i * 2 = omega arith in
       rw (quarter-stores t (i * 2) v)
-      (subst (λ (a : ℕ). Stored t (sets t a (leBytes 2 v)) (i / 4) (putDigit 16 (i % 4) v (wordAt t (i / 4)))) at (digit-stored t small (i / 4) (i % 4) 2 v (omega arith) within narrow))
+      (subst (λ (a : ℕ). WordStored t (sets t a (leBytes 2 v)) (i / 4) (putDigit 16 (i % 4) v (wordAt t (i / 4)))) at (digit-stored t small (i / 4) (i % 4) 2 v (omega arith) within narrow))
 
   pub half-stored : (v : ℕ) → i / 2 * 8 + 8 ≤ length t → v < 2 ^ 32
-      → Stored t (set (set (set (set t (i * 4) (v % 256)) (i * 4 + 1) (v / 256 % 256)) (i * 4 + 2) (v / 65536 % 256)) (i * 4 + 3) (v / 16777216 % 256)) (i / 2) (putDigit 32 (i % 2) v (wordAt t (i / 2)))
+      → WordStored t (set (set (set (set t (i * 4) (v % 256)) (i * 4 + 1) (v / 256 % 256)) (i * 4 + 2) (v / 65536 % 256)) (i * 4 + 3) (v / 16777216 % 256)) (i / 2) (putDigit 32 (i % 2) v (wordAt t (i / 2)))
   half-stored v within narrow =
       let at : i / 2 * 8 + 4 * (i % 2) ≡ i * 4 = omega arith in
       rw (half-stores t (i * 4) v)
-      (subst (λ (a : ℕ). Stored t (sets t a (leBytes 4 v)) (i / 2) (putDigit 32 (i % 2) v (wordAt t (i / 2)))) at (digit-stored t small (i / 2) (i % 2) 4 v (omega arith) within narrow))
+      (subst (λ (a : ℕ). WordStored t (sets t a (leBytes 4 v)) (i / 2) (putDigit 32 (i % 2) v (wordAt t (i / 2)))) at (digit-stored t small (i / 2) (i % 2) 4 v (omega arith) within narrow))

@@ -2,7 +2,7 @@
 --
 --   digit b j x        digit j of x, of b bits, the lowest first
 --   putDigit b j v x   x with digit j changed to v
---   Stored             what a change of one word leaves: that word, every other word and byte, the length, and the bytes past any run of words that has it
+--   WordStored         what a change of one word leaves: that word, every other word and byte, the length, and the bytes past any run of words that has it
 --
 -- Assumes nothing.
 use mathlib.Core.Path.{_≡_}
@@ -18,7 +18,7 @@ digit b j x = x / 2 ^ (b * j) % 2 ^ b
 unfoldable pub putDigit : ℕ → ℕ → ℕ → ℕ → ℕ
 putDigit b j v x = (x / 2 ^ (b * j + b) * 2 ^ b + v) * 2 ^ (b * j) + x % 2 ^ (b * j)
 
-pub record Stored (before after : List ℕ) (i v : ℕ) : Type 0 where
+pub record WordStored (before after : List ℕ) (i v : ℕ) : Type 0 where
   pub same : wordAt after i ≡ v
   pub others : (j : ℕ) → (j ≡ i → ⊥) → wordAt after j ≡ wordAt before j
   pub bytes : (a : ℕ) → (a / 8 ≡ i → ⊥) → getD after a 0 ≡ getD before a 0

@@ -8,7 +8,7 @@ ghost use mathlib.Core.Path.{_≡_};
 ghost use Prim.Native.Nat.{ℕ, _+_, _*_, _/_, _%_, _^_, _<_, _≤_};
 ghost use lib.ListN.{length, getD};
 ghost use Rattle.words.specs.Words.{wordAt};
-ghost use Rattle.digits.specs.Digits.{digit, putDigit, Stored};
+ghost use Rattle.digits.specs.Digits.{digit, putDigit, WordStored};
 
 // The byte at `a`, as a number below 256, as every byte is.
 fn byte(t: &[u8], a: usize) -> u64
@@ -39,7 +39,7 @@ pub fn half(t: &[u8], i: usize) -> u64
 // Changes quarter `i` of the bytes to `v`.
 pub fn set_quarter(t: &mut [u8], i: usize, v: u64)
     requires { ⌜ (i / 4 * 8 + 8 ≤ length (now t)) × (v < 2 ^ 16) ⌝ }
-    ensures { λ _. ⌜ Stored (now (t .entry)) (now (t .exit)) (i / 4) (putDigit 16 (i % 4) v (wordAt (now (t .entry)) (i / 4))) ⌝ }
+    ensures { λ _. ⌜ WordStored (now (t .entry)) (now (t .exit)) (i / 4) (putDigit 16 (i % 4) v (wordAt (now (t .entry)) (i / 4))) ⌝ }
 {
     let a = i * 2;
     // read for the proof alone, which asks that the word's other bytes are bytes; no instruction is left of it
@@ -51,7 +51,7 @@ pub fn set_quarter(t: &mut [u8], i: usize, v: u64)
 // Changes half `i` of the bytes to `v`.
 pub fn set_half(t: &mut [u8], i: usize, v: u64)
     requires { ⌜ (i / 2 * 8 + 8 ≤ length (now t)) × (v < 2 ^ 32) ⌝ }
-    ensures { λ _. ⌜ Stored (now (t .entry)) (now (t .exit)) (i / 2) (putDigit 32 (i % 2) v (wordAt (now (t .entry)) (i / 2))) ⌝ }
+    ensures { λ _. ⌜ WordStored (now (t .entry)) (now (t .exit)) (i / 2) (putDigit 32 (i % 2) v (wordAt (now (t .entry)) (i / 2))) ⌝ }
 {
     let a = i * 4;
     // read for the proof alone, as in `set_quarter`

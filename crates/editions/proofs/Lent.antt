@@ -8,7 +8,7 @@ use mathlib.Core.Path.{_≡_, sym, ap, _∙_}
 use mathlib.Core.List.{List, [], _++_, append-nil}
 use native.Mathlib.Omega.{arith}
 use lib.ListN.{length, take, drop, getD, length-drop, drop-of-length-le}
-use lib.Seq.{take-all, take-at, drop-at, length-take-le, getD-take}
+use lib.Seq.{take-all, drop-at, length-take-le, getD-take}
 use borrow.Rule.Slice.PartMut.{putMid, take-put}
 use Rattle.words.specs.Words.{leVal, wordAt}
 use Rattle.words.proofs.Runs.{reads-ext}

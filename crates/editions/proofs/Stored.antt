@@ -1,24 +1,21 @@
 -- What the two stores leave. Assumes nothing.
 use Prim.Native.Nat.{ℕ, _+_, _-_, _*_, _≤_, _<_}
-use mathlib.Core.Path.{_≡_, refl, sym, ap, subst, _∙_}
-use mathlib.Core.Bool.{Bool, true, false}
+use mathlib.Core.Path.{_≡_, refl, sym, ap, _∙_}
+use mathlib.Core.Bool.{true}
 use mathlib.Core.List.{List}
-use mathlib.Core.Option.{Option, none, some}
+use mathlib.Core.Option.{none, some}
 use native.Mathlib.Omega.{arith}
 use borrow.Author.Tests.{eq-eqb, ne-eqb}
 use borrow.Rule.Slice.PartMut.{putMid}
-use lib.Dec.{eqb}
-use lib.ListN.{length, drop, take}
+use lib.ListN.{length, drop}
 use lib.Seq.{drop-drop}
-use Rattle.units.specs.Plain.{if_then_else_}
 use Rattle.words.specs.Words.{wordAt, putWord}
 use Rattle.words.proofs.Laws.{length-putWord, wordAt-putWord-same, wordAt-putWord-other, drop-putWord}
 use Rattle.rules.specs.State.{Setting}
 use Rattle.rules.specs.Setup.{Setup}
-use Rattle.pages.specs.Device.{Page}
 use Rattle.plan.specs.Judge.{knownFormat}
 use Rattle.plan.specs.Accepted.{present}
-use Rattle.plan_writer.specs.Write.{Planned, Within}
+use Rattle.plan_writer.specs.Write.{Planned}
 use Rattle.plan_area.specs.Area.{planIn, ShowsPlan}
 use Rattle.plan_area.proofs.Shown.{shows-plan}
 use Rattle.editions.specs.Part.{PartRoom, partBytes, lastIn, newIn, planOf, waitingIn, Fits, Stores}

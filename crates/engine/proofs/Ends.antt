@@ -7,6 +7,7 @@ use Prim.Native.Nat.{ℕ}
 use native.Mathlib.Omega.{arith}
 use lib.Count.{trailingZeros}
 use lib.Pow.{pow-pos}
+use Rattle.units.proofs.Bools.{not-passed}
 use Rattle.words.specs.Bits.{bit}
 use Rattle.words.specs.Runs.{tab}
 use Rattle.words.specs.Words.{wordAt}
@@ -17,7 +18,6 @@ use Rattle.rules.specs.Calls.{Call, step}
 use Rattle.rules.specs.Sets.{inGroup, groupStart}
 use Rattle.rules.specs.Setup.{Setup}
 use Rattle.rules.specs.Good.{Good}
-use Rattle.rules.proofs.Bools.{not-passed}
 use Rattle.rules.proofs.GroupRule.{in-group, group-low}
 use Rattle.rules.proofs.Live.{some-holds, holds-some}
 use Rattle.rules.proofs.Lowest.{LowOf, LowestOf}

@@ -12,18 +12,19 @@ use borrow.Author.Tests.{lt-ltb, le-ltb}
 use Rattle.units.specs.Numbers.{lineRate}
 use Rattle.units.specs.Plain.{if_then_else_}
 use Rattle.units.proofs.Round.{round-le}
+use Rattle.units.proofs.Bools.{not-passed}
+use Rattle.units.proofs.Lists.{set-cases}
 use Rattle.rules.specs.State.{Rec, Lane, State, noLane, charge, slot, group, startR, holds, laneAt}
 use Rattle.rules.specs.Choice.{leastOf}
 use Rattle.rules.specs.Calls.{served, settledAt, settled, serve, takeOf}
 use Rattle.rules.specs.Sets.{inGroup, groupStart}
 use Rattle.rules.specs.declared.Record.{Record}
-use Rattle.rules.proofs.Bools.{not-passed}
-use Rattle.rules.proofs.Lists.{set-cases}
 use Rattle.rules.specs.Lowest.{LowOf}
 use Rattle.rules.proofs.Lowest.{lowest}
 use Rattle.rules.proofs.GroupRule.{in-group, group-low}
 use Rattle.rules.proofs.Queues.{served-given}
 use Rattle.rules.proofs.Ties.{Tied, take-tied}
+use Rattle.rules.proofs.Track.{served-start}
 use Rattle.table.specs.Layout.{SIZE, Behind, cells}
 use Rattle.table.specs.Means.{meant, Sound, Leaves, withClock}
 use Rattle.queue.specs.Queue.{Takes}
@@ -34,8 +35,9 @@ use Rattle.filing.specs.Filing.{Starting, Agrees, never}
 use Rattle.filing.proofs.Slots.{low-unique, group-held}
 use Rattle.filing.proofs.Starts.{Named, Grouped}
 use Rattle.filing.proofs.LeastStart.{group-of, least-all}
-use Rattle.groups.specs.Front.{Settles, stays, nothing, jumps}
-use Rattle.lane_moves.specs.Moves.{Tells, Refiled}
+use Rattle.groups.specs.Front.{Settles, stays, noneStarts, jumps}
+use Rattle.groups.proofs.Laws.{no-start}
+use Rattle.lane_moves.specs.Moves.{TellsReached, Refiled}
 use Rattle.lane_moves.proofs.Rules.{refile-agrees}
 use Rattle.choice.specs.Known.{Known, Standing}
 use Rattle.choice.specs.declared.Place.{Place}
@@ -43,7 +45,7 @@ use Rattle.engine.specs.Turns.{Holds, Reaching, Settled}
 use Rattle.engine.specs.Does.{Serves}
 use Rattle.engine.proofs.Ends.{lanes-same, known-holds}
 use Rattle.table.proofs.Lists.{cells-apart, solid-stays, agrees-stay, past-stays, past-rings}
-use Rattle.engine.proofs.Serving.{At, f, x, is-first, holds-k, finish-small, served-busy, entry-is, lanes-after, sound-after, inside}
+use Rattle.engine.proofs.Serving.{At, f, x, is-first, holds-k, finish-small, entry-is, lanes-after, sound-after, inside}
 use Rattle.engine.proofs.ServingLists.{solid-after, agrees₁, first₁, start₁}
 
 -- ---- where the clock settles
@@ -63,15 +65,12 @@ settles-is s starts st grouped v r (stays i q lo hi e le er) = go (groupStart (s
         let same : y ≡ q = cc in
         let first : m ≤ startR (laneAt s (low .at)) = lp .bound (low .at) (in-group i (laneAt s (low .at)) (low .is) .0) in
         settled-at v m (leastOf holds (s .lanes)) ep ∙ rw (le-ltb v m (omega (arith, first, low .start, same, le))) (sym er)
-settles-is s starts st grouped v r (nothing none-at er) =
+settles-is s starts st grouped v r (noneStarts none-at er) =
     let least : leastOf holds (s .lanes) ≡ none = low-unique holds (s .lanes) _ none (lowest (s .lanes)) (λ j. not-passed (holds (laneAt s j)) (λ hj.
     let q = group-of s starts st grouped j hj in
     let e : starts (group (laneAt s j .given)) ≡ none = none-at (group (laneAt s j .given)) (grouped j hj .0) (grouped j hj .1) in
-    clash (starts (group (laneAt s j .given))) (q .0) e (q .1))) in
+    no-start (starts (group (laneAt s j .given))) (q .0) e (q .1))) in
     ap (settledAt v) least ∙ sym er
-  where
-    clash : (o : Option ℕ) (y : ℕ) → o ≡ none → o ≡ some y → ⊥
-    clash o y p q = let z : _≡_ {A = ℕ} 0 1 = cc in omega arith
 settles-is s starts st grouped v r (jumps m lt) = settled-at v r (leastOf holds (s .lanes)) (least-all s starts st grouped r m) ∙ rw (lt-ltb v r lt)
 
 -- ---- once the lane has its new list
@@ -111,7 +110,7 @@ module _ (t : List ℕ) (s : State) (g r k : ℕ) (a : At t s g r k) (t₁ : Lis
   each P now o j = rw u-lanes (set-cases P (s .lanes) k j new noLane (inside t s g r k a t₁ e taken len) (λ q. now) (λ ne. o j))
 
   new-early : holds new ≡ true → startR new < 2 ^ 63
-  new-early hn = omega (arith, round-le (slot (new .given)) (new .start), served-busy (laneAt s k) hn, finish-small t s g r k a)
+  new-early hn = omega (arith, round-le (slot (new .given)) (new .start), served-start (laneAt s k) hn, finish-small t s g r k a)
 
   grouped : Grouped u
   grouped =
@@ -132,7 +131,7 @@ module _ (t : List ℕ) (s : State) (g r k : ℕ) (a : At t s g r k) (t₁ : Lis
   pub start-now : (v : ℕ) → r ≤ v → (n ≡ never) ⊎ Reaching t₂ v n
   start-now v le = go (re .now)
     where
-      go : (n ≡ never) ⊎ ((q : ℕ) × (startAt t₂ g ≡ some q) × Tells r q n) → (n ≡ never) ⊎ Reaching t₂ v n
+      go : (n ≡ never) ⊎ ((q : ℕ) × (startAt t₂ g ≡ some q) × TellsReached r q n) → (n ≡ never) ⊎ Reaching t₂ v n
       go (inl z) = inl z
       go (inr z) = inr (record { group = g; at = z .0; low = a .low; high = a .high; start = z .1; reached = z .2 v le })
 

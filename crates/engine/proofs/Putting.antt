@@ -25,7 +25,6 @@ use Rattle.table.proofs.Few.{room-idle}
 use Rattle.table.proofs.Rows.{weight-present}
 use Rattle.queue.specs.Queue.{waiting}
 use Rattle.queue.specs.declared.Item.{Item}
-use Rattle.choice.proofs.Held.{lanes-many}
 use Rattle.engine.specs.Does.{Idle}
 use Rattle.engine.proofs.RowIs.{RowIs, row-is}
 use Rattle.engine.proofs.Waking.{accept-beside, accept-alone, woken-start}
@@ -37,6 +36,7 @@ use Rattle.lane_moves.proofs.Rules.{add-agrees}
 use Rattle.engine.specs.Turns.{Holds, Turns}
 use Rattle.engine.proofs.Ends.{lanes-same, clock-same, nobody, somebody}
 use Rattle.table.proofs.Lists.{cells-apart, solid-stays, agrees-stay, past-stays, past-rings}
+use Rattle.table.proofs.Footprint.{lanes-many}
 
 module _ (t : List ℕ) (s : State) (h : Holds t s) (good : Good s) (k : ℕ) (e : Item) (a : Allowed s k (waiting e)) (idle : Idle s k) where
   abbrev pub x : Rec

@@ -13,13 +13,13 @@ use Rattle.waiting.specs.Waiting.{Waiting, first, held, queueOf, full, known, i
 use Rattle.waiting.proofs.Laws.{first-nothing, held-none, held-hand}
 use Rattle.rules.specs.State.{Rec, Setting, Lane, noLane, rate, some?, firstOf, holds, laneAt}
 use Rattle.rules.specs.Calls as rules
+use Rattle.rules.proofs.Moves.{not-idle}
 use Rattle.table.specs.Layout.{cells, rowAt}
 use Rattle.table.specs.Means.{presentAt, waitingOf, givenOf, timedByWord, meant, RowAgrees, Sound}
 use Rattle.table.specs.declared.LaneRow.{LaneRow}
-use Rattle.table.proofs.Footprint.{lane-is}
+use Rattle.table.proofs.Footprint.{lane-is, lanes-many}
 use Rattle.table.proofs.Rows.{lane-present, lane-absent, waiting-kind, waiting-none, waiting-held}
 use Rattle.table.proofs.Timed.{timed-given, timed-waiting, timed-start}
-use Rattle.choice.proofs.Held.{lanes-many}
 use Rattle.engine.specs.Does.{laneTrains, queueDepth, heldBy}
 use Rattle.engine.proofs.LaneTrains.{known-is, full-is, held-is}
 
@@ -41,11 +41,7 @@ pub record RowIs (l : Lane) (r : LaneRow) : Type 0 where
   pub idle : holds l ≡ false → l .finish ≡ r .time .0
 
 pub count-holds : (l : Lane) (n : ℕ) → GoodWaiting (l .given .longest) (l .waiting) → held (l .waiting) ≡ n → 0 < n → holds l ≡ true
-count-holds l n g e h = go (firstOf l) refl
-  where
-    go : (o : Option Rec) → firstOf l ≡ o → holds l ≡ true
-    go none q = absurd (omega (arith, held-none (l .given .longest) (l .waiting) g q))
-    go (some r) q = ap some? q
+count-holds l n g e h = not-idle l (λ q. omega (arith, e, h, held-none (l .given .longest) (l .waiting) g q))
 
 pub count-idle : (l : Lane) → GoodWaiting (l .given .longest) (l .waiting) → held (l .waiting) ≡ 0 → holds l ≡ false
 count-idle l g e = go (firstOf l) refl

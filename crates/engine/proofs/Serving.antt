@@ -1,6 +1,6 @@
 -- The chosen lane before and after its first record is taken out of its ring. Assumes nothing.
 use mathlib.Core.Path.{_≡_, refl, sym, ap, subst, _∙_}
-use mathlib.Core.Bool.{true, false≢true}
+use mathlib.Core.Bool.{true}
 use mathlib.Core.Option.{Option, none, some}
 use Prim.Native.Nat.{ℕ, suc, _+_, _*_, _^_, _≤_, _<_}
 use mathlib.Core.List.{List}
@@ -21,7 +21,6 @@ use Rattle.rules.proofs.Lowest.{LowOf, LowestOf}
 use Rattle.rules.proofs.GroupRule.{is-in-group, group-low}
 use Rattle.rules.proofs.Lane.{charge-slot}
 use Rattle.rules.proofs.Figures.{longest-at, slot-at}
-use Rattle.rules.proofs.Serve.{served-ind}
 use Rattle.rules.proofs.Queues.{held-inside, served-waiting}
 use Rattle.table.specs.Layout.{cells, rowAt}
 use Rattle.table.specs.Means.{givenOf, meant, Sound}
@@ -46,9 +45,6 @@ pub record At (t : List ℕ) (s : State) (g r k : ℕ) : Type 0 where
   pub start : startAt t g ≡ some r
   pub first : frontOf (listAt t g (listOf t g r)) ≡ some k
   pub lane : candidateLane (choose s) ≡ some k
-
-pub served-busy : (l : Lane) → holds (served l) ≡ true → (served l) .start ≡ l .finish
-served-busy l = served-ind (λ (m : Lane). holds m ≡ true → m .start ≡ l .finish) l (λ e t. absurd (false≢true (sym (ap some? e) ∙ t))) (λ r e t. refl)
 
 module _ (t : List ℕ) (s : State) (g r k : ℕ) (a : At t s g r k) where
   abbrev h : Holds t s

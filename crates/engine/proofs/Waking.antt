@@ -9,17 +9,17 @@ use lib.ListN.{set}
 use borrow.Author.Tests.{ltb-true, ltb-false}
 use Rattle.units.specs.Numbers.{roundDown}
 use Rattle.units.specs.Plain.{if_then_else_}
+use Rattle.units.proofs.Bools.{if-ind}
 use Rattle.rules.specs.State.{Rec, Lane, State, group, slot, startR, holds, laneAt, anyHolds}
 use Rattle.rules.specs.Calls.{appended, woken, accept}
-use Rattle.rules.proofs.Bools.{if-ind}
 use Rattle.rules.proofs.Claim.{in-range}
 use Rattle.rules.proofs.Keep.{Allowed}
 use Rattle.table.specs.Layout.{cells, rowAt}
 use Rattle.table.specs.Means.{meant, withClock, withLane}
 use Rattle.table.specs.declared.LaneRow.{LaneRow}
 use Rattle.table.proofs.Rows.{weight-present}
+use Rattle.table.proofs.Footprint.{lanes-many}
 use Rattle.choice.specs.Known.{Known}
-use Rattle.choice.proofs.Held.{lanes-many}
 use Rattle.engine.proofs.RowIs.{RowIs, row-is}
 
 -- ---- a lane that a put is allowed to

@@ -19,11 +19,11 @@ use lib.Dec.{leb, ltb}
 use lib.ListN.{length}
 use Rattle.fields.specs.Bytes.{byteAt, big}
 use Rattle.fields.specs.Header.{pick, headerAt, behindAt}
-use Rattle.fields.specs.Item.{Item, wholeField, badField, Known, itemByHeader, itemAt}
+use Rattle.fields.specs.Item.{Item, wholeField, badField, FieldKinds, itemByHeader, itemAt}
 use Rattle.fields.specs.declared.Field.the-variants.{Nothing, Cut, Header}
 use Rattle.fields.proofs.Header.{header-whole, behind-whole}
 
-module _ {A : Type 0} (known : Known A) (s : List ℕ) (at : ℕ) where
+module _ {A : Type 0} (known : FieldKinds A) (s : List ℕ) (at : ℕ) where
   pub item-none : headerAt s at ≡ Nothing → itemAt known s at ≡ badField 1 (some (length s))
   unfolding itemAt
   item-none h = ap (itemByHeader known s at) h
@@ -59,14 +59,14 @@ pub data Broken (s : List ℕ) (at : ℕ) : ℕ → Option ℕ → Type 0 where
   unknown : at < length s → Broken s at 2 (some at)
   wrong : at < length s → Broken s at 3 (some at)
 
-pub record Stands {A : Type 0} (known : Known A) (s : List ℕ) (at : ℕ) (f : A) (m : ℕ) : Type 0 where
+pub record Stands {A : Type 0} (known : FieldKinds A) (s : List ℕ) (at : ℕ) (f : A) (m : ℕ) : Type 0 where
   pub tag : known .tag (byteAt s at) ≡ true
   pub size : known .fits (byteAt s at) (big s (at + 1) 2) ≡ true
   pub fits : at + 3 + big s (at + 1) 2 ≤ length s
   pub field : known .field s (byteAt s at) (at + 3) (big s (at + 1) 2) ≡ f
   pub after : at + 3 + big s (at + 1) 2 ≡ m
 
-module _ {A : Type 0} (known : Known A) (s : List ℕ) (at : ℕ) where
+module _ {A : Type 0} (known : FieldKinds A) (s : List ℕ) (at : ℕ) where
   abbrev t : ℕ
   t = byteAt s at
 
@@ -96,10 +96,10 @@ module _ {A : Type 0} (known : Known A) (s : List ℕ) (at : ℕ) where
   pub broken : {k : ℕ} {q : Option ℕ} → itemAt known s at ≡ badField k q → Broken s at k q
   broken h = item-is _ h
 
-pub stands : {A : Type 0} {known : Known A} {s : List ℕ} {at : ℕ} {f : A} {m : ℕ} → itemAt known s at ≡ wholeField f m → Stands known s at f m
+pub stands : {A : Type 0} {known : FieldKinds A} {s : List ℕ} {at : ℕ} {f : A} {m : ℕ} → itemAt known s at ≡ wholeField f m → Stands known s at f m
 stands h = item-is _ _ _ _ h
 
-module _ {A : Type 0} (known : Known A) (s : List ℕ) (at : ℕ) (f : A) (m : ℕ) where
+module _ {A : Type 0} (known : FieldKinds A) (s : List ℕ) (at : ℕ) (f : A) (m : ℕ) where
   header-is : Stands known s at f m → headerAt s at ≡ Header (byteAt s at) (at + 3) (big s (at + 1) 2)
   header-is k = header-whole s at (omega (arith, k .fits))
 
@@ -116,6 +116,6 @@ module _ {A : Type 0} (known : Known A) (s : List ℕ) (at : ℕ) (f : A) (m : �
   behind-item h = let k = stands h in behind-whole s at _ _ _ (header-is k) (value-is k) ∙ k .after
 
 -- by the bytes of its header
-pub item-by : {A : Type 0} (known : Known A) (s : List ℕ) (at t n : ℕ) → byteAt s at ≡ t → big s (at + 1) 2 ≡ n → known .tag t ≡ true → known .fits t n ≡ true → at + 3 + n ≤ length s
+pub item-by : {A : Type 0} (known : FieldKinds A) (s : List ℕ) (at t n : ℕ) → byteAt s at ≡ t → big s (at + 1) 2 ≡ n → known .tag t ≡ true → known .fits t n ≡ true → at + 3 + n ≤ length s
     → {f : A} {m : ℕ} → known .field s t (at + 3) n ≡ f → at + 3 + n ≡ m → itemAt known s at ≡ wholeField f m
 item-by known s at t n a b k g l {f} {m} e i = item-of known s at f m (record { tag = rw a k; size = rw (a, b) g; fits = rw b l; field = rw (a, b) e; after = rw b i })

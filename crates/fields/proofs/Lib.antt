@@ -1,3 +1,4 @@
 pub mod Numbers
 pub mod Header
 pub mod Item
+pub mod Tested

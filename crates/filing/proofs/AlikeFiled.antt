@@ -1,15 +1,15 @@
 -- Two states with the same lists are alike; and the lists, one behind the other, are a tie order for which they are the lists. Assumes nothing.
-use Prim.Native.Nat.{ℕ, _+_, _-_, _*_, _%_, _^_, _≤_, _<_}
+use Prim.Native.Nat.{ℕ, _+_, _-_, _%_, _≤_, _<_}
 use native.Mathlib.Nat.{le-antisymm}
 use native.Mathlib.Omega.{arith}
-use mathlib.Core.Path.{_≡_, refl, sym, ap, subst, _∙_}
-use mathlib.Core.Bool.{Bool, true, false, false≢true}
+use mathlib.Core.Path.{_≡_, refl, sym, ap, _∙_}
+use mathlib.Core.Bool.{Bool, true, false}
 use mathlib.Core.List.{List, []}
 use lib.Dec.{ltb}
 use lib.ListN.{getD}
 use Rattle.units.specs.Plain.{if_then_else_, place, times}
 use Rattle.rules.specs.State.{Lane, State, noLane, group, startR, holds, laneAt}
-use Rattle.alike.specs.Alike.{Ties, Alike}
+use Rattle.alike.specs.Alike.{Alike}
 use Rattle.filing.specs.Filing.{sift, Whole, slotAt, inList, Lists, Filing, flat, inARow}
 use Rattle.filing.proofs.Sift.{times-sift, place-sift}
 use Rattle.filing.proofs.Flat.{sift-flat, flat-none, flat-one, sift-all, sift-no, times-none, times-one}

@@ -1,33 +1,27 @@
 -- The choice by the groups' starts and the lists' lists is the plain choice. Assumes nothing.
 use Prim.Native.Nat.{ℕ, _+_, _*_, _/_, _%_, _^_, _≤_, _<_}
-use native.Mathlib.Nat.{zero-add, le-antisymm}
+use native.Mathlib.Nat.{le-antisymm}
 use native.Mathlib.Omega.{arith}
 use mathlib.Core.Path.{_≡_, refl, sym, ap, subst, _∙_}
 use mathlib.Core.Bool.{Bool, true, false, _&&_, false≢true}
-use mathlib.Core.Logic.{⊎-elim}
-use mathlib.Core.List.{List, [], _∷_}
 use mathlib.Core.Option.{Option, none, some}
-use native.Mathlib.Decide.{decLe}
 use lib.Dec.{eqb}
-use lib.ListN.{getD}
 use borrow.Author.Tests.{eq-eqb, ne-eqb}
-use Rattle.rules.specs.State.{Lane, State, noLane, group, slot, startR, finishR, holds, eligible, laneAt}
+use Rattle.units.proofs.Lists.{same-or}
+use Rattle.rules.specs.State.{Lane, State, group, slot, startR, holds, eligible, laneAt}
 use Rattle.rules.specs.Choice.{Candidate, choose}
 use Rattle.rules.specs.Sets.{inGroup, groupStart, firstGroup}
 use Rattle.rules.specs.Good.{Good}
 use Rattle.rules.proofs.Lowest.{LowOf, LowestOf}
 use Rattle.rules.proofs.GroupRule.{in-group, group-low}
 use Rattle.rules.proofs.Keep.{eligible-is, is-eligible}
-use Rattle.rules.proofs.Chosen.{Chosen, Choice, chosen}
-use Rattle.rules.specs.BySets.{standsAt, firstIn, laneOfGroup, chooseBySets, candidateLane}
+use Rattle.rules.proofs.Chosen.{Choice, chosen}
+use Rattle.rules.specs.BySets.{standsAt, laneOfGroup, chooseBySets, candidateLane}
 use Rattle.rules.proofs.BySets.{sets-rule, same-choice}
-use Rattle.filing.specs.Filing.{sift, frontOf, Whole, slotAt, inList, Lists, Filing, Agrees, Window, LeastGroup}
+use Rattle.filing.specs.Filing.{frontOf, Whole, slotAt, inList, Lists, Agrees, LeastGroup}
 use Rattle.filing.proofs.Sift.{sift-ext, first-sift}
 use Rattle.filing.proofs.Slots.{start-slot, no-less, group-held, window}
 use Rattle.filing.proofs.LeastStart.{group-of}
-
-eq-or-ne : (a b : ℕ) → (P : Type 0) → (a ≡ b → P) → ((a ≡ b → ⊥) → P) → P
-eq-or-ne a b P f g = elim (decLe a b) [ yes p ↦ elim (decLe b a) [ yes q ↦ f (le-antisymm p q) | no q ↦ g (λ e. omega arith) ] | no p ↦ g (λ e. omega arith) ]
 
 module _ (B : ℕ) (wh : Whole B) (s : State) (good : Good s) (lists : Lists) (starts : ℕ → Option ℕ) (ag : Agrees B lists starts s) where
   -- ---- the first lane of the list of a group's start
@@ -41,7 +35,7 @@ module _ (B : ℕ) (wh : Whole B) (s : State) (good : Good s) (lists : Lists) (s
     same-place l q lo up =
         let r-is = window s good B g r wh e .1 in
         let l-is = start-slot B g l wh hi q in
-        eq-or-ne (slotAt B l) a (eqb (startR l) r ≡ eqb (slotAt B l % 32) (a % 32))
+        same-or {P = eqb (startR l) r ≡ eqb (slotAt B l % 32) (a % 32)} (slotAt B l) a
         (λ x. eq-eqb (startR l) r (omega (arith, l-is, ap (λ (y : ℕ). y * 2 ^ g) x, r-is)) ∙ sym (eq-eqb (slotAt B l % 32) (a % 32) (ap (λ (y : ℕ). y % 32) x)))
         (λ ne.
         ne-eqb (startR l) r (λ y. ne (le-antisymm (no-less g (slotAt B l) a (omega (arith, y, r-is, l-is))) lo))

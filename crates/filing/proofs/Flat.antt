@@ -7,7 +7,8 @@ use mathlib.Core.Bool.{Bool, true, false}
 use mathlib.Core.List.{List, [], _∷_, _++_, append-nil}
 use lib.Dec.{eqb}
 use borrow.Author.Tests.{eqb-true, eqb-false, eq-eqb}
-use Rattle.units.specs.Plain.{if_then_else_, times}
+use Rattle.units.specs.Plain.{times}
+use Rattle.units.proofs.Lists.{times-append}
 use Rattle.filing.specs.Filing.{sift, flat}
 use Rattle.filing.proofs.Sift.{sift-append}
 
@@ -43,10 +44,6 @@ sift-no p [] h = refl
 sift-no p (x ∷ xs) h = rw (h x (simp (eq-eqb x x refl) (omega arith)), sift-no p xs (λ k m. h k (omega arith)))
 
 -- ---- how often a number stands in lists in a row
-
-pub times-append : (k : ℕ) (a b : List ℕ) → times k (a ++ b) ≡ times k a + times k b
-times-append k [] b = omega arith
-times-append k (j ∷ js) b = omega (arith, times-append k js b)
 
 -- lists that have nothing add nothing
 pub flat-skip : (n m : ℕ) (f : ℕ → List ℕ) → n ≤ m → ((i : ℕ) → n ≤ i → i < m → f i ≡ []) → flat m f ≡ flat n f

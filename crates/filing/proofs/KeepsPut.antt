@@ -2,17 +2,16 @@
 use Prim.Native.Nat.{ℕ, _+_, _%_, _≤_, _<_}
 use native.Mathlib.Omega.{arith}
 use mathlib.Core.Path.{_≡_, refl, sym, ap, subst, _∙_}
-use mathlib.Core.Bool.{Bool, true, false, false≢true}
+use mathlib.Core.Bool.{true, false, false≢true}
 use mathlib.Core.List.{List, [], _∷_, _++_}
 use mathlib.Core.Option.{Option}
-use lib.Dec.{eqb}
 use lib.ListN.{length, set}
-use borrow.Author.Tests.{eqb-true, eqb-false}
+use Rattle.units.proofs.Bools.{not-passed}
+use Rattle.units.proofs.Lists.{same-or}
 use Rattle.rules.specs.State.{Rec, Lane, State, group, startR, holds, laneAt}
 use Rattle.rules.specs.Choice.{least}
 use Rattle.rules.specs.Calls.{woken, accept}
 use Rattle.rules.specs.Sets.{inGroup, groupStart}
-use Rattle.rules.proofs.Bools.{not-passed}
 use Rattle.rules.proofs.Moves.{Sound, MayEnter, woken-holds}
 use Rattle.rules.proofs.GroupRule.{in-group, is-in-group}
 use Rattle.filing.specs.Filing.{slotAt, inList, Lists, Agrees}
@@ -24,13 +23,6 @@ idle-out i l h = not-passed (inGroup i l) (λ e. false≢true (sym h ∙ in-grou
 
 pub other-out : (i : ℕ) (l : Lane) → (i ≡ group (l .given) → ⊥) → inGroup i l ≡ false
 other-out i l ne = not-passed (inGroup i l) (λ e. ne (sym (in-group i l e .1)))
-
-pub same-or : (i g : ℕ) (P : Type 0) → (i ≡ g → P) → ((i ≡ g → ⊥) → P) → P
-same-or i g P f h = go (eqb i g) refl
-  where
-    go : (b : Bool) → eqb i g ≡ b → P
-    go true e = f (eqb-true i g e)
-    go false e = h (eqb-false i g e)
 
 module _ (B : ℕ) (s : State) (lists lists′ : Lists) (starts starts′ : ℕ → Option ℕ) (ag : Agrees B lists starts s) (named : Named s)
     (k : ℕ) (inside : k < length (s .lanes)) (idle : holds (laneAt s k) ≡ false) (r : Rec) (sound : Sound (laneAt s k)) (may : MayEnter (laneAt s k) r) where
@@ -64,7 +56,7 @@ module _ (B : ℕ) (s : State) (lists lists′ : Lists) (starts starts′ : ℕ 
       record {
         filed = insert-filed B s (accept s k r) lists lists′ k put-group (slotAt B put-lane % 32) put-lane (ag .filed) inside (named k ∙ simp idle) put-stands (accepted .0) (accepted .1) ch lo hi (omega arith);
         started = λ i x y.
-            same-or i put-group (starts′ i ≡ groupStart (accept s k r .lanes) i)
+            same-or {P = starts′ i ≡ groupStart (accept s k r .lanes) i} i put-group
             (λ e. subst (λ (i : ℕ). starts′ i ≡ groupStart (accept s k r .lanes) i) (sym e)
             (here ∙ ap (least (startR put-lane)) (ag .started put-group lo hi) ∙ sym (ap (λ (ls : List Lane). groupStart ls put-group) (accepted .0) ∙ start-insert (s .lanes) k put-group put-lane inside (idle-out put-group (laneAt s k) idle) put-in)))
             (λ ne.

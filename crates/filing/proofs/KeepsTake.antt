@@ -10,12 +10,12 @@ use lib.ListN.{length, set, drop, length-set}
 use lib.Seq.{set-set}
 use Rattle.units.specs.Plain.{if_then_else_, without}
 use Rattle.units.proofs.Round.{lt-round-slot, round-div}
+use Rattle.units.proofs.Lists.{set-cases, same-or}
 use Rattle.waiting.proofs.Laws.{first-fits}
-use Rattle.rules.specs.State.{Rec, Lane, State, noLane, charge, rate, group, slot, some?, firstOf, holds, laneAt}
-use Rattle.rules.specs.Calls.{served, behind, serve}
+use Rattle.rules.specs.State.{Rec, Lane, State, noLane, group, slot, some?, firstOf, holds, laneAt}
+use Rattle.rules.specs.Calls.{served, serve}
 use Rattle.rules.specs.Sets.{inGroup, groupStart}
 use Rattle.rules.specs.Good.{Times, Good}
-use Rattle.rules.proofs.Lists.{set-cases}
 use Rattle.rules.proofs.Lane.{charge-slot, slot-pos}
 use Rattle.rules.proofs.Serve.{served-ind}
 use Rattle.rules.proofs.Queues.{held-inside, served-given}
@@ -25,7 +25,7 @@ use Rattle.filing.specs.Filing.{sift, frontOf, Whole, slotAt, inList, Li
 use Rattle.filing.proofs.Moves.{Stands, stands, is-standing, Changed, insert-filed, remove-filed}
 use Rattle.filing.proofs.Slots.{window}
 use Rattle.filing.proofs.Starts.{Named, NextList, next-start, no-start, start-other}
-use Rattle.filing.proofs.KeepsPut.{other-out, same-or}
+use Rattle.filing.proofs.KeepsPut.{other-out}
 
 head-first : (l : List ℕ) (k : ℕ) → frontOf l ≡ some k → l ≡ k ∷ drop 1 l
 head-first [] k e = let z : _≡_ {A = ℕ} 0 1 = cc in absurd (omega arith)
@@ -174,7 +174,7 @@ module _ (B : ℕ) (w : Whole B) (s : State) (good : Good s) (lists : Lists) (st
         record {
           filed = filed;
           started = λ i y z.
-              same-or i g (starts′ i ≡ groupStart (after .lanes) i)
+              same-or {P = starts′ i ≡ groupStart (after .lanes) i} i g
               (λ e. subst (λ (i : ℕ). starts′ i ≡ groupStart (after .lanes) i) (sym e) here)
               (λ ne. others i y z ne ∙ ag .started i y z ∙ sym (after-other i ne));
         }

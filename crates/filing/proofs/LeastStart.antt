@@ -1,13 +1,13 @@
 -- The least R of all lanes is the least start of a group. Assumes nothing.
-use Prim.Native.Nat.{ℕ, _≤_, _<_}
+use Prim.Native.Nat.{ℕ, _≤_}
 use native.Mathlib.Omega.{arith}
 use mathlib.Core.Path.{_≡_, refl, sym, _∙_}
 use mathlib.Core.Bool.{true, false, false≢true}
 use mathlib.Core.Option.{Option, none, some}
+use Rattle.units.proofs.Bools.{not-passed}
 use Rattle.rules.specs.State.{State, group, startR, holds, laneAt}
 use Rattle.rules.specs.Choice.{leastOf}
 use Rattle.rules.specs.Sets.{inGroup, groupStart}
-use Rattle.rules.proofs.Bools.{not-passed}
 use Rattle.rules.proofs.Lowest.{LowOf, LowestOf, lowest}
 use Rattle.rules.proofs.GroupRule.{in-group, is-in-group, group-low}
 use Rattle.filing.specs.Filing.{Starting}

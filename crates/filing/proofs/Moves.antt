@@ -2,17 +2,17 @@
 use Prim.Native.Nat.{ℕ, _+_, _%_, _≤_, _<_}
 use native.Mathlib.Omega.{arith}
 use mathlib.Core.Path.{_≡_, refl, sym, ap, subst, _∙_}
-use mathlib.Core.Bool.{Bool, true, false, _&&_, false≢true}
+use mathlib.Core.Bool.{Bool, true, false, false≢true}
 use mathlib.Core.Logic.{_⊎_, inl, inr, ⊎-elim}
 use mathlib.Core.List.{List, [], _∷_, _++_, append-nil}
 use lib.Dec.{eqb}
-use lib.ListN.{length, getD, set, drop}
+use lib.ListN.{length, getD, set}
 use borrow.Author.Tests.{eqb-true, eq-eqb}
-use Rattle.units.specs.Plain.{if_then_else_, times, without}
+use Rattle.units.specs.Plain.{times, without}
+use Rattle.units.proofs.Bools.{and-parts, and-made, not-passed}
+use Rattle.units.proofs.Lists.{set-cases}
 use Rattle.rules.specs.State.{Lane, State, noLane, group, holds, laneAt}
 use Rattle.rules.specs.Sets.{inGroup}
-use Rattle.rules.proofs.Bools.{and-parts, and-made, not-passed}
-use Rattle.rules.proofs.Lists.{set-cases}
 use Rattle.rules.proofs.GroupRule.{in-group, is-in-group}
 use Rattle.rules.proofs.Ties.{times-same}
 use Rattle.filing.specs.Filing.{sift, slotAt, inList, Lists, Filing}

@@ -1,23 +1,21 @@
 -- Put to a lane that holds records, and a fresh table: the lists and the starts stay, or are empty. Assumes nothing.
-use Prim.Native.Nat.{ℕ, _+_, _%_, _≤_, _<_}
-use native.Mathlib.Omega.{arith}
+use Prim.Native.Nat.{ℕ, _%_, _≤_, _<_}
 use mathlib.Core.Path.{_≡_, refl, sym, ap, subst, _∙_}
 use mathlib.Core.Bool.{Bool, true, false, _&&_, false≢true}
-use mathlib.Core.List.{List, [], _∷_, _++_, map}
+use mathlib.Core.List.{List, [], map}
 use mathlib.Core.Option.{Option, none, some}
 use lib.Dec.{eqb}
 use lib.ListN.{length, getD, set}
-use Rattle.units.specs.Plain.{if_then_else_, times}
+use Rattle.units.proofs.Bools.{not-passed}
+use Rattle.units.proofs.Lists.{set-cases}
 use Rattle.rules.specs.State.{Rec, Setting, Lane, State, noLane, group, startR, holds, laneAt}
 use Rattle.rules.specs.Calls.{appended, accept, idle, fresh}
 use Rattle.rules.specs.Sets.{inGroup, groupStart}
-use Rattle.rules.proofs.Bools.{not-passed}
-use Rattle.rules.proofs.Lists.{set-cases}
-use Rattle.rules.proofs.Lowest.{LowOf, LowestOf}
+use Rattle.rules.proofs.Lowest.{LowOf}
 use Rattle.rules.proofs.Moves.{Sound, MayEnter, appended-holds}
 use Rattle.rules.proofs.Bounds.{fresh-free}
 use Rattle.rules.proofs.GroupRule.{in-group, group-low}
-use Rattle.filing.specs.Filing.{sift, slotAt, inList, Lists, Filing, Agrees}
+use Rattle.filing.specs.Filing.{sift, slotAt, inList, Lists, Agrees}
 use Rattle.filing.proofs.Sift.{sift-ext}
 use Rattle.filing.proofs.Slots.{low-unique}
 

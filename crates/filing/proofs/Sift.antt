@@ -3,13 +3,14 @@ use Prim.Native.Nat.{ℕ, suc, _+_, _≤_, _<_}
 use native.Mathlib.Omega.{arith}
 use mathlib.Core.Path.{_≡_, refl, sym, ap, _∙_}
 use mathlib.Core.Bool.{Bool, true, false, false≢true}
-use mathlib.Core.Option.{Option, none, some}
+use mathlib.Core.Option.{some}
 use mathlib.Core.List.{List, [], _∷_, _++_}
 use lib.Dec.{ltb, eqb, leb·suc-suc}
 use lib.ListN.{length}
-use borrow.Author.Tests.{eqb-true, eqb-false, eq-eqb, ne-eqb, lt-ltb, le-ltb}
+use borrow.Author.Tests.{eqb-true, eq-eqb, ne-eqb}
 use Rattle.units.specs.Plain.{if_then_else_, place, times, without}
 use Rattle.rules.specs.BySets.{firstIn}
+use Rattle.alike.proofs.Places.{place-cons}
 use Rattle.filing.specs.Filing.{sift, frontOf}
 
 pub sift-append : (p : ℕ → Bool) (xs ys : List ℕ) → sift p (xs ++ ys) ≡ sift p xs ++ sift p ys
@@ -96,16 +97,9 @@ place-sift p j k (x ∷ xs) a b = go (p x) refl (place-sift p j k xs a b)
     ys : List ℕ
     ys = sift p xs
 
-    both : (c d : Bool) → ltb (place j ys) (place k ys) ≡ ltb (place j xs) (place k xs)
-        → ltb (if c then 0 else suc (place j ys)) (if d then 0 else suc (place k ys)) ≡ ltb (if c then 0 else suc (place j xs)) (if d then 0 else suc (place k xs))
-    both true true r = refl
-    both true false r = lt-ltb 0 (suc (place k ys)) (omega arith) ∙ sym (lt-ltb 0 (suc (place k xs)) (omega arith))
-    both false true r = le-ltb (suc (place j ys)) 0 (omega arith) ∙ sym (le-ltb (suc (place j xs)) 0 (omega arith))
-    both false false r = leb·suc-suc (suc (place j ys)) (place k ys) ∙ r ∙ sym (leb·suc-suc (suc (place j xs)) (place k xs))
-
     go : (c : Bool) → p x ≡ c → ltb (place j ys) (place k ys) ≡ ltb (place j xs) (place k xs)
         → ltb (place j (if c then x ∷ ys else ys)) (place k (if c then x ∷ ys else ys)) ≡ ltb (place j (x ∷ xs)) (place k (x ∷ xs))
-    go true e r = both (eqb j x) (eqb k x) r
+    go true e r = place-cons (eqb j x) (eqb k x) (place j ys) (place k ys) (place j xs) (place k xs) r
     go false e r =
         let nj : j ≡ x → ⊥ = λ q. false≢true (sym e ∙ ap p (sym q) ∙ a) in
         let nk : k ≡ x → ⊥ = λ q. false≢true (sym e ∙ ap p (sym q) ∙ b) in

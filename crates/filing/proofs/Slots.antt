@@ -18,11 +18,11 @@ use Rattle.rules.specs.Setup.{InNumbers, Setup, margin}
 use Rattle.rules.specs.Good.{Times, Good}
 use Rattle.rules.specs.Sets.{inGroup, groupStart}
 use Rattle.rules.proofs.Lane.{group-least}
-use Rattle.rules.proofs.Bounds.{first-is}
 use Rattle.rules.proofs.Figures.{framing-at, group-at}
 use Rattle.rules.proofs.Lowest.{LowOf}
 use Rattle.rules.proofs.GroupRule.{in-group, group-low}
 use Rattle.rules.proofs.SameSetup.{setting-lane}
+use Rattle.rules.proofs.Moves.{busy-first}
 use Rattle.filing.specs.Filing.{Whole, slotAt, Window}
 
 pub low-unique : (p : Lane → Bool) (ls : List Lane) (o o′ : Option ℕ) → LowOf p ls o → LowOf p ls o′ → o ≡ o′
@@ -63,7 +63,7 @@ no-less g a b h = elim (decLe a b) [ yes q ↦ q | no q ↦ absurd (omega (arith
 module _ (s : State) (setup : Setup (setupOf s)) (waiting : (k : ℕ) → GoodWaiting (laneAt s k .given .longest) (laneAt s k .waiting)) where
   pub numbers-in : (k : ℕ) → holds (laneAt s k) ≡ true → InNumbers (laneAt s k .given)
   numbers-in k h =
-      let f = first-is (firstOf (laneAt s k)) h in
+      let f = busy-first (firstOf (laneAt s k)) h in
       let fits = first-fits (laneAt s k .given .longest) (laneAt s k .waiting) (f .0) (waiting k) (f .1) in
       ⊎-elim
       (λ n. subst InNumbers (setting-lane s k) n)
@@ -79,7 +79,7 @@ module _ (s : State) (good : Good s) where
   -- a holding lane's times
   pub times-held : (k : ℕ) → holds (laneAt s k) ≡ true → (laneAt s k .start < s .clock + 2 * slot (laneAt s k .given)) × (s .clock < startR (laneAt s k) + 2 * slot (laneAt s k .given) + margin (laneAt s k .given .framing))
   times-held k h =
-      let f = first-is (firstOf (laneAt s k)) h in
+      let f = busy-first (firstOf (laneAt s k)) h in
       let t : Times (s .clock) (laneAt s k) (some (f .0)) = subst (Times (s .clock) (laneAt s k)) (f .1) (good .numbers k) in
       (t .1, t .2)
 

@@ -1,24 +1,24 @@
 -- The groups' starts: after a list was emptied the next one that has lanes, in circular order; after a lane was put the earlier of two. Assumes nothing.
-use Prim.Native.Nat.{ℕ, suc, _+_, _-_, _*_, _/_, _%_, _^_, _≤_, _<_}
+use Prim.Native.Nat.{ℕ, _+_, _-_, _*_, _%_, _^_, _≤_, _<_}
 use native.Mathlib.Nat.{mul-le-mul-right}
 use native.Mathlib.Omega.{arith}
-use native.Mathlib.Decide.{decLe, decLt}
+use native.Mathlib.Decide.{decLe}
 use mathlib.Core.Path.{_≡_, refl, sym, ap, subst, _∙_}
-use mathlib.Core.Bool.{Bool, true, false, _&&_, false≢true}
-use mathlib.Core.List.{List, [], _∷_, _++_}
+use mathlib.Core.Bool.{Bool, true, false, false≢true}
+use mathlib.Core.List.{List, [], _∷_}
 use mathlib.Core.Option.{Option, none, some}
-use lib.Dec.{eqb, leb}
+use lib.Dec.{leb}
 use lib.ListN.{length, getD, set}
 use borrow.Author.Tests.{leb-true, leb-false}
 use Rattle.units.specs.Plain.{if_then_else_, times}
+use Rattle.units.proofs.Bools.{if-ind, not-passed}
+use Rattle.units.proofs.Lists.{set-cases}
 use Rattle.rules.specs.State.{Lane, State, noLane, group, startR, holds, laneAt}
-use Rattle.rules.specs.Choice.{least, leastOf}
+use Rattle.rules.specs.Choice.{least}
 use Rattle.rules.specs.Sets.{inGroup, groupStart}
-use Rattle.rules.proofs.Bools.{if-ind, not-passed}
-use Rattle.rules.proofs.Lists.{set-cases}
-use Rattle.rules.proofs.Lowest.{LowOf, LowestOf, lowest}
+use Rattle.rules.proofs.Lowest.{LowOf, LowestOf}
 use Rattle.rules.proofs.GroupRule.{in-group, is-in-group, group-low}
-use Rattle.filing.specs.Filing.{sift, Whole, slotAt, inList, Lists, Filing, Starting, Window}
+use Rattle.filing.specs.Filing.{sift, Whole, slotAt, inList, Lists, Filing, Window}
 use Rattle.filing.proofs.Sift.{times-sift}
 use Rattle.filing.proofs.Moves.{Stands, stands, is-standing}
 use Rattle.filing.proofs.Slots.{low-unique, start-slot}

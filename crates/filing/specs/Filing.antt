@@ -22,7 +22,7 @@ use mathlib.Core.List.{List, [], _∷_, _++_}
 use mathlib.Core.Option.{Option, none, some}
 use lib.Dec.{eqb}
 use Rattle.units.specs.Plain.{if_then_else_}
-use Rattle.rules.specs.State.{Lane, State, group, slot, holds, laneAt}
+use Rattle.rules.specs.State.{Lane, State, slot, laneAt}
 use Rattle.rules.specs.Sets.{inGroup, groupStart}
 pub use Rattle.parts.specs.Parts.{slotLists}
 use Rattle.parts.specs.Parts.{lowestGroup, highestGroup, groupCount}

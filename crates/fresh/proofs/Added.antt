@@ -13,7 +13,7 @@ use Rattle.words.specs.Bits.{bit}
 use Rattle.words.specs.Runs.{tab}
 use Rattle.words.proofs.Bits.{bit-above, bit-add-same, bit-add-other}
 use Rattle.words.proofs.Runs.{tab-ext, tab-set, eq-or-ne}
-use Rattle.waiting.specs.Waiting.{nothing}
+use Rattle.waiting.specs.Waiting.{noneWaiting}
 use Rattle.rules.specs.State.{Setting, Lane, laneAt, laneDepth, noSetting}
 use Rattle.rules.specs.Calls.{idle, fresh}
 use Rattle.slot_lists.specs.Lists.{listAt}
@@ -128,7 +128,7 @@ module _ (w : List ℕ) (k word : ℕ) (g : Setting) (len : length w ≡ CELLS) 
 
   lane-here : laneOf added k ≡ idle g
   lane-here =
-      let none : waitingOf added k (rowAt added k) ≡ nothing (g .shared) = waiting-none added k (rowAt added k) idle-here ∙ ap nothing (ap (λ (x : Setting). x .shared) given-here) in
+      let none : waitingOf added k (rowAt added k) ≡ noneWaiting (g .shared) = waiting-none added k (rowAt added k) idle-here ∙ ap noneWaiting (ap (λ (x : Setting). x .shared) given-here) in
       let time : rowAt added k .time .0 ≡ 0 = ap (λ (l : LaneRow). l .time .0) row-here in
       lane-present added k here ∙ rw (none, time, given-here) (sym (timed-idle g))
 

@@ -3,20 +3,19 @@ use mathlib.Core.Path.{_≡_, refl, sym, ap, subst, _∙_}
 use Prim.Native.Nat.{ℕ, _+_, _*_, _%_, _^_, _<_}
 use mathlib.Core.List.{List}
 use native.Mathlib.Omega.{arith}
-use lib.ListN.{length, getD, set}
+use lib.ListN.{getD, set}
 use lib.Seq.{getD-set-other}
 use Rattle.words.specs.Bits.{bit}
 use Rattle.words.proofs.Bits.{shift-one}
-use Rattle.words.proofs.Runs.{length-tab}
 use Rattle.rules.specs.State.{Setting, Lane, State, laneAt, noLane}
 use Rattle.rules.specs.Calls.{idle}
 use Rattle.slot_lists.specs.Lists.{listAt}
 use Rattle.filing.specs.Filing.{inARow}
 use Rattle.table.specs.Layout.{Now, cells, presentWord, framingWord, laneWord, rowAt, putRow}
-use Rattle.table.specs.Means.{Next, givenOf, timedByWord, laneOf, stateOf, meant, Sound, Leaves, withLane}
+use Rattle.table.specs.Means.{Next, givenOf, timedByWord, meant, Sound, Leaves, withLane}
 use Rattle.table.specs.declared.LaneRow.{LaneRow}
 use Rattle.table.proofs.Stores.{length-cells, now-then, behind-refl}
-use Rattle.table.proofs.Footprint.{lane-is}
+use Rattle.table.proofs.Footprint.{lane-is, lanes-many}
 use Rattle.table.proofs.Leave.{meant-now, leave-lane, leaves-then}
 use Rattle.table.proofs.Next.{bit-present, bit-absent}
 use Rattle.table.proofs.Untouched.{outside-row}
@@ -77,14 +76,15 @@ rest-leaves t t′ k l e hk weight n =
 
 -- ---- the lanes that the word of present lanes names
 
-pub lanes-size : (t : List ℕ) → length (meant t .lanes) ≡ 64
-unfolding stateOf
-lanes-size t = length-tab 64 (laneOf (cells t))
-
-pub named-weight : (t : List ℕ) (k : ℕ) → Sound t → k < 64 → bit k (getD (cells t) presentWord 0) ≡ 1 → 0 < laneAt (meant t) k .given .weight
+named-weight : (t : List ℕ) (k : ℕ) → Sound t → k < 64 → bit k (getD (cells t) presentWord 0) ≡ 1 → 0 < laneAt (meant t) k .given .weight
 named-weight t k s hk b =
     let p = bit-present (cells t) k b in
     omega (arith, s .beside .rows k hk p .numbers .weight-low, ap (λ (g : Setting). g .weight) (given-row (cells t) k p), ap (λ (l : Lane). l .given .weight) (lane-is (cells t) (inARow (listAt t)) k hk))
+
+-- and it has one still where a loop over the named lanes, from t₀ on, did not get to it
+pub still-weight : (t₀ t : List ℕ) (lanes : ℕ) → lanes ≡ getD (cells t₀) presentWord 0 → Sound t₀ → (k : ℕ) → k < 64 → laneAt (meant t) k ≡ laneAt (meant t₀) k → bit k lanes ≡ 1
+    → 0 < laneAt (meant t) k .given .weight
+still-weight t₀ t lanes word s k hk same b = subst (λ (x : Lane). 0 < x .given .weight) (sym same) (named-weight t₀ k s hk (subst (λ (m : ℕ). bit k m ≡ 1) word b))
 
 pub unnamed-lane : (t : List ℕ) (k : ℕ) → k < 64 → bit k (getD (cells t) presentWord 0) ≡ 0 → laneAt (meant t) k ≡ noLane
 unnamed-lane t k hk b = lane-is (cells t) (inARow (listAt t)) k hk ∙ lane-absent (cells t) k (bit-absent (cells t) k b)
@@ -94,17 +94,16 @@ unnamed-lane t k hk b = lane-is (cells t) (inARow (listAt t)) k hk ∙ lane-abse
 module _ (t₀ : List ℕ) (lanes : ℕ) (word : lanes ≡ getD (cells t₀) presentWord 0) where
   passed : (n k : ℕ) → Next lanes n k → restedTo n (meant t₀) ≡ restedTo k (meant t₀)
   passed n k x =
-      rested-next (meant t₀) (lanes-size t₀) n k (x .on) (x .ends) (λ i p q. unnamed-lane t₀ i (omega (arith, x .ends)) (subst (λ (m : ℕ). bit i m ≡ 0) word (x .absent i p q)))
+      rested-next (meant t₀) (lanes-many t₀) n k (x .on) (x .ends) (λ i p q. unnamed-lane t₀ i (omega (arith, x .ends)) (subst (λ (m : ℕ). bit i m ≡ 0) word (x .absent i p q)))
 
   pub rest-none : (k : ℕ) → Next lanes 0 k → Leaves t₀ t₀ (restedTo k (meant t₀))
-  rest-none k x = record { state = sym (rested-none (meant t₀) (lanes-size t₀)) ∙ passed 0 k x; beside = λ b. b; rest = behind-refl }
+  rest-none k x = record { state = sym (rested-none (meant t₀) (lanes-many t₀)) ∙ passed 0 k x; beside = λ b. b; rest = behind-refl }
 
   module _ (t : List ℕ) (k : ℕ) (hk : k < 64) (l : Leaves t₀ t (restedTo k (meant t₀))) where
-    pub rest-weight : Sound t₀ → bit k lanes ≡ 1 → 0 < laneAt (meant t) k .given .weight
-    rest-weight s b =
-        subst (λ (x : Lane). 0 < x .given .weight) (sym (ap (λ (u : State). laneAt u k) (l .state) ∙ rested-at (meant t₀) (lanes-size t₀) k hk)) (named-weight t₀ k s hk (subst (λ (m : ℕ). bit k m ≡ 1) word b))
+    pub rest-same : laneAt (meant t) k ≡ laneAt (meant t₀) k
+    rest-same = ap (λ (u : State). laneAt u k) (l .state) ∙ rested-at (meant t₀) (lanes-many t₀) k hk
 
     pub rest-more : (t′ : List ℕ) (k′ : ℕ) → Leaves t t′ (withLane (meant t) k (idle (laneAt (meant t) k .given))) → Next lanes (k + 1) k′ → Leaves t₀ t′ (restedTo k′ (meant t₀))
     rest-more t′ k′ r x =
-        let step : withLane (meant t) k (idle (laneAt (meant t) k .given)) ≡ restedTo k′ (meant t₀) = ap (λ (u : State). withLane u k (idle (laneAt u k .given))) (l .state) ∙ ap (λ (y : Lane). withLane (restedTo k (meant t₀)) k (idle (y .given))) (rested-at (meant t₀) (lanes-size t₀) k hk) ∙ rested-more (meant t₀) (lanes-size t₀) k hk ∙ passed (k + 1) k′ x in
+        let step : withLane (meant t) k (idle (laneAt (meant t) k .given)) ≡ restedTo k′ (meant t₀) = ap (λ (u : State). withLane u k (idle (laneAt u k .given))) (l .state) ∙ ap (λ (y : Lane). withLane (restedTo k (meant t₀)) k (idle (y .given))) (rested-at (meant t₀) (lanes-many t₀) k hk) ∙ rested-more (meant t₀) (lanes-many t₀) k hk ∙ passed (k + 1) k′ x in
         leaves-then l (record { state = r .state ∙ step; beside = r .beside; rest = r .rest })

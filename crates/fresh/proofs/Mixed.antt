@@ -2,7 +2,7 @@
 use mathlib.Core.Path.{_≡_, refl, sym, ap, _∙_}
 use mathlib.Core.Logic.{⊎-elim}
 use Prim.Native.Nat.{ℕ, zero, suc, _+_, _-_, _≤_, _<_}
-use mathlib.Core.List.{List, [], _∷_, map}
+use mathlib.Core.List.{List, _∷_, map}
 use native.Mathlib.Omega.{arith}
 use borrow.Author.Tests.{lt-ltb, le-ltb}
 use lib.Dec.{ltb}
@@ -63,11 +63,6 @@ module _ {A : Type 0} where
       ext-getD d (tab 64 (λ i. getD xs i d)) xs (length-tab 64 _ ∙ sym e) (λ i h. getD-tab 64 i (λ i. getD xs i d) d (omega (arith, length-tab 64 (λ i. getD xs i d))))
 
 module _ {A B : Type 0} (h : A → B) where
-  pub map-set : (xs : List A) (k : ℕ) (y : A) → map h (set xs k y) ≡ set (map h xs) k (h y)
-  map-set [] k y = refl
-  map-set (x ∷ xs) zero y = refl
-  map-set (x ∷ xs) (suc k) y = ap (λ (l : List B). h x ∷ l) (map-set xs k y)
-
   map-tabFrom : (n a : ℕ) (f : ℕ → A) → map h (tabFrom a n f) ≡ tabFrom a n (λ i. h (f i))
   unfolding tabFrom
   map-tabFrom zero a f = refl

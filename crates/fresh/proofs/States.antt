@@ -8,9 +8,10 @@ use native.Mathlib.Omega.{arith}
 use lib.ListN.{length, set, List·getD-map}
 use Rattle.rules.specs.State.{Setting, Lane, State, noSetting, noLane, settingAt, laneAt, setupOf}
 use Rattle.rules.specs.Calls.{idle, fresh}
+use Rattle.plan.proofs.Lists.{map-set}
 use Rattle.table.specs.Means.{withLane}
 use Rattle.fresh.specs.Makes.{upTo, restedTo}
-use Rattle.fresh.proofs.Mixed.{mixed-none, mixed-all, mixed-at, mixed-more, mixed-skip, tab-getD, map-set, map-tab}
+use Rattle.fresh.proofs.Mixed.{mixed-none, mixed-all, mixed-at, mixed-more, mixed-skip, tab-getD, map-tab}
 
 -- ---- lanes added one by one
 

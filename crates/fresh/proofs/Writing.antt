@@ -2,7 +2,7 @@
 use mathlib.Core.Path.{_≡_, refl, sym, ap, subst, _∙_}
 use mathlib.Core.Logic.{_⊎_, ⊎-elim}
 use mathlib.Core.Bool.{false}
-use Prim.Native.Nat.{ℕ, zero, suc, _+_, _≤_, _<_}
+use Prim.Native.Nat.{ℕ, _+_, _≤_, _<_}
 use mathlib.Core.List.{List, []}
 use native.Mathlib.Decide.{decLt}
 use native.Mathlib.Nat.{pos-of-ne-zero}
@@ -20,12 +20,12 @@ use Rattle.table.specs.Means.{stateOf, meant, RowsFit, Sound, Leaves, withLane,
 use Rattle.table.proofs.Stores.{length-cells}
 use Rattle.table.proofs.Leave.{leaves-then}
 use Rattle.table.proofs.Lists.{cells-around, empty-stays, past-rings, row-empty}
+use Rattle.table.proofs.Footprint.{lanes-many}
 use Rattle.fresh.specs.Makes.{Makes, laneSettings, FramedBy, upTo, restedTo}
 use Rattle.plan.specs.Read.{settingOf}
 use Rattle.plan.specs.declared.Lane as plan
 use Rattle.fresh.proofs.States.{up-none, up-more, up-skip, up-at, up-all, rested-all}
 use Rattle.fresh.proofs.Added.{begun, begun-state, begun-beside, begun-framing}
-use Rattle.fresh.proofs.Leaves.{lanes-size}
 
 -- ---- write
 
@@ -140,7 +140,7 @@ unfolding fresh
 renew-makes t t₁ t₂ t′ s a b e =
     let c = leaves-then a b in
     record {
-      state = emptied-state t₂ t′ e ∙ no-order t₂ ∙ ap withNoOrder (b .state ∙ ap (λ (s : State). withClock s 0) (a .state)) ∙ rw (rested-all (meant t) (lanes-size t));
+      state = emptied-state t₂ t′ e ∙ no-order t₂ ∙ ap withNoOrder (b .state ∙ ap (λ (s : State). withClock s 0) (a .state)) ∙ rw (rested-all (meant t) (lanes-many t));
       beside = subst RowsFit (sym (cells-around t₂ t′ (e .below) (e .rest))) (c .beside (s .beside));
       empty = e .empty;
       rest = past-rings t₂ t′ (e .rest) ∙ c .rest .past;

@@ -2,16 +2,15 @@
 use mathlib.Core.Path.{_≡_, refl, sym, ap, subst, _∙_}
 use mathlib.Core.Logic.{_⊎_, inl, inr}
 use mathlib.Core.Bool.{true, false, false≢true}
-use Prim.Native.Nat.{ℕ, zero, suc, _≤_, _<_}
+use Prim.Native.Nat.{ℕ, _≤_, _<_}
 use mathlib.Core.List.{List}
 use mathlib.Core.Option.{Option, none, some}
 use native.Mathlib.Omega.{arith}
 use native.Mathlib.Decide.{decLt}
-use lib.Pow.{pow-pos}
 use lib.ListN.{getD}
 use Rattle.words.specs.Bits.{bit}
-use Rattle.words.proofs.Bits.{bit-above}
 use Rattle.units.specs.Plain.{if_then_else_, anyBelow}
+use Rattle.units.proofs.Lists.{any-at}
 use Rattle.waiting.specs.Waiting.{GoodWaiting, first, held, isShared}
 use Rattle.waiting.proofs.Laws.{good-nothing, held-hand}
 use Rattle.waiting.proofs.Sharing.{shared-nothing}
@@ -21,10 +20,11 @@ use Rattle.rules.specs.Good.{Times}
 use Rattle.rules.proofs.Lane.{slot-pos}
 use Rattle.rules.proofs.Figures.{framing-bound, framed-by}
 use Rattle.rules.proofs.SameSetup.{setting-lane}
+use Rattle.slot_lists.proofs.Laws.{some-bit}
 use Rattle.table.specs.Layout.{cells, framingWord}
 use Rattle.table.specs.Means.{presentAt}
 use Rattle.table.proofs.Timed.{timed-start}
-use Rattle.lists_test.specs.Stored.{Stored}
+use Rattle.lists_test.specs.Stored.{ListsStored}
 use Rattle.lists_test.proofs.InARow.{RowSays}
 use Rattle.lists_test.proofs.Meaning.{stored-solid, stored-named, stored-agrees}
 use Rattle.lists_test.proofs.Exact.{agrees-stored}
@@ -32,12 +32,8 @@ use Rattle.lane_test.specs.Says.{LaneFine}
 use Rattle.good.specs.Pass.{FoundSays, holdsAt, eligibleAt}
 use Rattle.good.specs.declared.Found.{Found}
 use Rattle.good.proofs.Kept.{Kept, given-kept, waiting-kept}
-use Rattle.good.proofs.Sums.{any-some, any-at, word-some}
+use Rattle.good.proofs.Sums.{any-some, word-some}
 use Rattle.good.proofs.Told.{Told, Means, one, lane-of, far-lane, each-lane, by-holds, weights-are, setup-size, held-bit}
-
-some-bit : (k x : ℕ) → bit k x ≡ 1 → 0 < x
-some-bit k zero e = absurd (omega (arith, bit-above k 0 (pow-pos k)))
-some-bit k (suc x) e = omega arith
 
 -- ---- from the test to a good state
 
@@ -74,7 +70,7 @@ module _ {t : List ℕ} {x : Kept (cells t)} {s : State} (m : Means t x s) where
           | no b ↦ absurd (false≢true (sym (ap holds (far-lane m k (omega arith))) ∙ h))
         ]
 
-    module _ (end : v < clockEdge) (framed : getD (cells t) framingWord 0 ≤ 64) (some : 0 < f .weights) (total : f .weights ≤ 1024) (live : 0 < f .held → f .eligible ≡ true) (stored : Stored t (f .held)) where
+    module _ (end : v < clockEdge) (framed : getD (cells t) framingWord 0 ≤ 64) (some : 0 < f .weights) (total : f .weights ≤ 1024) (live : 0 < f .held → f .eligible ≡ true) (stored : ListsStored t (f .held)) where
       in-setup : (k : ℕ) → k < 64 → presentAt (cells t) k ≡ true → InNumbers (x .lane k .given) ⊎ (x .lane k .given ≡ noSetting)
       in-setup k h p = inl (subst InNumbers (sym (given-kept (cells t) x k p)) (lane-fine k h p .agrees .numbers))
 
@@ -148,7 +144,7 @@ module _ {t : List ℕ} {x : Kept (cells t)} {s : State} (m : Means t x s) where
           let z = g .good .live (y .0) (ap holds (lane-of m (y .0) (y .1)) ∙ y .2) in
           found .eligible ∙ eligible-below (z .0) (subst (λ (v : ℕ). eligible v (laneAt s (z .0)) ≡ true) (sym clock) (z .1))
 
-      pub told-found : (0 < f .weights) × (f .weights ≤ 1024) × (0 < f .held → f .eligible ≡ true) × Stored t (f .held)
+      pub told-found : (0 < f .weights) × (f .weights ≤ 1024) × (0 < f .held → f .eligible ≡ true) × ListsStored t (f .held)
       told-found = (
         omega (arith, weight-sum, g .good .setup .some-lane),
         omega (arith, weight-sum, g .good .setup .total),

@@ -1,12 +1,12 @@
 -- The walk over the word of present lanes by clearing its lowest set bit. Assumes nothing.
 use mathlib.Core.Path.{_≡_, refl, sym, ap, _∙_}
 use mathlib.Core.Logic.{⊎-elim}
-use Prim.Native.Nat.{ℕ, zero, suc, _+_, _-_, _*_, _/_, _%_, _^_, _≤_, _<_, min}
-use native.Mathlib.Nat.{pow-suc, eq-zero-or-pos}
+use Prim.Native.Nat.{ℕ, _+_, _-_, _^_, _≤_, _<_}
 use native.Mathlib.Omega.{arith}
 use native.Mathlib.Decide.{decLt}
 use lib.Bits.{bitAnd, and-le-l}
 use lib.Count.{trailingZeros}
+use lib.Pow.{pow-pos}
 use Rattle.words.specs.Bits.{bit}
 use Rattle.words.proofs.Bits.{bit-above, low-set, low-below}
 use Rattle.words.proofs.Cleared.{cleared}
@@ -29,13 +29,9 @@ module _ (lanes rest n : ℕ) (r : Rest lanes rest n) where
   rest-none e = record {
     on = r .ends;
     ends = omega arith;
-    absent = λ i p q. sym (r .from i p) ∙ ap (bit i) e ∙ bit-above i 0 (omega (arith, pow-one i));
+    absent = λ i p q. sym (r .from i p) ∙ ap (bit i) e ∙ bit-above i 0 (pow-pos i);
     present = λ q. absurd (omega arith);
   }
-    where
-      pow-one : (i : ℕ) → 0 < 2 ^ i
-      pow-one zero = omega arith
-      pow-one (suc i) = omega (arith, pow-one i, pow-suc 2 i)
 
   module _ (some : 0 < rest) where
     abbrev k : ℕ

@@ -1,14 +1,14 @@
 -- Laws of what the pass adds up: the weights, whether a lane passes a test, whether a word names one. Assumes nothing.
 use mathlib.Core.Path.{_≡_, refl, ap, _∙_}
-use mathlib.Core.Logic.{⊎-elim}
-use mathlib.Core.Bool.{Bool, true, false, _||_, or-true, false≢true}
+use mathlib.Core.Bool.{Bool, true, false, _||_, false≢true}
 use Prim.Native.Nat.{ℕ, zero, suc, _+_, _^_, _<_}
-use mathlib.Core.List.{List, [], _∷_, _++_, map}
+use mathlib.Core.List.{List, [], _∷_, map}
 use native.Mathlib.Numerals.{add-one}
 use native.Mathlib.Omega.{arith}
 use Rattle.words.specs.Runs.{tab, tabFrom}
-use Rattle.words.proofs.Runs.{tab-snoc, eq-or-ne}
+use Rattle.words.proofs.Runs.{tab-snoc}
 use Rattle.units.specs.Plain.{if_then_else_, sum, anyBelow, wordOf}
+use Rattle.units.proofs.Lists.{sum-append}
 use Rattle.good.specs.Pass.{sumTo}
 
 module _ {A B : Type 0} where
@@ -17,10 +17,6 @@ module _ {A B : Type 0} where
   sum-map f g (x ∷ xs) = omega (arith, sum-map f g xs)
 
 module _ {A : Type 0} where
-  sum-append : (f : A → ℕ) (xs ys : List A) → sum f (xs ++ ys) ≡ sum f xs + sum f ys
-  sum-append f [] ys = omega arith
-  sum-append f (x ∷ xs) ys = omega (arith, sum-append f xs ys)
-
   pub sum-tab : (f : A → ℕ) (n : ℕ) (g : ℕ → A) → sum f (tab n g) ≡ sumTo n (λ k. f (g k))
   unfolding sumTo tab tabFrom
   sum-tab f zero g = refl
@@ -38,15 +34,6 @@ any-some p (suc n) h = go (p n) refl h (any-some p n)
     go : (b : Bool) → p n ≡ b → (b || anyBelow p n) ≡ true → (anyBelow p n ≡ true → (k : ℕ) × (k < n) × (p k ≡ true)) → (k : ℕ) × (k < suc n) × (p k ≡ true)
     go true e h r = (n, omega arith, e)
     go false e h r = let x = r h in (x .0, omega (arith, x .1), x .2)
-
-pub any-at : (p : ℕ → Bool) (n k : ℕ) → k < n → p k ≡ true → anyBelow p n ≡ true
-unfolding anyBelow
-any-at p zero k h e = absurd (omega arith)
-any-at p (suc n) k h e =
-    ⊎-elim
-    (λ (q : n ≡ k). rw (q, e))
-    (λ (ne : n ≡ k → ⊥). rw (any-at p n k (omega arith) e) (or-true (p n)))
-    (eq-or-ne n k)
 
 pub word-some : (p : ℕ → Bool) (n : ℕ) → 0 < wordOf p n → (k : ℕ) × (k < n) × (p k ≡ true)
 unfolding wordOf

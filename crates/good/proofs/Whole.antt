@@ -10,7 +10,7 @@ use Rattle.table.specs.Layout.{Room, cells, depthWord, framingWord, rowAt}
 use Rattle.table.specs.Means.{presentAt, laneOf, stateOf, meant}
 use Rattle.table.proofs.Rows.{count-row}
 use Rattle.table.proofs.Footprint.{lane-is}
-use Rattle.lists_test.specs.Stored.{Stored}
+use Rattle.lists_test.specs.Stored.{ListsStored}
 use Rattle.lane_test.specs.Says.{Says, LaneFine, LaneGood}
 use Rattle.good.specs.Pass.{FoundSays}
 use Rattle.good.specs.Table.{GoodTable}
@@ -29,7 +29,7 @@ module _ (t : List ℕ) where
 
   module _ (v : ℕ) (f : Found) (clock : v ≡ meant t .clock) (s : FoundSays v (cells t) (laneOf (cells t)) (LaneGood v (cells t)) 64 f) where
     pub whole-good : Room t → v < clockEdge → getD (cells t) depthWord 0 ≡ laneDepth → getD (cells t) framingWord 0 ≤ 64
-        → (0 < f .weights) × (f .weights ≤ 1024) × (0 < f .held → f .eligible ≡ true) × Stored t (f .held) → GoodTable t
+        → (0 < f .weights) × (f .weights ≤ 1024) × (0 < f .held → f .eligible ≡ true) × ListsStored t (f .held) → GoodTable t
     whole-good room end deep framed q =
         let x = found-told means (LaneGood v (cells t)) v clock (λ k g. g .fine) f s end framed (q .0) (q .1) (q .2) (q .3) in
         record {
@@ -39,7 +39,7 @@ module _ (t : List ℕ) where
           listed = record { solid = x .solid; agrees = x .agrees };
         }
 
-    pub good-found : GoodTable t → (0 < f .weights) × (f .weights ≤ 1024) × (0 < f .held → f .eligible ≡ true) × Stored t (f .held)
+    pub good-found : GoodTable t → (0 < f .weights) × (f .weights ≤ 1024) × (0 < f .held → f .eligible ≡ true) × ListsStored t (f .held)
     good-found g = told-found means (LaneGood v (cells t)) v clock (λ k g. g .fine) f s (told g)
 
   -- a good table's lanes are good

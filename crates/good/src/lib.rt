@@ -12,7 +12,7 @@ ghost use Rattle.table.specs.Layout.{Room, cells, framingWord};
 ghost use Rattle.table.specs.Means.{laneOf};
 ghost use Rattle.rings.specs.Rings.{Long};
 ghost use Rattle.lane_test.specs.Says.{Says, LaneGood};
-ghost use Rattle.lists_test.specs.Stored.{Stored};
+ghost use Rattle.lists_test.specs.Stored.{ListsStored};
 ghost use Rattle.good.specs.Pass.{Noted, PassSays};
 ghost use Rattle.good.specs.Table.{GoodTable};
 use lane_test::lane_good;
@@ -116,7 +116,7 @@ fn live_good(f: Found) -> bool
 // Whether what the pass found makes a good table: a setup (R6.3), an eligible lane where one is due (R6.8), and slot lists of the lanes that hold records.
 pub fn found_good(t: &[u8], f: Found) -> bool
     requires { ⌜ Long (now t) ⌝ }
-    ensures { λ r. ⌜ Says r ((0 < f .weights) × (f .weights ≤ 1024) × (0 < f .held → f .eligible ≡ true) × Stored (now (t .entry)) (f .held)) ⌝ }
+    ensures { λ r. ⌜ Says r ((0 < f .weights) × (f .weights ≤ 1024) × (0 < f .held → f .eligible ≡ true) × ListsStored (now (t .entry)) (f .held)) ⌝ }
 {
     if f.weights < 1 {
         return false;

@@ -1,26 +1,23 @@
 -- Laws of the pass over the groups. Assumes nothing.
 use mathlib.Core.Path.{_≡_, refl, sym, ap, subst, _∙_}
-use mathlib.Core.Bool.{Bool, true, false}
 use mathlib.Core.Option.{Option, none, some}
 use mathlib.Core.Logic.{_⊎_, inl, inr, ⊎-elim}
-use mathlib.Core.List.{List}
 use Prim.Native.Nat.{ℕ, _+_, _*_, _^_, _≤_, _<_, min}
 use lib.Pow.{pow-mono}
 use native.Mathlib.Omega.{arith}
 use native.Mathlib.Decide.{decLt}
 use borrow.Author.Tests.{ltb-true, ltb-false}
 use lib.Dec.{ltb}
-use Rattle.units.specs.Plain.{if_then_else_}
+use Rattle.units.proofs.Bools.{if-ind}
 use Rattle.words.proofs.Runs.{eq-or-ne}
-use Rattle.rules.proofs.Bools.{if-ind}
 use Rattle.groups.specs.declared.Front.{Front}
 use Rattle.filing.specs.Filing.{never}
-use Rattle.groups.specs.Front.{front, preferred, LeadsAt, LeadsNone, Leads, EarliestAt, EarliestNone, Earliest, Settles, nothing, jumps}
+use Rattle.groups.specs.Front.{front, preferred, LeadsAt, Leads, Earliest, Settles, noneStarts, jumps}
 
 same-start : (o : Option ℕ) (r q : ℕ) → o ≡ some r → o ≡ some q → r ≡ q
 same-start o r q a b = cc
 
-no-start : (o : Option ℕ) (q : ℕ) → o ≡ none → o ≡ some q → ⊥
+pub no-start : (o : Option ℕ) (q : ℕ) → o ≡ none → o ≡ some q → ⊥
 no-start o q a b = let z : _≡_ {A = ℕ} 0 1 = cc in omega arith
 
 module _ (starts : ℕ → Option ℕ) where
@@ -171,7 +168,7 @@ module _ (starts : ℕ → Option ℕ) (v : ℕ) where
       (eq-or-ne i g)
 
   pub settles-none : (r : ℕ) → r ≡ never → Earliest starts 64 r → Settles starts v v
-  settles-none r e (inl (z, h)) = nothing (λ i x y. none-at i x y (starts i) refl) refl
+  settles-none r e (inl (z, h)) = noneStarts (λ i x y. none-at i x y (starts i) refl) refl
     where
       none-at : (i : ℕ) → 16 ≤ i → i ≤ 31 → (o : Option ℕ) → starts i ≡ o → starts i ≡ none
       none-at i x y none q = q

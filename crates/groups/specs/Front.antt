@@ -58,5 +58,5 @@ Earliest starts n r = EarliestNone starts n r ⊎ EarliestAt starts n r
 -- R3.14, by the groups' starts: r is the clock after v
 pub data Settles (starts : ℕ → Option ℕ) (v r : ℕ) : Type 0 where
   stays : (i q : ℕ) → 16 ≤ i → i ≤ 31 → starts i ≡ some q → q ≤ v → r ≡ v → Settles starts v r
-  nothing : ((i : ℕ) → 16 ≤ i → i ≤ 31 → starts i ≡ none) → r ≡ v → Settles starts v r
+  noneStarts : ((i : ℕ) → 16 ≤ i → i ≤ 31 → starts i ≡ none) → r ≡ v → Settles starts v r
   jumps : LeastStart starts r → v < r → Settles starts v r

@@ -3,7 +3,7 @@
 // The word of the groups that have lanes is walked by its lowest set bit. Units: starts and finishes are clock units.
 ghost use mathlib.Core.Path.{_≡_};
 ghost use mathlib.Core.Option.{some};
-ghost use Prim.Native.Nat.{ℕ, _+_, _*_, _^_, _<_, _≤_, min};
+ghost use Prim.Native.Nat.{ℕ, _+_, _^_, _<_, _≤_, min};
 ghost use Rattle.rings.specs.Rings.{Long};
 ghost use Rattle.slot_lists.specs.Lists.{Solid, startAt};
 ghost use Rattle.groups.specs.Front.{preferred, Leads, Settles};

@@ -16,9 +16,9 @@ use Rattle.plan.specs.Read.{readSetup, SetupReply, setupRefused, setupRead}
 use Rattle.table.specs.Layout.{tableSize}
 use Rattle.pages.specs.Device.{answered}
 use Rattle.lane_test.specs.Says.{Says}
+use Rattle.lane_test.proofs.Setting.{says-yes, says-no}
 use Rattle.engine.specs.Does.{Unchanged}
 use Rattle.paged.specs.Paged.{GoodUnit}
-use Rattle.paged.proofs.Tested.{found-good, found-bad}
 use Rattle.scheduler.specs.Step.{Step}
 use Rattle.scheduler.specs.Make.{MakeStep, makeReply}
 use Rattle.scheduler.specs.declared.Making as scheduler-making
@@ -27,22 +27,13 @@ use Rattle.scheduler.proofs.Made as its-proofs
 use Rattle.halt.specs.Halt.{HaltTable, HaltStep, OtherPlan, OwnPlan, Judged, HaltMake}
 use Rattle.halt.specs.declared.Making.the-variants as making
 
--- what a test found
-pub found : {P : Type 0} (b : Bool) → Says b P → b ≡ true → P
-found true h e = h
-found false h e = absurd (false≢true e)
-
-pub found-not : {P : Type 0} (b : Bool) → Says b P → b ≡ false → P → ⊥
-found-not true h e = absurd (false≢true (sym e))
-found-not false h e = h
-
 module _ (c : Call) (t : List ℕ) where
   pub refused-step : (b : Bool) → (GoodUnit t → Says b (HaltTable t)) → not b ≡ true → HaltStep c t (Refused NotGood) t
-  refused-step b s e = record { other = λ _. (refl, refl); same = λ h. absurd (found-bad b (s (h .good)) e h) }
+  refused-step b s e = record { other = λ _. (refl, refl); same = λ h. absurd (says-no b (s (h .good)) e h) }
 
   -- bytes that are no good table have the scheduler's own 10
   pub same-step : (a : Answer) (u : List ℕ) (b : Bool) → (GoodUnit t → Says b (HaltTable t)) → not b ≡ false → Step c t a u → HaltStep c t a u
-  same-step a u b s e p = record { other = λ n. ten (reads a) (p .not-good (λ g. n (found-good b (s g) e))) (p .unchanged); same = λ _. p }
+  same-step a u b s e p = record { other = λ n. ten (reads a) (p .not-good (λ g. n (says-yes b (s g) e))) (p .unchanged); same = λ _. p }
     where
       ten : (r : Reply) → answered r ≡ answered (refused 10 none) → Unchanged r t u → (r ≡ refused 10 none) × (u ≡ t)
       ten r q k = let same : r ≡ refused 10 none = cc in (same, subst (λ (x : Reply). Unchanged x t u) same k)

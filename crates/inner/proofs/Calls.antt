@@ -6,16 +6,15 @@ use mathlib.Core.Bool.{Bool, true, false, false≢true}
 use mathlib.Core.List.{List, [], _∷_}
 use lib.ListN.{length, drop}
 use borrow.Author.Tests.{lt-ltb, le-ltb}
-use types.Run.{OneOf, miss}
+use types.Run.{OneOf}
 use denote.Enum.Declared.{tagOf}
 use Rattle.fields.specs.Bytes.{byteAt, big}
 use Rattle.rules.proofs.Answer.{the-type}
 use Rattle.units.specs.Plain.{if_then_else_}
 use Rattle.rules.specs.State.{State, anyHolds, setupOf}
-use Rattle.rules.specs.Calls.{Call, take, restart, Reply, accepted, taken, seen, words, lagged, restarted, refused, Outcome, no, fresh, doRestart, step}
-use Rattle.rules.specs.Reads.{reads}
+use Rattle.rules.specs.Calls.{Call, take, restart, Reply, restarted, Outcome, no, fresh, doRestart, step}
 use Rattle.rules.specs.declared.Answer.{Answer}
-use Rattle.rules.specs.declared.Answer.the-variants.{Accepted, Taken, Seen, Sets, Lag, Restarted, Refused}
+use Rattle.rules.specs.declared.Answer.the-variants.{Restarted}
 use Rattle.rules.proofs.AlwaysGood.{Reached, fresh-reached, step-reached, reached-good}
 use Rattle.alike.specs.Alike.{Alike}
 use Rattle.alike.proofs.Alike.{alike-refl, alike-sym, alike-trans, step-alike}
@@ -25,6 +24,7 @@ use Rattle.choice.specs.Known.{Known}
 use Rattle.table.specs.Means.{meant}
 use Rattle.table.specs.Encodes.{Encodes}
 use Rattle.engine.specs.Does.{Does, Unchanged}
+use Rattle.scheduler.proofs.Taken.{kindOf, not-kind}
 use Rattle.answers.specs.Answers.{Made}
 use Rattle.answers.proofs.Made.{made-step, encodes-step}
 use Rattle.good.specs.Table.{GoodTable}
@@ -73,15 +73,6 @@ so-all calls t₀ t i e s = subst (λ (k : ℕ). LeadsTable t₀ t (worked calls
 
 -- ---- the restart before them
 
-isRestarted : Reply → Bool
-isRestarted (accepted n) = false
-isRestarted (taken j k m n) = false
-isRestarted (seen j k m n) = false
-isRestarted (words a b c d) = false
-isRestarted (lagged z) = false
-isRestarted restarted = true
-isRestarted (refused n p) = false
-
 restart-by : (s : State) (b : Bool) → anyHolds (s .lanes) ≡ b → step s restart ≡ (if b then no 15 s else record { reply = restarted; state = fresh (setupOf s) })
 unfolding step doRestart
 restart-by s b e = ap (λ (x : Bool). if x then no 15 s else record { reply = restarted; state = fresh (setupOf s) }) e
@@ -93,11 +84,11 @@ pub record Begun (t u : List ℕ) : Type 0 where
   pub rest : drop SIZE u ≡ drop SIZE t
 
 pub begun : (t u : List ℕ) → Known t → Does restart t Restarted u → Begun t u
-unfolding isRestarted
+unfolding kindOf
 begun t u k d = go (anyHolds (meant t .lanes)) refl
   where
     go : (b : Bool) → anyHolds (meant t .lanes) ≡ b → Begun t u
-    go true e = absurd (false≢true (sym (ap isRestarted (d .says ∙ ap (λ (o : Outcome). o .reply) (restart-by (meant t) true e)))))
+    go true e = let z : _≡_ {A = ℕ} 5 6 = ap kindOf (d .says ∙ ap (λ (o : Outcome). o .reply) (restart-by (meant t) true e)) in absurd (omega arith)
     go false e =
         let σ = fresh (setupOf (meant t)) in
         let is : Encodes u σ = subst (Encodes u) (ap (λ (o : Outcome). o .state) (restart-by (meant t) false e)) (d .encodes) in
@@ -118,22 +109,13 @@ abbrev pub Other : Answer → Type 0
 Other a = OneOf (0 ∷ 1 ∷ 2 ∷ 3 ∷ 4 ∷ 6 ∷ []) (tagOf the-type a)
 
 -- an answer that is another: 15, and nothing is done
-not-restarted : (a : Answer) → Other a → reads a ≡ restarted → ⊥
-unfolding isRestarted
-not-restarted (Accepted n) o e = false≢true (ap isRestarted e)
-not-restarted (Taken r) o e = false≢true (ap isRestarted e)
-not-restarted (Seen r) o e = false≢true (ap isRestarted e)
-not-restarted (Sets w) o e = false≢true (ap isRestarted e)
-not-restarted (Lag z) o e = false≢true (ap isRestarted e)
-not-restarted Restarted o e = miss (0 ∷ 1 ∷ 2 ∷ 3 ∷ 4 ∷ 6 ∷ []) 5 tt o
-not-restarted (Refused x) o e = false≢true (ap isRestarted e)
-
 pub still : (t u : List ℕ) (a : Answer) → Other a → Does restart t a u → (anyHolds (meant t .lanes) ≡ true) × (u ≡ t)
+unfolding kindOf
 still t u a o d = go (anyHolds (meant t .lanes)) refl
   where
     go : (b : Bool) → anyHolds (meant t .lanes) ≡ b → (anyHolds (meant t .lanes) ≡ true) × (u ≡ t)
     go true e = (e, subst (λ (x : Reply). Unchanged x t u) (d .says ∙ ap (λ (o : Outcome). o .reply) (restart-by (meant t) true e)) (d .unchanged))
-    go false e = absurd (not-restarted a o (d .says ∙ ap (λ (o : Outcome). o .reply) (restart-by (meant t) false e)))
+    go false e = absurd (not-kind (0 ∷ 1 ∷ 2 ∷ 3 ∷ 4 ∷ 6 ∷ []) 5 tt a o (ap kindOf (d .says ∙ ap (λ (o : Outcome). o .reply) (restart-by (meant t) false e))))
 
 -- ---- the promise, by what the tests found
 

@@ -5,7 +5,6 @@
 // record of that train and length; from 64 on a record is taken.
 //
 // Like a session it rests on a table that its own calls led to from a fresh one (`answers/specs/Answers.antt`), here the restarted table.
-ghost use mathlib.Core.Path.{_≡_};
 ghost use Prim.Native.Nat.{_+_, _≤_};
 ghost use lib.ListN.{length};
 ghost use Rattle.table.specs.Means.{meant};

@@ -11,7 +11,7 @@ use Rattle.words.proofs.Runs.{le-or-lt, eq-or-ne}
 use Rattle.words.proofs.Laws.{length-putWord, wordAt-putWord-same, wordAt-putWord-other}
 use Rattle.desk.specs.Board.{Handover, Board, lineAt, Makeable}
 use Rattle.desk.specs.Calls as Calls
-use Rattle.desk.specs.Calls.{BoardCall, BoardReply, enter, boardStep}
+use Rattle.desk.specs.Calls.{BoardCall, BoardReply, enterRecord, boardStep}
 use Rattle.desk.proofs.Made.{exactly-made}
 use Rattle.desk.proofs.Commute.{commutes, lines-differ}
 use Rattle.board.specs.Layout.{BoardRoom, trainWord, cellWord, putLine, Written, ShowsBoard, boardOf, NoBoard}
@@ -19,7 +19,7 @@ use Rattle.board.proofs.Means.{shows-is}
 use Rattle.board.proofs.Stores.{words-fit, put-size, put-rest, put-other}
 use Rattle.board.proofs.Order.{lines-either}
 use Rattle.board.proofs.Decided.{decided}
-use Rattle.journal.specs.Reads.{Plain, plainRefused, told, shown, fromRules}
+use Rattle.journal.specs.Reads.{Plain, plainRefused, plainTold, shown, fromRules}
 use Rattle.journal.specs.Record.{Reading, says, faulty, readRecord}
 use Rattle.journal.specs.declared.Told.{Told}
 use Rattle.journal.specs.Step.{stored, Stays, Kept, BoardStep, RecordSays}
@@ -89,12 +89,12 @@ exactly a t always never = record {
   always = λ n. always (λ b s. n b (shows-written t b s) ((exactly-made b) .1 (s .makeable)));
 }
 
-step-29 : (c : BoardCall) (t : List ℕ) (a : Told) (u : List ℕ) → BoardStep c t a u → Exactly29 (told a) t
-step-29 c t a u x = exactly (told a) t (x .not-board) (λ b s e. rules-not-29 b c (sym (x .reply b s) ∙ e))
+step-29 : (c : BoardCall) (t : List ℕ) (a : Told) (u : List ℕ) → BoardStep c t a u → Exactly29 (plainTold a) t
+step-29 c t a u x = exactly (plainTold a) t (x .not-board) (λ b s e. rules-not-29 b c (sym (x .reply b s) ∙ e))
 
-says-29 : (s : List ℕ) (g : Reading) → readRecord s ≡ g → (t : List ℕ) (a : Told) (u : List ℕ) → RecordSays g t a u → Exactly29 (told a) t
-says-29 s (says r) q t a u x = step-29 (enter r) t a u x
-says-29 s (faulty n p) q t a u x = exactly (told a) t (x .0) (λ b h e. field-not-29 s n p q (sym (x .1 b h) ∙ e))
+says-29 : (s : List ℕ) (g : Reading) → readRecord s ≡ g → (t : List ℕ) (a : Told) (u : List ℕ) → RecordSays g t a u → Exactly29 (plainTold a) t
+says-29 s (says r) q t a u x = step-29 (enterRecord r) t a u x
+says-29 s (faulty n p) q t a u x = exactly (plainTold a) t (x .0) (λ b h e. field-not-29 s n p q (sym (x .1 b h) ∙ e))
 
 pub exact-29 : Exact29
 exact-29 = record {
@@ -106,7 +106,7 @@ exact-29 = record {
 -- ---- nothing is left open
 
 -- a refused call leaves the bytes
-pub stayed : (a : Told) (t u : List ℕ) (n : ℕ) (p : Option ℕ) → told a ≡ plainRefused n p → Kept (told a) t u → u ≡ t
+pub stayed : (a : Told) (t u : List ℕ) (n : ℕ) (p : Option ℕ) → plainTold a ≡ plainRefused n p → Kept (plainTold a) t u → u ≡ t
 stayed a t u n p e k = subst (λ x. Stays x t u) e (k .stays)
 
 pub one-clear : OneClear
@@ -116,8 +116,8 @@ one-clear c t a a′ u u′ x y =
     (λ (n : NoBoard t). (x .not-board n ∙ sym (y .not-board n), stayed a t u 29 none (x .not-board n) (x .kept) ∙ sym (stayed a′ t u′ 29 none (y .not-board n) (y .kept))))
     (decided t)
 
-says-one : (g : Reading) (t : List ℕ) (a a′ : Told) (u u′ : List ℕ) → RecordSays g t a u → RecordSays g t a′ u′ → (told a ≡ told a′) × (u ≡ u′)
-says-one (says r) t a a′ u u′ x y = one-clear (enter r) t a a′ u u′ x y
+says-one : (g : Reading) (t : List ℕ) (a a′ : Told) (u u′ : List ℕ) → RecordSays g t a u → RecordSays g t a′ u′ → (plainTold a ≡ plainTold a′) × (u ≡ u′)
+says-one (says r) t a a′ u u′ x y = one-clear (enterRecord r) t a a′ u u′ x y
 says-one (faulty n p) t a a′ u u′ x y =
     ⊎-elim
     (λ (s : ShowsBoard t (boardOf t)). let e = x .1 (boardOf t) s in let f = y .1 (boardOf t) s in (e ∙ sym f, stayed a t u n p e (x .2) ∙ sym (stayed a′ t u′ n p f (y .2))))
@@ -130,7 +130,7 @@ one-answer s t a a′ u u′ x y = says-one (readRecord s) t a a′ u u′ x y
 -- ---- in either order
 
 stores-either : (q r : Handover) (x y : BoardReply) (t : List ℕ) → ((j k : ℕ) → x ≡ Calls.told j → y ≡ Calls.told k → j ≡ k → ⊥)
-    → stored (enter r) y (stored (enter q) x t) ≡ stored (enter q) x (stored (enter r) y t)
+    → stored (enterRecord r) y (stored (enterRecord q) x t) ≡ stored (enterRecord q) x (stored (enterRecord r) y t)
 stores-either q r (Calls.told j) (Calls.told k) t n = lines-either t j k (some q) (some r) (n j k refl refl)
 stores-either q r (Calls.told j) (Calls.boardRefused m) t n = refl
 stores-either q r (Calls.boardRefused m) (Calls.told k) t n = refl
@@ -139,15 +139,15 @@ stores-either q r (Calls.boardRefused m) (Calls.boardRefused l) t n = refl
 pub any-order : AnyOrder
 any-order t b q r s n hq a₁ a₂ c₁ c₂ t₁ t₂ u₁ u₂ x₁ x₂ y₁ y₂ =
     let e = commutes b q r n hq in
-    let bq = (boardStep b (enter q)) .board in
-    let br = (boardStep b (enter r)) .board in
+    let bq = (boardStep b (enterRecord q)) .board in
+    let br = (boardStep b (enterRecord r)) .board in
     let s₁ = x₁ .board b s in
     let w₁ = y₁ .board b s in
-    let ρ = (boardStep b (enter q)) .reply in
-    let π = (boardStep b (enter r)) .reply in (
+    let ρ = (boardStep b (enterRecord q)) .reply in
+    let π = (boardStep b (enterRecord r)) .reply in (
       x₁ .reply b s ∙ ap fromRules (sym (e .reply-q)) ∙ sym (y₂ .reply br w₁),
       x₂ .reply bq s₁ ∙ ap fromRules (e .reply-r) ∙ sym (y₁ .reply b s),
-      x₂ .bytes bq s₁ ∙ ap (λ z. stored (enter r) z t₁) (e .reply-r) ∙ ap (stored (enter r) π) (x₁ .bytes b s)
+      x₂ .bytes bq s₁ ∙ ap (λ z. stored (enterRecord r) z t₁) (e .reply-r) ∙ ap (stored (enterRecord r) π) (x₁ .bytes b s)
           ∙ stores-either q r ρ π t (λ j k f g. lines-differ b q r j k n hq f g)
-          ∙ sym (y₂ .bytes br w₁ ∙ ap (λ z. stored (enter q) z u₁) (e .reply-q) ∙ ap (stored (enter q) ρ) (y₁ .bytes b s)),
+          ∙ sym (y₂ .bytes br w₁ ∙ ap (λ z. stored (enterRecord q) z u₁) (e .reply-q) ∙ ap (stored (enterRecord q) ρ) (y₁ .bytes b s)),
     )

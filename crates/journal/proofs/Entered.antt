@@ -14,7 +14,7 @@ use Rattle.fields.specs.Header.{headerAt}
 use Rattle.fields.specs.declared.Field.the-variants.{Nothing, Cut, Header}
 use Rattle.words.proofs.Runs.{eq-or-ne}
 use Rattle.desk.specs.Board.{Handover, Board, lineAt, isOf, isFree, trainLine, lowest, InField, Makeable}
-use Rattle.desk.specs.Calls.{enter, knownKind, inSequence, follows, recordJudged, recordRefusal, target, recordEntered, boardStep, Sayable}
+use Rattle.desk.specs.Calls.{enterRecord, knownKind, inSequence, follows, recordJudged, recordRefusal, target, recordEntered, boardStep, Sayable}
 use Rattle.desk.proofs.Lines.{beyond, target-old, target-new}
 use Rattle.desk.proofs.Keep.{keeps}
 use Rattle.desk.proofs.Made.{refusal-is}
@@ -36,28 +36,28 @@ use Rattle.journal.proofs.Steps.{kept-same, bad-step, does-step}
 
 -- ---- a record that is refused, and one that is accepted
 
-enter-refused-is : (b : Board) (r : Handover) (n : ℕ) → recordRefusal b r ≡ some n → boardStep b (enter r) ≡ recordEntered (some n) b 0 r
+enter-refused-is : (b : Board) (r : Handover) (n : ℕ) → recordRefusal b r ≡ some n → boardStep b (enterRecord r) ≡ recordEntered (some n) b 0 r
 unfolding boardStep
 enter-refused-is b r n e = rw e
 
-enter-accepted-is : (b : Board) (r : Handover) (k : ℕ) → recordRefusal b r ≡ none → target b r ≡ k → boardStep b (enter r) ≡ recordEntered none b k r
+enter-accepted-is : (b : Board) (r : Handover) (k : ℕ) → recordRefusal b r ≡ none → target b r ≡ k → boardStep b (enterRecord r) ≡ recordEntered none b k r
 unfolding boardStep
 enter-accepted-is b r k e t = rw (e, t)
 
 module _ (t : List ℕ) (r : Handover) (s : ShowsBoard t (boardOf t)) where
-  refused-record : (x : Refusal) (n : ℕ) → refusedBy x ≡ plainRefused n none → recordRefusal (boardOf t) r ≡ some n → BoardStep (enter r) t (Told.Refused x) t
+  refused-record : (x : Refusal) (n : ℕ) → refusedBy x ≡ plainRefused n none → recordRefusal (boardOf t) r ≡ some n → BoardStep (enterRecord r) t (Told.Refused x) t
   refused-record x n q e =
       let w = enter-refused-is (boardOf t) r n e in
-      does-step (enter r) t (Told.Refused x) t s (rw w q) (rw w s) (rw w) (kept-same (refusedBy x) t refl)
+      does-step (enterRecord r) t (Told.Refused x) t s (rw w q) (rw w s) (rw w) (kept-same (refusedBy x) t refl)
 
-  accepted-record : (k : ℕ) → InField r → recordRefusal (boardOf t) r ≡ none → target (boardOf t) r ≡ k → k < 64 → BoardStep (enter r) t (Told.Line k) (putLine t k (some r))
+  accepted-record : (k : ℕ) → InField r → recordRefusal (boardOf t) r ≡ none → target (boardOf t) r ≡ k → k < 64 → BoardStep (enterRecord r) t (Told.Line k) (putLine t k (some r))
   unfolding Sayable
   accepted-record k c e q h =
       let w = enter-accepted-is (boardOf t) r k e q in
-      let m : Makeable (set (boardOf t) k (some r)) = (rw w at (keeps (boardOf t) (enter r) (s .makeable) c)) in
-      does-step (enter r) t (Told.Line k) (putLine t k (some r)) s (rw w) (rw w (put-shows t k (some r) h (boardOf t) s m)) (rw w) (record { stays = tt; rest = put-rest t k (some r) h; size = put-size t k (some r) h })
+      let m : Makeable (set (boardOf t) k (some r)) = (rw w at (keeps (boardOf t) (enterRecord r) (s .makeable) c)) in
+      does-step (enterRecord r) t (Told.Line k) (putLine t k (some r)) s (rw w) (rw w (put-shows t k (some r) h (boardOf t) s m)) (rw w) (record { stays = tt; rest = put-rest t k (some r) h; size = put-size t k (some r) h })
 
-  pub unknown-kind : knownKind (r .kind) ≡ false → BoardStep (enter r) t (Told.Refused KindUnknown) t
+  pub unknown-kind : knownKind (r .kind) ≡ false → BoardStep (enterRecord r) t (Told.Refused KindUnknown) t
   unfolding recordRefusal
   unknown-kind e = refused-record KindUnknown 30 refl (rw e)
 
@@ -73,13 +73,13 @@ module _ (t : List ℕ) (r : Handover) (s : ShowsBoard t (boardOf t)) where
     first-refusal : (k : ℕ) (v : Bool) → Found isFree (boardOf t) 64 k → ltb k 64 ≡ v → recordRefusal (boardOf t) r ≡ recordJudged none v r
     first-refusal k v f e = refusal-is (boardOf t) r none v known-is line-none (rw (found-first isFree (boardOf t) k (board-size t) f, board-size t) e)
 
-    pub no-free-line : (k : ℕ) → Found isFree (boardOf t) 64 k → k ≡ 64 → BoardStep (enter r) t (Told.Refused NoFreeLine) t
+    pub no-free-line : (k : ℕ) → Found isFree (boardOf t) 64 k → k ≡ 64 → BoardStep (enterRecord r) t (Told.Refused NoFreeLine) t
     no-free-line k f e = refused-record NoFreeLine 31 refl (first-refusal k false f (le-ltb k 64 (omega arith)))
 
-    pub first-leave : (k : ℕ) → Found isFree (boardOf t) 64 k → k < 64 → (r .kind ≡ 1 → ⊥) → BoardStep (enter r) t (Told.Refused DoesNotFollow) t
+    pub first-leave : (k : ℕ) → Found isFree (boardOf t) 64 k → k < 64 → (r .kind ≡ 1 → ⊥) → BoardStep (enterRecord r) t (Told.Refused DoesNotFollow) t
     first-leave k f h n = refused-record DoesNotFollow 33 refl (first-refusal k true f (lt-ltb k 64 h) ∙ rw (ne-eqb (r .kind) 1 n))
 
-    pub first-join : (k : ℕ) → InField r → Found isFree (boardOf t) 64 k → k < 64 → r .kind ≡ 1 → BoardStep (enter r) t (Told.Line k) (putLine t k (some r))
+    pub first-join : (k : ℕ) → InField r → Found isFree (boardOf t) 64 k → k < 64 → r .kind ≡ 1 → BoardStep (enterRecord r) t (Told.Line k) (putLine t k (some r))
     first-join k c f h e =
         accepted-record k c (first-refusal k true f (lt-ltb k 64 h) ∙ rw (eq-eqb (r .kind) 1 e)) (target-new (boardOf t) r (omega (arith, board-size t, place-none)) ∙ found-first isFree (boardOf t) k (board-size t) f) h
 
@@ -101,10 +101,10 @@ module _ (t : List ℕ) (r : Handover) (s : ShowsBoard t (boardOf t)) where
         refusal-is (boardOf t) r (some (recLine l)) (ltb (lowest (boardOf t)) (length (boardOf t))) known-is (ap (lineAt (boardOf t)) place-at ∙ used (lineAt (boardOf t) k) read (found .hit below)) refl
         ∙ rw (e, q)
 
-    pub out-of-turn : inSequence (recLine l) r ≡ false → BoardStep (enter r) t (Told.Refused OutOfTurn) t
+    pub out-of-turn : inSequence (recLine l) r ≡ false → BoardStep (enterRecord r) t (Told.Refused OutOfTurn) t
     out-of-turn e = refused-record OutOfTurn 32 refl (later-refusal false (follows (recLine l) r) e refl)
 
-    pub not-following : inSequence (recLine l) r ≡ true → follows (recLine l) r ≡ false → BoardStep (enter r) t (Told.Refused DoesNotFollow) t
+    pub not-following : inSequence (recLine l) r ≡ true → follows (recLine l) r ≡ false → BoardStep (enterRecord r) t (Told.Refused DoesNotFollow) t
     not-following e q = refused-record DoesNotFollow 33 refl (later-refusal true false e q)
 
     -- the old line takes the record: the train is the same
@@ -117,7 +117,7 @@ module _ (t : List ℕ) (r : Handover) (s : ShowsBoard t (boardOf t)) where
     pub follows-next : (next : Line) → next ≡ follow l (r .cell) (r .kind) (r .sequence) → recLine next ≡ r
     follows-next next e = ap recLine e ∙ next-is
 
-    pub follows-on : InField r → inSequence (recLine l) r ≡ true → follows (recLine l) r ≡ true → BoardStep (enter r) t (Told.Line k) (putLine t k (some r))
+    pub follows-on : InField r → inSequence (recLine l) r ≡ true → follows (recLine l) r ≡ true → BoardStep (enterRecord r) t (Told.Line k) (putLine t k (some r))
     follows-on c e q = accepted-record k c (later-refusal true true e q) (target-old (boardOf t) r (rw (place-at, board-size t) below) ∙ place-at) below
 
 -- ---- the field
@@ -151,13 +151,13 @@ module _ (s : List ℕ) where
 -- ---- record
 
 pub record-bad : (g : Reading) (t : List ℕ) → NoBoard t → RecordSays g t (Told.Refused NotABoard) t
-record-bad (says r) t n = bad-step (enter r) t n
+record-bad (says r) t n = bad-step (enterRecord r) t n
 record-bad (faulty m p) t n = (λ q. refl, λ b s. absurd (n b s), kept-same (plainRefused 29 none) t refl)
 
 pub record-faulty : (g : Reading) (t : List ℕ) (x : Refusal) (m : ℕ) (p : Option ℕ) → ShowsBoard t (boardOf t) → refusedBy x ≡ plainRefused m p → g ≡ faulty m p → RecordSays g t (Told.Refused x) t
 record-faulty g t x m p s q e = rw e (λ n. absurd (n (boardOf t) s), λ b h. q, kept-same (refusedBy x) t refl)
 
-pub record-said : (g : Reading) (t : List ℕ) (a : Told) (u : List ℕ) (r : Handover) → g ≡ says r → BoardStep (enter r) t a u → RecordSays g t a u
+pub record-said : (g : Reading) (t : List ℕ) (a : Told) (u : List ℕ) (r : Handover) → g ≡ says r → BoardStep (enterRecord r) t a u → RecordSays g t a u
 record-said g t a u r e s = rw e s
 
 pub reading-known : (s : List ℕ) (g h : Answered.Reading) → ReadingIs g s → g ≡ h → ReadingIs h s

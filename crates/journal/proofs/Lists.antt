@@ -10,13 +10,13 @@ use Rattle.units.specs.Plain.{if_then_else_}
 use Rattle.words.proofs.Runs.{le-or-lt}
 use Rattle.desk.specs.Board.{Handover, Board, emptyBoard, lineAt, trainLine}
 use Rattle.desk.specs.Board as Board
-use Rattle.desk.specs.Calls.{BoardCall, BoardReply, enter, clear, boardStep, isTold, noted}
+use Rattle.desk.specs.Calls.{BoardCall, BoardReply, enterRecord, clear, boardStep, isTold, noted}
 use Rattle.desk.specs.Calls as Calls
 use Rattle.desk.proofs.Lines.{beyond, of-made, place-is}
 use Rattle.desk.proofs.Keep.{empty-line}
 use Rattle.desk.proofs.Shows.{shown-step}
 use Rattle.board.specs.Layout.{BoardRoom, ShowsBoard}
-use Rattle.journal.specs.Reads.{plainRefused, told, shown, fromRules, stands, begun}
+use Rattle.journal.specs.Reads.{plainRefused, plainTold, shown, fromRules, stands, begun}
 use Rattle.journal.specs.Record.{Reading, says, faulty, readRecord}
 use Rattle.journal.specs.Step.{BoardStep, RecordSays, LineStep, BeginStep}
 use Rattle.journal.specs.Lists.{Asked, recorded, cleared, JournalEvent, JournalStep, JournalChain, done, next, lineAccepted, note, lastSaid, Never29, JournalShowsLast}
@@ -36,22 +36,22 @@ accepted-told (Calls.boardRefused n) = refl
 pub record After (b : Board) (c : Asked) (a : Told) (u : List ℕ) : Type 0 where
   pub board : Board
   pub shows : ShowsBoard u board
-  pub shown-of : (v : ℕ) → Board.trainShown v board ≡ (if lineAccepted (told a) then note v (Board.trainShown v b) c else Board.trainShown v b)
-  pub not-29 : told a ≡ plainRefused 29 none → ⊥
+  pub shown-of : (v : ℕ) → Board.trainShown v board ≡ (if lineAccepted (plainTold a) then note v (Board.trainShown v b) c else Board.trainShown v b)
+  pub not-29 : plainTold a ≡ plainRefused 29 none → ⊥
 
 -- a call of the rules
 rules-after : (b : Board) (c : BoardCall) (t : List ℕ) (a : Told) (u : List ℕ) → ShowsBoard t b → BoardStep c t a u → (v : ℕ)
-    → Board.trainShown v ((boardStep b c) .board) ≡ (if lineAccepted (told a) then noted v (Board.trainShown v b) c else Board.trainShown v b)
+    → Board.trainShown v ((boardStep b c) .board) ≡ (if lineAccepted (plainTold a) then noted v (Board.trainShown v b) c else Board.trainShown v b)
 rules-after b c t a u s x v =
     shown-step b c v (s .makeable) (x .board b s .makeable)
     ∙ ap (λ z. if z then noted v (Board.trainShown v b) c else Board.trainShown v b) (accepted-told ((boardStep b c) .reply) ∙ ap lineAccepted (sym (x .reply b s)))
 
 read-after : (b : Board) (s : List ℕ) (g : Reading) → readRecord s ≡ g → (t : List ℕ) (a : Told) (u : List ℕ) → ShowsBoard t b → RecordSays g t a u → After b (recorded s) a u
 read-after b s (says r) q t a u h x = record {
-  board = (boardStep b (enter r)) .board;
+  board = (boardStep b (enterRecord r)) .board;
   shows = x .board b h;
-  shown-of = λ v. rw q (rules-after b (enter r) t a u h x v);
-  not-29 = λ e. rules-not-29 b (enter r) (sym (x .reply b h) ∙ e);
+  shown-of = λ v. rw q (rules-after b (enterRecord r) t a u h x v);
+  not-29 = λ e. rules-not-29 b (enterRecord r) (sym (x .reply b h) ∙ e);
 }
 read-after b s (faulty n p) q t a u h x =
     let e = x .1 b h in

@@ -12,7 +12,7 @@ use Rattle.fields.specs.Header.{headerAt}
 use Rattle.fields.specs.declared.Field.{Field}
 use Rattle.fields.specs.declared.Field.the-variants.{Nothing, Cut, Header}
 use Rattle.desk.specs.Board.{Handover, Board, lineAt, trainLine, lowest}
-use Rattle.desk.specs.Calls.{BoardCall, enter, clear, knownKind, inSequence, follows, recordJudged, recordRefusal, target, recordEntered, left, boardStep, cleared}
+use Rattle.desk.specs.Calls.{BoardCall, enterRecord, clear, knownKind, inSequence, follows, recordJudged, recordRefusal, target, recordEntered, left, boardStep, recordCleared}
 use Rattle.journal.specs.Reads.{Plain, line, stands, begun, plainRefused, fromRules}
 use Rattle.journal.specs.Record.{Reading, says, faulty, valuesOf, readHeader, readRecord}
 
@@ -58,14 +58,14 @@ refusal-above b r = go (knownKind (r .kind)) (recordJudged (lineAt b (trainLine 
 
 pub rules-not-29 : (b : Board) (c : BoardCall) → fromRules ((boardStep b c) .reply) ≡ plainRefused 29 none → ⊥
 unfolding boardStep numberOf Above
-rules-not-29 b (enter r) e = go (recordRefusal b r) (refusal-above b r) e
+rules-not-29 b (enterRecord r) e = go (recordRefusal b r) (refusal-above b r) e
   where
     go : (x : Option ℕ) → Above x → fromRules ((recordEntered x b (target b r) r) .reply) ≡ plainRefused 29 none → ⊥
     go none h e = let z : _≡_ {A = ℕ} 0 29 = ap numberOf e in omega arith
     go (some n) h e = let z : n ≡ 29 = ap numberOf e in omega arith
 rules-not-29 b (clear u) e = go (left (lineAt b (trainLine u b))) e
   where
-    go : (x : Bool) → fromRules ((cleared x b (trainLine u b)) .reply) ≡ plainRefused 29 none → ⊥
+    go : (x : Bool) → fromRules ((recordCleared x b (trainLine u b)) .reply) ≡ plainRefused 29 none → ⊥
     go true e = let z : _≡_ {A = ℕ} 0 29 = ap numberOf e in omega arith
     go false e = let z : _≡_ {A = ℕ} 34 29 = ap numberOf e in omega arith
 

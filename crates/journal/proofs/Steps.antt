@@ -13,14 +13,14 @@ use Rattle.words.specs.Words.{wordAt, putWord}
 use Rattle.words.proofs.Runs.{eq-or-ne}
 use Rattle.words.proofs.Laws.{length-putWord, wordAt-putWord-same, wordAt-putWord-other, drop-putWord}
 use Rattle.desk.specs.Board.{Handover, Board, lineAt, isOf, trainLine, Makeable}
-use Rattle.desk.specs.Calls.{BoardCall, clear, left, cleared, boardStep, Sayable}
+use Rattle.desk.specs.Calls.{BoardCall, clear, left, recordCleared, boardStep, Sayable}
 use Rattle.desk.proofs.Lines.{beyond}
 use Rattle.desk.proofs.Keep.{keeps, empty-line, empty-makeable}
-use Rattle.board.specs.Layout.{BoardRoom, putLine, ShowsBoard, handoverOf, boardOf, NoBoard, Tells, Found}
+use Rattle.board.specs.Layout.{BoardRoom, putLine, ShowsBoard, handoverOf, boardOf, NoBoard, TellsBoard, Found}
 use Rattle.desk_line.specs.declared.Line.{Line}
 use Rattle.board.proofs.Means.{board-size, shows-is}
 use Rattle.board.proofs.Stores.{put-size, put-rest, put-shows, found-first}
-use Rattle.journal.specs.Reads.{Plain, stands, plainRefused, fromRules, told, shown}
+use Rattle.journal.specs.Reads.{Plain, stands, plainRefused, fromRules, plainTold, shown}
 use Rattle.journal.specs.Step.{stored, Stays, Kept, BoardStep, LineStep, BeginStep}
 use Rattle.journal.specs.declared.Refusal.the-variants.{BoardShort, NotABoard, NotCleared}
 use Rattle.journal.specs.declared.Told.{Told}
@@ -32,11 +32,11 @@ use Rattle.journal.specs.declared.Begun.the-variants as Begun
 
 -- ---- what the test of 29 found
 
-pub found-board : (t : List ℕ) (v : Bool) → Tells v t → not v ≡ false → ShowsBoard t (boardOf t)
+pub found-board : (t : List ℕ) (v : Bool) → TellsBoard v t → not v ≡ false → ShowsBoard t (boardOf t)
 found-board t true h e = h
 found-board t false h e = absurd (false≢true (sym e))
 
-pub found-none : (t : List ℕ) (v : Bool) → Tells v t → not v ≡ true → NoBoard t
+pub found-none : (t : List ℕ) (v : Bool) → TellsBoard v t → not v ≡ true → NoBoard t
 found-none t true h e = absurd (false≢true e)
 found-none t false h e = h
 
@@ -55,10 +55,10 @@ bad-step c t n = record {
 }
 
 -- a call on the board that the bytes mean
-pub does-step : (c : BoardCall) (t : List ℕ) (a : Told) (u : List ℕ) → ShowsBoard t (boardOf t) → told a ≡ fromRules ((boardStep (boardOf t) c) .reply) → ShowsBoard u ((boardStep (boardOf t) c) .board) → u ≡ stored c ((boardStep (boardOf t) c) .reply) t → Kept (told a) t u → BoardStep c t a u
+pub does-step : (c : BoardCall) (t : List ℕ) (a : Told) (u : List ℕ) → ShowsBoard t (boardOf t) → plainTold a ≡ fromRules ((boardStep (boardOf t) c) .reply) → ShowsBoard u ((boardStep (boardOf t) c) .board) → u ≡ stored c ((boardStep (boardOf t) c) .reply) t → Kept (plainTold a) t u → BoardStep c t a u
 does-step c t a u s r n y k = record {
   not-board = λ m. absurd (m (boardOf t) s);
-  reply = λ b h. subst (λ x. told a ≡ fromRules ((boardStep x c) .reply)) (shows-is t b h) r;
+  reply = λ b h. subst (λ x. plainTold a ≡ fromRules ((boardStep x c) .reply)) (shows-is t b h) r;
   board = λ b h. subst (λ x. ShowsBoard u ((boardStep x c) .board)) (shows-is t b h) n;
   bytes = λ b h. subst (λ x. u ≡ stored c ((boardStep x c) .reply) t) (shows-is t b h) y;
   kept = k;
@@ -69,7 +69,7 @@ does-step c t a u s r n y k = record {
 left-kind : (l : Line) (x : Option Handover) → handoverOf l ≡ x → eqb (l .kind) 2 ≡ left x
 left-kind l x e = ⊎-elim (λ (z : l .kind ≡ 0). rw (← e, z)) (λ (n : l .kind ≡ 0 → ⊥). rw (← e, ne-eqb (l .kind) 0 n)) (eq-or-ne (l .kind) 0)
 
-clear-is : (b : Board) (t k : ℕ) (v : Bool) → trainLine t b ≡ k → left (lineAt b k) ≡ v → boardStep b (clear t) ≡ cleared v b k
+clear-is : (b : Board) (t k : ℕ) (v : Bool) → trainLine t b ≡ k → left (lineAt b k) ≡ v → boardStep b (clear t) ≡ recordCleared v b k
 unfolding boardStep
 clear-is b t k v p e = rw (p, e)
 

@@ -15,9 +15,9 @@ use mathlib.Core.Option.{none}
 use lib.ListN.{length, drop}
 use Rattle.words.specs.Words.{wordAt}
 use Rattle.desk.specs.Board.{Handover, Board, trainLine}
-use Rattle.desk.specs.Calls.{BoardCall, enter, MadeBoard}
+use Rattle.desk.specs.Calls.{BoardCall, enterRecord, MadeBoard}
 use Rattle.board.specs.Layout.{boardSize, BoardRoom, Written, ShowsBoard}
-use Rattle.journal.specs.Reads.{Plain, plainRefused, told, shown}
+use Rattle.journal.specs.Reads.{Plain, plainRefused, plainTold, shown}
 use Rattle.journal.specs.Step.{BoardStep, RecordStep, LineStep}
 use Rattle.journal.specs.declared.Told.{Told}
 use Rattle.journal.specs.declared.Shown.{Shown}
@@ -31,8 +31,8 @@ pub record Exactly29 (a : Plain) (t : List ℕ) : Type 0 where
   pub always : NotMade t → a ≡ plainRefused 29 none
 
 pub record Exact29 : Type 0 where
-  pub record-call : (s t : List ℕ) (a : Told) (u : List ℕ) → RecordStep s t a u → Exactly29 (told a) t
-  pub clear-call : (c : BoardCall) (t : List ℕ) (a : Told) (u : List ℕ) → BoardStep c t a u → Exactly29 (told a) t
+  pub record-call : (s t : List ℕ) (a : Told) (u : List ℕ) → RecordStep s t a u → Exactly29 (plainTold a) t
+  pub clear-call : (c : BoardCall) (t : List ℕ) (a : Told) (u : List ℕ) → BoardStep c t a u → Exactly29 (plainTold a) t
   pub line-call : (k : ℕ) (t : List ℕ) (a : Shown) → LineStep k t a → Exactly29 (shown a) t
 
 abbrev pub EachMade : Type 0
@@ -44,15 +44,15 @@ OneBoard =
     × ((u v : List ℕ) (b : Board) → ShowsBoard u b → ShowsBoard v b → (i : ℕ) → i < 128 → wordAt u i ≡ wordAt v i)
 
 abbrev pub OneRecordAnswer : Type 0
-OneRecordAnswer = (s t : List ℕ) (a a′ : Told) (u u′ : List ℕ) → RecordStep s t a u → RecordStep s t a′ u′ → (told a ≡ told a′) × (u ≡ u′)
+OneRecordAnswer = (s t : List ℕ) (a a′ : Told) (u u′ : List ℕ) → RecordStep s t a u → RecordStep s t a′ u′ → (plainTold a ≡ plainTold a′) × (u ≡ u′)
 
 abbrev pub OneClear : Type 0
-OneClear = (c : BoardCall) (t : List ℕ) (a a′ : Told) (u u′ : List ℕ) → BoardStep c t a u → BoardStep c t a′ u′ → (told a ≡ told a′) × (u ≡ u′)
+OneClear = (c : BoardCall) (t : List ℕ) (a a′ : Told) (u u′ : List ℕ) → BoardStep c t a u → BoardStep c t a′ u′ → (plainTold a ≡ plainTold a′) × (u ≡ u′)
 
 -- R11.15: the bytes t, then the record q and the record r; and r and then q
 abbrev pub AnyOrder : Type 0
 AnyOrder =
     (t : List ℕ) (b : Board) (q r : Handover) → ShowsBoard t b → (q .train ≡ r .train → ⊥) → trainLine (q .train) b < length b
     → (a₁ a₂ c₁ c₂ : Told) (t₁ t₂ u₁ u₂ : List ℕ)
-    → BoardStep (enter q) t a₁ t₁ → BoardStep (enter r) t₁ a₂ t₂ → BoardStep (enter r) t c₁ u₁ → BoardStep (enter q) u₁ c₂ u₂
-    → (told a₁ ≡ told c₂) × (told a₂ ≡ told c₁) × (t₂ ≡ u₂)
+    → BoardStep (enterRecord q) t a₁ t₁ → BoardStep (enterRecord r) t₁ a₂ t₂ → BoardStep (enterRecord r) t c₁ u₁ → BoardStep (enterRecord q) u₁ c₂ u₂
+    → (plainTold a₁ ≡ plainTold c₂) × (plainTold a₂ ≡ plainTold c₁) × (t₂ ≡ u₂)

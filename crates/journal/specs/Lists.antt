@@ -16,8 +16,8 @@ use mathlib.Core.List.{List, [], _∷_}
 use mathlib.Core.Option.{Option, none, some}
 use Rattle.units.specs.Plain.{if_then_else_}
 use Rattle.desk.specs.Board.{Handover}
-use Rattle.desk.specs.Calls.{enter, clear, knownKind, noted}
-use Rattle.journal.specs.Reads.{Plain, line, stands, begun, plainRefused, told, shown}
+use Rattle.desk.specs.Calls.{enterRecord, clear, knownKind, noted}
+use Rattle.journal.specs.Reads.{Plain, line, stands, begun, plainRefused, plainTold, shown}
 use Rattle.journal.specs.Record.{Reading, says, faulty, readRecord}
 use Rattle.journal.specs.Step.{BoardStep, RecordStep, LineStep, BeginStep}
 use Rattle.journal.specs.declared.Told.{Told}
@@ -38,7 +38,7 @@ JournalStep (cleared n) t a u = BoardStep (clear n) t a u
 
 pub data JournalChain : List ℕ → List JournalEvent → List ℕ → Type 0 where
   done : {t : List ℕ} → JournalChain t [] t
-  next : {v : List ℕ} {es : List JournalEvent} (t u : List ℕ) (c : Asked) (a : Told) → JournalStep c t a u → JournalChain u es v → JournalChain t (record { call = c; answer = told a } ∷ es) v
+  next : {v : List ℕ} {es : List JournalEvent} (t u : List ℕ) (c : Asked) (a : Told) → JournalStep c t a u → JournalChain u es v → JournalChain t (record { call = c; answer = plainTold a } ∷ es) v
 
 -- ---- what the calls and answers alone say of a train
 
@@ -50,7 +50,7 @@ lineAccepted (plainRefused n p) = false
 
 -- what a call that was accepted leaves of train t, where `old` was there
 abbrev pub noteRead : ℕ → Option Handover → Reading → Option Handover
-noteRead t old (says r) = noted t old (enter r)
+noteRead t old (says r) = noted t old (enterRecord r)
 noteRead t old (faulty n p) = old
 
 abbrev pub note : ℕ → Option Handover → Asked → Option Handover
@@ -92,7 +92,7 @@ JournalNotCleared t (e ∷ es) = (e .call ≡ cleared t → ⊥) × JournalNotCl
 pub record JournalEnded (o : Handover) (u : List ℕ) : Type 0 where
   -- a record of the train is refused by 32, or by 30 which goes before it, and no byte is changed
   pub refuses : (s : List ℕ) (r : Handover) (a : Told) (v : List ℕ) → readRecord s ≡ says r → r .train ≡ o .train → RecordStep s u a v
-      → (told a ≡ plainRefused (if knownKind (r .kind) then 32 else 30) none) × (v ≡ u)
+      → (plainTold a ≡ plainRefused (if knownKind (r .kind) then 32 else 30) none) × (v ≡ u)
   -- it stays the last one, whatever the calls are, until the train is cleared
   pub stays : (es : List JournalEvent) (v : List ℕ) → JournalChain u es v → JournalNotCleared (o .train) es → lastSaid (o .train) (some o) es ≡ some o
 

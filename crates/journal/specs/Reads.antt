@@ -2,7 +2,7 @@
 --
 --   boardListed          R11.14: a refusal's number, and its place where the list has one
 --   Plain                an answer as the rules give it; fromRules: that of a reply of `desk`
---   told, shown, begun   an answer of a call, read
+--   plainTold, shown, begun   an answer of a call, read
 --
 -- Assumes nothing.
 use Prim.Native.Nat.{ℕ}
@@ -45,9 +45,9 @@ abbrev pub fromRules : BoardReply → Plain
 fromRules (Calls.told k) = line k
 fromRules (Calls.boardRefused n) = plainRefused n none
 
-abbrev pub told : Told → Plain
-told (Told.Line k) = line k
-told (Told.Refused x) = refusedBy x
+abbrev pub plainTold : Told → Plain
+plainTold (Told.Line k) = line k
+plainTold (Told.Refused x) = refusedBy x
 
 abbrev pub shown : Shown → Plain
 shown Shown.Free = stands none

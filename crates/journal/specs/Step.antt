@@ -15,10 +15,10 @@ use mathlib.Core.Option.{Option, none, some}
 use lib.ListN.{length, drop}
 use Rattle.desk.specs.Board.{Handover, Board, emptyBoard, lineAt}
 use Rattle.desk.specs.Calls as Calls
-use Rattle.desk.specs.Calls.{BoardCall, BoardReply, enter, clear, boardStep}
+use Rattle.desk.specs.Calls.{BoardCall, BoardReply, enterRecord, clear, boardStep}
 pub use Rattle.board.specs.Layout.{boardSize}
 use Rattle.board.specs.Layout.{BoardRoom, putLine, ShowsBoard, NoBoard}
-use Rattle.journal.specs.Reads.{Plain, line, stands, begun, plainRefused, fromRules, told, shown, beginning}
+use Rattle.journal.specs.Reads.{Plain, line, stands, begun, plainRefused, fromRules, plainTold, shown, beginning}
 use Rattle.journal.specs.Record.{Reading, says, faulty, readRecord}
 use Rattle.journal.specs.declared.Told.{Told}
 use Rattle.journal.specs.declared.Shown.{Shown}
@@ -26,7 +26,7 @@ use Rattle.journal.specs.declared.Begun.{Begun}
 
 -- what an accepted call leaves on its line
 abbrev pub leaves : BoardCall → Option Handover
-leaves (enter r) = some r
+leaves (enterRecord r) = some r
 leaves (clear u) = none
 
 abbrev pub stored : BoardCall → BoardReply → List ℕ → List ℕ
@@ -48,20 +48,20 @@ pub record Kept (a : Plain) (before after : List ℕ) : Type 0 where
 -- R14.42. The call c on the bytes `before` answers a and leaves the bytes `after`.
 pub record BoardStep (c : BoardCall) (before : List ℕ) (a : Told) (after : List ℕ) : Type 0 where
   -- R11.4: the test of 29, before all others
-  pub not-board : NoBoard before → told a ≡ plainRefused 29 none
-  pub reply : (b : Board) → ShowsBoard before b → told a ≡ fromRules ((boardStep b c) .reply)
+  pub not-board : NoBoard before → plainTold a ≡ plainRefused 29 none
+  pub reply : (b : Board) → ShowsBoard before b → plainTold a ≡ fromRules ((boardStep b c) .reply)
   pub board : (b : Board) → ShowsBoard before b → ShowsBoard after ((boardStep b c) .board)
   -- R11.11: an accepted call changes the two words of one line
   pub bytes : (b : Board) → ShowsBoard before b → after ≡ stored c ((boardStep b c) .reply) before
-  pub kept : Kept (told a) before after
+  pub kept : Kept (plainTold a) before after
 
 -- R11.7, R14.42: 29 before the numbers of the field, and those before 30 to 33
 abbrev pub RecordSays : Reading → List ℕ → Told → List ℕ → Type 0
-RecordSays (says r) before a after = BoardStep (enter r) before a after
+RecordSays (says r) before a after = BoardStep (enterRecord r) before a after
 RecordSays (faulty n p) before a after =
-    (NoBoard before → told a ≡ plainRefused 29 none)
-    × ((b : Board) → ShowsBoard before b → told a ≡ plainRefused n p)
-    × Kept (told a) before after
+    (NoBoard before → plainTold a ≡ plainRefused 29 none)
+    × ((b : Board) → ShowsBoard before b → plainTold a ≡ plainRefused n p)
+    × Kept (plainTold a) before after
 
 abbrev pub RecordStep : List ℕ → List ℕ → Told → List ℕ → Type 0
 RecordStep field before a after = RecordSays (readRecord field) before a after

@@ -206,7 +206,7 @@ fn read(s: &[u8]) -> Reading
 // A train's first record: refusals 31 and 33.
 fn enter_first(t: &mut [u8], r: Line) -> Told
     requires { ⌜ ShowsBoard (now t) (boardOf (now t)) × InField (recLine r) × (Calls.knownKind (r .kind) ≡ true) × Found (isOf (r .train)) (boardOf (now t)) 64 64 ⌝ }
-    ensures { λ a. ⌜ BoardStep (Calls.enter (recLine r)) (now (t .entry)) a (now (t .exit)) ⌝ }
+    ensures { λ a. ⌜ BoardStep (Calls.enterRecord (recLine r)) (now (t .entry)) a (now (t .exit)) ⌝ }
 {
     let k = lowest(t);
     if k == LINES {
@@ -222,7 +222,7 @@ fn enter_first(t: &mut [u8], r: Line) -> Told
 // A record of a train that stands on line `k`: refusals 32 and 33.
 fn enter_later(t: &mut [u8], r: Line, k: usize) -> Told
     requires { ⌜ ShowsBoard (now t) (boardOf (now t)) × InField (recLine r) × (Calls.knownKind (r .kind) ≡ true) × Found (isOf (r .train)) (boardOf (now t)) 64 k × (k < 64) ⌝ }
-    ensures { λ a. ⌜ BoardStep (Calls.enter (recLine r)) (now (t .entry)) a (now (t .exit)) ⌝ }
+    ensures { λ a. ⌜ BoardStep (Calls.enterRecord (recLine r)) (now (t .entry)) a (now (t .exit)) ⌝ }
 {
     let old = line_at(t, k);
     if !in_turn(old, r) {
@@ -239,7 +239,7 @@ fn enter_later(t: &mut [u8], r: Line, k: usize) -> Told
 // A record, on a board: refusals 30 to 33.
 fn enter(t: &mut [u8], r: Line) -> Told
     requires { ⌜ ShowsBoard (now t) (boardOf (now t)) × InField (recLine r) ⌝ }
-    ensures { λ a. ⌜ BoardStep (Calls.enter (recLine r)) (now (t .entry)) a (now (t .exit)) ⌝ }
+    ensures { λ a. ⌜ BoardStep (Calls.enterRecord (recLine r)) (now (t .entry)) a (now (t .exit)) ⌝ }
 {
     if !known(r.kind) {
         return Told::Refused(Refusal::KindUnknown);

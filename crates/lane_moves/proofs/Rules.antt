@@ -1,13 +1,13 @@
 -- What `add` and `refile` leave agrees with the rules' own states after put and take: the lists and the starts are those of `accept` and `serve`.
 -- Assumes nothing.
-use mathlib.Core.Path.{_≡_, refl, sym, ap, subst, _∙_}
+use mathlib.Core.Path.{_≡_, refl, sym, ap, _∙_}
 use mathlib.Core.Bool.{Bool, true, false}
-use mathlib.Core.Option.{Option, none, some}
-use Prim.Native.Nat.{ℕ, _+_, _*_, _/_, _%_, _^_, _≤_, _<_}
+use mathlib.Core.Option.{some}
+use Prim.Native.Nat.{ℕ, _≤_, _<_}
 use mathlib.Core.List.{List}
 use lib.ListN.{length}
 use Rattle.units.proofs.Round.{round-div}
-use Rattle.rules.specs.State.{Rec, Lane, State, group, slot, startR, firstOf, holds, laneAt}
+use Rattle.rules.specs.State.{Rec, State, group, slot, firstOf, holds, laneAt}
 use Rattle.rules.specs.Choice.{least}
 use Rattle.rules.specs.Calls.{woken, served, accept, serve}
 use Rattle.rules.specs.Good.{Good}

@@ -1,40 +1,37 @@
 -- From what `add`, `close` and `refile` call to what they leave. Assumes nothing.
-use mathlib.Core.Path.{_≡_, refl, sym, ap, subst, _∙_}
-use mathlib.Core.Bool.{Bool, true, false, false≢true}
+use mathlib.Core.Path.{_≡_, sym, ap, subst, _∙_}
+use mathlib.Core.Bool.{true, false, false≢true}
 use mathlib.Core.Logic.{_⊎_, inl, inr, ⊎-elim}
-use mathlib.Core.Option.{Option, none, some}
+use mathlib.Core.Option.{some}
 use Prim.Native.Nat.{ℕ, _+_, _*_, _/_, _%_, _^_, _≤_, _<_}
 use mathlib.Core.List.{List, [], _∷_, _++_}
 use native.Mathlib.Omega.{arith}
-use borrow.Author.Tests.{eq-eqb, ne-eqb, lt-leb, le-leb}
-use lib.Dec.{eqb, leb}
+use borrow.Author.Tests.{ne-eqb, lt-leb, le-leb}
 use lib.ListN.{length, drop, length-append, length-drop}
 use lib.Pow.{pow-pos}
-use Rattle.units.specs.Plain.{if_then_else_}
 use Rattle.words.specs.Bits.{bit}
 use Rattle.words.specs.Words.{wordAt}
 use Rattle.words.proofs.Bits.{bit-above}
 use Rattle.words.proofs.Runs.{eq-or-ne}
 use Rattle.rules.specs.Choice.{least}
-use Rattle.slot_lists.specs.Lists.{backWord, startWord, ringNumber, groupsAt, mapOf, listIn, listAt, startAt, Solid}
-use Rattle.slot_lists.specs.Changes.{Moved, Apart, Stored, Nearest}
+use Rattle.slot_lists.specs.Lists.{startWord, groupsAt, mapOf, listIn, listAt, startAt, Solid}
+use Rattle.slot_lists.specs.Changes.{ListMoved, Apart, GroupStored}
 use Rattle.slot_lists.proofs.Store.{stored-then}
 use Rattle.slot_lists.proofs.Laws.{list-on, list-off, list-some, some-bit, start-on, start-off}
 use Rattle.filing.specs.Filing.{Lists, never}
 use Rattle.filing.proofs.Moves.{Changed}
-use Rattle.filing.proofs.Starts.{NextList}
-use Rattle.lane_moves.specs.Moves.{slotOf, listOf, Added, Onward, nowhere, onto, Tells, Closing, empty, onward, Refiled}
+use Rattle.lane_moves.specs.Moves.{slotOf, listOf, Added, Onward, nowhere, onto, TellsReached, Closing, empty, onward, Refiled}
 use Rattle.lane_moves.proofs.Views.{under, under-here, own-changed, Nearly, solid-nearly, same-start, moved-changed, moved-nearly, moved-apart, stored-solid, then-stored}
 
 apart-then : (t u v : List ℕ) → Apart t u → Apart u v → Apart t v
 apart-then t u v a b = record { below = λ j h. b .below j h ∙ a .below j h; back = b .back ∙ a .back; rest = b .rest ∙ a .rest }
 
 -- a list that a lane has joined is marked
-pub joined : (t u l : List ℕ) (g m m′ b k : ℕ) → Moved t u g m m′ b (l ++ (k ∷ [])) → 0 < m′
+pub joined : (t u l : List ℕ) (g m m′ b k : ℕ) → ListMoved t u g m m′ b (l ++ (k ∷ [])) → 0 < m′
 joined t u l g m m′ b k v = some-bit b m′ (list-some u g m′ b (rw (v .list) (simp length-append (omega arith))))
 
 -- a list has room for the lane that left the group, also where it is the one that the lane left
-pub rooms-after : (t u : List ℕ) (g m m′ b c : ℕ) → m ≡ mapOf t g → Moved t u g m m′ b (drop 1 (listIn t g m b)) → c < 32
+pub rooms-after : (t u : List ℕ) (g m m′ b c : ℕ) → m ≡ mapOf t g → ListMoved t u g m m′ b (drop 1 (listIn t g m b)) → c < 32
     → 0 < length (listAt t g b) → length (listAt t g b) < 65 → ((c ≡ b → ⊥) → length (listAt t g c) < 64) → length (listIn u g m′ c) < 64
 rooms-after t u g m m′ b c em v hc pos most other =
     ⊎-elim
@@ -46,11 +43,11 @@ rooms-after t u g m m′ b c em v hc pos most other =
 
 -- ---- a group's words, one after the other
 
-pub marked : (t u : List ℕ) (g m x : ℕ) → 0 < m → Stored t u g m x → (bit g (groupsAt u) ≡ 1) × (0 < mapOf u g)
+pub marked : (t u : List ℕ) (g m x : ℕ) → 0 < m → GroupStored t u g m x → (bit g (groupsAt u) ≡ 1) × (0 < mapOf u g)
 marked t u g m x pos w = (w .group ∙ rw (ne-eqb m 0 (λ z. omega arith)), rw (w .map) pos)
 
-pub then-start : (t u w : List ℕ) (g m x r : ℕ) → Stored t u g m x → Stored u w g (mapOf u g) r → Stored t w g m r
-then-start t u w g m x r a b = stored-then t u w g m r x a (subst (λ (n : ℕ). Stored u w g n r) (a .map) b)
+pub then-start : (t u w : List ℕ) (g m x r : ℕ) → GroupStored t u g m x → GroupStored u w g (mapOf u g) r → GroupStored t w g m r
+then-start t u w g m x r a b = stored-then t u w g m r x a (subst (λ (n : ℕ). GroupStored u w g n r) (a .map) b)
 
 -- ---- the start of a group that a lane joins
 
@@ -76,7 +73,7 @@ module _ (t : List ℕ) (g : ℕ) (solid : Solid t) (lo : 16 ≤ g) (hi : g ≤ 
   list-own : (b : ℕ) → listIn t g m₀ b ≡ listAt t g b
   list-own b = ap (λ (m : ℕ). listIn t g m b) em
 
-  pub add-leaves : (t₁ t′ : List ℕ) (s k b m x : ℕ) → b ≡ listOf t g s → Moved t t₁ g m₀ m b (listIn t g m₀ b ++ (k ∷ [])) → Stored t₁ t′ g m x
+  pub add-leaves : (t₁ t′ : List ℕ) (s k b m x : ℕ) → b ≡ listOf t g s → ListMoved t t₁ g m₀ m b (listIn t g m₀ b ++ (k ∷ [])) → GroupStored t₁ t′ g m x
       → some x ≡ least (s / 2 ^ g * 2 ^ g) (startAt t g) → Added t t′ g s k
   add-leaves t₁ t′ s k b m x eb v w ex =
       record {
@@ -93,11 +90,11 @@ module _ (t : List ℕ) (g : ℕ) (solid : Solid t) (lo : 16 ≤ g) (hi : g ≤ 
   -- ---- after a lane left
 
   -- where the group's words were stored
-  pub closed : (u t′ : List ℕ) (m r b x : ℕ) → Closing u t′ g m r b x → (y : ℕ) × Stored u t′ g m y
-  closed u t′ m r b x (empty z e w) = (0, subst (λ (n : ℕ). Stored u t′ g n 0) (sym z) w)
+  pub closed : (u t′ : List ℕ) (m r b x : ℕ) → Closing u t′ g m r b x → (y : ℕ) × GroupStored u t′ g m y
+  closed u t′ m r b x (empty z e w) = (0, subst (λ (n : ℕ). GroupStored u t′ g n 0) (sym z) w)
   closed u t′ m r b x (onward d q pos n e tl w) = (q, w)
 
-  closed-now : (u t′ : List ℕ) (m r b x : ℕ) → Closing u t′ g m r b x → (x ≡ never) ⊎ ((q : ℕ) × (startAt t′ g ≡ some q) × Tells r q x)
+  closed-now : (u t′ : List ℕ) (m r b x : ℕ) → Closing u t′ g m r b x → (x ≡ never) ⊎ ((q : ℕ) × (startAt t′ g ≡ some q) × TellsReached r q x)
   closed-now u t′ m r b x (empty z e w) = inl e
   closed-now u t′ m r b x (onward d q pos n e tl w) = inr (q, w .start ∙ rw (ne-eqb m 0 (λ z. omega arith)), tl)
 
@@ -118,7 +115,7 @@ module _ (t : List ℕ) (g : ℕ) (solid : Solid t) (lo : 16 ≤ g) (hi : g ≤ 
       })
       (w .start ∙ rw (ne-eqb m 0 (λ z. omega arith)) (ap some e))
 
-  module _ (t₁ : List ℕ) (start s k b m₁ x : ℕ) (eb : b ≡ listOf t g start) (off : Moved t t₁ g m₀ m₁ b (drop 1 (listIn t g m₀ b))) where
+  module _ (t₁ : List ℕ) (start s k b m₁ x : ℕ) (eb : b ≡ listOf t g start) (off : ListMoved t t₁ g m₀ m₁ b (drop 1 (listIn t g m₀ b))) where
     hb : b < 32
     hb = omega (arith, eb)
 
@@ -128,7 +125,7 @@ module _ (t : List ℕ) (g : ℕ) (solid : Solid t) (lo : 16 ≤ g) (hi : g ≤ 
         (from-own (under t₁ g m₁) b (drop 1 (listAt t g b)) (subst (λ (l : List ℕ). Changed (under t g m₀) (under t₁ g m₁) g b (drop 1 l)) (list-own b) (moved-changed t t₁ _ g m₀ m₁ b off)))
 
     -- it came back
-    pub refile-more : (t₂ t′ : List ℕ) (c m₂ : ℕ) → c ≡ listOf t g s → Moved t₁ t₂ g m₁ m₂ c (listIn t₁ g m₁ c ++ (k ∷ [])) → Closing t₂ t′ g m₂ start b x → Refiled t t′ g start s k true x
+    pub refile-more : (t₂ t′ : List ℕ) (c m₂ : ℕ) → c ≡ listOf t g s → ListMoved t₁ t₂ g m₁ m₂ c (listIn t₁ g m₁ c ++ (k ∷ [])) → Closing t₂ t′ g m₂ start b x → Refiled t t′ g start s k true x
     refile-more t₂ t′ c m₂ ec on cl =
         let w = closed t₂ t′ m₂ start b x cl in
         let s₂ = stored-solid t₂ t′ g m₂ (w .0) lo hi (w .1) (moved-nearly t₁ t₂ _ g m₁ m₂ c on (moved-nearly t t₁ _ g m₀ m₁ b off nearly)) in

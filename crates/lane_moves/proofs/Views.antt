@@ -2,19 +2,17 @@
 use mathlib.Core.Path.{_≡_, refl, sym, ap, subst, _∙_}
 use mathlib.Core.Bool.{Bool}
 use mathlib.Core.Logic.{_⊎_, ⊎-elim}
-use Prim.Native.Nat.{ℕ, _+_, _-_, _*_, _%_, _^_, _≤_, _<_}
+use Prim.Native.Nat.{ℕ, _+_, _-_, _%_, _^_, _≤_, _<_}
 use mathlib.Core.List.{List}
 use native.Mathlib.Omega.{arith}
 use borrow.Author.Tests.{eq-eqb, ne-eqb}
 use lib.Dec.{eqb}
-use lib.ListN.{length}
 use Rattle.units.specs.Plain.{if_then_else_}
 use Rattle.words.specs.Bits.{bit}
 use Rattle.words.specs.Words.{wordAt}
 use Rattle.words.proofs.Runs.{eq-or-ne}
-use Rattle.rings.specs.Rings.{ringAt}
 use Rattle.slot_lists.specs.Lists.{groupsEnd, groupsWord, backWord, startWord, mapWord, ringNumber, groupsAt, backAt, mapOf, listIn, listAt, startAt, Fills, Solid}
-use Rattle.slot_lists.specs.Changes.{Moved, Apart, Stored}
+use Rattle.slot_lists.specs.Changes.{ListMoved, Apart, GroupStored}
 use Rattle.slot_lists.proofs.Laws.{words-below, map-same, start-same, list-same}
 use Rattle.filing.specs.Filing.{Lists}
 use Rattle.filing.proofs.Moves.{Changed}
@@ -62,7 +60,7 @@ solid-nearly t g lo hi s =
 
 -- ---- a list was changed
 
-module _ (t u l : List ℕ) (g m m′ b : ℕ) (v : Moved t u g m m′ b l) where
+module _ (t u l : List ℕ) (g m m′ b : ℕ) (v : ListMoved t u g m m′ b l) where
   pub same-word : (j : ℕ) → j < groupsEnd → wordAt u j ≡ wordAt t j
   same-word = words-below t u (v .below)
 
@@ -112,7 +110,7 @@ module _ (t u l : List ℕ) (g m m′ b : ℕ) (v : Moved t u g m m′ b l) wher
 
 -- ---- the group's words were stored
 
-module _ (t u : List ℕ) (g m r : ℕ) (lo : 16 ≤ g) (hi : g ≤ 31) (v : Stored t u g m r) where
+module _ (t u : List ℕ) (g m r : ℕ) (lo : 16 ≤ g) (hi : g ≤ 31) (v : GroupStored t u g m r) where
   stored-list : (i c : ℕ) → 16 ≤ i → i ≤ 31 → c < 32 → listAt u i c ≡ under t g m i c
   stored-list i c x y z =
       ⊎-elim

@@ -1,7 +1,7 @@
 -- Laws behind the test of a lane: lengths record by record, times by the row's one clock word. Assumes nothing.
 use mathlib.Core.Path.{_≡_, refl, sym, ap, subst, _∙_}
 use mathlib.Core.Bool.{Bool, true, false}
-use Prim.Native.Nat.{ℕ, zero, suc, _+_, _*_, _/_, _%_, _^_, _≤_, _<_}
+use Prim.Native.Nat.{ℕ, zero, suc, _+_, _*_, _/_, _%_, _≤_, _<_}
 use mathlib.Core.List.{List, [], _∷_}
 use mathlib.Core.Option.{Option, none, some}
 use native.Mathlib.Omega.{arith}
@@ -16,14 +16,14 @@ use Rattle.rounds.specs.Round as round
 use Rattle.rounds.specs.Good.{Lengths}
 use Rattle.waiting.specs.Waiting.{Waiting, first, held, GoodWaiting}
 use Rattle.waiting.proofs.Laws.{held-hand, held-none, held-most, good-nothing}
-use Rattle.rules.specs.State.{Rec, Setting, Lane, firstOf, slot, group, laneDepth}
+use Rattle.rules.specs.State.{Rec, Lane, firstOf, slot, group, laneDepth}
 use Rattle.rules.specs.Calls as rules
 use Rattle.rules.specs.Good.{Times}
 use Rattle.digits.specs.Digits.{digit}
 use Rattle.digits.specs.Under.{AllUnder, Clear, Gathered}
 use Rattle.digits.proofs.Under.{tops-clear, clear-tops}
 use Rattle.table.specs.Layout.{cells, lengthsCell, lengthWords, lengthCell, placeInLane, rowAt, entryAt}
-use Rattle.table.specs.Means.{presentAt, recOf, laneRing, givenOf, waitingOf, timedByWord, RowAgrees, RowPaced, PlacesFit, Housed, laneOf}
+use Rattle.table.specs.Means.{presentAt, recOf, laneRing, givenOf, waitingOf, timedByWord, RowAgrees, RowPaced, PlacesFit, Housed}
 use Rattle.table.specs.declared.LaneRow.{LaneRow}
 use Rattle.table.proofs.Stores.{cell-is, word-before}
 use Rattle.table.proofs.Rows.{lane-present, length-ring, waiting-plain, waiting-none, waiting-shared, waiting-held}
@@ -58,17 +58,14 @@ module _ (t : List ℕ) (k : ℕ) (l : LaneRow) (hk : k < 64) where
   under-places f i h = omega (arith, place-length i h, f (i / 4) (omega arith) (i % 4) (omega arith))
 
 -- then each record's length is within
-pub noRec : round.BareRec
-noRec = record { mark = 0; len = 0 }
-
-pub lengths-all : (m : ℕ) (q : List round.BareRec) → ((i : ℕ) → i < length q → (1 ≤ getD q i noRec .len) × (getD q i noRec .len ≤ m)) → Lengths m q
+pub lengths-all : (m : ℕ) (q : List round.BareRec) → ((i : ℕ) → i < length q → (1 ≤ getD q i round.noRec .len) × (getD q i round.noRec .len ≤ m)) → Lengths m q
 lengths-all m [] f = tt
 lengths-all m (r ∷ rs) f = (f 0 (omega arith) .0, f 0 (omega arith) .1, lengths-all m rs (λ i h. f (suc i) (omega arith)))
 
 ring-lengths : (w : List ℕ) (k h n : ℕ) (l : LaneRow) → PlacesFit w k l → Lengths (l .longest .0) (laneRing w k h n)
 unfolding laneRing entryAt
 ring-lengths w k h n l f =
-    lengths-all (l .longest .0) (laneRing w k h n) (λ i p. let q : i < n = omega (arith, length-ring w k h n) in rw (getD-tab n i (λ j. recOf (entryAt w (placeInLane k (h + j)))) noRec q) (omega arith, at (h + i)))
+    lengths-all (l .longest .0) (laneRing w k h n) (λ i p. let q : i < n = omega (arith, length-ring w k h n) in rw (getD-tab n i (λ j. recOf (entryAt w (placeInLane k (h + j)))) round.noRec q) (omega arith, at (h + i)))
   where
     at : (j : ℕ) → entryAt w (placeInLane k j) .length .0 ≤ l .longest .0
     at j = let same : placeInLane k (j % laneDepth) ≡ placeInLane k j = omega arith in rw same at (f (j % laneDepth) (omega arith))

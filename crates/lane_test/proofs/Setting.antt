@@ -1,4 +1,4 @@
--- Laws behind the tests of a setting: c by its two bounds, the group by the slot. Assumes nothing.
+-- What the answer of a test says, and laws behind the tests of a setting: c by its two bounds, the group by the slot. Assumes nothing.
 use mathlib.Core.Path.{_≡_, sym, ap, _∙_}
 use mathlib.Core.Bool.{Bool, true, false, not, false≢true}
 use Prim.Native.Nat.{ℕ, zero, suc, _+_, _-_, _*_, _^_, _≤_, _<_}
@@ -13,6 +13,7 @@ use Rattle.rules.specs.State.{charge, rate, group}
 use Rattle.table.specs.Means.{givenOf}
 use Rattle.table.specs.declared.LaneRow.{LaneRow}
 use Rattle.lane_test.specs.Says.{Says}
+pub use Rattle.round_test.proofs.Answers.{says-true, says-false}
 
 -- ---- what a test said
 

@@ -4,11 +4,12 @@ use mathlib.Core.Bool.{Bool, true, false, not, false≢true}
 use Prim.Native.Nat.{ℕ, _+_, _*_, _/_, _%_, _≤_, _<_}
 use mathlib.Core.List.{List}
 use native.Mathlib.Omega.{arith}
+use borrow.Author.Tests.{not-false}
 use Rattle.words.specs.Words.{wordAt}
 use Rattle.digits.specs.Digits.{digit}
-use Rattle.rounds.specs.Round.{Shared, sharedHeld}
+use Rattle.rounds.specs.Round.{sharedHeld}
 use Rattle.rounds.specs.Good.{GoodShared}
-use Rattle.turns.specs.Turns.{sharedOf, Ordered}
+use Rattle.turns.specs.Turns.{sharedOf}
 use Rattle.turns.proofs.Train.{shared-same}
 use Rattle.round_test.specs.Shared.{numbersAt, lengthsAt, LengthsFit, SharedGood}
 use Rattle.round_test.proofs.Made.{shared-made}
@@ -84,8 +85,4 @@ module _ (v : ℕ) (w : List ℕ) (k : ℕ) (p : presentAt w k ≡ true) where
 
   pub lane-shared : RowAgrees row → RowPaced row → row .count ≤ laneDepth → TimeGood v row (row .group) → PlacesFit w k row → 0 < row .count → not (row .shared) ≡ false → (b : Bool) → Says b (TrainsGood w k row) → Says b (LaneGood v w k)
   lane-shared a c r t f h u true s = lane-made v w k p a (λ h. c) r (time-paced c t) (λ h. f) (λ h e. s)
-  lane-shared a c r t f h u false s = λ g. s (lane-trains v w k p g h (is-true (row .shared) u))
-    where
-      is-true : (b : Bool) → not b ≡ false → b ≡ true
-      is-true true e = refl
-      is-true false e = absurd (false≢true (sym e))
+  lane-shared a c r t f h u false s = λ g. s (lane-trains v w k p g h (not-false (row .shared) u))

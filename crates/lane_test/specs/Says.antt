@@ -8,7 +8,7 @@
 --
 -- Assumes nothing.
 use mathlib.Core.Path.{_≡_}
-use Prim.Native.Nat.{ℕ, _+_, _*_, _^_, _≤_, _<_}
+use Prim.Native.Nat.{ℕ, _+_, _*_, _^_, _<_}
 use mathlib.Core.List.{List}
 use Rattle.units.specs.Numbers.{roundDown}
 use Rattle.rounds.specs.Good.{GoodShared}

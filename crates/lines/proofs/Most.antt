@@ -13,31 +13,27 @@ use mathlib.Core.Option.{Option, none, some}
 use lib.ListN.{length, length-append}
 use lib.Seq.{length-sets}
 use Rattle.text.specs.Decimal.{decimal, signed}
-use Rattle.text.proofs.Widths.{length-decimal, width-le}
+use Rattle.text.proofs.Widths.{decimal-le}
 use Rattle.text.proofs.Signed.{signed-most}
 use Rattle.rules.specs.Calls.{Reply, accepted, taken, seen, words, lagged, restarted, refused}
 use Rattle.lines.proofs.Writing.{line-long, wrote-both}
-use Rattle.lines.specs.Line.{spaced, line, putOk, takeWord, lookWord, verb, setsWord, noWord, recordLine, noLine, lineOf, Short, Wrote, Line}
-
--- a number below 10 ^ k has at most k digits
-written : (n k : ℕ) → 0 < k → n < 10 ^ k → length (decimal n) ≤ k
-written n k p h = omega (arith, length-decimal n, width-le n k p h)
+use Rattle.lines.specs.Line.{spaced, textLine, putOk, takeWord, lookWord, verb, setsWord, noWord, recordLine, noLine, lineOf, Short, Wrote, Line}
 
 -- the numbers that the types allow, by their bits
 byte : (n : ℕ) → n < 2 ^ 8 → length (decimal n) ≤ 3
-byte n h = written n 3 (omega arith) (omega arith)
+byte n h = decimal-le n 3 (omega arith) (omega arith)
 
 half : (n : ℕ) → n < 2 ^ 32 → length (decimal n) ≤ 10
-half n h = written n 10 (omega arith) (omega arith)
+half n h = decimal-le n 10 (omega arith) (omega arith)
 
 full : (n : ℕ) → n < 2 ^ 64 → length (decimal n) ≤ 20
-full n h = written n 20 (omega arith) (omega arith)
+full n h = decimal-le n 20 (omega arith) (omega arith)
 
 more : (n : ℕ) (ns : List ℕ) (k : ℕ) → length (decimal n) ≤ k → length (spaced (n ∷ ns)) ≤ 1 + k + length (spaced ns)
 unfolding spaced
 more n ns k h = omega (arith, length-append (32 ∷ decimal n) (spaced ns))
 
-ended : (word ns : List ℕ) → length (line word ns) ≡ length word + length (spaced ns) + 1
+ended : (word ns : List ℕ) → length (textLine word ns) ≡ length word + length (spaced ns) + 1
 ended word ns = omega (arith, length-append (spaced ns) (10 ∷ []), line-long word ns)
 
 pub record-most : (word : List ℕ) (shared : Bool) (l t m n : ℕ) → length word ≤ 10 → Short (taken l t m n) → length (recordLine word shared l t m n) ≤ 64
@@ -54,7 +50,7 @@ record-most word true l t m n e h =
       more t [] 3 (byte t (h .1)),
     )
 
-pub one-most : (word : List ℕ) (n : ℕ) → length word ≤ 10 → n < 2 ^ 64 → length (line word (n ∷ [])) ≤ 64
+pub one-most : (word : List ℕ) (n : ℕ) → length word ≤ 10 → n < 2 ^ 64 → length (textLine word (n ∷ [])) ≤ 64
 unfolding spaced
 one-most word n e h = omega (arith, ended word (n ∷ []), more n [] 20 (full n h))
 

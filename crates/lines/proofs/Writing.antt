@@ -23,7 +23,7 @@ use lib.ListN.{length, set, drop, getD, length-append}
 use lib.Seq.{sets, length-sets, drop-cons, drop-length}
 use Rattle.text.specs.Decimal.{decimal}
 use Rattle.text.proofs.Stores.{sets-append}
-use Rattle.lines.specs.Line.{spaced, line, Wrote}
+use Rattle.lines.specs.Line.{spaced, textLine, Wrote}
 
 -- `before` with the whole text at a place is `now` with the rest at p
 pub record Left (before now : List ℕ) (at : ℕ) (text : List ℕ) (p : ℕ) (rest : List ℕ) : Type 0 where
@@ -63,41 +63,41 @@ pub wrote-byte : (a : List ℕ) (p x : ℕ) → Wrote a (set a p x) p (x ∷ [])
 wrote-byte a p x = record { is = refl; past = refl }
 
 -- a line's first number and the rest
-line-more : (n : ℕ) (ns : List ℕ) → line [] (n ∷ ns) ≡ (32 ∷ decimal n) ++ line [] ns
+line-more : (n : ℕ) (ns : List ℕ) → textLine [] (n ∷ ns) ≡ (32 ∷ decimal n) ++ textLine [] ns
 unfolding spaced
 line-more n ns = append-assoc (32 ∷ decimal n) (spaced ns) (10 ∷ [])
 
-line-end : line [] [] ≡ 10 ∷ []
+line-end : textLine [] [] ≡ 10 ∷ []
 unfolding spaced
 line-end = refl
 
-pub left-word : {a b : List ℕ} {at p : ℕ} (word ns : List ℕ) → Wrote a b at word p → Left a b at (line word ns) p (line [] ns)
-left-word word ns w = left-part word (line [] ns) (left-whole _ _ _) w
+pub left-word : {a b : List ℕ} {at p : ℕ} (word ns : List ℕ) → Wrote a b at word p → Left a b at (textLine word ns) p (textLine [] ns)
+left-word word ns w = left-part word (textLine [] ns) (left-whole _ _ _) w
 
 module _ {before now : List ℕ} {at : ℕ} {text : List ℕ} {p : ℕ} where
-  number-next : (n : ℕ) (ns : List ℕ) → Left before now at text p (line [] (n ∷ ns)) → Left before now at text p ((32 ∷ decimal n) ++ line [] ns)
+  number-next : (n : ℕ) (ns : List ℕ) → Left before now at text p (textLine [] (n ∷ ns)) → Left before now at text p ((32 ∷ decimal n) ++ textLine [] ns)
   number-next n ns l = subst (λ (r : List ℕ). Left before now at text p r) (line-more n ns) l
 
-  pub left-number : (n : ℕ) (ns : List ℕ) {next : List ℕ} {q : ℕ} → Left before now at text p (line [] (n ∷ ns)) → Wrote now next p (32 ∷ decimal n) q → Left before next at text q (line [] ns)
-  left-number n ns l w = left-part (32 ∷ decimal n) (line [] ns) (number-next n ns l) w
+  pub left-number : (n : ℕ) (ns : List ℕ) {next : List ℕ} {q : ℕ} → Left before now at text p (textLine [] (n ∷ ns)) → Wrote now next p (32 ∷ decimal n) q → Left before next at text q (textLine [] ns)
+  left-number n ns l w = left-part (32 ∷ decimal n) (textLine [] ns) (number-next n ns l) w
 
-  pub number-fits : (n : ℕ) (ns : List ℕ) → Left before now at text p (line [] (n ∷ ns)) → at + length text ≤ length before → p + length (32 ∷ decimal n) ≤ length now
-  number-fits n ns l h = left-fits (32 ∷ decimal n) (line [] ns) (number-next n ns l) h
+  pub number-fits : (n : ℕ) (ns : List ℕ) → Left before now at text p (textLine [] (n ∷ ns)) → at + length text ≤ length before → p + length (32 ∷ decimal n) ≤ length now
+  number-fits n ns l h = left-fits (32 ∷ decimal n) (textLine [] ns) (number-next n ns l) h
 
-  feed-next : Left before now at text p (line [] []) → Left before now at text p ((10 ∷ []) ++ [])
+  feed-next : Left before now at text p (textLine [] []) → Left before now at text p ((10 ∷ []) ++ [])
   feed-next l = subst (λ (r : List ℕ). Left before now at text p r) line-end l
 
-  pub left-feed : Left before now at text p (line [] []) → Wrote before (set now p 10) at text (p + 1)
+  pub left-feed : Left before now at text p (textLine [] []) → Wrote before (set now p 10) at text (p + 1)
   left-feed l = left-none (left-part (10 ∷ []) [] (feed-next l) (wrote-byte _ _ _))
 
-  pub feed-fits : Left before now at text p (line [] []) → at + length text ≤ length before → p < length now
+  pub feed-fits : Left before now at text p (textLine [] []) → at + length text ≤ length before → p < length now
   feed-fits l h = omega (arith, left-fits (10 ∷ []) [] (feed-next l) h)
 
 -- what is left of a line from its i-th number on
 abbrev pub tail : List ℕ → ℕ → List ℕ
 tail ns i = spaced (drop i ns) ++ (10 ∷ [])
 
-pub line-long : (word ns : List ℕ) → length (line word ns) ≡ length word + length (tail ns 0)
+pub line-long : (word ns : List ℕ) → length (textLine word ns) ≡ length word + length (tail ns 0)
 line-long word ns = length-append word (tail ns 0)
 
 pub tail-end : (ns : List ℕ) (i : ℕ) → i ≡ length ns → tail ns i ≡ 10 ∷ []

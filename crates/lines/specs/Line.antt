@@ -1,7 +1,7 @@
 -- The answer lines of a session (R10.12), as ASCII bytes.
 --
 --   spaced      numbers, each after a space
---   line        a word, numbers, and the line feed
+--   textLine    a word, numbers, and the line feed
 --   recordLine  a record's line: of a shared lane it ends with the train
 --   lineOf      the line of a reply; the flag says whether the lane of a record is shared
 --   lanesLine   `lanes N`, once the setup is read
@@ -33,8 +33,8 @@ spaced [] = []
 spaced (n ∷ ns) = (32 ∷ decimal n) ++ spaced ns
 
 -- the line feed is 10
-abbrev pub line : List ℕ → List ℕ → List ℕ
-line word ns = word ++ (spaced ns ++ (10 ∷ []))
+abbrev pub textLine : List ℕ → List ℕ → List ℕ
+textLine word ns = word ++ (spaced ns ++ (10 ∷ []))
 
 -- ---- the words
 
@@ -83,8 +83,8 @@ endWord = 101 ∷ 110 ∷ 100 ∷ []
 
 -- R10.12: `no NUMBER`, `no NUMBER PLACE`
 abbrev pub noLine : ℕ → Option ℕ → List ℕ
-noLine n none = line noWord (n ∷ [])
-noLine n (some p) = line noWord (n ∷ p ∷ [])
+noLine n none = textLine noWord (n ∷ [])
+noLine n (some p) = textLine noWord (n ∷ p ∷ [])
 
 -- R10.12: `lag N`, the one line with a sign
 abbrev pub lagLine : ℤ → List ℕ
@@ -92,26 +92,26 @@ lagLine z = lagWord ++ (signed z ++ (10 ∷ []))
 
 -- a word and a record: lane, mark, length; and the train where the lane is shared
 abbrev pub recordLine : List ℕ → Bool → ℕ → ℕ → ℕ → ℕ → List ℕ
-recordLine word false l t m n = line word (l ∷ m ∷ n ∷ [])
-recordLine word true l t m n = line word (l ∷ m ∷ n ∷ t ∷ [])
+recordLine word false l t m n = textLine word (l ∷ m ∷ n ∷ [])
+recordLine word true l t m n = textLine word (l ∷ m ∷ n ∷ t ∷ [])
 
 -- R10.12: a line for each case of a reply
 abbrev pub lineOf : Bool → Reply → List ℕ
-lineOf shared (accepted n) = line putOk (n ∷ [])
+lineOf shared (accepted n) = textLine putOk (n ∷ [])
 lineOf shared (taken l t m n) = recordLine takeWord shared l t m n
 lineOf shared (seen l t m n) = recordLine lookWord shared l t m n
-lineOf shared (words er ir eb ib) = line setsWord (er ∷ ir ∷ eb ∷ ib ∷ [])
+lineOf shared (words er ir eb ib) = textLine setsWord (er ∷ ir ∷ eb ∷ ib ∷ [])
 lineOf shared (lagged z) = lagLine z
-lineOf shared restarted = line restartOk []
+lineOf shared restarted = textLine restartOk []
 lineOf shared (refused n p) = noLine n p
 
 -- R10.12: `lanes N`
 abbrev pub lanesLine : ℕ → List ℕ
-lanesLine n = line lanesWord (n ∷ [])
+lanesLine n = textLine lanesWord (n ∷ [])
 
 -- R10.12: `end N`
 abbrev pub endLine : ℕ → List ℕ
-endLine n = line endWord (n ∷ [])
+endLine n = textLine endWord (n ∷ [])
 
 -- ---- their length
 

@@ -9,7 +9,7 @@ ghost use lib.ListN.{length};
 ghost use Rattle.text.specs.Decimal.{decimal};
 ghost use Rattle.rules.specs.Calls.{words};
 ghost use Rattle.rules.specs.Reads.{number, placeOf};
-ghost use Rattle.lines.specs.Line.{placeIs, line, putOk, restartOk, verb, recordLine, setsWord, lagLine, noLine, lanesLine, endLine, Words32, Wrote, Line};
+ghost use Rattle.lines.specs.Line.{placeIs, textLine, putOk, restartOk, verb, recordLine, setsWord, lagLine, noLine, lanesLine, endLine, Words32, Wrote, Line};
 use rules::Record;
 use rules::Refusal;
 use rules::SetWords;
@@ -32,8 +32,8 @@ fn put_spaced(a: &mut [u8], at: usize, n: u64) -> usize
 
 // A word, numbers each after a space, and the line feed.
 fn put_line(a: &mut [u8], at: usize, word: &[u8], ns: &[u64]) -> usize
-    requires { ⌜ at + length (line (now word) (now ns)) ≤ length (now a) ⌝ }
-    ensures { λ r. ⌜ Wrote (now (a .entry)) (now (a .exit)) at (line (now (word .entry)) (now (ns .entry))) r ⌝ }
+    requires { ⌜ at + length (textLine (now word) (now ns)) ≤ length (now a) ⌝ }
+    ensures { λ r. ⌜ Wrote (now (a .entry)) (now (a .exit)) at (textLine (now (word .entry)) (now (ns .entry))) r ⌝ }
 {
     let mut p = put_word(a, at, word);
     let mut i = 0;
@@ -48,7 +48,7 @@ fn put_line(a: &mut [u8], at: usize, word: &[u8], ns: &[u64]) -> usize
 // A word and one number.
 fn put_one(a: &mut [u8], at: usize, word: &[u8], n: u64) -> usize
     requires { ⌜ (length (now word) ≤ 10) × (at + 64 ≤ length (now a)) ⌝ }
-    ensures { λ r. ⌜ Line (now (a .entry)) (now (a .exit)) at (line (now (word .entry)) (n ∷ [])) r ⌝ }
+    ensures { λ r. ⌜ Line (now (a .entry)) (now (a .exit)) at (textLine (now (word .entry)) (n ∷ [])) r ⌝ }
 {
     let ns = [n];
     put_line(a, at, word, &ns)
@@ -57,7 +57,7 @@ fn put_one(a: &mut [u8], at: usize, word: &[u8], n: u64) -> usize
 // `put ok N`.
 pub fn put_accepted(a: &mut [u8], at: usize, n: u64) -> usize
     requires { ⌜ at + 64 ≤ length (now a) ⌝ }
-    ensures { λ r. ⌜ Line (now (a .entry)) (now (a .exit)) at (line putOk (n ∷ [])) r ⌝ }
+    ensures { λ r. ⌜ Line (now (a .entry)) (now (a .exit)) at (textLine putOk (n ∷ [])) r ⌝ }
 {
     let p = put_word(a, at, b"put ok");
     let q = put_spaced(a, p, n);
@@ -67,8 +67,8 @@ pub fn put_accepted(a: &mut [u8], at: usize, n: u64) -> usize
 
 // Three numbers, each after a space, and the line feed.
 fn put_three(a: &mut [u8], at: usize, l: u64, m: u64, n: u64) -> usize
-    requires { ⌜ at + length (line [] (l ∷ m ∷ n ∷ [])) ≤ length (now a) ⌝ }
-    ensures { λ r. ⌜ Wrote (now (a .entry)) (now (a .exit)) at (line [] (l ∷ m ∷ n ∷ [])) r ⌝ }
+    requires { ⌜ at + length (textLine [] (l ∷ m ∷ n ∷ [])) ≤ length (now a) ⌝ }
+    ensures { λ r. ⌜ Wrote (now (a .entry)) (now (a .exit)) at (textLine [] (l ∷ m ∷ n ∷ [])) r ⌝ }
 {
     let p = put_spaced(a, at, l);
     let q = put_spaced(a, p, m);
@@ -122,7 +122,7 @@ pub fn put_record(a: &mut [u8], at: usize, x: Record, shared: bool) -> usize
 // `sets A B C D`.
 pub fn put_sets(a: &mut [u8], at: usize, w: SetWords) -> usize
     requires { ⌜ Words32 (words (w .er) (w .ir) (w .eb) (w .ib)) × (at + 64 ≤ length (now a)) ⌝ }
-    ensures { λ r. ⌜ Line (now (a .entry)) (now (a .exit)) at (line setsWord (w .er ∷ w .ir ∷ w .eb ∷ w .ib ∷ [])) r ⌝ }
+    ensures { λ r. ⌜ Line (now (a .entry)) (now (a .exit)) at (textLine setsWord (w .er ∷ w .ir ∷ w .eb ∷ w .ib ∷ [])) r ⌝ }
 {
     let ns = [w.er, w.ir, w.eb, w.ib];
     put_line(a, at, b"sets", &ns)
@@ -242,7 +242,7 @@ pub fn put_end(a: &mut [u8], at: usize, n: u64) -> usize
 // `restart ok`.
 pub fn put_restarted(a: &mut [u8], at: usize) -> usize
     requires { ⌜ at + 64 ≤ length (now a) ⌝ }
-    ensures { λ r. ⌜ Line (now (a .entry)) (now (a .exit)) at (line restartOk []) r ⌝ }
+    ensures { λ r. ⌜ Line (now (a .entry)) (now (a .exit)) at (textLine restartOk []) r ⌝ }
 {
     put_line(a, at, b"restart ok", &[])
 }

@@ -4,9 +4,8 @@ use mathlib.Core.Bool.{Bool, true, false}
 use mathlib.Core.Option.{some}
 use mathlib.Core.Logic.{⊎-elim}
 use Prim.Native.Nat.{ℕ, _+_, _-_, _*_, _/_, _%_, _^_, _≤_, _<_}
-use mathlib.Core.List.{List, [], _∷_}
+use mathlib.Core.List.{List}
 use native.Mathlib.Omega.{arith}
-use lib.ListN.{length}
 use lib.Pow.{pow-pos, pow-mono, shl-shr}
 use Rattle.units.specs.Plain.{if_then_else_, times}
 use Rattle.words.specs.Bits.{bit}
@@ -26,8 +25,9 @@ use Rattle.filing.proofs.Sift.{times-sift}
 use Rattle.filing.proofs.Moves.{stands}
 use Rattle.filing.proofs.Slots.{start-slot, window}
 use Rattle.units.proofs.Whole.{whole-slots, slot-part}
+use Rattle.units.proofs.Lists.{times-length}
 use Rattle.filing.proofs.Starts.{in-list}
-use Rattle.lists_test.specs.Stored.{RingFine, startSlot, listSlot, GroupFine, Stored}
+use Rattle.lists_test.specs.Stored.{RingFine, startSlot, listSlot, GroupFine, ListsStored}
 use Rattle.lists_test.proofs.InARow.{in-a-row, RowSays, row-slot}
 
 module _ (t : List ℕ) (s : State) (lanes : ℕ) (rows : (k : ℕ) → holds (laneAt s k) ≡ true → RowSays t s k)
@@ -77,11 +77,7 @@ module _ (t : List ℕ) (s : State) (lanes : ℕ) (rows : (k : ℕ) → holds (l
       first-on =
           let k = lead .at in
           let n : times k (listAt t g (startSlot t g % 32)) ≡ 1 = ap (λ (x : ℕ). times k (listAt t g (x % 32))) (sym lead-slot) ∙ in-list B (solid .back-whole) s (listAt t) g (ag .filed) (good .order) lo hi k (lead .is) in
-          ap (bit (startSlot t g % 32)) (sym (map-on t g has)) ∙ list-some t g (mapOf t g) (startSlot t g % 32) (some-length (listAt t g (startSlot t g % 32)) k (omega (arith, n)))
-        where
-          some-length : (l : List ℕ) (k : ℕ) → 0 < times k l → 0 < length l
-          some-length [] k h = absurd (omega arith)
-          some-length (x ∷ xs) k h = omega arith
+          ap (bit (startSlot t g % 32)) (sym (map-on t g has)) ∙ list-some t g (mapOf t g) (startSlot t g % 32) (times-length k (listAt t g (startSlot t g % 32)) (omega (arith, n)))
 
       ring-fine : (b : ℕ) → b < 32 → bit b (wordAt t (mapWord g)) ≡ 1 → RingFine t (ringNumber g b) g (listSlot t g b)
       ring-fine b hb e =
@@ -112,7 +108,7 @@ module _ (t : List ℕ) (s : State) (lanes : ℕ) (rows : (k : ℕ) → holds (l
             rings = ring-fine;
           }
 
-    pub agrees-stored : Stored t lanes
+    pub agrees-stored : ListsStored t lanes
     agrees-stored =
         record {
           back-whole = solid .back-whole;

@@ -1,4 +1,4 @@
--- The walk over a group's lists. Assumes nothing.
+-- A walk over the set bits of a word, and that over a group's lists. Assumes nothing.
 use mathlib.Core.Path.{_≡_, sym, ap, subst}
 use mathlib.Core.Logic.{⊎-elim}
 use Prim.Native.Nat.{ℕ, suc, _+_, _^_, _≤_, _<_}
@@ -18,6 +18,24 @@ use Rattle.filing.specs.Filing.{flat}
 use Rattle.filing.proofs.Flat.{flat-skip, times-more, times-part}
 use Rattle.lists_test.specs.Stored.{RingFine, listSlot, GroupFine, ringIn, NotListedYet, Adds}
 use Rattle.lists_test.proofs.WordBits.{bit-under}
+
+-- ---- a walk over the set bits of a word
+
+module _ (word : ℕ) where
+  -- bits that are not set add nothing
+  pub flat-next : (f : ℕ → List ℕ) → ((i : ℕ) → (bit i word ≡ 1 → ⊥) → f i ≡ []) → (b c : ℕ) → Next word b c → flat c f ≡ flat b f
+  flat-next f out b c n = flat-skip b c f (n .on) (λ i p q. out i (λ e. omega (arith, e, n .absent i p q)))
+
+  module _ (P : ℕ → Type 0) (b : ℕ) (below : (i : ℕ) → i < b → bit i word ≡ 1 → P i) where
+    -- what is so of the set bits below b is so of those below the next one
+    pub fine-next : (c : ℕ) → Next word b c → (i : ℕ) → i < c → bit i word ≡ 1 → P i
+    fine-next c n i h e = elim (decLt i b) [ yes q ↦ below i q e | no q ↦ absurd (omega (arith, e, n .absent i (omega arith) h)) ]
+
+    -- and with b itself of those up to b
+    pub fine-more : P b → (i : ℕ) → i < b + 1 → bit i word ≡ 1 → P i
+    fine-more p i h e = ⊎-elim (λ (q : i ≡ b). subst P (sym q) p) (λ (ne : i ≡ b → ⊥). below i (omega (arith, ne)) e) (eq-or-ne i b)
+
+-- ---- the lists of a group
 
 module _ (t : List ℕ) (g : ℕ) where
   abbrev map : ℕ
@@ -39,15 +57,10 @@ module _ (t : List ℕ) (g : ℕ) where
     -- on to the next list that has lanes
     pub walk-next : (b c met : ℕ) → Walked before b met → Next map b c → Walked before c met
     walk-next b c met w n =
-        let same : flat c (ringIn t g) ≡ flat b (ringIn t g) = flat-skip b c (ringIn t g) (n .on) (λ i p q. ring-out i (λ e. omega (arith, e, n .absent i p q))) in
         record {
           ends = n .ends;
-          fine = λ i h e.
-              elim (decLt i b) [
-                | yes q ↦ w .fine i q e
-                | no q ↦ absurd (omega (arith, e, n .absent i (omega arith) h))
-              ];
-          adds = λ k. omega (arith, w .adds k, ap (times k) same);
+          fine = fine-next map (λ (i : ℕ). RingFine t (ringNumber g i) g (listSlot t g i)) b (w .fine) c n;
+          adds = λ k. omega (arith, w .adds k, ap (times k) (flat-next map (ringIn t g) ring-out b c n));
         }
 
     pub walk-none : Walked before 0 before
@@ -59,11 +72,7 @@ module _ (t : List ℕ) (g : ℕ) where
       walk-step met′ fine adds =
           record {
             ends = omega arith;
-            fine = λ c h e.
-                ⊎-elim
-                (λ (q : c ≡ b). subst (λ (c : ℕ). RingFine t (ringNumber g c) g (listSlot t g c)) (sym q) fine)
-                (λ (ne : c ≡ b → ⊥). w .fine c (omega (arith, ne)) e)
-                (eq-or-ne c b);
+            fine = fine-more map (λ (i : ℕ). RingFine t (ringNumber g i) g (listSlot t g i)) b (w .fine) fine;
             adds = λ k. omega (arith, adds k, w .adds k, times-more b k (ringIn t g), ap (times k) (ring-in b has), ap (λ (n : ℕ). times k (flat n (ringIn t g))) (add-one b));
           }
 

@@ -18,16 +18,16 @@ use Rattle.slot_lists.specs.Lists.{groupsAt, backAt, startWord, mapWord, mapOf,
 use Rattle.slot_lists.proofs.Laws.{map-on, map-off, map-held, some-bit, start-on, start-off, list-on, list-some}
 use Rattle.rules.specs.State.{State, group, slot, holds, laneAt}
 use Rattle.rules.specs.Sets.{inGroup, groupStart}
-use Rattle.rules.proofs.Bools.{not-passed}
 use Rattle.rules.proofs.GroupRule.{in-group, is-in-group, group-low}
 use Rattle.filing.specs.Filing.{slotAt, flat, inARow, Filing, Starting, Agrees}
 use Rattle.filing.proofs.Moves.{is-standing}
 use Rattle.filing.proofs.Slots.{low-unique, start-slot}
 use Rattle.units.proofs.Whole.{whole-slots}
+use Rattle.units.proofs.Bools.{not-passed}
 use Rattle.filing.proofs.Starts.{Named}
 use Rattle.filing.proofs.AlikeFiled.{row-filed}
 use Rattle.filing.proofs.Flat.{times-in, times-where}
-use Rattle.lists_test.specs.Stored.{startSlot, listSlot, GroupFine, Stored}
+use Rattle.lists_test.specs.Stored.{startSlot, listSlot, GroupFine, ListsStored}
 use Rattle.lists_test.proofs.WordBits.{bit-under, bit-over}
 use Rattle.lists_test.proofs.InARow.{in-a-row, RowSays, row-slot}
 
@@ -36,7 +36,7 @@ module _ (t : List ℕ) (s : State) (lanes : ℕ) (rows : (k : ℕ) → holds (l
   abbrev B : ℕ
   B = backAt t
 
-  module _ (st : Stored t lanes) where
+  module _ (st : ListsStored t lanes) where
     abbrev groups : ℕ
     groups = groupsAt t
 

@@ -9,11 +9,11 @@ use borrow.Author.Tests.{eq-eqb, ne-eqb}
 use lib.ListN.{length, getD, take, drop, take-append-drop}
 use lib.Seq.{take-suc, drop-cons, take-all}
 use Rattle.units.specs.Plain.{times}
+use Rattle.units.proofs.Lists.{times-append}
 use Rattle.words.specs.Bits.{bit}
 use Rattle.words.proofs.Bits.{bit-add-same, bit-add-other}
 use Rattle.words.proofs.Runs.{eq-or-ne}
 use Rattle.rings.specs.Rings.{ringAt}
-use Rattle.filing.proofs.Flat.{times-append}
 use Rattle.lists_test.specs.Stored.{FitsSlot, RingFine, NotListedYet, Adds}
 
 -- j of the ring's lanes are read

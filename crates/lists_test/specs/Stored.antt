@@ -4,7 +4,7 @@
 --   FitsSlot     lane k's own words: it is of group g, and its clock word lies in slot `at`
 --   RingFine     a ring that keeps a list has lanes, and each of them fits
 --   GroupFine    the words of a group that has lanes, and each of its rings that keeps a list
---   Stored       all groups, and the lanes in all lists are those that hold records, each once
+--   ListsStored   all groups, and the lanes in all lists are those that hold records, each once
 --   Adds         a word of lanes, with those of a list more
 --
 -- Assumes nothing.
@@ -55,7 +55,7 @@ ringIn t g b = if eqb (bit b (wordAt t (mapWord g))) 1 then ringAt t (ringNumber
 unfoldable pub groupIn : List ℕ → ℕ → List ℕ
 groupIn t g = if eqb (bit g (groupsAt t)) 1 then flat 32 (ringIn t g) else []
 
-pub record Stored (t : List ℕ) (lanes : ℕ) : Type 0 where
+pub record ListsStored (t : List ℕ) (lanes : ℕ) : Type 0 where
   pub back-whole : backAt t % 2 ^ 31 ≡ 0
   pub back-small : backAt t < 2 ^ 36
   pub low : groupsAt t % 65536 ≡ 0

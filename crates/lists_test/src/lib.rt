@@ -7,7 +7,7 @@ ghost use Prim.Native.Nat.{_/_, _^_, _<_, _≤_};
 ghost use Rattle.rings.specs.Rings.{Long};
 ghost use Rattle.slot_lists.specs.Lists.{backAt};
 ghost use Rattle.lane_test.specs.Says.{Says};
-ghost use Rattle.lists_test.specs.Stored.{FitsSlot, RingSays, GroupSays, Stored};
+ghost use Rattle.lists_test.specs.Stored.{FitsSlot, RingSays, GroupSays, ListsStored};
 use rings::entry;
 use rings::held;
 use slot_lists::BACK;
@@ -117,7 +117,7 @@ fn group_met(t: &[u8], g: u32, back: u64, before: u64) -> Met
 // Whether what is stored of the slot lists agrees with the lanes' own words, `lanes` being the word of those that hold records.
 pub fn lists_good(t: &[u8], lanes: u64) -> bool
     requires { ⌜ Long (now t) ⌝ }
-    ensures { λ r. ⌜ Says r (Stored (now (t .entry)) lanes) ⌝ }
+    ensures { λ r. ⌜ Says r (ListsStored (now (t .entry)) lanes) ⌝ }
 {
     let back = word(t, BACK);
     if back % BACK_UNIT != 0 {

@@ -4,13 +4,13 @@ use mathlib.Core.Path.{_≡_, refl, sym, ap, subst, _∙_}
 use mathlib.Core.List.{List, [], _∷_, _++_, map}
 use mathlib.Core.Option.{none}
 use lib.IntN.{subℕ}
-use lib.ListN.{replicate, getD}
+use lib.ListN.{getD}
 use Rattle.rules.specs.State.{Setting, Lane, noLane}
 use Rattle.rules.specs.Calls.{Call, put, take, lag, Reply, accepted, taken, lagged, refused, fresh}
 use Rattle.rules.specs.Runs.{Event, after, trace}
 use Rattle.rules.proofs.Computes.{rules}
-use Rattle.pages.specs.Device.{freshDevice, DeviceCall, ruled}
-use Rattle.pages.specs.Offers.{DeviceEvent, deviceAfter, deviceTrace, ofRules}
+use Rattle.pages.specs.Device.{freshDevice, DeviceCall}
+use Rattle.pages.specs.Offers.{deviceAfter, deviceTrace, ofRules}
 use Rattle.pages.specs.Carried.{WithoutOffers}
 use Rattle.pages.proofs.Carried.{without-offers}
 use Rattle.paged.specs.Paged.{EncodesDevice}
@@ -21,7 +21,7 @@ use Rattle.plan.specs.Judge.{laneOutside, judgedAt}
 use Rattle.plan.specs.Read.{setupWalk, readPlan, readSetup}
 use Rattle.plan.specs.Examples.{twoLanes}
 use Rattle.table.specs.Means.{meant}
-use Rattle.scheduler.specs.Demands.{callsOf, AsRuled}
+use Rattle.scheduler.specs.Demands.{AsRuled}
 use Rattle.scheduler.proofs.Demands.{as-ruled}
 use Rattle.marked.specs.Marked.{setting, sharedSetting, alone, acceptedTo, Given, toThird, toThirdReplies, toFull, turns, turnsReplies, Marked}
 

@@ -6,9 +6,9 @@ use native.Mathlib.Omega.{arith}
 use lib.ListN.{length, getD}
 use Rattle.words.proofs.Runs.{getD-tab}
 use Rattle.rounds.specs.Good.{Lengths}
-use Rattle.rounds.specs.Round.{BareRec}
+use Rattle.rounds.specs.Round.{BareRec, noRec}
 use Rattle.table.specs.Means.{recOf}
-use Rattle.lane_test.proofs.Lane.{noRec, lengths-all}
+use Rattle.lane_test.proofs.Lane.{lengths-all}
 use Rattle.old_table.specs.Old.{oldEntryAt, oldRing}
 use Rattle.old_table.proofs.Reading.{length-queue}
 

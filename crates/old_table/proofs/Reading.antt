@@ -1,19 +1,16 @@
 -- What is read of an old table: rows, records, lanes, and the state. Assumes nothing.
-use mathlib.Core.Path.{_≡_, refl, sym, ap, _∙_}
+use mathlib.Core.Path.{_≡_, refl}
 use mathlib.Core.Bool.{true, false}
 use Prim.Native.Nat.{ℕ, _+_, _/_, _%_, _^_}
 use mathlib.Core.List.{List}
 use lib.ListN.{length, getD}
-use Rattle.words.specs.Runs.{tab}
 use Rattle.words.proofs.Runs.{length-tab}
-use Rattle.rounds.specs.Round.{BareRec}
 use Rattle.waiting.specs.Waiting.{plain, isShared}
 use Rattle.rules.specs.State.{noLane}
 use Rattle.rules.specs.Older.{oldDepth}
 use Rattle.table.specs.Layout.{cells, framingWord, laneWord, rowAt}
-use Rattle.table.specs.Means.{presentAt, recOf, givenOf, timedByWord}
+use Rattle.table.specs.Means.{presentAt, givenOf, timedByWord}
 use Rattle.table.specs.declared.LaneRow.{LaneRow}
-use Rattle.table.specs.declared.Entry.{Entry}
 use Rattle.table.proofs.Rows.{row-framing}
 use Rattle.good.proofs.Kept.{Kept}
 use Rattle.good.proofs.Told.{Means}

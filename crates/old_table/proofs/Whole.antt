@@ -11,7 +11,7 @@ use Rattle.rules.specs.State.{Lane, noLane}
 use Rattle.rules.specs.Older.{oldDepth, oldEdge}
 use Rattle.table.specs.Layout.{cells, clockWord, framingWord}
 use Rattle.table.specs.Means.{presentAt, RowAgrees, RowPaced}
-use Rattle.lists_test.specs.Stored.{Stored}
+use Rattle.lists_test.specs.Stored.{ListsStored}
 use Rattle.lane_test.specs.Says.{TimeGood, LaneFine}
 use Rattle.lane_test.proofs.Lane.{fine-made, fine-waiting, fine-time}
 use Rattle.good.specs.Pass.{FoundSays}
@@ -67,7 +67,7 @@ module _ (t : List ℕ) where
 
   module _ (v : ℕ) (f : Found) (clock : v ≡ getD (cells t) clockWord 0) (s : FoundSays v (cells t) (oldLane (cells t)) (OldLaneGood v (cells t)) 64 f) where
     pub whole-old : oldSize ≤ length t → v < oldEdge → getD (cells t) framingWord 0 ≤ 64
-        → (0 < f .weights) × (f .weights ≤ 1024) × (0 < f .held → f .eligible ≡ true) × Stored t (f .held) → OldTable t
+        → (0 < f .weights) × (f .weights ≤ 1024) × (0 < f .held → f .eligible ≡ true) × ListsStored t (f .held) → OldTable t
     whole-old room end framed q =
         let x = found-told (old-means t) (OldLaneGood v (cells t)) v (clock ∙ clock-is t) (λ k g. g .fine) f s (omega arith) framed (q .0) (q .1) (q .2) (q .3) in
         record {
@@ -80,7 +80,7 @@ module _ (t : List ℕ) where
           agrees = record { rows = x .rows; paced = λ k h p. s .lanes k h p .paced; solid = x .solid; lists = x .agrees };
         }
 
-    pub old-found : OldTable t → (0 < f .weights) × (f .weights ≤ 1024) × (0 < f .held → f .eligible ≡ true) × Stored t (f .held)
+    pub old-found : OldTable t → (0 < f .weights) × (f .weights ≤ 1024) × (0 < f .held → f .eligible ≡ true) × ListsStored t (f .held)
     old-found g = told-found (old-means t) (OldLaneGood v (cells t)) v (clock ∙ clock-is t) (λ k g. g .fine) f s (told g)
 
   pub old-lanes : (v : ℕ) → v ≡ getD (cells t) clockWord 0 → OldTable t → (k : ℕ) → k < 64 → presentAt (cells t) k ≡ true → OldLaneGood v (cells t) k

@@ -18,8 +18,9 @@ use Rattle.fields.proofs.Numbers.{big-two}
 use Rattle.fields.specs.Item.{wholeField, badField}
 use Rattle.fields.proofs.Item.{Stands, stands}
 use Rattle.units.specs.Plain.{if_then_else_}
-use Rattle.plan.proofs.Inside.{true-false}
-use Rattle.page.specs.Fields.{pageKnown, PageItem, pageFieldOf, pageItemAt}
+use Rattle.units.proofs.Bools.{true-false}
+use Rattle.units.proofs.Lists.{cons}
+use Rattle.page.specs.Fields.{pageKinds, PageItem, pageFieldOf, pageItemAt}
 use Rattle.page.specs.Read.{skipWalk, pastSkipped, valueAt}
 use Rattle.page.specs.Form.{Extra, AllSkippable, extraBytes}
 use Rattle.page.specs.declared.parse.PageField.{PageField}
@@ -28,9 +29,6 @@ use Rattle.page.proofs.Skips.{passed}
 
 differ : {A : Type 0} → _≡_ {A = ℕ} 0 1 → A
 differ z = absurd (omega arith)
-
-cons : {x y : ℕ} {xs ys : List ℕ} → x ≡ y → xs ≡ ys → x ∷ xs ≡ y ∷ ys
-cons a b = cc
 
 -- ---- a field, by its kind
 
@@ -69,7 +67,7 @@ by-tests s t n x f false false false true p q r u k h = record {
 }
 by-tests s t n x f false false false false p q r u k h = true-false (sym k)
 
-pub tag-is : (s : List ℕ) (at : ℕ) (f : PageField) (m : ℕ) → Stands pageKnown s at f m → Tag (byteAt s at) (big s (at + 1) 2) (at + 3) f
+pub tag-is : (s : List ℕ) (at : ℕ) (f : PageField) (m : ℕ) → Stands pageKinds s at f m → Tag (byteAt s at) (big s (at + 1) 2) (at + 3) f
 unfolding pageFieldOf
 tag-is s at f m st =
     let t = byteAt s at in
@@ -102,7 +100,7 @@ module _ (s : List ℕ) (bytes : Bytes s) (at : ℕ) where
       ∙ ap (λ (k : ℕ). byteAt s j ∷ byteAt s (j + 1) ∷ drop k s) f
       ∙ ap (λ (l : List ℕ). l ++ drop (j + 2) s) (sym (two-back j))
 
-  module _ (f : PageField) (m : ℕ) (st : Stands pageKnown s at f m) where
+  module _ (f : PageField) (m : ℕ) (st : Stands pageKinds s at f m) where
     abbrev value : List ℕ
     value = valueAt s (at + 3) n
 

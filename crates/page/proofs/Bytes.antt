@@ -15,7 +15,7 @@ use Rattle.fields.specs.Bytes.{byteAt, big, two, asField}
 use Rattle.fields.proofs.Numbers.{byte-from, two-from, long-from}
 use Rattle.fields.specs.Item.{wholeField}
 use Rattle.fields.proofs.Item.{item-by}
-use Rattle.page.specs.Fields.{pageTag, pageFits, pageFieldOf, pageKnown, pageItemAt}
+use Rattle.page.specs.Fields.{pageTag, pageFits, pageFieldOf, pageKinds, pageItemAt}
 use Rattle.page.specs.Read.{valueAt}
 use Rattle.page.specs.declared.parse.PageField.{PageField}
 use Rattle.page.specs.declared.parse.PageField.the-variants.{Edition, Settings, Skipped, End}
@@ -50,7 +50,7 @@ module _ (s : List ℕ) (at tag : ℕ) (value rest : List ℕ) (short : length v
 -- a field of a known tag and a length that fits it
 item-stood : (s : List ℕ) (at tag : ℕ) (value rest : List ℕ) (f : PageField) → Stood s at tag value rest → pageTag tag ≡ true → pageFits tag (length value) ≡ true
     → pageFieldOf s tag (at + 3) (length value) ≡ f → pageItemAt s at ≡ wholeField f (at + 3 + length value)
-item-stood s at tag value rest f st k g e = item-by pageKnown s at tag (length value) (st .tag-is) (st .size-is) k g (omega (arith, st .long)) e refl
+item-stood s at tag value rest f st k g e = item-by pageKinds s at tag (length value) (st .tag-is) (st .size-is) k g (omega (arith, st .long)) e refl
 
 module _ (s : List ℕ) (at : ℕ) where
   pub edition-item : (e : ℕ) (rest : List ℕ) → e < 65536 → drop at s ≡ asField 64 (two e) ++ rest → pageItemAt s at ≡ wholeField (Edition e) (at + 3 + 2)

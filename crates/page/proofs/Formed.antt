@@ -16,7 +16,7 @@ use Rattle.fields.proofs.Item.{Stands, stands}
 use Rattle.rules.specs.State.{Setting}
 use Rattle.plan.specs.Read.{setupRead}
 use Rattle.plan.proofs.Accepted.{accepted-whole}
-use Rattle.page.specs.Fields.{pageKnown}
+use Rattle.page.specs.Fields.{pageKinds}
 use Rattle.page.specs.Read.{pageRead, pastSkipped, valueAt, readPage}
 use Rattle.page.specs.Form.{extraBytes, uptoSetup, AcceptedPage}
 use Rattle.page.specs.declared.parse.PageField.the-variants.{Edition, Settings, End}
@@ -26,7 +26,7 @@ use Rattle.page.proofs.Parts.{Parts, parts}
 use Rattle.page.proofs.Back.{tag-is, two-drop, size-high, field-bytes, skip-back}
 
 -- 0x40, by its bytes
-module _ (s : List ℕ) (b : Bytes s) (at e m : ℕ) (st : Stands pageKnown s at (Edition e) m) where
+module _ (s : List ℕ) (b : Bytes s) (at e m : ℕ) (st : Stands pageKinds s at (Edition e) m) where
   tag : byteAt s at ≡ 64
   tag = tag-is s at (Edition e) m st .edition e refl
 
@@ -56,7 +56,7 @@ module _ (s : List ℕ) (b : Bytes s) (at e m : ℕ) (st : Stands pageKnown s at
       ∙ ap (λ (l : List ℕ). asField 64 l ++ drop m s) value
 
 -- 0x41
-module _ (s : List ℕ) (b : Bytes s) (at v n m : ℕ) (st : Stands pageKnown s at (Settings v n) m) (start : at + 3 ≡ v) (end : v + n ≡ m) where
+module _ (s : List ℕ) (b : Bytes s) (at v n m : ℕ) (st : Stands pageKinds s at (Settings v n) m) (start : at + 3 ≡ v) (end : v + n ≡ m) where
   long : big s (at + 1) 2 ≡ n
   long = omega (arith, st .after, start, end)
 
@@ -71,7 +71,7 @@ module _ (s : List ℕ) (b : Bytes s) (at v n m : ℕ) (st : Stands pageKnown s 
       ∙ ap (λ (k : ℕ). asField 65 (valueAt s v k) ++ drop m s) long
 
 -- 0x7F
-module _ (s : List ℕ) (b : Bytes s) (at m : ℕ) (st : Stands pageKnown s at End m) where
+module _ (s : List ℕ) (b : Bytes s) (at m : ℕ) (st : Stands pageKinds s at End m) where
   end-tag : byteAt s at ≡ 127
   end-tag = tag-is s at End m st .end refl
 

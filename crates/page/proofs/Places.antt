@@ -18,7 +18,7 @@ use Rattle.units.specs.Plain.{if_then_else_}
 use Rattle.rules.specs.State.{Setting}
 use Rattle.plan.specs.Read.{readSetup, setupRefused, SetupReply, setupRead}
 use Rattle.plan.specs.Accepted.{setupRefusals, among}
-use Rattle.page.specs.Fields.{pageKnown, PageItem, pageItemAt}
+use Rattle.page.specs.Fields.{pageKinds, PageItem, pageItemAt}
 use Rattle.page.specs.Read.{PageReply, pageRead, pageRefused, pastSkipped, ended, endAt, valueAt, moved, inside, pageSettled, settingsAt, pageBegun, readPage}
 use Rattle.page.specs.Form.{RefusedPage}
 use Rattle.page.specs.declared.parse.PageField.{PageField}
@@ -53,7 +53,7 @@ module _ (s : List ℕ) where
   by-test m false e v gs k t = tt
 
   by-end : (at e v : ℕ) (gs : List Setting) (k : ℕ) (i : PageItem) → pageItemAt s at ≡ i → Listed (ended s at (pageRead e v gs k) i)
-  by-end at e v gs k (badField a p) i = item-bad at (broken pageKnown s at i)
+  by-end at e v gs k (badField a p) i = item-bad at (broken pageKinds s at i)
   by-end at e v gs k (wholeField (Edition x) m) i = out-of-order at i
   by-end at e v gs k (wholeField (Settings x y) m) i = out-of-order at i
   by-end at e v gs k (wholeField Skipped m) i = out-of-order at i
@@ -84,7 +84,7 @@ module _ (s : List ℕ) where
   by-setup e at v k m (setupRead w gs c stop) i j = end-listed (pastSkipped s m) e w gs c
 
   by-settings : (e at : ℕ) (i : PageItem) → pageItemAt s at ≡ i → Listed (pageSettled s e at i)
-  by-settings e at (badField a p) i = item-bad at (broken pageKnown s at i)
+  by-settings e at (badField a p) i = item-bad at (broken pageKinds s at i)
   by-settings e at (wholeField (Edition x) m) i = out-of-order at i
   by-settings e at (wholeField (Settings v k) m) i = by-setup e at v k m (readSetup (valueAt s v k)) i refl
   by-settings e at (wholeField Skipped m) i = out-of-order at i
@@ -97,7 +97,7 @@ module _ (s : List ℕ) where
   -- ---- the page
 
   by-first : (i : PageItem) → pageItemAt s 0 ≡ i → Listed (pageBegun s i)
-  by-first (badField a p) i = item-bad 0 (broken pageKnown s 0 i)
+  by-first (badField a p) i = item-bad 0 (broken pageKinds s 0 i)
   by-first (wholeField (Edition e) m) i = settings-listed e (pastSkipped s m)
   by-first (wholeField (Settings x k) m) i = out-of-order 0 i
   by-first (wholeField Skipped m) i = out-of-order 0 i

@@ -16,6 +16,7 @@ use types.Run.{OneOf, miss}
 use lib.Dec.{ltb}
 use lib.ListN.{length}
 use Rattle.units.specs.Plain.{if_then_else_}
+use Rattle.units.proofs.Bools.{true-false}
 use Rattle.rules.specs.State.{Setting}
 use Rattle.rules.specs.Reads.{number}
 use Rattle.rules.specs.declared.Refusal.{Refusal}
@@ -23,11 +24,7 @@ use Rattle.rules.specs.declared.Refusal.the-variants.{Cut, UnknownTag, WrongLen
 use Rattle.rules.proofs.Refusal as refusal
 use Rattle.plan.specs.Read.{SetupReply, setupRead, setupRefused, readPlan, setupClosed, readSetup}
 use Rattle.plan.specs.Accepted.{setupRefusals, among, RefusedSetup}
-use Rattle.plan.proofs.Inside.{true-false}
-use Rattle.plan.proofs.Refusals.{refused-place}
-
-read-refused : {A : Type 0} {v : ℕ} {gs : List Setting} {k m n : ℕ} {p : Option ℕ} → setupRead v gs k m ≡ setupRefused n p → A
-read-refused h = absurd (let z : _≡_ {A = ℕ} 0 1 = cc in omega arith)
+use Rattle.plan.proofs.Refusals.{refused-place, read-refused}
 
 module _ (s : List ℕ) (n : ℕ) (q : Option ℕ) where
   -- a byte behind the setup's 0x7F

@@ -3,7 +3,7 @@
 --   pageTag       the tags of a page
 --   pageFits      the lengths that are right for a tag
 --   pageFieldOf   what a field is, by its tag
---   pageKnown     what a page knows: these three
+--   pageKinds     what a page knows: these three
 --   pageItemAt    what stands at a place of a page, a `PageItem`
 --   pageItemOf    the code's answer as a `PageItem`
 --
@@ -13,7 +13,7 @@ use mathlib.Core.Bool.{Bool, true, _||_}
 use mathlib.Core.List.{List}
 use lib.Dec.{leb, eqb}
 use Rattle.fields.specs.Bytes.{big}
-use Rattle.fields.specs.Item.{Item, wholeField, badField, Known, itemAt}
+use Rattle.fields.specs.Item.{Item, wholeField, badField, FieldKinds, itemAt}
 use Rattle.units.specs.Plain.{if_then_else_}
 use Rattle.rules.specs.Reads.{number, placeOf}
 use Rattle.page.specs.declared.parse.PageField.{PageField}
@@ -33,15 +33,15 @@ pageFits tag n = if eqb tag 64 then eqb n 2 else (if eqb tag 127 then eqb n 0 el
 unfoldable pub pageFieldOf : List ℕ → ℕ → ℕ → ℕ → PageField
 pageFieldOf s tag at n = if eqb tag 64 then Edition (big s at 2) else (if eqb tag 65 then Settings at n else (if eqb tag 127 then End else Skipped))
 
-abbrev pub pageKnown : Known PageField
-pageKnown = record { tag = pageTag; fits = pageFits; field = pageFieldOf }
+abbrev pub pageKinds : FieldKinds PageField
+pageKinds = record { tag = pageTag; fits = pageFits; field = pageFieldOf }
 
 abbrev pub PageItem : Type 0
 PageItem = Item PageField
 
 -- R19.3: in a field 1 (header), 2, 3, 1 (value), as in every input, by what a page knows. A page that just stops is cut at its length.
 abbrev pub pageItemAt : List ℕ → ℕ → PageItem
-pageItemAt = itemAt pageKnown
+pageItemAt = itemAt pageKinds
 
 -- The code's answer, its refusal by number.
 abbrev pub pageItemOf : Parsed → PageItem

@@ -3,14 +3,13 @@ use Prim.Native.Nat.{ℕ, _≤_, _<_}
 use mathlib.Core.Path.{_≡_, refl, sym, ap, subst, _∙_}
 use mathlib.Core.Bool.{Bool, true, false, not, false≢true}
 use mathlib.Core.List.{List}
-use mathlib.Core.Option.{Option, none, some}
 use native.Mathlib.Omega.{arith}
+use borrow.Author.Tests.{not-false}
 use Rattle.rules.specs.Setup.{Setup}
-use Rattle.pages.specs.Device.{Page}
 use Rattle.plan_writer.specs.Write.{Planned, Within, Tells}
 use Rattle.plan_area.specs.Area.{Gives}
 use Rattle.lane_test.specs.Says.{Says}
-use Rattle.editions.specs.Part.{lastIn, newIn, planOf, waitingIn, GoodWait, GoodPart}
+use Rattle.editions.specs.Part.{lastIn, newIn, planOf, GoodWait, GoodPart}
 use Rattle.editions.proofs.Stored.{waits-none, waits-some}
 
 module _ (held : Bool) (p : List ℕ) where
@@ -32,15 +31,11 @@ module _ (held : Bool) (p : List ℕ) where
     not-held e g = false≢true (sym (ap not (good-some g .0)) ∙ e)
 
     module _ (h : not held ≡ false) (last : lastIn p ≤ 65535) (new : newIn p ≤ 65535) (above : lastIn p < newIn p) where
-      is-held : (b : Bool) → not b ≡ false → b ≡ true
-      is-held true e = refl
-      is-held false e = sym e
-
       made : Within (planOf p) → GoodPart held p
       unfolding GoodWait
       made w = record {
         fits = record { last = omega arith; new = omega arith; format = λ z. w .format };
-        page = subst (GoodWait held (lastIn p)) (sym (waits-some p ne)) (is-held held h, w .setup, above);
+        page = subst (GoodWait held (lastIn p)) (sym (waits-some p ne)) (not-false held h, w .setup, above);
       }
 
       unmade : GoodPart held p → Within (planOf p)

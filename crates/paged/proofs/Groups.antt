@@ -9,12 +9,12 @@ use borrow.Author.Tests.{eqb-true, eqb-false}
 use lib.Count.{trailingZeros}
 use lib.Dec.{eqb}
 use lib.Pow.{pow-pos}
+use Rattle.units.proofs.Bools.{not-passed}
 use Rattle.words.specs.Bits.{bit}
 use Rattle.words.specs.Words.{wordAt}
 use Rattle.words.proofs.Bits.{low-set, bit-above}
-use Rattle.rules.specs.State.{holds, laneAt, anyHolds}
+use Rattle.rules.specs.State.{laneAt, anyHolds}
 use Rattle.rules.specs.Sets.{inGroup, groupStart}
-use Rattle.rules.proofs.Bools.{not-passed}
 use Rattle.rules.proofs.GroupRule.{in-group, group-low}
 use Rattle.rules.proofs.Live.{some-holds, holds-some}
 use Rattle.rules.proofs.Lowest.{LowOf, LowestOf}

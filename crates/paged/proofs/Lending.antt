@@ -5,13 +5,13 @@ use mathlib.Core.List.{List}
 use mathlib.Core.Option.{Option, none}
 use native.Mathlib.Omega.{arith}
 use borrow.Rule.Slice.PartMut.{putMid, same-len-mid}
-use lib.ListN.{length, take, drop, length-drop}
+use lib.ListN.{length, take, drop}
 use lib.Seq.{drop-drop}
 use Rattle.rules.specs.State.{State, Setting}
 use Rattle.rules.specs.Calls.{fresh}
 use Rattle.alike.specs.Alike.{Alike}
 use Rattle.alike.proofs.Alike.{alike-refl}
-use Rattle.pages.specs.Device.{Page, Device, inForceOf}
+use Rattle.pages.specs.Device.{Page, inForceOf}
 use Rattle.editions.specs.Part.{partBytes, lastIn, waitingIn, Fits, Stores}
 use Rattle.editions.proofs.Lent.{tail-all, lent-tail, lent-front}
 use Rattle.table.specs.Layout.{SIZE, tableSize, pagePartBytes}
@@ -19,7 +19,7 @@ use Rattle.table.specs.Means.{meant}
 use Rattle.table.specs.Encodes.{Encodes}
 use Rattle.table.proofs.Lists.{empty-listed}
 use Rattle.fresh.specs.Makes.{Makes}
-use Rattle.paged.specs.Paged.{partOf, EncodesDevice}
+use Rattle.paged.specs.Paged.{partOf}
 use Rattle.paged.specs.Settles.{Rests, LeadsDevice}
 use Rattle.paged.proofs.Core.{meant-core, beside-core, listed-core}
 use Rattle.paged.proofs.Units.{filed-encodes}
@@ -34,8 +34,8 @@ encodes-core t u s same long e = record {
 }
 
 -- bytes that are alike from some place on are so from any later one
-further : (a b : ℕ) (t u : List ℕ) → drop a u ≡ drop a t → drop (a + b) u ≡ drop (a + b) t
-further a b t u e = sym (drop-drop b a u) ∙ ap (drop b) e ∙ drop-drop b a t
+pub drop-further : (a b : ℕ) (t u : List ℕ) → drop a u ≡ drop a t → drop (a + b) u ≡ drop (a + b) t
+drop-further a b t u e = sym (drop-drop b a u) ∙ ap (drop b) e ∙ drop-drop b a t
 
 -- t before the call, u as its part was lent, q what was lent and p as it came back
 module _ (t u p : List ℕ) (n : ℕ) (w : Option Page) (s : State) where
@@ -61,7 +61,7 @@ module _ (t u p : List ℕ) (n : ℕ) (w : Option Page) (s : State) where
         rest =
             sym (drop-drop pagePartBytes SIZE r)
             ∙ ap (drop pagePartBytes) tail
-            ∙ further partBytes (pagePartBytes - partBytes) q p (st .rest)
+            ∙ drop-further partBytes (pagePartBytes - partBytes) q p (st .rest)
             ∙ ap (drop pagePartBytes) (tail-all SIZE u ∙ kept)
             ∙ drop-drop pagePartBytes SIZE t;
       }

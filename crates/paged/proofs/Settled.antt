@@ -7,12 +7,12 @@ use mathlib.Core.Option.{Option, none, some}
 use native.Mathlib.Omega.{arith}
 use Rattle.rules.specs.State.{Setting, State, anyHolds}
 use Rattle.rules.specs.Setup.{Setup}
-use Rattle.pages.specs.Device.{Page, Device, inForceOf, settledDevice}
+use Rattle.pages.specs.Device.{Page, inForceOf, settledDevice}
 use Rattle.plan_writer.specs.Write.{Within}
 use Rattle.editions.specs.Part.{lastIn, newIn, planOf, waitingIn}
 use Rattle.editions.proofs.Stored.{waits-none, waits-some}
 use Rattle.table.specs.Means.{meant}
-use Rattle.paged.specs.Paged.{partOf, EncodesDevice}
+use Rattle.paged.specs.Paged.{partOf}
 use Rattle.paged.specs.Settles.{PageReady, Rests, LeadsDevice}
 use Rattle.paged.proofs.Units.{filed-encodes}
 
@@ -29,7 +29,7 @@ none-waits s n none e = refl
 none-waits s n (some p) e = let z : _≡_ {A = ℕ} 0 1 = cc in absurd (omega arith)
 
 -- or it comes into force
-comes : (s : State) (n : ℕ) (w : Option Page) (p : Page) → w ≡ some p → anyHolds (s .lanes) ≡ false → settledDevice s n w ≡ inForceOf p
+pub comes : (s : State) (n : ℕ) (w : Option Page) (p : Page) → w ≡ some p → anyHolds (s .lanes) ≡ false → settledDevice s n w ≡ inForceOf p
 unfolding settledDevice
 comes s n w p e h = ap (settledDevice s n) e ∙ rw h
 

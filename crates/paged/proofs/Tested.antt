@@ -1,7 +1,7 @@
 -- From the two tests to a good table. Assumes nothing.
-use Prim.Native.Nat.{ℕ, _-_, _≤_, _<_}
-use mathlib.Core.Path.{_≡_, sym, subst, _∙_}
-use mathlib.Core.Bool.{Bool, true, false, not, false≢true}
+use Prim.Native.Nat.{ℕ, _-_, _≤_}
+use mathlib.Core.Path.{_≡_, sym, subst}
+use mathlib.Core.Bool.{Bool}
 use mathlib.Core.List.{List}
 use lib.ListN.{length, take, drop}
 use Rattle.rules.specs.State.{anyHolds}
@@ -13,15 +13,6 @@ use Rattle.editions.proofs.Lent.{tail-all}
 use Rattle.table.specs.Layout.{SIZE, tableSize}
 use Rattle.table.specs.Means.{meant}
 use Rattle.paged.specs.Paged.{partOf, GoodUnit}
-
--- what a test found
-pub found-good : {P : Type 0} (b : Bool) → Says b P → not b ≡ false → P
-found-good true h e = h
-found-good false h e = absurd (false≢true (sym e))
-
-pub found-bad : {P : Type 0} (b : Bool) → Says b P → not b ≡ true → P → ⊥
-found-bad true h e = absurd (false≢true e)
-found-bad false h e = h
 
 pub unit-says : (t : List ℕ) (held b : Bool) → tableSize ≤ length t → GoodTable t → held ≡ anyHolds (meant t .lanes) → Says b (GoodPart held (take (length t - SIZE) (drop SIZE t)))
     → Says b (GoodUnit t)

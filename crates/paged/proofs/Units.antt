@@ -1,20 +1,19 @@
 -- Good tables and the units that they encode. Assumes nothing.
-use mathlib.Core.Path.{_≡_, refl, sym, ap, subst, _∙_}
+use mathlib.Core.Path.{refl, sym, ap, subst}
 use mathlib.Core.Bool.{Bool}
 use mathlib.Core.List.{List}
 use mathlib.Core.Option.{Option, none, some}
 use Prim.Native.Nat.{ℕ}
 use lib.ListN.{getD}
 use Rattle.waiting.specs.Waiting.{GoodWaiting}
-use Rattle.rules.specs.State.{Lane, State, noLane, laneAt, setupOf, anyHolds}
+use Rattle.rules.specs.State.{Lane, State, noLane, setupOf, anyHolds}
 use Rattle.rules.specs.Setup.{Setup}
 use Rattle.rules.proofs.Keep.{AllSound}
-use Rattle.alike.specs.Alike.{Alike}
 use Rattle.alike.proofs.Alike.{alike-refl}
 use Rattle.pages.specs.Device.{Page, Device}
 use Rattle.pages.specs.Claims.{GoodPage, GoodDevice}
 use Rattle.editions.specs.Part.{lastIn, waitingIn, GoodWait}
-use Rattle.table.specs.Means.{meant, Sound, Listed}
+use Rattle.table.specs.Means.{meant}
 use Rattle.table.specs.Encodes.{Encodes}
 use Rattle.good.specs.Table.{GoodTable}
 use Rattle.good.proofs.Encodes.{good-sound, good-encodes, encodes-good}

@@ -12,7 +12,7 @@ use mathlib.Core.List.{List}
 use mathlib.Core.Option.{Option, none, some}
 use lib.ListN.{length, drop}
 use Rattle.waiting.specs.Waiting.{GoodWaiting}
-use Rattle.rules.specs.State.{State, laneAt, setupOf}
+use Rattle.rules.specs.State.{laneAt, setupOf}
 use Rattle.rules.specs.Setup.{Setup}
 use Rattle.pages.specs.Device.{Page, Device}
 use Rattle.editions.specs.Part.{waitingIn, Fits}

@@ -3,7 +3,7 @@ use Prim.Native.Nat.{ℕ, _+_, _<_}
 use native.Mathlib.Omega.{arith}
 use mathlib.Core.Path.{_≡_, sym, ap, subst, _∙_}
 use mathlib.Core.Bool.{Bool}
-use mathlib.Core.List.{List, [], _∷_, _++_, append-assoc}
+use mathlib.Core.List.{List, [], _∷_, append-assoc}
 use lib.ListN.{length, length-append}
 use Rattle.units.specs.Plain.{if_then_else_}
 use Rattle.rounds.specs.Round.{trainDepth}
@@ -16,7 +16,7 @@ use Rattle.rules.proofs.Queues.{queueAt}
 use Rattle.rules.proofs.SameSetup.{setting-lane}
 use Rattle.rules.proofs.Ahead.{put-says}
 use Rattle.rules.proofs.AlwaysGood.{reached-good}
-use Rattle.pages.specs.Device.{Page, Device, DeviceCall, ruled, DeviceReply, answered, deviceStep, deviceStepBy}
+use Rattle.pages.specs.Device.{Page, Device, DeviceCall, ruled, answered, deviceStep, deviceStepBy}
 use Rattle.pages.specs.Offers.{DeviceEvent, eventOf, deviceTrace, deviceTraceBy, ofRules, inForce}
 use Rattle.pages.specs.Claims.{SaysAheadPages}
 use Rattle.pages.proofs.Parts.{part-order}

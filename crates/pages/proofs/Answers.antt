@@ -8,9 +8,9 @@ use mathlib.Core.List.{List, [], _∷_, _++_, append-assoc}
 use mathlib.Core.Option.{Option, none, some}
 use lib.Dec.{leb}
 use Rattle.units.specs.Plain.{if_then_else_}
+use Rattle.units.proofs.Bools.{if-ind}
 use Rattle.rules.specs.State.{Rec, State, anyHolds}
-use Rattle.rules.specs.Calls.{Call, put, take, look, sets, lag, restart, accepted, refused, Outcome, putRefusal, putOf, doPut, Pick, picked, takeOf, doTake, doLook, doSets, doRestart, step}
-use Rattle.rules.proofs.Bools.{if-ind}
+use Rattle.rules.specs.Calls.{Call, put, take, look, sets, lag, restart, refused, Outcome, putRefusal, putOf, doPut, Pick, picked, takeOf, doTake, doLook, doSets, doRestart, step}
 use Rattle.rules.proofs.Live.{holds-some}
 use Rattle.rules.proofs.Keep.{look-same, lag-same}
 use Rattle.rules.proofs.AlwaysGood.{reached-good}

@@ -7,10 +7,10 @@ use mathlib.Core.List.{List, [], _∷_, _++_, append-assoc, map}
 use mathlib.Core.Logic.{_⊎_, inl, inr}
 use mathlib.Core.Option.{Option, none, some}
 use lib.Dec.{leb}
+use Rattle.units.proofs.Bools.{if-ind, not-passed}
 use Rattle.rules.specs.State.{Setting, State, anyHolds}
 use Rattle.rules.specs.Calls.{Call, fresh, restarted, takeOf, doTake, take, restart, refused, Pick, picked, doRestart, step}
 use Rattle.rules.specs.Runs.{Event, trace, after}
-use Rattle.rules.proofs.Bools.{if-ind, not-passed}
 use Rattle.rules.proofs.Live.{Live, some-holds, holds-some, nothing-held}
 use Rattle.rules.proofs.NotTen.{NotTen, step-not-ten}
 use Rattle.rules.proofs.Keep.{PickIs, pick-is}
@@ -74,9 +74,10 @@ never-ten-pages gs s cs a past rest e p x ten =
 
 -- ---- draining
 
-take-is : (s : State) → HandsOut (answered ((step s take) .reply)) ⊎ (answered ((step s take) .reply) ≡ answered (refused 16 none))
+-- a take hands a record out or gives 16
+pub take-gives : (s : State) → HandsOut (answered ((step s take) .reply)) ⊎ (answered ((step s take) .reply) ≡ answered (refused 16 none))
 unfolding step doTake takeOf
-take-is s = go (picked s)
+take-gives s = go (picked s)
   where
     go : (o : Option Pick) → HandsOut (answered ((takeOf s o) .reply)) ⊎ (answered ((takeOf s o) .reply) ≡ answered (refused 16 none))
     go none = inr refl
@@ -93,7 +94,7 @@ sixteen-free s r e = go (picked s) (pick-is s) e
         (λ u. let o = some-holds (s .lanes) u in false≢true (sym (nothing-held s (reached-good s r .live) h (o .0)) ∙ o .1))
     go (some p) h t = let z : _≡_ {A = ℕ} 0 1 = cc in absurd (omega arith)
 
-restart-yes : (d : Device) → anyHolds (d .state .lanes) ≡ false → (deviceStep d (ruled restart)) .reply ≡ answered restarted
+pub restart-yes : (d : Device) → anyHolds (d .state .lanes) ≡ false → (deviceStep d (ruled restart)) .reply ≡ answered restarted
 unfolding deviceStepBy step doRestart
 restart-yes d h = simp h
 
@@ -112,7 +113,7 @@ two-calls gs past d (x ∷ y ∷ cs) e f r t c =
     let second : eventOf d′ y ≡ f = cc in
     let is : x ≡ ruled take = ap (λ (u : DeviceEvent). u .call) first ∙ c in
     let answer : answered ((step (d .state) take) .reply) ≡ e .reply = ap (λ (u : DeviceCall). (deviceStep d u) .reply) (sym is) ∙ ap (λ (u : DeviceEvent). u .reply) first in (
-      subst (λ (u : DeviceReply). HandsOut u ⊎ (u ≡ answered (refused 16 none))) answer (take-is (d .state)),
+      subst (λ (u : DeviceReply). HandsOut u ⊎ (u ≡ answered (refused 16 none))) answer (take-gives (d .state)),
       λ none-held r2.
           let no-more : (step (d .state) take) .reply ≡ refused 16 none = let z : answered ((step (d .state) take) .reply) ≡ answered (refused 16 none) = answer ∙ none-held in cc in
           let free : anyHolds (d .state .lanes) ≡ false = sixteen-free (d .state) (r .reached) no-more in

@@ -9,7 +9,7 @@ use Rattle.rules.specs.State.{Setting, noSetting}
 use Rattle.rules.specs.Calls.{put, take, restart, accepted, taken, restarted, refused}
 use Rattle.rules.specs.Runs.{sentIn, offeredIn, isAccepted, ofLane, acceptedOf, sentOf}
 use Rattle.rules.proofs.Computes.{rules}
-use Rattle.pages.specs.Device.{Page, inForceOf, freshDevice, DeviceCall, ruled, offer, unread, DeviceReply, answered, inForceNow, waitsNow, settledDevice, newestEdition, doOffer, deviceStep, deviceStepBy}
+use Rattle.pages.specs.Device.{Page, inForceOf, freshDevice, DeviceCall, ruled, offer, unread, DeviceReply, answered, inForceNow, waitsNow, settledDevice, newestEdition, doOffer, deviceStepBy}
 use Rattle.pages.specs.Offers.{deviceAfter, DeviceEvent, deviceTrace, ofRule, ofRules, heldTest, anyHeld, acceptedPage, newest, freeFrom, pageIn, deviceAfterBy, deviceTraceBy}
 use Rattle.pages.specs.Examples.{OverTheAir}
 use Rattle.pages.specs.Claims.{ownPage}

@@ -1,7 +1,7 @@
 -- Demand 3 and the comparison of two lanes, carried over from the rules by `in-one-part`. Assumes nothing.
 use Prim.Native.Nat.{ℕ, _*_}
 use mathlib.Core.Path.{_≡_, sym, ap, _∙_}
-use mathlib.Core.List.{List, [], _∷_, _++_, append-assoc, append-nil}
+use mathlib.Core.List.{List, [], _++_, append-assoc, append-nil}
 use Rattle.rules.specs.State.{Setting}
 use Rattle.rules.specs.Setup.{Setup, framingOf, longestCharge, margin}
 use Rattle.rules.specs.Calls.{fresh}
@@ -14,8 +14,7 @@ use Rattle.pages.specs.Device.{freshDevice, DeviceCall}
 use Rattle.pages.specs.Offers.{DeviceEvent, deviceTrace, AllRead, ofRules, inForce}
 use Rattle.pages.specs.Claims.{HeldThroughout, FairPages, Demand3Pages, FairTightPages, InOnePart, ComparedPages, TwoLanesPages, ComparedTightPages, OthersPages, EvenTrainsPages}
 use Rattle.pages.proofs.PartHeld.{train-held}
-use Rattle.pages.proofs.Run.{Run}
-use Rattle.pages.proofs.Stretch.{Stretch, stretch-of, in-one-part}
+use Rattle.pages.proofs.Stretch.{stretch-of, in-one-part}
 
 -- demand 3 with any figure that the rules' own claim has
 pub fair-pages : (M : List Setting → ℕ) → ((g : List Setting) → Setup g → Fair (M g) g) → FairPages M

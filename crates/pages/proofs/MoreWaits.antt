@@ -3,9 +3,9 @@ use Prim.Native.Nat.{ℕ, _+_, _*_, _≤_, _<_}
 use native.Mathlib.Omega.{arith}
 use native.Mathlib.Nat.{mul-le-mul-left}
 use native.Mathlib.Decide.{decLe}
-use mathlib.Core.Path.{_≡_, refl, sym, ap, subst, _∙_}
+use mathlib.Core.Path.{_≡_, ap, subst}
 use mathlib.Core.Bool.{false}
-use mathlib.Core.List.{List, [], _∷_, _++_, append-assoc}
+use mathlib.Core.List.{List, [], _∷_, _++_}
 use lib.ListN.{length}
 use Rattle.rules.specs.State.{Rec, Setting, settingAt, charge, rate, slot}
 use Rattle.rules.specs.Setup.{Setup, framingOf, margin}
@@ -24,7 +24,7 @@ use Rattle.pages.specs.Claims.{InOnePart, FairPages, Demand3Pages}
 use Rattle.pages.specs.Waits.{acceptsNow, lagsNow, WaitsSharedPages, OutBySharedPages, WaitsFromPages, WaitsFromByPages, OutByTakesPages}
 use Rattle.pages.proofs.Stretch.{in-one-part}
 use Rattle.pages.proofs.Fair.{demand3-pages}
-use Rattle.pages.proofs.OneRecord.{front, joined, still-train, held, same-force, waits-of, out-more-of, train-inside, own-most, out-of}
+use Rattle.pages.proofs.OneRecord.{joined, still-train, held, same-force, waits-of, out-more-of, train-inside, own-most, out-of}
 
 module _ (gs : List Setting) (s : Setup gs) (cs : List DeviceCall) (a : AllRead cs) (past since rest : List DeviceEvent) (k : ℕ) (r : Rec) (n : ℕ)
     (e : deviceTrace (freshDevice gs) cs ≡ past ++ acceptsNow k r n ∷ since ++ rest)

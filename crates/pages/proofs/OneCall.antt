@@ -3,27 +3,26 @@ use Prim.Native.Nat.{ℕ, zero, suc, _≤_}
 use native.Mathlib.Omega.{arith}
 use mathlib.Core.Path.{_≡_, refl, sym, ap, _∙_}
 use mathlib.Core.Bool.{Bool, true, false, false≢true}
-use mathlib.Core.List.{List, [], _∷_, _++_}
 use mathlib.Core.Option.{Option, none, some}
 use lib.Dec.{leb, ltb}
 use lib.ListN.{length, replicate}
+use Rattle.units.proofs.Bools.{if-ind}
+use Rattle.units.proofs.Lists.{sum-zero}
 use Rattle.rules.specs.State.{Rec, noLane, State, firstOf, some?, holds, laneAt, anyHolds}
 use Rattle.rules.specs.Setup.{Setup}
 use Rattle.rules.specs.Calls.{Call, put, take, look, sets, lag, restart, Outcome, putRefusal, putOf, doPut, Pick, picked, lookOf, doLook, doSets, doLag, doRestart, step}
-use Rattle.rules.specs.Runs.{after, Moving, sentIn, acceptedIn, ofLane}
-use Rattle.rules.proofs.Bools.{if-ind}
+use Rattle.rules.specs.Runs.{after, Moving, sentIn, ofLane}
 use Rattle.rules.proofs.Live.{Live, some-holds, holds-some}
 use Rattle.rules.proofs.Queues.{step-passed, heldAt}
 use Rattle.waiting.proofs.Laws.{held-none, held-hand}
 use Rattle.rules.proofs.Keep.{AllSound}
 use Rattle.rules.proofs.Sound.{step-sound}
 use Rattle.rules.proofs.Moves.{idle-first}
-use Rattle.rules.proofs.Lists.{sum-zero}
 use Rattle.rules.proofs.Lowest.{none-holds}
 use Rattle.rules.proofs.Range.{heldIn}
 use Rattle.rules.proofs.Drain.{heldBy, take-one, drained}
 use Rattle.rules.proofs.AlwaysGood.{Reached, step-reached, reached-good}
-use Rattle.pages.specs.Device.{Page, Device, inForceOf, ruled, offer, unread, DeviceOutcome, settledDevice, newestEdition, doOffer, deviceStep, deviceStepBy}
+use Rattle.pages.specs.Device.{Page, Device, inForceOf, ruled, offer, unread, DeviceOutcome, settledDevice, newestEdition, doOffer, deviceStepBy}
 use Rattle.pages.specs.Offers.{deviceAfter, Read, deviceAfterBy}
 use Rattle.pages.specs.Claims.{GoodPage}
 use Rattle.pages.specs.OneCall.{KeepsPage, OnlyTake}

@@ -7,6 +7,7 @@ use mathlib.Core.List.{List, [], _∷_, _++_}
 use mathlib.Core.Option.{Option, none, some}
 use lib.Dec.{leb}
 use Rattle.units.specs.Plain.{if_then_else_}
+use Rattle.units.proofs.Bools.{not-passed}
 use Rattle.waiting.specs.Waiting.{Waiting, first}
 use Rattle.rules.specs.State.{Setting, State, some?, laneAt, anyHolds, holds}
 use Rattle.rules.specs.Setup.{Setup}
@@ -14,12 +15,11 @@ use Rattle.rules.specs.Calls.{Call, refused, fresh, step}
 use Rattle.rules.specs.Runs.{Event, after, trace}
 use Rattle.rules.specs.Endless.{Rules, afterBy, traceBy, endless, Beside, EndlessClock}
 use Rattle.rules.proofs.AlwaysGood.{endless-clock}
-use Rattle.rules.proofs.Bools.{not-passed}
 use Rattle.rules.proofs.Live.{some-holds, holds-some}
 use Rattle.rules.proofs.Runs.{after-append}
 use Rattle.pages.specs.Device.{Page, Device, inForceOf, freshDevice, DeviceCall, ruled, offer, unread, DeviceReply, answered, inForceNow, waitsNow, DeviceOutcome, settledDevice, newestEdition, doOffer, deviceStep, deviceStepBy}
 use Rattle.pages.specs.Offers.{deviceAfterBy, deviceAfter, DeviceEvent, deviceTrace, Read, AllRead, deviceTraceBy}
-use Rattle.pages.specs.Other.{SameRules, SameUnits, DeviceBeside, EndlessPages}
+use Rattle.pages.specs.Other.{SameRules, SameUnits, EndlessPages}
 
 any-same : (s t : State) → ((k : ℕ) → holds (laneAt s k) ≡ holds (laneAt t k)) → anyHolds (s .lanes) ≡ anyHolds (t .lanes)
 any-same s t e = go (anyHolds (t .lanes)) refl

@@ -8,18 +8,19 @@ use mathlib.Core.Option.{Option, none, some}
 use lib.ListN.{length, length-append, getD}
 use borrow.Author.Tests.{ltb-true, lt-ltb}
 use Rattle.units.specs.Plain.{anyBelow}
+use Rattle.units.proofs.Bools.{not-passed}
 use Rattle.waiting.proofs.Laws.{held-none, held-hand, queue-none}
 use Rattle.rules.specs.State.{Rec, Lane, noLane, State, firstOf, some?, holds, laneAt, anyHolds}
 use Rattle.rules.specs.Runs.{Event, acceptedOf, sentOf, ofTrain}
 use Rattle.rules.specs.Fair.{Holding}
 use Rattle.rules.specs.Even.{HoldingTrain}
-use Rattle.rules.proofs.Bools.{not-passed}
 use Rattle.rules.proofs.Lowest.{none-holds}
 use Rattle.rules.proofs.Live.{some-holds}
 use Rattle.rules.proofs.Queues.{held-inside, queueAt}
 use Rattle.rules.proofs.Order.{of-append}
 use Rattle.rules.proofs.GroupRule.{anyBelow-at, anyBelow-none}
 use Rattle.rules.proofs.Counts.{accepted-append, sent-append}
+use Rattle.rules.proofs.Moves.{not-idle}
 use Rattle.pages.specs.Offers.{heldTest}
 use Rattle.pages.proofs.Parts.{Cleared, Part, part-count, part-order, sound}
 
@@ -94,18 +95,12 @@ cancel-train k t old u even h =
 
 -- a lane of which a train holds a record holds one
 pub train-held : (es : List Event) (s : State) (k t : ℕ) → Part es s → HoldingTrain k t es → Holding k es
-train-held es s k t p h = holds-held es s k p (go (firstOf l) refl)
-  where
-    l : Lane
-    l = laneAt s k
-
-    go : (o : Option Rec) → firstOf l ≡ o → holds l ≡ true
-    go (some r) e = ap some? e
-    go none e =
-        absurd (omega (
-          arith,
-          h,
-          ap length (part-order es s p k t),
-          length-append (ofTrain t (sentOf k es)) (queueAt s k t),
-          ap length (queue-none (l .given .longest) (l .waiting) (sound es s p k) e t),
-        ))
+train-held es s k t p h =
+    let l = laneAt s k in
+    holds-held es s k p (not-idle l (λ e. omega (
+      arith,
+      h,
+      ap length (part-order es s p k t),
+      length-append (ofTrain t (sentOf k es)) (queueAt s k t),
+      ap length (queue-none (l .given .longest) (l .waiting) (sound es s p k) e t),
+    )))

@@ -8,7 +8,7 @@ use mathlib.Core.List.{List, [], _∷_, _++_, append-assoc, append-nil}
 use lib.ListN.{length, length-append}
 use Rattle.rounds.specs.Round as round
 use Rattle.waiting.proofs.Laws.{held-none, queue-none}
-use Rattle.rules.specs.State.{Rec, Setting, State, firstOf, laneAt, setupOf, anyHolds}
+use Rattle.rules.specs.State.{Setting, State, firstOf, laneAt, setupOf, anyHolds}
 use Rattle.rules.specs.Calls.{Call, fresh, step}
 use Rattle.rules.specs.Runs.{Event, after, trace, acceptedOf, sentOf, ofTrain, InOrder}
 use Rattle.rules.proofs.Moves.{idle-first}

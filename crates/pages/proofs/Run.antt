@@ -8,11 +8,11 @@ use mathlib.Core.Option.{Option, none, some}
 use lib.Dec.{leb}
 use lib.ListN.{length, length-map, getD}
 use borrow.Author.Tests.{leb-false}
+use Rattle.units.proofs.Bools.{if-ind, not-passed}
 use Rattle.rules.specs.State.{Setting, noSetting, some?, Lane, State, holds, laneAt, anyHolds}
 use Rattle.rules.specs.Setup.{Setup}
 use Rattle.rules.specs.Calls.{Call, refused, idle, fresh, step}
 use Rattle.rules.specs.Runs.{Event}
-use Rattle.rules.proofs.Bools.{if-ind, not-passed}
 use Rattle.rules.proofs.Live.{some-holds}
 use Rattle.waiting.proofs.Laws.{first-nothing}
 use Rattle.rules.proofs.Bounds.{idle-at}

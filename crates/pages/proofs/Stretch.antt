@@ -6,13 +6,13 @@ use mathlib.Core.List.{List, [], _∷_, _++_, append-assoc, append-nil}
 use mathlib.Core.Option.{Option, none, some}
 use lib.Dec.{leb}
 use Rattle.units.specs.Plain.{if_then_else_}
+use Rattle.units.proofs.Bools.{if-ind}
 use Rattle.rules.specs.State.{Setting, State, holds, laneAt, anyHolds}
 use Rattle.rules.specs.Setup.{Setup}
 use Rattle.rules.specs.Calls.{Call, fresh, step}
 use Rattle.rules.specs.Runs.{Event, after, trace}
 use Rattle.rules.specs.Fair.{Holding}
 use Rattle.rules.specs.Even.{HoldingTrain}
-use Rattle.rules.proofs.Bools.{if-ind}
 use Rattle.rules.proofs.Live.{holds-some}
 use Rattle.rules.proofs.Runs.{trace-append}
 use Rattle.rules.proofs.AlwaysGood.{reached-good}

@@ -28,7 +28,7 @@ use Rattle.rules.specs.State.{Setting, settingAt, laneAt, setupOf, rate, slot, 
 use Rattle.rules.specs.Setup.{Setup, framingOf, longestCharge, margin}
 use Rattle.rules.specs.Calls.{Call, put, accepted, refused, fresh}
 use Rattle.rules.specs.Runs.{Event, trace, acceptedOf, sentOf, ofTrain}
-use Rattle.rules.specs.Fair.{bytesSent, bytesSentOf, Holding, Compared}
+use Rattle.rules.specs.Fair.{bytesSent, bytesSentOf, Holding}
 use Rattle.rules.specs.Even.{HoldingTrain, trainBytes}
 use Rattle.rounds.specs.Round.{trainDepth}
 use Rattle.waiting.specs.Waiting.{laneDepth, queueOf}

@@ -8,7 +8,7 @@
 use Prim.Native.Nat.{ℕ}
 use mathlib.Core.Path.{_≡_}
 use mathlib.Core.List.{List}
-use Rattle.rules.specs.State.{Setting, State, holds, laneAt}
+use Rattle.rules.specs.State.{Setting, holds, laneAt}
 use Rattle.rules.specs.Setup.{Setup}
 use Rattle.rules.specs.Calls.{Call, fresh}
 use Rattle.rules.specs.Runs.{after, trace}

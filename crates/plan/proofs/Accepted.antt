@@ -15,6 +15,7 @@ use borrow.Author.Tests.{ltb-false}
 use lib.Dec.{ltb}
 use lib.ListN.{length}
 use Rattle.units.specs.Plain.{if_then_else_}
+use Rattle.units.proofs.Bools.{true-false}
 use Rattle.rules.specs.State.{Setting}
 use Rattle.rules.proofs.Figures.{framing-bound, framed-by}
 use Rattle.fields.specs.Item.{wholeField, badField}
@@ -28,7 +29,7 @@ use Rattle.plan.specs.declared.Outcome.the-variants.{Read}
 use Rattle.plan.specs.declared.parse.SetupField.{SetupField}
 use Rattle.plan.specs.declared.parse.SetupField.the-variants.{Format, Lane, Framing, Shared, End}
 use Rattle.plan.proofs.Turn.{turned}
-use Rattle.plan.proofs.Inside.{true-false, format-known, framing-small}
+use Rattle.plan.proofs.Inside.{format-known, framing-small}
 use Rattle.plan.proofs.Taken.{Taken, is-taken}
 use Rattle.plan.proofs.Sound.{Sound, sound-first, sound-after}
 use Rattle.plan.proofs.Rest.{Rest, shares, rest, rest-lane, refused-read}

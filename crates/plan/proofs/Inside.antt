@@ -3,11 +3,12 @@
 use Prim.Native.Nat.{ℕ, _+_, _≤_}
 use mathlib.Core.Path.{_≡_, refl, sym, ap, _∙_}
 use mathlib.Core.Option.{none, some}
-use mathlib.Core.Bool.{Bool, true, false, not, _||_, _&&_}
+use mathlib.Core.Bool.{Bool, true, false, not, _||_}
 use native.Mathlib.Omega.{arith}
 use borrow.Author.Tests.{leb-true, ltb-false, eqb-true}
 use lib.Dec.{leb, ltb, eqb}
 use Rattle.units.specs.Plain.{if_then_else_}
+use Rattle.units.proofs.Bools.{and-parts, or-parts, true-false}
 use Rattle.rules.specs.Setup.{InNumbers}
 use Rattle.plan.specs.Judge.{knownFormat, longestOf, longestRight, given, lastLane, mostFraming, within, misplaced, laneOutside, Inside, over, faults}
 use Rattle.plan.specs.declared.judge.Fault.{Fault}
@@ -18,19 +19,8 @@ use Rattle.plan.specs.declared.parse.Longest.the-variants.{Given, Defaul
 use Rattle.plan.specs.declared.parse.LaneField.{LaneField}
 use Rattle.plan.specs.declared.parse.SetupField.the-variants.{Format, Lane, Framing, Shared}
 
-pub true-false : {A : Type 0} → true ≡ false → A
-true-false h = absurd (let z : _≡_ {A = ℕ} 0 1 = cc in omega arith)
-
-and-true : (a b : Bool) → (a && b) ≡ true → (a ≡ true) × (b ≡ true)
-and-true true b h = (refl, h)
-and-true false b h = true-false (sym h)
-
-pub or-false : (a b : Bool) → (a || b) ≡ false → (a ≡ false) × (b ≡ false)
-or-false true b h = true-false h
-or-false false b h = (refl, h)
-
 within-true : (low high n : ℕ) → within low high n ≡ true → (low ≤ n) × (n ≤ high)
-within-true low high n h = let w = and-true (leb low n) (leb n high) h in (leb-true low n (w .0), leb-true n high (w .1))
+within-true low high n h = let w = and-parts (leb low n) (leb n high) h in (leb-true low n (w .0), leb-true n high (w .1))
 
 -- a default is in the numbers
 default-right : (b : Bool) → (64 ≤ (if b then 1500 else 576)) × ((if b then 1500 else 576) ≤ 1500)
@@ -89,7 +79,7 @@ module _ (seen : Seen) (k : ℕ) (h : misplaced seen (Shared k) ≡ false) where
 
 module _ (seen : Seen) (l : LaneField) where
   pub is-rising : misplaced seen (Lane l) ≡ false → seen .floor ≤ l .lane
-  is-rising h = ltb-false (l .lane) (seen .floor) (or-false (not (seen .begun)) (ltb (l .lane) (seen .floor)) h .1)
+  is-rising h = ltb-false (l .lane) (seen .floor) (or-parts (not (seen .begun)) (ltb (l .lane) (seen .floor)) h .1)
 
   by-test : (b : Bool) → (if b then TotalOver else NoFault) ≡ NoFault → b ≡ false
   by-test true e = fault-none _ refl e

@@ -18,7 +18,7 @@ use Rattle.fields.proofs.Item.{Stands, item-by}
 use Rattle.units.specs.Plain.{if_then_else_}
 use Rattle.rules.specs.State.{Setting}
 use Rattle.fields.specs.Item.{wholeField, badField}
-use Rattle.plan.specs.Fields.{SetupItem, ends, setupTag, setupFits, setupKnown, longestAt, laneFieldAt, setupFieldOf, setupItemAt}
+use Rattle.plan.specs.Fields.{SetupItem, ends, setupTag, setupFits, setupKinds, longestAt, laneFieldAt, setupFieldOf, setupItemAt}
 use Rattle.plan.specs.Judge.{judgedAt, seenAfter}
 use Rattle.plan.specs.Read.{setupRead, nothingSeen, noLanes, placed, setupWalk, readPlan}
 use Rattle.plan.specs.declared.judge.Seen.{Seen}
@@ -75,7 +75,7 @@ module _ (s t : List ℕ) (v n : ℕ) (same : Same s t v (v + n)) where
 
 -- ---- a field
 
-pub item-same : (s t : List ℕ) (at : ℕ) (f : SetupField) (m : ℕ) → Stands setupKnown s at f m → Same s t at m → m ≤ length t → setupItemAt t at ≡ wholeField f m
+pub item-same : (s t : List ℕ) (at : ℕ) (f : SetupField) (m : ℕ) → Stands setupKinds s at f m → Same s t at m → m ≤ length t → setupItemAt t at ≡ wholeField f m
 item-same s t at f m h same fits =
     let tag : byteAt s at ≡ byteAt t at = same at (omega arith) (omega (arith, h .after)) in
     let size : big s (at + 1) 2 ≡ big t (at + 1) 2 = big-same s t 2 (at + 1) (λ i a b. same i (omega arith) (omega (arith, h .after))) in
@@ -84,7 +84,7 @@ item-same s t at f m h same fits =
     let value : setupFieldOf s (byteAt t at) (at + 3) n ≡ setupFieldOf t (byteAt t at) (at + 3) n =
     value-same s t (at + 3) n (λ i a b. same i (omega arith) (omega (arith, h .after))) (byteAt t at) fit-s
     in
-    item-by setupKnown t at (byteAt t at) n refl (sym size) (sym (ap setupTag tag) ∙ h .tag) fit-s (omega (arith, h .after))
+    item-by setupKinds t at (byteAt t at) n refl (sym size) (sym (ap setupTag tag) ∙ h .tag) fit-s (omega (arith, h .after))
     (sym value ∙ ap (λ (k : ℕ). setupFieldOf s k (at + 3) n) (sym tag) ∙ h .field) (h .after)
 
 -- ---- the walk

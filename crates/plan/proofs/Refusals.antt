@@ -14,7 +14,7 @@ use Rattle.fields.specs.Item.{wholeField, badField}
 use Rattle.fields.proofs.Item.{Broken, none-left, cut, unknown, wrong, broken, Stands, stands}
 use Rattle.units.specs.Plain.{if_then_else_}
 use Rattle.rules.specs.State.{Setting}
-use Rattle.plan.specs.Fields.{SetupItem, setupKnown, ends, setupItemAt}
+use Rattle.plan.specs.Fields.{SetupItem, setupKinds, ends, setupItemAt}
 use Rattle.plan.specs.Judge.{misplaced, outside, over, offset, faulted, judged, judgedAt, seenAfter}
 use Rattle.plan.specs.Read.{setupRead, setupRefused, nothingSeen, noLanes, placed, setupWalk, readPlan}
 use Rattle.plan.specs.Accepted.{setupRefusals, among, wrongAt, RefusedSetup}
@@ -59,14 +59,14 @@ module _ (s : List ℕ) (at : ℕ) where
   row-bad BadFraming l w rest r = inside 54 (at + 3) refl (λ z. omega arith) l w
   row-bad TotalOver l w rest r = inside 6 (at + 4) refl (λ z. omega arith) l w
 
-  field-bad : (seen : Seen) (a : Bool) (f : SetupField) (m : ℕ) → Stands setupKnown s at f m → Listed (if a then badField 4 (some at) else faulted at (outside f) (faulted at (over seen f) (wholeField f m)))
+  field-bad : (seen : Seen) (a : Bool) (f : SetupField) (m : ℕ) → Stands setupKinds s at f m → Listed (if a then badField 4 (some at) else faulted at (outside f) (faulted at (over seen f) (wholeField f m)))
   field-bad seen true f m k = at-tag 4 refl refl (omega (arith, k .fits))
   field-bad seen false f m k =
       let end : m ≤ length s = omega (arith, k .after, k .fits) in
       row-bad (outside f) (omega (arith, outside-in s at f m k)) (shows s at f m k) _ (row-bad (over seen f) (omega (arith, over-in s at f m k seen)) (over-shows s at seen f) (wholeField f m) tt)
 
   judge-bad : (seen : Seen) (i : SetupItem) → setupItemAt s at ≡ i → Listed (judged seen at i)
-  judge-bad seen (badField n q) e = item-bad (broken setupKnown s at e)
+  judge-bad seen (badField n q) e = item-bad (broken setupKinds s at e)
   judge-bad seen (wholeField f m) e = field-bad seen (misplaced seen f) f m (stands e)
 
   judged-bad : (seen : Seen) (n : ℕ) (q : Option ℕ) → judgedAt seen s at ≡ badField n q → RefusedSetup s at n q
@@ -85,7 +85,7 @@ earlier s at m n q l b r = record {
   shows = r .shows;
 }
 
-read-refused : {A : Type 0} {v : ℕ} {gs : List Setting} {k m n : ℕ} {p : Option ℕ} → setupRead v gs k m ≡ setupRefused n p → A
+pub read-refused : {A : Type 0} {v : ℕ} {gs : List Setting} {k m n : ℕ} {p : Option ℕ} → setupRead v gs k m ≡ setupRefused n p → A
 read-refused h = absurd (let z : _≡_ {A = ℕ} 0 1 = cc in omega arith)
 
 same-refused : (s : List ℕ) (at : ℕ) {k n : ℕ} {p q : Option ℕ} → setupRefused k p ≡ setupRefused n q → RefusedSetup s at k p → RefusedSetup s at n q

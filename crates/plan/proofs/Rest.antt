@@ -13,6 +13,7 @@ use native.Mathlib.Omega.{arith}
 use borrow.Author.Tests.{eqb-false}
 use lib.ListN.{length, set}
 use lib.Seq.{getD-set-same, set-set}
+use Rattle.units.proofs.Bools.{true-false}
 use Rattle.rules.specs.State.{Setting, noSetting, settingAt}
 use Rattle.fields.specs.Item.{wholeField, badField}
 use Rattle.plan.specs.Fields.{SetupItem}
@@ -24,7 +25,7 @@ use Rattle.plan.specs.declared.parse.LaneField.{LaneField}
 use Rattle.plan.specs.declared.parse.SetupField.{SetupField}
 use Rattle.plan.specs.declared.parse.SetupField.the-variants.{Format, Lane, Framing, Shared, End}
 use Rattle.plan.proofs.Turn.{turned}
-use Rattle.plan.proofs.Inside.{true-false, lane-number, in-numbers, is-rising, is-laned, is-last}
+use Rattle.plan.proofs.Inside.{lane-number, in-numbers, is-rising, is-laned, is-last}
 use Rattle.plan.proofs.Taken.{Taken, is-taken}
 use Rattle.plan.proofs.Sound.{Sound, sound-after}
 

@@ -10,6 +10,8 @@ use borrow.Author.Tests.{lt-ltb, not-false}
 use lib.ListN.{length, set, length-set}
 use lib.Seq.{getD-set-same}
 use Rattle.units.specs.Plain.{sum}
+use Rattle.units.proofs.Bools.{true-false}
+use Rattle.units.proofs.Lists.{set-cases, sum-set}
 use Rattle.rules.specs.State.{Setting, noSetting, settingAt}
 use Rattle.rules.specs.Setup.{InNumbers, weights}
 use Rattle.plan.specs.Judge.{given, misplaced, Inside, Numbered, over, seenAfter}
@@ -20,8 +22,8 @@ use Rattle.plan.specs.declared.judge.Seen.{Seen}
 use Rattle.plan.specs.declared.parse.LaneField.{LaneField}
 use Rattle.plan.specs.declared.parse.SetupField.{SetupField}
 use Rattle.plan.specs.declared.parse.SetupField.the-variants.{Format, Lane, Framing, Shared, End}
-use Rattle.plan.proofs.Lists.{sum-set, set-cases, replicate-at}
-use Rattle.plan.proofs.Inside.{true-false, framing-small, lane-number, in-numbers, is-rising, is-under, is-laned, is-last}
+use Rattle.plan.proofs.Lists.{replicate-at}
+use Rattle.plan.proofs.Inside.{framing-small, lane-number, in-numbers, is-rising, is-under, is-laned, is-last}
 
 pub record Sound (seen : Seen) (gs : List Setting) : Type 0 where
   pub size : length gs ≡ 64
@@ -69,12 +71,15 @@ module _ (seen : Seen) (gs : List Setting) (ok : Sound seen gs) (l : LaneField) 
   low : l .lane ≤ 63
   low = lane-number l o
 
+  lane-inside : l .lane < length gs
+  lane-inside = omega (arith, low, ok .size)
+
   free : settingAt gs (l .lane) ≡ noSetting
   free = ok .above (l .lane) (is-rising seen l m)
 
   -- a figure of the settings grows by the lane's own
   grown : (f : Setting → ℕ) → f noSetting ≡ 0 → sum f (set gs (l .lane) (given v h l)) ≡ sum f gs + f (given v h l)
-  grown f z = omega (arith, sum-set f gs (l .lane) (given v h l) noSetting (omega (arith, low, ok .size)), ap f free, z)
+  grown f z = omega (arith, sum-set f gs (l .lane) (given v h l) noSetting lane-inside, ap f free, z)
 
   one : there (given v h l) ≡ 1
   one = rw (lt-ltb 0 (l .weight) (in-numbers l o v h .weight-low))
@@ -82,13 +87,13 @@ module _ (seen : Seen) (gs : List Setting) (ok : Sound seen gs) (l : LaneField) 
   lane-kept : Sound (seenAfter seen (Lane l)) (placed v h gs (Lane l))
   lane-kept = record {
     size = length-set gs (l .lane) (given v h l) ∙ ok .size;
-    each = λ k. set-cases (λ (g : Setting). InNumbers g ⊎ (g ≡ noSetting)) gs (l .lane) k (given v h l) noSetting (λ e. inl (in-numbers l o v h)) (λ e. ok .each k) (inr refl);
-    framed = λ k. set-cases (λ (g : Setting). 0 < g .weight → g .framing ≡ seen .framing) gs (l .lane) k (given v h l) noSetting (λ e w. refl) (λ e. ok .framed k) (λ w. absurd (omega arith));
-    most = λ k. set-cases (λ (g : Setting). g .framing ≤ seen .framing) gs (l .lane) k (given v h l) noSetting (λ e. omega arith) (λ e. ok .most k) (omega arith);
+    each = λ k. set-cases (λ (g : Setting). InNumbers g ⊎ (g ≡ noSetting)) gs (l .lane) k (given v h l) noSetting lane-inside (λ e. inl (in-numbers l o v h)) (λ e. ok .each k);
+    framed = λ k. set-cases (λ (g : Setting). 0 < g .weight → g .framing ≡ seen .framing) gs (l .lane) k (given v h l) noSetting lane-inside (λ e w. refl) (λ e. ok .framed k);
+    most = λ k. set-cases (λ (g : Setting). g .framing ≤ seen .framing) gs (l .lane) k (given v h l) noSetting lane-inside (λ e. omega arith) (λ e. ok .most k);
     bytes = ok .bytes;
     none-yet = λ o. true-false (sym o);
     begin = λ o. true-false o;
-    above = λ k b. set-cases (λ (g : Setting). g ≡ noSetting) gs (l .lane) k (given v h l) noSetting (λ e. absurd (omega (arith, e, b))) (λ e. ok .above k (omega (arith, is-rising seen l m, b))) refl;
+    above = λ k b. set-cases (λ (g : Setting). g ≡ noSetting) gs (l .lane) k (given v h l) noSetting lane-inside (λ e. absurd (omega (arith, e, b))) (λ e. ok .above k (omega (arith, is-rising seen l m, b)));
     sum-is = omega (arith, grown (λ (g : Setting). g .weight) refl, ok .sum-is);
     there-are = omega (arith, grown there refl, ok .there-are, one);
     total = is-under seen l w;
@@ -98,7 +103,7 @@ module _ (seen : Seen) (gs : List Setting) (ok : Sound seen gs) (l : LaneField) 
     last = λ e k q.
         let is : l .lane ≡ k = omega arith in
         subst (λ (i : ℕ). InNumbers (settingAt (set gs (l .lane) (given v h l)) i)) is
-        (subst InNumbers (sym (getD-set-same gs (l .lane) (given v h l) noSetting (omega (arith, low, ok .size)))) (in-numbers l o v h));
+        (subst InNumbers (sym (getD-set-same gs (l .lane) (given v h l) noSetting lane-inside)) (in-numbers l o v h));
   }
 
 module _ (seen : Seen) (gs : List Setting) (ok : Sound seen gs) (k : ℕ) (m : misplaced seen (Shared k) ≡ false) where
@@ -111,20 +116,23 @@ module _ (seen : Seen) (gs : List Setting) (ok : Sound seen gs) (k : ℕ) (m : m
   numbers-shared : InNumbers (asShared was)
   numbers-shared = record { weight-low = numbers .weight-low; weight-high = numbers .weight-high; longest-low = numbers .longest-low; longest-high = numbers .longest-high }
 
+  shared-inside : k < length gs
+  shared-inside = omega (arith, is-last seen k m, ok .floor, ok .size)
+
   -- a figure that does not ask whether a lane is shared stays
   stays : (f : Setting → ℕ) → f (asShared was) ≡ f was → sum f (set gs k (asShared was)) ≡ sum f gs
-  stays f e = omega (arith, sum-set f gs k (asShared was) noSetting (omega (arith, is-last seen k m, ok .floor, ok .size)), e)
+  stays f e = omega (arith, sum-set f gs k (asShared was) noSetting shared-inside, e)
 
   shared-kept : Sound (seenAfter seen (Shared k)) (placed (seen .format) (seen .framing) gs (Shared k))
   shared-kept = record {
     size = length-set gs k (asShared was) ∙ ok .size;
-    each = λ i. set-cases (λ (g : Setting). InNumbers g ⊎ (g ≡ noSetting)) gs k i (asShared was) noSetting (λ e. inl numbers-shared) (λ e. ok .each i) (inr refl);
-    framed = λ i. set-cases (λ (g : Setting). 0 < g .weight → g .framing ≡ seen .framing) gs k i (asShared was) noSetting (λ e b. ok .framed k b) (λ e. ok .framed i) (λ b. absurd (omega arith));
-    most = λ i. set-cases (λ (g : Setting). g .framing ≤ seen .framing) gs k i (asShared was) noSetting (λ e. ok .most k) (λ e. ok .most i) (omega arith);
+    each = λ i. set-cases (λ (g : Setting). InNumbers g ⊎ (g ≡ noSetting)) gs k i (asShared was) noSetting shared-inside (λ e. inl numbers-shared) (λ e. ok .each i);
+    framed = λ i. set-cases (λ (g : Setting). 0 < g .weight → g .framing ≡ seen .framing) gs k i (asShared was) noSetting shared-inside (λ e b. ok .framed k b) (λ e. ok .framed i);
+    most = λ i. set-cases (λ (g : Setting). g .framing ≤ seen .framing) gs k i (asShared was) noSetting shared-inside (λ e. ok .most k) (λ e. ok .most i);
     bytes = ok .bytes;
     none-yet = λ e. true-false (sym e);
     begin = λ e. true-false e;
-    above = λ i b. set-cases (λ (g : Setting). g ≡ noSetting) gs k i (asShared was) noSetting (λ e. absurd (omega (arith, is-last seen k m, e, b))) (λ e. ok .above i b) refl;
+    above = λ i b. set-cases (λ (g : Setting). g ≡ noSetting) gs k i (asShared was) noSetting shared-inside (λ e. absurd (omega (arith, is-last seen k m, e, b))) (λ e. ok .above i b);
     sum-is = stays (λ (g : Setting). g .weight) refl ∙ ok .sum-is;
     there-are = stays there refl ∙ ok .there-are;
     total = ok .total;

@@ -12,7 +12,7 @@ use native.Mathlib.Omega.{arith}
 use Rattle.fields.specs.Item.{wholeField, badField}
 use Rattle.fields.proofs.Item.{bad-whole, Stands, stands}
 use Rattle.units.specs.Plain.{if_then_else_}
-use Rattle.plan.specs.Fields.{SetupItem, setupKnown, setupItemAt}
+use Rattle.plan.specs.Fields.{SetupItem, setupKinds, setupItemAt}
 use Rattle.plan.specs.Judge.{misplaced, outside, Inside, over, faults, tabled, faulted, judged, judgedAt}
 use Rattle.plan.specs.declared.judge.Fault.{Fault}
 use Rattle.plan.specs.declared.judge.Fault.the-variants.{NoFault, BadFormat, BadLane, BadWeight, BadLongest, BadFraming, TotalOver}
@@ -24,7 +24,7 @@ some-none h = absurd (let z : _≡_ {A = ℕ} 0 1 = cc in omega arith)
 
 pub record Taken (seen : Seen) (s : List ℕ) (at : ℕ) (f : SetupField) (m : ℕ) : Type 0 where
   pub item : setupItemAt s at ≡ wholeField f m
-  pub stand : Stands setupKnown s at f m
+  pub stand : Stands setupKinds s at f m
   pub in-place : misplaced seen f ≡ false
   pub inside : Inside f
   pub under : over seen f ≡ NoFault

@@ -17,7 +17,7 @@ use Rattle.fields.proofs.Header.{header-none}
 use Rattle.fields.proofs.Item.{item-none}
 use Rattle.rules.specs.State.{Setting}
 use Rattle.fields.specs.Item.{wholeField, badField}
-use Rattle.plan.specs.Fields.{setupKnown, ends}
+use Rattle.plan.specs.Fields.{setupKinds, ends}
 use Rattle.plan.specs.Judge.{judgedAt, seenAfter}
 use Rattle.plan.specs.Read.{setupRead, setupRefused, nothingSeen, noLanes, placed, setupWalk, readPlan}
 use Rattle.plan.specs.declared.judge.Seen.{Seen}
@@ -49,7 +49,7 @@ module _ (s : List ℕ) (at : ℕ) (seen : Seen) (gs : List Setting) (p : ℕ) (
   stand-last : (n : ℕ) (q : Option ℕ) → st .turns ≡ 0 → judgedAt seen s p ≡ badField n q → setupRefused n q ≡ readPlan s at
   unfolding setupWalk
   stand-last n q z h =
-      let e : judgedAt seen s p ≡ badField 1 (some (length s)) = judged-no seen s p 1 (some (length s)) (item-none setupKnown s p (header-none s p (omega (arith, st .enough, z)))) in
+      let e : judgedAt seen s p ≡ badField 1 (some (length s)) = judged-no seen s p 1 (some (length s)) (item-none setupKinds s p (header-none s p (omega (arith, st .enough, z)))) in
       let f : badField 1 (some (length s)) ≡ badField n q = sym e ∙ h in
       let a : setupRefused n q ≡ setupRefused 1 (some (length s)) = cc in
       a ∙ subst (λ (t : ℕ). setupWalk t s seen gs p ≡ readPlan s at) z (st .same)

@@ -3,7 +3,7 @@
 --   setupTag       the tags of a setup
 --   setupFits      the lengths that are right for a tag
 --   setupFieldOf   a value, taken apart by its tag
---   setupKnown     what a setup knows: these three
+--   setupKinds     what a setup knows: these three
 --   ends           whether a field is 0x7F
 --   setupItemAt    what stands at a place of a setup, a `SetupItem`
 --   setupItemOf    the code's answer as a `SetupItem`
@@ -14,7 +14,7 @@ use mathlib.Core.Bool.{Bool, true, false, _||_}
 use mathlib.Core.List.{List}
 use lib.Dec.{eqb}
 use Rattle.fields.specs.Bytes.{byteAt, big}
-use Rattle.fields.specs.Item.{Item, wholeField, badField, Known, itemAt}
+use Rattle.fields.specs.Item.{Item, wholeField, badField, FieldKinds, itemAt}
 use Rattle.units.specs.Plain.{if_then_else_}
 use Rattle.rules.specs.Reads.{number, placeOf}
 use Rattle.plan.specs.declared.parse.Longest.{Longest}
@@ -50,8 +50,8 @@ setupFieldOf s tag at n =
     else (if eqb tag 17 then Framing (byteAt s at)
     else (if eqb tag 18 then Shared (byteAt s at) else End)))
 
-abbrev pub setupKnown : Known SetupField
-setupKnown = record { tag = setupTag; fits = setupFits; field = setupFieldOf }
+abbrev pub setupKinds : FieldKinds SetupField
+setupKinds = record { tag = setupTag; fits = setupFits; field = setupFieldOf }
 
 -- R8.12: 0x7F ends a setup.
 abbrev pub ends : SetupField → Bool
@@ -66,7 +66,7 @@ SetupItem = Item SetupField
 
 -- R8.3, R8.4, R8.6: as in every input, by what a setup knows.
 abbrev pub setupItemAt : List ℕ → ℕ → SetupItem
-setupItemAt = itemAt setupKnown
+setupItemAt = itemAt setupKinds
 
 -- The code's answer, its refusal by number.
 abbrev pub setupItemOf : Parsed → SetupItem

@@ -15,13 +15,14 @@ use lib.Seq.{take-at}
 use Rattle.words.specs.Words.{wordAt}
 use Rattle.plan.specs.Read as plan
 use Rattle.plan.specs.Read.{readSetup}
-use Rattle.plan_writer.specs.Write.{Planned, Within, setupBytes, setupSize, writtenSize, writeReply, notWritten}
+use Rattle.plan_writer.specs.Write.{Planned, Within, setupBytes, setupSize, writtenSize, writeReply}
 use Rattle.plan_writer.specs.RoundTrip.{readAs}
 use Rattle.plan_writer.specs.declared.Written.{Written}
 use Rattle.plan_writer.proofs.Decided.{within-or-not}
 use Rattle.plan_writer.proofs.Round.{size-is, reads-back, read-within, writes-back}
+use Rattle.plan_writer.proofs.Calls.{size-refused}
 use Rattle.plan_area.specs.Area.{areaSize, AreaRoom, planIn, ShowsPlan, AreaWithin}
-use Rattle.plan_area.specs.Step.{AreaReply, areaLanes, areaRefused, areaReply, AreaBySetup, AreaRead, WriteStep, AreaWritesBack, AreaReadsBack}
+use Rattle.plan_area.specs.Step.{areaLanes, areaRefused, areaReply, AreaBySetup, AreaRead, WriteStep, AreaWritesBack, AreaReadsBack}
 use Rattle.plan_area.specs.declared.Got.{Got}
 use Rattle.plan_area.proofs.Shown.{shows-plan, shows-within, area-shows}
 
@@ -66,9 +67,6 @@ within-area a =
           ⊎-elim (λ (w : Within (planIn a)). inl (record { room = room; plan = w })) (λ (o : Within (planIn a) → ⊥). inr (λ w. o (w .plan))) (within-or-not (planIn a))
       | no b ↦ inr (λ w. b (w .room))
     ]
-
-pub size-refused : {A : Type 0} {k n : ℕ} → writtenSize k ≡ notWritten n → A
-size-refused h = absurd (let z : _≡_ {A = ℕ} 0 1 = cc in omega arith)
 
 wrote-size : (area before after : List ℕ) (a : Written) (k : ℕ) → WriteStep area before a after → writeReply a ≡ writtenSize k → AreaWithin area × (setupSize (planIn area) ≤ length before) × (k ≡ setupSize (planIn area))
 wrote-size area before after a k h e =

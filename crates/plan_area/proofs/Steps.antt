@@ -49,8 +49,13 @@ module _ {said : plan.SetupReply} {a : List ℕ} where
       size = size;
     }
 
-pub setup-good : (s : List ℕ) (r : Reading) → setupReply r ≡ readSetup s → (next : ℕ) → r .outcome ≡ Read next → Setup (settings (r .plan)) × (r .plan .format ≤ 2)
-setup-good s r e next o = let a = accepted-setup r s next e o .0 in (a .setup, format-small (r .plan .format) (a .rule .format))
+-- a setup that was read can be stored
+module _ (s : List ℕ) (r : Reading) (e : setupReply r ≡ readSetup s) (next : ℕ) (o : r .outcome ≡ Read next) where
+  pub setup-good : Setup (settings (r .plan))
+  setup-good = accepted-setup r s next e o .0 .setup
+
+  pub setup-low : r .plan .format ≤ 2
+  setup-low = format-small (r .plan .format) (accepted-setup r s next e o .0 .rule .format)
 
 module _ (area before : List ℕ) where
   not-within : (AreaWithin area → ⊥) → WriteStep area before (written.Refused Outside) before

@@ -9,7 +9,6 @@
 // Both take any bytes and areas of any length. What they answer and leave is `ReadStep` and `WriteStep` of specs/Step.antt; bytes past an area's 520 are
 // never touched. The other functions are inner ones: a `requires` says that the area is long enough.
 ghost use mathlib.Core.Path.{_≡_};
-ghost use mathlib.Core.List.{map};
 ghost use Prim.Native.Nat.{_*_, _≤_, _<_};
 ghost use lib.ListN.{length, drop};
 ghost use Rattle.rules.specs.Setup.{Setup};

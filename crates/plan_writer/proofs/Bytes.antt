@@ -15,7 +15,7 @@ use Rattle.fields.specs.Bytes.{byteAt, big}
 use Rattle.fields.proofs.Numbers.{byte-from, two-from, long-from}
 use Rattle.fields.proofs.Item.{item-by}
 use Rattle.fields.specs.Item.{wholeField}
-use Rattle.plan.specs.Fields.{setupTag, setupFits, setupKnown, laneFieldAt, setupFieldOf, setupItemAt}
+use Rattle.plan.specs.Fields.{setupTag, setupFits, setupKinds, laneFieldAt, setupFieldOf, setupItemAt}
 use Rattle.plan.specs.declared.parse.Longest.{Longest}
 use Rattle.plan.specs.declared.parse.Longest.the-variants.{Given, Default}
 use Rattle.plan.specs.declared.parse.LaneField.{LaneField}
@@ -38,7 +38,7 @@ Fits End = Unit
 module _ (s : List ℕ) (at t n m : ℕ) (f : SetupField) (m-is : at + 3 + n ≡ m) where
   item-from : byteAt s at ≡ t → big s (at + 1) 2 ≡ n → setupTag t ≡ true → setupFits t n ≡ true → at + 3 + n ≤ length s → setupFieldOf s t (at + 3) n ≡ f
       → setupItemAt s at ≡ wholeField f m
-  item-from a b k g l e = item-by setupKnown s at t n a b k g l e m-is
+  item-from a b k g l e = item-by setupKinds s at t n a b k g l e m-is
 
 module _ (s : List ℕ) (at : ℕ) (rest : List ℕ) where
   format-item : (v : ℕ) → v < 65536 → drop at s ≡ fieldBytes (Format v) ++ rest → setupItemAt s at ≡ wholeField (Format v) (at + 5)

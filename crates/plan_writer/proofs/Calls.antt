@@ -19,7 +19,7 @@ use Rattle.plan_writer.proofs.Numbered.{numbered-all}
 use Rattle.plan_writer.proofs.Round.{size-is, size-most, reads-back, in-form, read-within, writes-back, only-form, written-read, written-at}
 use Rattle.plan_writer.proofs.Decided.{within-or-not}
 
-size-refused : {A : Type 0} {k n : ℕ} → writtenSize k ≡ notWritten n → A
+pub size-refused : {A : Type 0} {k n : ℕ} → writtenSize k ≡ notWritten n → A
 size-refused h = absurd (let z : _≡_ {A = ℕ} 0 1 = cc in omega arith)
 
 module _ (p : Planned) (before after : List ℕ) (a : Written) (h : Writes p before a after) where

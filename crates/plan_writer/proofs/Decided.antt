@@ -11,6 +11,7 @@ use mathlib.Core.List.{List, [], _∷_}
 use native.Mathlib.Decide.{decLe}
 use native.Mathlib.Omega.{arith}
 use lib.ListN.{length}
+use Rattle.units.proofs.Lists.{same-or}
 use Rattle.rules.specs.State.{Setting, settingAt}
 use Rattle.rules.specs.Setup.{weights, framingOf}
 use Rattle.plan.specs.Judge.{knownFormat}
@@ -23,25 +24,16 @@ told : {P : Type 0} (b : Bool) → Tells b P → P ⊎ (P → ⊥)
 told true t = inl (t .yes refl)
 told false t = inr (t .no refl)
 
-same-or-not : (m n : ℕ) → (m ≡ n) ⊎ (m ≡ n → ⊥)
-same-or-not m n =
-    elim (decLe m n) [
-      | yes a ↦ elim (decLe n m) [ yes b ↦ inl (omega arith) | no b ↦ inr (λ e. omega (arith, e, b)) ]
-      | no a ↦ inr (λ e. omega (arith, e, a))
-    ]
-
 fit-or-not : (h : ℕ) (g : Setting) → Fitting h g ⊎ (Fitting h g → ⊥)
 fit-or-not h g =
-    ⊎-elim
+    same-or (g .weight) 0
     (λ (w : g .weight ≡ 0).
-    ⊎-elim
+    same-or (g .longest) 0
     (λ (l : g .longest ≡ 0).
-    ⊎-elim
+    same-or (g .framing) 0
     (λ (f : g .framing ≡ 0). told _ (absent-lane h g w l f))
-    (λ (f : g .framing ≡ 0 → ⊥). inr (λ p. f (ap (λ (x : Setting). x .framing) (is-absent h g w p))))
-    (same-or-not (g .framing) 0))
-    (λ (l : g .longest ≡ 0 → ⊥). inr (λ p. l (ap (λ (x : Setting). x .longest) (is-absent h g w p))))
-    (same-or-not (g .longest) 0))
+    (λ (f : g .framing ≡ 0 → ⊥). inr (λ p. f (ap (λ (x : Setting). x .framing) (is-absent h g w p)))))
+    (λ (l : g .longest ≡ 0 → ⊥). inr (λ p. l (ap (λ (x : Setting). x .longest) (is-absent h g w p)))))
     (λ (w : g .weight ≡ 0 → ⊥).
     elim (decLe (g .weight) 1024) [
       | yes a ↦
@@ -55,7 +47,6 @@ fit-or-not h g =
           ]
       | no a ↦ inr (λ p. omega (arith, is-there h g w p .0 .weight-high, a))
     ])
-    (same-or-not (g .weight) 0)
 
 all-or-not : (h : ℕ) (gs : List Setting) → ((j : ℕ) → Fitting h (settingAt gs j)) ⊎ (((j : ℕ) → Fitting h (settingAt gs j)) → ⊥)
 all-or-not h [] = inl (λ j. inr refl)
@@ -91,9 +82,9 @@ module _ (p : Planned) where
 
   counts-or-not : Counts ⊎ (Counts → ⊥)
   counts-or-not =
-      ⊎-elim
+      same-or (length gs) 64
       (λ (s : length gs ≡ 64).
-      ⊎-elim
+      same-or (present gs) (p .count)
       (λ (c : present gs ≡ p .count).
       elim (decLe 1 (weights gs)) [
         | yes a ↦
@@ -103,10 +94,8 @@ module _ (p : Planned) where
             ]
         | no a ↦ inr (λ k. a (k .some-lane))
       ])
-      (λ (o : present gs ≡ p .count → ⊥). inr (λ k. o (k .count)))
-      (same-or-not (present gs) (p .count)))
+      (λ (o : present gs ≡ p .count → ⊥). inr (λ k. o (k .count))))
       (λ (o : length gs ≡ 64 → ⊥). inr (λ k. o (k .size)))
-      (same-or-not (length gs) 64)
 
   within : Counts → ((j : ℕ) → Fitting h (settingAt gs j)) → Within p
   within k f = record {

@@ -6,17 +6,17 @@
 -- Nothing here names a kind of field. Assumes nothing.
 use Prim.Native.Nat.{ℕ, _+_, _≤_}
 use mathlib.Core.Path.{_≡_, refl, sym, ap, subst, _∙_}
-use mathlib.Core.Bool.{Bool, true, false, _&&_}
+use mathlib.Core.Bool.{true}
 use mathlib.Core.List.{List, [], _∷_, _++_, append-assoc}
 use native.Mathlib.Nat.{add-zero}
 use native.Mathlib.Omega.{arith}
 use lib.ListN.{length, drop, length-append}
 use lib.Seq.{drop-drop, drop-append-seam}
+use Rattle.units.proofs.Bools.{and-parts}
 use Rattle.fields.specs.Bytes.{Bytes}
 use Rattle.fields.specs.Item.{wholeField}
 use Rattle.plan.specs.Accepted.{Laid}
 use Rattle.plan.specs.declared.parse.SetupField.{SetupField}
-use Rattle.plan.proofs.Inside.{true-false}
 use Rattle.fields.proofs.Item.{stands}
 use Rattle.plan_writer.specs.Format.{fieldBytes, bytesOf, formed, allFormed}
 use Rattle.plan_writer.proofs.Bytes.{Fits, item-bytes}
@@ -57,18 +57,11 @@ laid-bytes s at rest (f ∷ fs) a h =
     let e : m + length (bytesOf fs) ≡ at + length (fieldBytes f ++ bytesOf fs) = omega (arith, length-append (fieldBytes f) (bytesOf fs)) in
     (m, item-bytes s at (bytesOf fs ++ rest) f (a .0) here, subst (Laid s m fs) e (laid-bytes s m rest fs (a .1) behind))
 
-pub and-true : (a b : Bool) → (a && b) ≡ true → (a ≡ true) × (b ≡ true)
-and-true true b h = (refl, h)
-and-true false b h = true-false (sym h)
-
-pub true-and : {a b : Bool} → a ≡ true → b ≡ true → (a && b) ≡ true
-true-and {a} {b} p q = ap (λ (x : Bool). x && b) p ∙ q
-
 pub bytes-laid : (s : List ℕ) → Bytes s → (at : ℕ) (fs : List SetupField) (p : ℕ) → allFormed fs ≡ true → Laid s at fs p → drop at s ≡ bytesOf fs ++ drop p s
 unfolding Laid bytesOf
 bytes-laid s b at [] p a h = ap (λ (k : ℕ). drop k s) h
 bytes-laid s b at (f ∷ fs) p a h =
-    let both = and-true (formed f) (allFormed fs) a in
+    let both = and-parts (formed f) (allFormed fs) a in
     stand-bytes s b at f (h .0) (stands (h .1)) (both .0)
     ∙ ap (λ (l : List ℕ). fieldBytes f ++ l) (bytes-laid s b (h .0) fs p (both .1) (h .2))
     ∙ sym (append-assoc (fieldBytes f) (bytesOf fs) (drop p s))

@@ -12,6 +12,7 @@ use mathlib.Core.List.{List, [], _∷_, _++_, append-assoc}
 use native.Mathlib.Omega.{arith}
 use borrow.Author.Tests.{eqb-true}
 use lib.Dec.{eqb}
+use Rattle.units.proofs.Bools.{and-parts, and-made}
 use Rattle.rules.specs.State.{Setting}
 use Rattle.plan.specs.Judge.{knownFormat}
 use Rattle.plan.specs.Accepted.{setupFields, framed, fieldsOf}
@@ -19,7 +20,7 @@ use Rattle.plan.specs.declared.parse.SetupField.{SetupField}
 use Rattle.plan.specs.declared.parse.SetupField.the-variants.{Format, End}
 use Rattle.plan_writer.specs.Format.{fieldBytes, bytesOf, formed, allFormed}
 use Rattle.plan_writer.specs.Write.{laneFields, unlessZero, lanesBytes, framingBytes}
-use Rattle.plan_writer.proofs.Laid.{AllFit, and-true, true-and}
+use Rattle.plan_writer.proofs.Laid.{AllFit}
 
 pub bytes-append : (fs gs : List SetupField) → bytesOf (fs ++ gs) ≡ bytesOf fs ++ bytesOf gs
 unfolding bytesOf
@@ -41,11 +42,11 @@ fit-append (f ∷ fs) gs a b = (a .0, fit-append fs gs (a .1) b)
 
 pub formed-append : (fs gs : List SetupField) → allFormed fs ≡ true → allFormed gs ≡ true → allFormed (fs ++ gs) ≡ true
 formed-append [] gs a b = b
-formed-append (f ∷ fs) gs a b = let both = and-true (formed f) (allFormed fs) a in true-and (both .0) (formed-append fs gs (both .1) b)
+formed-append (f ∷ fs) gs a b = let both = and-parts (formed f) (allFormed fs) a in and-made (formed f) (allFormed (fs ++ gs)) (both .0) (formed-append fs gs (both .1) b)
 
 pub formed-split : (fs gs : List SetupField) → allFormed (fs ++ gs) ≡ true → (allFormed fs ≡ true) × (allFormed gs ≡ true)
 formed-split [] gs h = (refl, h)
-formed-split (f ∷ fs) gs h = let both = and-true (formed f) (allFormed (fs ++ gs)) h in let rest = formed-split fs gs (both .1) in (true-and (both .0) (rest .0), rest .1)
+formed-split (f ∷ fs) gs h = let both = and-parts (formed f) (allFormed (fs ++ gs)) h in let rest = formed-split fs gs (both .1) in (and-made (formed f) (allFormed fs) (both .0) (rest .0), rest .1)
 
 -- a known format fits its two bytes
 pub format-small : (v : ℕ) → knownFormat v ≡ true → v ≤ 2

@@ -14,6 +14,7 @@ use lib.Dec.{ltb}
 use lib.ListN.{length, set, replicate, length-append, length-replicate}
 use lib.Seq.{set-append-seam, append-snoc}
 use Rattle.units.specs.Plain.{if_then_else_}
+use Rattle.units.proofs.Bools.{and-parts, true-false}
 use Rattle.rules.specs.State.{Setting, noSetting, settingAt}
 use Rattle.plan.specs.Judge.{longestOf}
 use Rattle.plan.specs.Accepted.{LaneFields, Rising, LanesWithin, givenBy, placedAll, sharedBehind, fieldsOf}
@@ -21,10 +22,8 @@ use Rattle.plan.specs.declared.parse.Longest.{Longest}
 use Rattle.plan.specs.declared.parse.Longest.the-variants.{Given, Default}
 use Rattle.plan.specs.declared.parse.SetupField.{SetupField}
 use Rattle.plan.specs.declared.parse.SetupField.the-variants.{Lane, End}
-use Rattle.plan.proofs.Inside.{true-false}
 use Rattle.plan_writer.specs.Format.{written-out, formed, allFormed}
 use Rattle.plan_writer.specs.Write.{laneFieldsOf, laneFields, Fitting}
-use Rattle.plan_writer.proofs.Laid.{and-true}
 use Rattle.plan_writer.proofs.Lanes.{fields-there, by-lanes}
 
 -- ---- placing a plan's own fields
@@ -104,7 +103,7 @@ pub fields-back : (v h : ℕ) (lanes : List LaneFields) (pre : List Setting) (m 
 unfolding placedAll Rising LanesWithin
 fields-back v h [] pre m e r a o = fields-append 0 pre (replicate m noSetting) ∙ ap (λ (ls : List LaneFields). laneFields 0 pre ++ ls) (none-there (0 + length pre) m)
 fields-back v h (l ∷ ls) pre m e r a o =
-    let both = and-true (formed (Lane (l .lane))) (allFormed ((sharedBehind (l .shared) (l .lane .lane) ++ fieldsOf ls) ++ (End ∷ []))) o in
+    let both = and-parts (formed (Lane (l .lane))) (allFormed ((sharedBehind (l .shared) (l .lane .lane) ++ fieldsOf ls) ++ (End ∷ []))) o in
     let d = l .lane .lane - length pre in
     let m₁ = m - suc d in
     let m-is : m ≡ d + suc m₁ = omega (arith, a .0 .number, r .0) in

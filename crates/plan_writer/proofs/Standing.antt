@@ -14,13 +14,14 @@ use borrow.Author.Tests.{eqb-true}
 use lib.Dec.{eqb}
 use lib.ListN.{length, drop}
 use lib.Seq.{drop-cons}
+use Rattle.units.proofs.Bools.{true-false}
+use Rattle.units.proofs.Lists.{cons}
 use Rattle.fields.specs.Bytes.{byteAt, big, Bytes}
 use Rattle.fields.proofs.Numbers.{big-two}
 use Rattle.fields.proofs.Item.{Stands}
-use Rattle.plan.specs.Fields.{setupTag, setupFits, setupKnown, laneFieldAt, setupFieldOf}
+use Rattle.plan.specs.Fields.{setupTag, setupFits, setupKinds, laneFieldAt, setupFieldOf}
 use Rattle.plan.specs.declared.parse.SetupField.{SetupField}
 use Rattle.plan.specs.declared.parse.SetupField.the-variants.{Format, Lane, Framing, Shared, End}
-use Rattle.plan.proofs.Inside.{true-false}
 use Rattle.plan.proofs.Tags.{fitting-format, fitting-framing, fitting-shared, fitting-end, lane-size, field-format, field-lane, field-framing, field-shared, field-end}
 use Rattle.plan_writer.specs.Format.{fieldBytes, formed}
 
@@ -37,9 +38,6 @@ drop-run s at i (suc n) h =
     ∙ ap (λ (k : ℕ). byteAt s (at + i) ∷ drop k s) (let e : suc (at + i) ≡ at + suc i = omega arith in e)
     ∙ ap (λ (l : List ℕ). byteAt s (at + i) ∷ l) (drop-run s at (suc i) n (omega arith))
     ∙ ap (λ (k : ℕ). byteAt s (at + i) ∷ (run s at (suc i) n ++ drop k s)) (let e : at + suc i + n ≡ at + i + suc n = omega arith in e)
-
-cons : {x y : ℕ} {xs ys : List ℕ} → x ≡ y → xs ≡ ys → x ∷ xs ≡ y ∷ ys
-cons a b = cc
 
 module _ (s : List ℕ) (bytes : Bytes s) (at : ℕ) where
   abbrev b : ℕ → ℕ
@@ -107,7 +105,7 @@ module _ (s : List ℕ) (bytes : Bytes s) (at : ℕ) where
       go false false false false true p q r v u h = inr (inr (inr (inr (eqb-true t 127 u))))
       go false false false false false p q r v u h = true-false (sym h)
 
-  module _ (f : SetupField) (m : ℕ) (st : Stands setupKnown s at f m) (form : formed f ≡ true) where
+  module _ (f : SetupField) (m : ℕ) (st : Stands setupKinds s at f m) (form : formed f ≡ true) where
     abbrev t : ℕ
     t = byteAt s at
 

@@ -14,7 +14,7 @@ use Rattle.table.specs.declared.LaneRow.{LaneRow}
 use Rattle.table.proofs.Stores.{length-cells}
 use Rattle.table.proofs.Entries.{Fits}
 use Rattle.table.proofs.Untouched.{outside-place, outside-cleared, outside-trains, outside-round, rows-place, rows-cleared, rows-round}
-use Rattle.queue.specs.Queue.{Ready, Joins, Moved, Entered, Cleared}
+use Rattle.queue.specs.Queue.{Ready, Joins, QueueMoved, Entered, Cleared}
 use Rattle.queue.specs.declared.Item.{Item}
 use Rattle.queue.proofs.Ring.{ring-snoc}
 use Rattle.queue.proofs.Trains.{both, both-size, both-outside, both-rows, both-place, entered-shared, entered-ordered, bare-words, bare-numbers, bare-round, bare-place, bare-shared}
@@ -44,8 +44,8 @@ entered-train t t₀ t₁ k p l e hk small f le kind y j n =
     let v = both (cells t) k (e .train) (c .train) (c .round) hk (y .train) size (j .puts .small) in
     let u = putEntry v (placeInLane k p) (entryOf e) in
     let words : cells t₁ ≡ u = n .words ∙ ap (λ (x : List ℕ). putEntry x (placeInLane k p) (entryOf e)) (j .now .words) in
-    let first : Moved t t₀ k = moved-now t t₀ v k (j .now) (both-outside (cells t) k (e .train) (c .train) (c .round) hk (y .train) size (j .puts .small)) (both-rows (cells t) k (e .train) (c .train) (c .round) hk (y .train) size (j .puts .small)) in
-    let second : Moved t₀ t₁ k = moved-now t₀ t₁ _ k n (outside-place (cells t₀) k p (entryOf e)) (rows-place (cells t₀) k (placeInLane k p) (entryOf e)) in
+    let first : QueueMoved t t₀ k = moved-now t t₀ v k (j .now) (both-outside (cells t) k (e .train) (c .train) (c .round) hk (y .train) size (j .puts .small)) (both-rows (cells t) k (e .train) (c .train) (c .round) hk (y .train) size (j .puts .small)) in
+    let second : QueueMoved t₀ t₁ k = moved-now t₀ t₁ _ k n (outside-place (cells t₀) k p (entryOf e)) (rows-place (cells t₀) k (placeInLane k p) (entryOf e)) in
     record {
       moved = moved-then first second;
       fits = λ h. rw words (places-one v k l hk (both-size (cells t) k (e .train) (c .train) (c .round) hk (y .train) size (j .puts .small)) p (entryOf e) f le
@@ -56,7 +56,7 @@ entered-train t t₀ t₁ k p l e hk small f le kind y j n =
     }
 
 module _ (t t₀ : List ℕ) (k : ℕ) (l : LaneRow) (hk : k < 64) (some : 0 < l .longest .0) (n : Now t t₀ (clearCells (cells t) (lengthsCell + lengthWords * k) lengthWords)) where
-  lengths-moved : Moved t t₀ k
+  lengths-moved : QueueMoved t t₀ k
   lengths-moved = moved-now t t₀ _ k n (outside-cleared (cells t) k) (rows-cleared (cells t) k (lengthsCell + lengthWords * k) lengthWords (omega arith))
 
   lengths-fit : PlacesFit (cells t₀) k l
@@ -70,8 +70,8 @@ module _ (t t₀ : List ℕ) (k : ℕ) (l : LaneRow) (hk : k < 64) (some : 0 < l
   cleared-trains t₁ t₂ a b =
       let size = length-cells t₀ in
       let words : cells t₂ ≡ bare-words (cells t₀) k hk size = b .words ∙ ap (λ (x : List ℕ). set x (roundWord k) 0) (a .words) in
-      let first : Moved t₀ t₁ k = moved-now t₀ t₁ _ k a (outside-trains (cells t₀) k) (rows-cleared (cells t₀) k (trainsCell + 4 * k) 4 (omega arith)) in
-      let second : Moved t₁ t₂ k = moved-now t₁ t₂ _ k b (outside-round (cells t₁) k 0) (rows-round (cells t₁) k 0) in
+      let first : QueueMoved t₀ t₁ k = moved-now t₀ t₁ _ k a (outside-trains (cells t₀) k) (rows-cleared (cells t₀) k (trainsCell + 4 * k) 4 (omega arith)) in
+      let second : QueueMoved t₁ t₂ k = moved-now t₁ t₂ _ k b (outside-round (cells t₁) k 0) (rows-round (cells t₁) k 0) in
       record {
         moved = moved-then lengths-moved (moved-then first second);
         fits = λ i hi. rw (words, bare-place (cells t₀) k hk size i) (lengths-fit i hi);

@@ -9,7 +9,7 @@ use lib.ListN.{length}
 use Rattle.words.proofs.Runs.{eq-or-ne}
 use Rattle.rounds.specs.Round.{sharedHandOut}
 use Rattle.turns.specs.Turns as turns
-use Rattle.turns.specs.Turns.{headOf, turnOf, sharedOf, with, begun, Light, HandsOutTurn}
+use Rattle.turns.specs.Turns.{headOf, turnOf, sharedOf, with, turnBegun, Light, HandsOutTurn}
 use Rattle.turns.specs.declared.Change.{Change}
 use Rattle.turns.proofs.Train.{with-same, with-other, shared-same}
 use Rattle.table.specs.Layout.{CELLS, roundAt, placeInLane, entryAt, trainNumber, putTrain}
@@ -56,16 +56,16 @@ module _ (w : List ℕ) (k L n next : ℕ) (c : Change) (hk : k < 64) (size : le
 
   -- words with these numbers are those of the lane after it
   left : (b : Bool) → c .begins ≡ b → (u : List ℕ) → ((i : ℕ) → entryAt u (placeInLane k i) ≡ entryAt w (placeInLane k i)) → roundAt u k ≡ c .round
-      → ((i : ℕ) → i < 8 → trainNumber u k i ≡ begun L b ts (c .round) i) → sharedAt u k ≡ sharedHandOut L (sharedAt w k)
+      → ((i : ℕ) → i < 8 → trainNumber u k i ≡ turnBegun L b ts (c .round) i) → sharedAt u k ≡ sharedHandOut L (sharedAt w k)
   unfolding sharedAt
   left b q u places round numbers =
-      shared-same (recAt u k) (recAt w k) (trainNumber u k) (begun L b ts (c .round)) (roundAt u k) (same-records u places) numbers
-      ∙ ap (sharedOf (recAt w k) (begun L b ts (c .round))) round
-      ∙ ap (λ (x : Bool). sharedOf (recAt w k) (begun L x ts (c .round)) (c .round)) (sym q)
+      shared-same (recAt u k) (recAt w k) (trainNumber u k) (turnBegun L b ts (c .round)) (roundAt u k) (same-records u places) numbers
+      ∙ ap (sharedOf (recAt w k) (turnBegun L b ts (c .round))) round
+      ∙ ap (λ (x : Bool). sharedOf (recAt w k) (turnBegun L x ts (c .round)) (c .round)) (sym q)
       ∙ hands .lane L (recAt w k) (trainNumber w k) refl first-length next-length
 
   pub handed-shared : c .begins ≡ false → sharedAt handed k ≡ sharedHandOut L (sharedAt w k)
-  unfolding begun
+  unfolding turnBegun
   handed-shared q = left false q handed (both-place w k j (c .train) (c .round) hk turn size (omega (arith, hands .small))) handed-round handed-numbers
 
   module _ (i m : ℕ) (begins : c .begins ≡ true) (ei : i ≡ turnOf (c .round)) (em : m ≡ trainNumber handed k i) where
@@ -78,8 +78,8 @@ module _ (w : List ℕ) (k L n next : ℕ) (c : Change) (hk : k < 64) (size : le
     number-is : m + 128 * L ≡ ts (turnOf (c .round)) + 128 * L
     number-is = ap (λ (x : ℕ). x + 128 * L) (em ∙ handed-numbers i hi ∙ ap ts ei)
 
-    begun-numbers : (x : ℕ) → x < 8 → trainNumber begun-words k x ≡ begun L true ts (c .round) x
-    unfolding begun
+    begun-numbers : (x : ℕ) → x < 8 → trainNumber begun-words k x ≡ turnBegun L true ts (c .round) x
+    unfolding turnBegun
     begun-numbers x hx =
         numbers-put handed k hk handed-size i (m + 128 * L) hi (begins-small i m hi em) ts handed-numbers x hx
         ∙ ap (λ (y : ℕ). with ts y (m + 128 * L) x) ei

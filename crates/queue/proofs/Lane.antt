@@ -3,7 +3,7 @@ use mathlib.Core.Path.{_≡_, refl, sym, ap, _∙_}
 use mathlib.Core.Bool.{true, false, false≢true}
 use Prim.Native.Nat.{ℕ, zero, suc, _+_, _≤_, _<_}
 use mathlib.Core.List.{List}
-use mathlib.Core.Option.{Option, none, some}
+use mathlib.Core.Option.{some}
 use native.Mathlib.Omega.{arith}
 use lib.Seq.{set-getD}
 use lib.ListN.{length, set, getD}
@@ -17,6 +17,7 @@ use Rattle.turns.proofs.Good.{good-light, good-room}
 use Rattle.waiting.specs.Waiting.{shared, itemOf, first, known, full, GoodWaiting}
 use Rattle.waiting.proofs.Laws.{Enters, first-nothing, held-none}
 use Rattle.rules.specs.State.{Rec, Setting, Lane, laneAt, laneDepth, firstOf, holds, some?}
+use Rattle.rules.proofs.Moves.{idle-first}
 use Rattle.table.specs.Layout.{Now, cells, laneWord, roundAt, rowAt, putRow, putRing, trainNumber}
 use Rattle.table.specs.Means.{presentAt, recAt, sharedAt, waitingOf, givenOf, timedByWord, stateOf, meant, Housed, RowsFit, Leaves, withLane}
 use Rattle.table.specs.declared.LaneRow.{LaneRow}
@@ -25,11 +26,11 @@ use Rattle.table.proofs.Footprint.{lane-is}
 use Rattle.table.proofs.Leave.{leave-lane}
 use Rattle.table.proofs.Untouched.{row-same, present-same, outside-trans, outside-row}
 use Rattle.table.proofs.Rows.{retimed, row-put, lane-put, housed-put, lane-present, given-row, waiting-row, waiting-none, waiting-shared, waiting-held}
-use Rattle.queue.specs.Queue.{waiting, Ready, Moved}
+use Rattle.queue.specs.Queue.{waiting, Ready, QueueMoved}
 
 -- ---- then the row is stored, with the clock word x and n records from the place h on
 
-pub rewritten : (t t₁ t′ : List ℕ) (k x h n : ℕ) → k < 64 → h < laneDepth → presentAt (cells t) k ≡ true → Moved t t₁ k → (RowsFit (cells t) → 0 < n → Housed (cells t₁) k (retimed (rowAt (cells t) k) x h n))
+pub rewritten : (t t₁ t′ : List ℕ) (k x h n : ℕ) → k < 64 → h < laneDepth → presentAt (cells t) k ≡ true → QueueMoved t t₁ k → (RowsFit (cells t) → 0 < n → Housed (cells t₁) k (retimed (rowAt (cells t) k) x h n))
     → Now t₁ t′ (putRow (cells t₁) k (retimed (rowAt (cells t) k) x h n))
     → Leaves t t′ (withLane (meant t) k (timedByWord (givenOf (rowAt (cells t) k)) x (waitingOf (cells t₁) k (retimed (rowAt (cells t) k) x h n))))
 rewritten t t₁ t′ k x h n hk small p m f b =
@@ -44,7 +45,7 @@ rewritten t t₁ t′ k x h n hk small p m f b =
     (λ beside q some. rw stored (housed-put u k l hk l (rw same (f beside (rw stored at some)))))
 
 -- the ring stored alone: the clock word stays
-pub ring-now : (t t₁ t′ : List ℕ) (k h n : ℕ) → k < 64 → Moved t t₁ k → Now t₁ t′ (putRing (cells t₁) k h n)
+pub ring-now : (t t₁ t′ : List ℕ) (k h n : ℕ) → k < 64 → QueueMoved t t₁ k → Now t₁ t′ (putRing (cells t₁) k h n)
     → Now t₁ t′ (putRow (cells t₁) k (retimed (rowAt (cells t) k) (rowAt (cells t) k .time .0) h n))
 unfolding putRow rowAt
 ring-now t t₁ t′ k h n hk m b =
@@ -53,14 +54,6 @@ ring-now t t₁ t′ k h n hk m b =
     record { words = b .words ∙ ap (λ (w : List ℕ). putRing w k h n) (sym same); rest = b .rest }
 
 -- ---- a lane by its row
-
-pub none-first : (o : Option Rec) → some? o ≡ false → o ≡ none
-none-first none h = refl
-none-first (some r) h = absurd (false≢true (sym h))
-
-pub some-first : (o : Option Rec) → some? o ≡ true → (r : Rec) × (o ≡ some r)
-some-first none h = absurd (false≢true h)
-some-first (some r) h = (r, refl)
 
 module _ (w o : List ℕ) (k : ℕ) (hk : k < 64) (p : presentAt w k ≡ true) where
   abbrev l : LaneRow
@@ -93,7 +86,7 @@ module _ (w o : List ℕ) (k : ℕ) (hk : k < 64) (p : presentAt w k ≡ true) w
   enters-row r a = rw (longest-row, waiting-of) at a
 
   pub idle-row : RowsFit w → GoodWaiting (l .longest .0) (waitingOf w k l) → holds (laneAt (stateOf w o) k) ≡ false → l .count ≡ 0
-  idle-row b g h = sym (waiting-held w k l (b .housed k hk p)) ∙ held-none (l .longest .0) (waitingOf w k l) g (sym first-of ∙ none-first _ h)
+  idle-row b g h = sym (waiting-held w k l (b .housed k hk p)) ∙ held-none (l .longest .0) (waitingOf w k l) g (sym first-of ∙ idle-first _ h)
 
 -- ---- a shared lane
 

@@ -5,6 +5,7 @@ pub mod Moves
 pub mod Entering
 pub mod Turning
 pub mod Lane
+pub mod Held
 pub mod Appending
 pub mod Waking
 pub mod Pacing

@@ -23,19 +23,19 @@ use Rattle.table.proofs.Footprint.{Outside}
 use Rattle.table.proofs.Agrees.{paced-retimed}
 use Rattle.table.proofs.Untouched.{SameRows, outside-trans}
 use Rattle.table.proofs.Rows.{retimed, waiting-plain, waiting-shared, waiting-none}
-use Rattle.queue.specs.Queue.{waiting, bareItem, Moved, Entered}
+use Rattle.queue.specs.Queue.{waiting, bareItem, QueueMoved, Entered}
 use Rattle.queue.specs.declared.Item.{Item}
 
 -- ---- where the stores lie
 
-pub moved-none : (t : List ℕ) (k : ℕ) → Moved t t k
+pub moved-none : (t : List ℕ) (k : ℕ) → QueueMoved t t k
 moved-none t k = record { outside = record { kept = λ i p q r x. refl }; rows = λ i h ne. refl; behind = behind-refl }
 
-pub moved-now : (t t′ u : List ℕ) (k : ℕ) → Now t t′ u → Outside (cells t) u k → SameRows (cells t) u k → Moved t t′ k
+pub moved-now : (t t′ u : List ℕ) (k : ℕ) → Now t t′ u → Outside (cells t) u k → SameRows (cells t) u k → QueueMoved t t′ k
 moved-now t t′ u k n o r =
     record { outside = subst (λ (x : List ℕ). Outside (cells t) x k) (sym (n .words)) o; rows = subst (λ (x : List ℕ). SameRows (cells t) x k) (sym (n .words)) r; behind = n .rest }
 
-pub moved-then : {t u v : List ℕ} {k : ℕ} → Moved t u k → Moved u v k → Moved t v k
+pub moved-then : {t u v : List ℕ} {k : ℕ} → QueueMoved t u k → QueueMoved u v k → QueueMoved t v k
 moved-then {t} {u} {v} {k} a b =
     record {
       outside = outside-trans (cells t) (cells u) (cells v) k (a .outside) (b .outside);

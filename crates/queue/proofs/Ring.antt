@@ -1,6 +1,6 @@
 -- Laws of a ring: one record more at its end, one less at its front. Assumes nothing.
-use mathlib.Core.Path.{_≡_, refl, sym, ap, _∙_}
-use Prim.Native.Nat.{ℕ, suc, _+_, _-_, _*_, _/_, _%_, _^_, _<_}
+use mathlib.Core.Path.{_≡_, sym, ap, _∙_}
+use Prim.Native.Nat.{ℕ, suc, _+_, _-_, _%_, _<_}
 use mathlib.Core.List.{List, [], _∷_, _++_}
 use mathlib.Core.Option.{some}
 use native.Mathlib.Nat.{add-zero}
@@ -8,7 +8,6 @@ use native.Mathlib.Omega.{arith}
 use lib.ListN.{length}
 use Rattle.words.specs.Runs.{tab}
 use Rattle.words.proofs.Runs.{tab-ext, tab-snoc, tab-cons}
-use Rattle.rounds.specs.Round.{BareRec}
 use Rattle.waiting.specs.Waiting.{withTrain, head, tail}
 use Rattle.rules.specs.State.{laneDepth}
 use Rattle.table.specs.Layout.{CELLS, placeInLane, entryAt, putEntry}

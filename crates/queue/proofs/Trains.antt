@@ -7,7 +7,7 @@ use native.Mathlib.Omega.{arith}
 use lib.ListN.{length, set, length-set}
 use lib.Seq.{getD-set-same, getD-set-other}
 use Rattle.words.proofs.Runs.{eq-or-ne}
-use Rattle.rounds.specs.Round.{Shared, empty, sharedPut}
+use Rattle.rounds.specs.Round.{Shared, emptyShared, sharedPut}
 use Rattle.turns.specs.Turns as turns
 use Rattle.turns.specs.Turns.{headOf, countOf, sharedOf, with, Ordered, Light, Puts}
 use Rattle.turns.specs.declared.Change.{Change}
@@ -137,7 +137,7 @@ module _ (w : List ℕ) (k : ℕ) (hk : k < 64) (size : length w ≡ CELLS) wher
       places-round (clearCells w (trainsCell + 4 * k) 4) k hk size-c 0 i
       ∙ entry-kept w (clearCells w (trainsCell + 4 * k) 4) (placeInLane k i) (clear-other w (trainsCell + 4 * k) 4 (lengthCell (placeInLane k i)) (λ a b. omega arith)) (clear-other w (trainsCell + 4 * k) 4 (markCell (placeInLane k i)) (λ a b. omega arith))
 
-  pub bare-shared : sharedAt bare-words k ≡ empty
+  pub bare-shared : sharedAt bare-words k ≡ emptyShared
   unfolding sharedAt
   bare-shared =
       shared-same (recAt bare-words k) (recAt bare-words k) (trainNumber bare-words k) (λ (i : ℕ). 0) (roundAt bare-words k) (λ q h. refl) bare-numbers

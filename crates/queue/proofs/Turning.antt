@@ -6,7 +6,7 @@ use mathlib.Core.List.{List}
 use native.Mathlib.Omega.{arith}
 use lib.ListN.{length, set}
 use Rattle.turns.specs.Turns as turns
-use Rattle.turns.specs.Turns.{headOf, countOf, deficitOf, namedOf, turnOf, Ordered, Known, Light, HandsOutTurn}
+use Rattle.turns.specs.Turns.{headOf, countOf, deficitOf, namedOf, turnOf, Ordered, NamesTrains, Light, HandsOutTurn}
 use Rattle.turns.specs.declared.Change.{Change}
 use Rattle.turns.proofs.Good.{good-known, good-light, turn-known, turn-count, turn-covers}
 use Rattle.waiting.specs.Waiting.{shared}
@@ -15,7 +15,7 @@ use Rattle.table.specs.Means.{recAt, sharedAt}
 use Rattle.table.specs.declared.Entry.{Entry}
 use Rattle.table.proofs.Stores.{length-cells}
 use Rattle.table.proofs.Untouched.{outside-train, rows-train}
-use Rattle.queue.specs.Queue.{Moved, Chosen, Turned}
+use Rattle.queue.specs.Queue.{QueueMoved, Chosen, Turned}
 use Rattle.queue.proofs.Trains.{both-outside, both-rows, both-round, both-place}
 use Rattle.queue.proofs.Handed.{handed, handed-shared, begins-small, begun-place, begun-round, begun-shared}
 use Rattle.queue.proofs.Moves.{moved-now, moved-then}
@@ -33,7 +33,7 @@ module _ (w : List ℕ) (k : ℕ) where
       sym (ap (λ (x : Entry). x .length .0) (ee ∙ ap (λ (y : ℕ). entryAt w (placeInLane k y)) (ep ∙ ap (λ (y : ℕ). turns.placeInTrain (turnOf r) (headOf y + 1)) em ∙ ap (λ (y : ℕ). turns.placeInTrain (turnOf y) (headOf (trainNumber w k (turnOf y)) + 1)) er)))
 
   pub hand-ready : (L n r m : ℕ) → Chosen w k L n → L ≤ 1500 → r ≡ roundAt w k → m ≡ trainNumber w k (turnOf r)
-      → Light m × (0 < countOf m) × (n ≤ deficitOf m) × Ordered r × Known r × (0 < namedOf r)
+      → Light m × (0 < countOf m) × (n ≤ deficitOf m) × Ordered r × NamesTrains r × (0 < namedOf r)
   unfolding sharedAt
   hand-ready L n r m ch short er em =
       let at = recAt w k in
@@ -43,7 +43,7 @@ module _ (w : List ℕ) (k : ℕ) where
       let m-is : m ≡ ts (turnOf R) = em ∙ ap (λ (y : ℕ). ts (turnOf y)) er in
       let below = turn-known L R at ts g (ch .ordered) (ch .named) in
       let covers : n ≤ deficitOf (ts (turnOf R)) = omega (arith, ch .length, turn-covers L R at ts g (ch .ordered) (ch .named)) in
-      (subst Light (sym m-is) (good-light L R at ts g short (turnOf R) below), subst (λ (y : ℕ). 0 < countOf y) (sym m-is) (turn-count L R at ts g (ch .ordered) (ch .named)), subst (λ (y : ℕ). n ≤ deficitOf y) (sym m-is) covers, subst Ordered (sym er) (ch .ordered), subst Known (sym er) (good-known L R at ts g), subst (λ (y : ℕ). 0 < namedOf y) (sym er) (ch .named))
+      (subst Light (sym m-is) (good-light L R at ts g short (turnOf R) below), subst (λ (y : ℕ). 0 < countOf y) (sym m-is) (turn-count L R at ts g (ch .ordered) (ch .named)), subst (λ (y : ℕ). n ≤ deficitOf y) (sym m-is) covers, subst Ordered (sym er) (ch .ordered), subst NamesTrains (sym er) (good-known L R at ts g), subst (λ (y : ℕ). 0 < namedOf y) (sym er) (ch .named))
 
 pub both-now : (t t₁ : List ℕ) (k r n v : ℕ) → r ≡ roundAt (cells t) k → Now t t₁ (set (putTrain (cells t) k (turnOf r) n) (roundWord k) v) → Now t t₁ (set (putTrain (cells t) k (turnOf (roundAt (cells t) k)) n) (roundWord k) v)
 both-now t t₁ k r n v e a = subst (λ (y : ℕ). Now t t₁ (set (putTrain (cells t) k (turnOf y) n) (roundWord k) v)) e a
@@ -70,7 +70,7 @@ module _ (t t₁ : List ℕ) (k L n next : ℕ) (c : Change) (hk : k < 64) (shor
   abbrev u : List ℕ
   u = handed w k L n next c hk size short turn-below lights (ch .length) next-length hands
 
-  moved-both : Now t t₁ u → Moved t t₁ k
+  moved-both : Now t t₁ u → QueueMoved t t₁ k
   moved-both a = moved-now t t₁ u k a (both-outside w k (turnOf (roundAt w k)) (c .train) (c .round) hk turn-below size (omega (arith, hands .small))) (both-rows w k (turnOf (roundAt w k)) (c .train) (c .round) hk turn-below size (omega (arith, hands .small)))
 
   pub turned-same : Now t t₁ u → c .begins ≡ false → Turned t t₁ k L

@@ -5,7 +5,7 @@
 --   Takes     e was the first record of lane k, and the lane is served
 --   Ready     a shared lane's numbers take a record of the train more
 --   Joins     both numbers tell of it
---   Moved     lane k's places, trains or round changed, and no other word
+--   QueueMoved   lane k's places, trains or round changed, and no other word
 --   Entered   one record more in lane k's words; Cleared: none is left
 --   Fronts    which place the lane's first record stands at, and its train
 --   Chosen    a shared lane whose first record has this length; Turned: it is handed out
@@ -18,7 +18,7 @@ use mathlib.Core.List.{List, [], _∷_, _++_}
 use mathlib.Core.Option.{some}
 use lib.ListN.{set}
 use Rattle.rounds.specs.Round as round
-use Rattle.rounds.specs.Round.{empty, sharedPut, sharedHandOut}
+use Rattle.rounds.specs.Round.{emptyShared, sharedPut, sharedHandOut}
 use Rattle.rounds.specs.Good.{GoodShared}
 use Rattle.turns.specs.Turns.{headOf, countOf, namedOf, turnOf, Ordered, Light, Puts}
 use Rattle.turns.specs.Turns as turns
@@ -65,22 +65,22 @@ pub record Joins (before after : List ℕ) (k j L p : ℕ) : Type 0 where
   pub puts : Puts L (trainNumber (cells before) k j) (roundAt (cells before) k) j change
   pub place : p ≡ turns.placeInTrain j (headOf (trainNumber (cells before) k j) + countOf (trainNumber (cells before) k j))
 
-pub record Moved (before after : List ℕ) (k : ℕ) : Type 0 where
+pub record QueueMoved (before after : List ℕ) (k : ℕ) : Type 0 where
   pub outside : Outside (cells before) (cells after) k
   pub rows : SameRows (cells before) (cells after) k
   pub behind : Behind before after
 
 pub record Entered (before after : List ℕ) (k : ℕ) (l : LaneRow) (e : Item) : Type 0 where
-  pub moved : Moved before after k
+  pub moved : QueueMoved before after k
   pub fits : PlacesFit (cells before) k l → PlacesFit (cells after) k l
   pub plain : l .shared ≡ false → laneRing (cells after) k (l .head) (l .count + 1) ≡ laneRing (cells before) k (l .head) (l .count) ++ (bareItem e ∷ [])
   pub shared : l .shared ≡ true → sharedAt (cells after) k ≡ sharedPut (l .longest .0) (sharedAt (cells before) k) (e .train) (bareItem e)
   pub ordered : l .shared ≡ true → Ordered (roundAt (cells after) k)
 
 pub record Cleared (before after : List ℕ) (k : ℕ) (l : LaneRow) : Type 0 where
-  pub moved : Moved before after k
+  pub moved : QueueMoved before after k
   pub fits : PlacesFit (cells after) k l
-  pub shared : l .shared ≡ true → sharedAt (cells after) k ≡ empty
+  pub shared : l .shared ≡ true → sharedAt (cells after) k ≡ emptyShared
   pub ready : l .shared ≡ true → (j : ℕ) → j < 8 → Ready (cells after) k j
 
 -- where the first record of what waits stands
@@ -95,7 +95,7 @@ pub record Chosen (w : List ℕ) (k L n : ℕ) : Type 0 where
   pub length : recAt w k (turns.placeInTrain (turnOf (roundAt w k)) (headOf (trainNumber w k (turnOf (roundAt w k))))) .len ≡ n
 
 pub record Turned (before after : List ℕ) (k L : ℕ) : Type 0 where
-  pub moved : Moved before after k
+  pub moved : QueueMoved before after k
   pub places : (i : ℕ) → entryAt (cells after) (placeInLane k i) ≡ entryAt (cells before) (placeInLane k i)
   pub shared : sharedAt (cells after) k ≡ sharedHandOut L (sharedAt (cells before) k)
   pub ordered : Ordered (roundAt (cells after) k)

@@ -11,9 +11,10 @@ use native.Mathlib.Omega.{arith}
 use mathlib.Core.Path.{_≡_, refl, sym, ap, _∙_}
 use mathlib.Core.Bool.{Bool, true, false}
 use mathlib.Core.List.{List}
-use mathlib.Core.Option.{Option, some}
+use mathlib.Core.Option.{some}
 use borrow.Author.Tests.{eqb-true}
 use lib.Dec.{eqb}
+use Rattle.units.proofs.Lists.{some-inj}
 use Rattle.fields.specs.Bytes.{byteAt, big}
 use Rattle.rules.specs.Calls.{lag}
 use Rattle.requests.specs.Request.{requestSize, callOf, callByNumber}
@@ -44,9 +45,6 @@ eight s at =
     let i : at + 1 + 1 + 1 + 1 ≡ at + 2 + 1 + 1 = omega arith in
     let j : at + 1 + 1 + 1 + 1 + 1 ≡ at + 2 + 1 + 1 + 1 = omega arith in
     omega (arith, ap (byteAt s) e, ap (byteAt s) f, ap (byteAt s) g, ap (byteAt s) h, ap (byteAt s) i, ap (byteAt s) j)
-
-some-inj : (m n : ℕ) → _≡_ {A = Option ℕ} (some m) (some n) → m ≡ n
-some-inj m n e = cc
 
 module _ (s : List ℕ) (small : (i : ℕ) → byteAt s i < 256) where
   pub big-most : (n at : ℕ) → big s at n < 256 ^ n

@@ -1,19 +1,20 @@
 -- A shared lane is good exactly if its round names trains once each, and each train's number is as it must be. Assumes nothing.
-use Prim.Native.Nat.{ℕ, zero, suc, _+_, _-_, _*_, _%_, _≤_, _<_}
+use Prim.Native.Nat.{ℕ, zero, suc, _+_, _-_, _%_, _≤_, _<_}
 use native.Mathlib.Numerals.{add-one}
 use native.Mathlib.Omega.{arith}
 use native.Mathlib.Decide.{decLt}
 use mathlib.Core.Path.{_≡_, refl, sym, ap, subst, _∙_}
 use mathlib.Core.Bool.{Bool, true, false}
-use mathlib.Core.List.{List, [], _∷_, _++_}
+use mathlib.Core.List.{List, [], _∷_}
 use lib.Dec.{eqb}
-use lib.ListN.{getD}
+use lib.ListN.{getD, List·getD-eq-default}
 use Rattle.units.specs.Plain.{if_then_else_, times, sum}
+use Rattle.units.proofs.Lists.{sum-append}
 use Rattle.words.specs.Runs.{tab, tabFrom}
 use Rattle.words.proofs.Runs.{tab-snoc}
-use Rattle.rounds.specs.Round.{BareRec, Train, noTrain, queued?, inTurn, trainHeld, sharedHeld}
+use Rattle.rounds.specs.Round.{BareRec, noTrain, queued?, inTurn, trainHeld, sharedHeld}
 use Rattle.rounds.specs.Good.{Lengths, Deficit, GoodTrain, GoodShared}
-use Rattle.rounds.proofs.Test.{beyond, not-in-turn}
+use Rattle.rounds.proofs.Test.{not-in-turn}
 use Rattle.turns.specs.Turns.{headOf, countOf, deficitOf, placeInTrain, trainRing, trainOf, trainsOf, sharedOf, fours, namedOf, orderOf, roundOf, turnOf, Ordered}
 use Rattle.turns.proofs.Train.{parts, length-ring, ring-none, ring-cons, train-is, length-trains}
 use Rattle.turns.proofs.Good.{good-known, good-once, good-each}
@@ -28,6 +29,10 @@ lengths-fit L at k h (suc n) hk fit =
     let f = fit (placeInTrain k h) (omega arith) in
     rw (ring-cons at k h n) (f .0, f .1, lengths-fit L at k ((h + 1) % 8) n hk fit)
 
+-- at most once, and not none
+one : (n : ℕ) → suc n ≤ 1 → suc n ≡ 1
+one n h = omega arith
+
 module _ (L : ℕ) (at : ℕ → BareRec) (k t : ℕ) (hk : k < 8) (fit : (p : ℕ) → p < 64 → (1 ≤ at p .len) × (at p .len ≤ L)) where
   abbrev q : List BareRec
   q = trainRing at k (headOf t) (countOf t)
@@ -41,17 +46,14 @@ module _ (L : ℕ) (at : ℕ → BareRec) (k t : ℕ) (hk : k < 8) (fit : (p : �
   some-queue : 0 < countOf t → q ≡ at (placeInTrain k (headOf t)) ∷ trainRing at k ((headOf t + 1) % 8) (countOf t - 1)
   some-queue p = let c : countOf t ≡ suc (countOf t - 1) = omega arith in ap (trainRing at k (headOf t)) c ∙ ring-cons at k (headOf t) (countOf t - 1)
 
-  eighths : t ≡ headOf t + 8 * countOf t + 128 * deficitOf t
-  eighths = parts t
-
   -- as the number must be, so the train is good
   pub fine-good : (n : ℕ) (turn : Bool) → n ≤ 1 → TrainFine L n turn t len → GoodTrain L turn n (trainOf at k t)
   unfolding TrainFine trainOf
   fine-good zero turn h f =
-      let none : q ≡ [] = none-queue (omega (arith, eighths)) in
-      let zero-deficit : deficitOf t ≡ 0 = omega (arith, eighths) in
+      let none : q ≡ [] = none-queue (omega (arith, parts t)) in
+      let zero-deficit : deficitOf t ≡ 0 = omega (arith, parts t) in
       record {
-        room = omega (arith, length-ring at k (headOf t) (countOf t), eighths);
+        room = omega (arith, length-ring at k (headOf t) (countOf t), parts t);
         lengths = lengths-fit L at k (headOf t) (countOf t) hk fit;
         deficit = subst (λ (x : List BareRec). Deficit L turn (deficitOf t) x) (sym none) zero-deficit;
         named-once = sym (ap (λ (x : List BareRec). if queued? x then 1 else 0) none);
@@ -64,9 +66,6 @@ module _ (L : ℕ) (at : ℕ → BareRec) (k t : ℕ) (hk : k < 8) (fit : (p : �
         deficit = subst (λ (x : List BareRec). Deficit L true (deficitOf t) x) (sym cons) (f .2, f .3);
         named-once = one n h ∙ sym (ap (λ (x : List BareRec). if queued? x then 1 else 0) cons);
       }
-    where
-      one : (n : ℕ) → suc n ≤ 1 → suc n ≡ 1
-      one n h = omega arith
   fine-good (suc n) false h f =
       let cons = some-queue (f .0) in
       record {
@@ -75,9 +74,6 @@ module _ (L : ℕ) (at : ℕ → BareRec) (k t : ℕ) (hk : k < 8) (fit : (p : �
         deficit = subst (λ (x : List BareRec). Deficit L false (deficitOf t) x) (sym cons) (f .2);
         named-once = one n h ∙ sym (ap (λ (x : List BareRec). if queued? x then 1 else 0) cons);
       }
-    where
-      one : (n : ℕ) → suc n ≤ 1 → suc n ≡ 1
-      one n h = omega arith
 
   -- and the other way
   pub good-fine : (n : ℕ) (turn : Bool) → GoodTrain L turn n (trainOf at k t) → TrainFine L n turn t len
@@ -85,7 +81,7 @@ module _ (L : ℕ) (at : ℕ → BareRec) (k t : ℕ) (hk : k < 8) (fit : (p : �
   good-fine n turn g = go (countOf t) refl n turn g
     where
       go : (c : ℕ) → countOf t ≡ c → (n : ℕ) (turn : Bool) → GoodTrain L turn n (trainOf at k t) → TrainFine L n turn t len
-      go zero z zero turn g = let d : deficitOf t ≡ 0 = subst (λ (x : List BareRec). Deficit L turn (deficitOf t) x) (none-queue z) (g .deficit) in omega (arith, eighths)
+      go zero z zero turn g = let d : deficitOf t ≡ 0 = subst (λ (x : List BareRec). Deficit L turn (deficitOf t) x) (none-queue z) (g .deficit) in omega (arith, parts t)
       go zero z (suc n) turn g = absurd (omega (arith, g .named-once ∙ ap (λ (x : List BareRec). if queued? x then 1 else 0) (none-queue z)))
       go (suc c) z zero turn g = absurd (omega (arith, g .named-once ∙ ap (λ (x : List BareRec). if queued? x then 1 else 0) (some-queue (omega arith))))
       go (suc c) z (suc n) true g =
@@ -97,17 +93,13 @@ module _ (L : ℕ) (at : ℕ → BareRec) (k t : ℕ) (hk : k < 8) (fit : (p : �
 
 -- ---- how many records are held
 
-sum-append : (xs ys : List Train) → sum trainHeld (xs ++ ys) ≡ sum trainHeld xs + sum trainHeld ys
-sum-append [] ys = omega arith
-sum-append (x ∷ xs) ys = omega (arith, sum-append xs ys)
-
 held-tab : (at : ℕ → BareRec) (ts : ℕ → ℕ) (n : ℕ) → sum trainHeld (tab n (λ k. trainOf at k (ts k))) ≡ heldBelow ts n
 unfolding below tab tabFrom trainOf
 held-tab at ts zero = refl
 held-tab at ts (suc n) =
     ap (λ (m : ℕ). sum trainHeld (tab m (λ k. trainOf at k (ts k)))) (sym (add-one n))
     ∙ ap (sum trainHeld) (tab-snoc n (λ k. trainOf at k (ts k)))
-    ∙ sum-append (tab n (λ k. trainOf at k (ts k))) (trainOf at n (ts n) ∷ [])
+    ∙ sum-append trainHeld (tab n (λ k. trainOf at k (ts k))) (trainOf at n (ts n) ∷ [])
     ∙ omega (arith, held-tab at ts n, length-ring at n (headOf (ts n)) (countOf (ts n)))
 
 pub held-is : (at : ℕ → BareRec) (ts : ℕ → ℕ) (r : ℕ) → sharedHeld (sharedOf at ts r) ≡ heldBelow ts 8
@@ -171,7 +163,7 @@ module _ (L r count : ℕ) (ts lengths : ℕ → ℕ) (o : Ordered r) (some-byte
       far : (at : ℕ → BareRec) (k : ℕ) → 8 ≤ k → GoodTrain L (inTurn k (roundOf r)) (times k (roundOf r)) (getD (trainsOf at ts) k noTrain)
       far at k h =
           let none = known k h in
-          rw (beyond (trainsOf at ts) k (omega (arith, length-trains ts at)), not-in-turn k (roundOf r) none, none) (record { room = omega arith; lengths = tt; deficit = refl; named-once = refl })
+          rw (List·getD-eq-default (trainsOf at ts) noTrain {n = k} (omega (arith, length-trains ts at)), not-in-turn k (roundOf r) none, none) (record { room = omega arith; lengths = tt; deficit = refl; named-once = refl })
 
   some-records : ℕ → BareRec
   some-records p = record { mark = 0; len = lengths p }

@@ -6,8 +6,7 @@ use mathlib.Core.Path.{_≡_, sym, subst, _∙_}
 use Rattle.units.specs.Plain.{times}
 use Rattle.rounds.specs.Round.{BareRec, noTrain, inTurn, sharedHeld}
 use Rattle.rounds.specs.Good.{GoodTrain, GoodShared}
-use Rattle.rounds.proofs.Test.{beyond}
-use lib.ListN.{getD}
+use lib.ListN.{getD, List·getD-eq-default}
 use Rattle.turns.specs.Turns.{headOf, placeInTrain, trainsOf, sharedOf, roundOf, Ordered}
 use Rattle.turns.proofs.Train.{train-is, length-trains}
 use Rattle.turns.proofs.Good.{good-once, good-each}
@@ -28,7 +27,7 @@ module _ (L r : ℕ) (at bt : ℕ → BareRec) (ts : ℕ → ℕ) (a : Within L 
   unfolding sharedOf
   far k h =
       subst (GoodTrain L (inTurn k (roundOf r)) (times k (roundOf r)))
-      (beyond (trainsOf at ts) k (omega (arith, length-trains ts at)) ∙ sym (beyond (trainsOf bt ts) k (omega (arith, length-trains ts bt)))) (g .each k)
+      (List·getD-eq-default (trainsOf at ts) noTrain {n = k} (omega (arith, length-trains ts at)) ∙ sym (List·getD-eq-default (trainsOf bt ts) noTrain {n = k} (omega (arith, length-trains ts bt)))) (g .each k)
 
   good-marked : GoodShared L (sharedOf bt ts r)
   unfolding sharedOf

@@ -1,16 +1,16 @@
 -- Sums over the trains, and what a round of so many names can name. Assumes nothing.
-use Prim.Native.Nat.{ℕ, zero, suc, _+_, _-_, _/_, _%_, _^_, _≤_, _<_, max}
+use Prim.Native.Nat.{ℕ, zero, suc, _+_, _-_, _/_, _%_, _^_, _≤_, _<_}
 use native.Mathlib.Omega.{arith}
 use native.Mathlib.Decide.{decLt}
 use mathlib.Core.Path.{_≡_, refl, sym, ap, subst, _∙_}
-use mathlib.Core.Bool.{Bool, true, false}
+use mathlib.Core.Bool.{Bool}
 use mathlib.Core.List.{List, [], _∷_}
-use lib.Bits.{bitOr, or-step, or-shr}
 use lib.Dec.{eqb}
 use lib.ListN.{length}
 use lib.Pow.{pow-pos, field, mod-mod-pow}
 use borrow.Author.Tests.{eq-eqb, ne-eqb}
 use Rattle.units.specs.Plain.{if_then_else_, times}
+use Rattle.units.proofs.Bools.{if-most}
 use Rattle.words.specs.Bits.{bit}
 use Rattle.words.proofs.Bits.{bit-add-same, bit-add-other, bit-above}
 use Rattle.round_test.specs.Shared.{below}
@@ -44,11 +44,7 @@ pub one-other : (j k : ℕ) → (j ≡ k → ⊥) → one j k ≡ 0
 one-other j k n = ap (λ (b : Bool). if b then 1 else 0) (ne-eqb j k n)
 
 one-most : (j k : ℕ) → one j k ≤ 1
-one-most j k = go (eqb j k)
-  where
-    go : (b : Bool) → (if b then 1 else 0) ≤ 1
-    go true = omega arith
-    go false = omega arith
+one-most j k = if-most (eqb j k)
 
 one-beyond : (j : ℕ) (f : ℕ → ℕ) (n : ℕ) → n ≤ j → below (λ k. one j k + f k) n ≡ below f n
 unfolding below
@@ -97,9 +93,6 @@ module _ (ks : List ℕ) (h : ℕ → ℕ) (least : (k : ℕ) → k < 8 → h k 
   no-other k far = omega (arith, more, named-most ks k far, as-many)
 
 -- ---- bits
-
-pub or-bit : (k a b : ℕ) → bit k (bitOr a b) ≡ max (bit k a) (bit k b)
-or-bit k a b = ap (λ (x : ℕ). x % 2) (or-shr a b k) ∙ omega (arith, or-step (a / 2 ^ k) (b / 2 ^ k))
 
 pub bit-none : (k : ℕ) → bit k 0 ≡ 0
 bit-none k = bit-above k 0 (omega (arith, pow-pos k))

@@ -8,12 +8,12 @@ use lib.Dec.{eqb}
 use lib.Pow.{pow-mono}
 use borrow.Author.Count.{below-more}
 use Rattle.units.specs.Plain.{times}
+use Rattle.units.proofs.Lists.{same-or}
 use Rattle.words.specs.Bits.{bit}
-use Rattle.rounds.proofs.Lists.{same-or}
 use Rattle.turns.specs.Turns.{headOf, deficitOf, placeInTrain, fours}
 use Rattle.round_test.specs.Shared.{Says, below, HoldsSome, holding, covering, SoundTrain, Wanted, Tallied}
 use Rattle.round_test.proofs.Answers.{says-eqb}
-use Rattle.round_test.proofs.Sums.{one, one-same, one-other, bit-power, bit-power-other, bit-low}
+use Rattle.round_test.proofs.Sums.{one-same, one-other, bit-power, bit-power-other, bit-low}
 use Rattle.round_test.proofs.Marks.{word, below-most, word-small, word-bit, word-is}
 
 -- the bit of the train in turn

@@ -5,11 +5,12 @@ use mathlib.Core.Path.{_≡_, sym, ap, _∙_}
 use mathlib.Core.List.{_∷_}
 use lib.Bits.{bitOr}
 use Rattle.units.specs.Plain.{times}
+use Rattle.units.proofs.Lists.{same-or}
 use Rattle.words.specs.Bits.{bit}
-use Rattle.rounds.proofs.Lists.{same-or}
+use Rattle.digits.proofs.Under.{or-bit}
 use Rattle.turns.specs.Turns.{fours}
 use Rattle.round_test.specs.Shared.{Seen}
-use Rattle.round_test.proofs.Sums.{one, one-same, one-other, or-bit, bit-none, bit-power, bit-power-other, bit-low}
+use Rattle.round_test.proofs.Sums.{one, one-same, one-other, bit-none, bit-power, bit-power-other, bit-low}
 
 -- the trains met so far, each as often as it was named; `seen` has these, and `rest` the others
 pub record Met (order rest seen i : ℕ) : Type 0 where

@@ -9,10 +9,11 @@ use lib.Dec.{eqb}
 use lib.ListN.{length, getD}
 use borrow.Author.Tests.{eq-eqb, ne-eqb}
 use Rattle.units.specs.Plain.{if_then_else_, times}
+use Rattle.units.proofs.Bools.{if-ind}
+use Rattle.units.proofs.Lists.{same-or, set-cases}
 use Rattle.rounds.specs.Round.{BareRec, Train, Shared, noTrain, queued?, inTurn, raised, begin}
 use Rattle.rounds.specs.Good.{Deficit, Lengths}
 use Rattle.rounds.specs.Runs.{bytes}
-use Rattle.rounds.proofs.Lists.{if-ind, same-or, set-cases}
 
 -- ---- the figure
 

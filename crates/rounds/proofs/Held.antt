@@ -1,46 +1,33 @@
 -- How many records wait, and that none does where no record is chosen. Assumes nothing.
 use Prim.Native.Nat.{ℕ, zero, suc, _+_, _-_, _*_, _≤_, _<_}
-use native.Mathlib.Nat.{not-suc-le-zero, le-of-suc-le-suc}
 use native.Mathlib.Omega.{arith}
 use mathlib.Core.Path.{_≡_, refl, sym, ap, subst, _∙_}
 use mathlib.Core.Bool.{Bool, true, false, false≢true}
-use mathlib.Core.Option.{Option, none, some}
+use mathlib.Core.Option.{none, some}
 use mathlib.Core.List.{List, [], _∷_, _++_}
 use lib.Dec.{leb}
 use lib.ListN.{length, getD, set, replicate, length-append}
 use lib.Seq.{getD-set-same}
 use borrow.Author.Tests.{eq-eqb}
 use Rattle.units.specs.Plain.{if_then_else_, sum, times}
-use Rattle.rounds.specs.Round.{BareRec, Train, Shared, trainCount, trainDepth, noTrain, queued?, trainAt, trainHolds, empty, trainHeld, sharedHeld, TrainItem, firstOfTrain, firstInTurn, sharedFirst, raised, begin, added, join, sharedPut, handOf, handIn, sharedHandOut}
+use Rattle.units.proofs.Bools.{if-ind}
+use Rattle.units.proofs.Lists.{sum-set, sum-bound, sum-zero}
+use Rattle.rounds.specs.Round.{BareRec, Train, Shared, trainCount, trainDepth, noTrain, queued?, trainAt, trainHolds, emptyShared, trainHeld, sharedHeld, TrainItem, firstOfTrain, firstInTurn, sharedFirst, raised, begin, added, join, sharedPut, handOf, handIn, sharedHandOut}
 use Rattle.rounds.specs.Good.{Deficit, GoodTrain, GoodShared}
-use Rattle.rounds.proofs.Lists.{if-ind}
 use Rattle.rounds.proofs.KeepHand.{held-inside, turn-holds}
 use Rattle.rounds.proofs.Order.{begin-queue}
 
 -- ---- sums over the trains
-
-sum-set : (f : Train → ℕ) (xs : List Train) (j : ℕ) (y : Train) → j < length xs → sum f (set xs j y) + f (getD xs j noTrain) ≡ sum f xs + f y
-sum-set f [] j y h = absurd (not-suc-le-zero h)
-sum-set f (x ∷ xs) zero y h = omega arith
-sum-set f (x ∷ xs) (suc j) y h = omega (arith, sum-set f xs j y (le-of-suc-le-suc h))
 
 sum-same : (f : Train → ℕ) (xs : List Train) (j : ℕ) (y : Train) → f y ≡ f (getD xs j noTrain) → sum f (set xs j y) ≡ sum f xs
 sum-same f [] j y e = refl
 sum-same f (x ∷ xs) zero y e = omega arith
 sum-same f (x ∷ xs) (suc j) y e = omega (arith, sum-same f xs j y e)
 
-sum-bound : (f : Train → ℕ) (n : ℕ) (xs : List Train) → ((k : ℕ) → f (getD xs k noTrain) ≤ n) → sum f xs ≤ length xs * n
-sum-bound f n [] h = omega arith
-sum-bound f n (x ∷ xs) h = omega (arith, h 0, sum-bound f n xs (λ k. h (suc k)))
-
-sum-zero : (f : Train → ℕ) (xs : List Train) → ((k : ℕ) → f (getD xs k noTrain) ≡ 0) → sum f xs ≡ 0
-sum-zero f [] h = refl
-sum-zero f (x ∷ xs) h = omega (arith, h 0, sum-zero f xs (λ k. h (suc k)))
-
 -- ---- the laws
 
 pub held-most : (L : ℕ) (s : Shared) → GoodShared L s → sharedHeld s ≤ trainCount * trainDepth
-held-most L s g = omega (arith, sum-bound trainHeld trainDepth (s .trains) (λ k. g .each k .room), g .size)
+held-most L s g = omega (arith, sum-bound trainHeld trainDepth (s .trains) noTrain (λ k. g .each k .room), g .size)
 
 begin-held : (L : ℕ) (ts : List Train) (ks : List ℕ) → sharedHeld (begin L ts ks) ≡ sum trainHeld ts
 unfolding begin raised
@@ -56,7 +43,7 @@ put-held L s k r inside =
     ts′ = set (s .trains) k (added (trainAt s k) r)
 
     more : sum trainHeld ts′ ≡ suc (sharedHeld s)
-    more = omega (arith, sum-set trainHeld (s .trains) k (added (trainAt s k) r) inside, length-append (trainAt s k .queue) (r ∷ []))
+    more = omega (arith, sum-set trainHeld (s .trains) k (added (trainAt s k) r) noTrain inside, length-append (trainAt s k .queue) (r ∷ []))
 
     go : (ks : List ℕ) → sharedHeld (join L ts′ ks k) ≡ suc (sharedHeld s)
     go [] = begin-held L ts′ (k ∷ []) ∙ more
@@ -66,11 +53,11 @@ hand-of-held : (L : ℕ) (ts : List Train) (k : ℕ) (ks : List ℕ) (d : ℕ) (
     → sum trainHeld ts ≡ suc (sharedHeld (handOf L ts k ks d q))
 unfolding handOf
 hand-of-held L ts k ks d [] e inside h = absurd (false≢true h)
-hand-of-held L ts k ks d (r ∷ []) e inside h = omega (arith, begin-held L (set ts k noTrain) ks, sum-set trainHeld ts k noTrain inside, ap length e)
+hand-of-held L ts k ks d (r ∷ []) e inside h = omega (arith, begin-held L (set ts k noTrain) ks, sum-set trainHeld ts k noTrain noTrain inside, ap length e)
 hand-of-held L ts k ks d (r ∷ r′ ∷ rs) e inside h =
     if-ind (λ (u : Shared). sum trainHeld ts ≡ suc (sharedHeld u)) (leb (r′ .len) (d - r .len)) _ _
-    (λ c. omega (arith, sum-set trainHeld ts k left inside, ap length e))
-    (λ c. omega (arith, begin-held L (set ts k left) (ks ++ (k ∷ [])), sum-set trainHeld ts k left inside, ap length e))
+    (λ c. omega (arith, sum-set trainHeld ts k left noTrain inside, ap length e))
+    (λ c. omega (arith, begin-held L (set ts k left) (ks ++ (k ∷ [])), sum-set trainHeld ts k left noTrain inside, ap length e))
   where
     left : Train
     left = record { deficit = d - r .len; queue = r′ ∷ rs }
@@ -104,7 +91,7 @@ none-queue L s g e k = go (trainAt s k .queue) (g .each k .named-once ∙ refl)
     go (r ∷ rs) h = absurd (omega (arith, ap (times k) (none-round L s g e)))
 
 pub none-held : (L : ℕ) (s : Shared) → GoodShared L s → sharedFirst s ≡ none → sharedHeld s ≡ 0
-none-held L s g e = sum-zero trainHeld (s .trains) (λ k. ap length (none-queue L s g e k))
+none-held L s g e = sum-zero trainHeld (s .trains) noTrain (λ k. ap length (none-queue L s g e k))
 
 -- the first record of all is chosen at once
 pub first-put : (L : ℕ) (s : Shared) (k : ℕ) (r : BareRec) → GoodShared L s → k < length (s .trains) → sharedFirst s ≡ none → sharedFirst (sharedPut L s k r) ≡ some (record { train = k; item = r })
@@ -122,8 +109,8 @@ first-put L s k r g inside e =
 
 -- ---- a lane in which nothing waits
 
-pub empty-train : (k : ℕ) → trainAt empty k ≡ noTrain
-unfolding empty
+pub empty-train : (k : ℕ) → trainAt emptyShared k ≡ noTrain
+unfolding emptyShared
 empty-train k = getD-replicate k trainCount
   where
     getD-replicate : (k n : ℕ) → getD (replicate n noTrain) k noTrain ≡ noTrain
@@ -131,8 +118,8 @@ empty-train k = getD-replicate k trainCount
     getD-replicate zero (suc n) = refl
     getD-replicate (suc k) (suc n) = getD-replicate k n
 
-pub empty-good : (L : ℕ) → GoodShared L empty
-unfolding empty
+pub empty-good : (L : ℕ) → GoodShared L emptyShared
+unfolding emptyShared
 empty-good L = record { size = refl; each = λ k. subst (GoodTrain L false 0) (sym (empty-train k)) (record { room = omega arith; lengths = tt; deficit = refl; named-once = refl }) }
 
 -- a good lane that holds no record is that one
@@ -162,8 +149,8 @@ module _ (L : ℕ) (s : Shared) (g : GoodShared L s) (none-held : sharedHeld s �
   no-round [] h = refl
   no-round (j ∷ js) h = absurd (omega (arith, simp (eq-eqb j j refl) at (h j)))
 
-  pub none-empty : s ≡ empty
-  unfolding empty
+  pub none-empty : s ≡ emptyShared
+  unfolding emptyShared
   none-empty =
       let rounds : s .round ≡ [] = no-round (s .round) (λ k. g .each k .named-once ∙ ap (λ (t : Train). if queued? (t .queue) then 1 else 0) (no-train k)) in
       let trains : s .trains ≡ replicate trainCount noTrain = all-bare trainCount (s .trains) (g .size) no-train in

@@ -9,10 +9,11 @@ use lib.Dec.{leb, ltb}
 use lib.ListN.{length, getD, set, length-set, length-append}
 use borrow.Author.Tests.{eq-eqb, ne-eqb, leb-true, ltb-true}
 use Rattle.units.specs.Plain.{times}
+use Rattle.units.proofs.Bools.{if-ind, and-parts}
+use Rattle.units.proofs.Lists.{set-cases, times-append}
 use Rattle.rounds.specs.Round.{BareRec, Train, Shared, trainCount, trainDepth, noTrain, queued?, trainAt, trainHolds, inTurn, added, join, sharedPut}
 use Rattle.rounds.specs.Good.{Lengths, Deficit, GoodTrain, GoodShared}
-use Rattle.rounds.specs.Runs.{Op, offer, take, allows, sharedStep, sharedAfter}
-use Rattle.rounds.proofs.Lists.{if-ind, and-parts, set-cases, times-append}
+use Rattle.rounds.specs.Runs.{Op, putOp, takeOp, allows, sharedStep, sharedAfter}
 pub use Rattle.rounds.proofs.KeepHand.{hand-out-good}
 use Rattle.rounds.proofs.KeepHand.{begin-good}
 
@@ -105,8 +106,8 @@ module _ (L : ℕ) (s : Shared) (good : GoodShared L s) (k : ℕ) (r : BareRec) 
 
 pub step-good : (L : ℕ) (s : Shared) (o : Op) → GoodShared L s → GoodShared L (sharedStep L s o)
 unfolding sharedStep
-step-good L s (offer k r) g = if-ind (GoodShared L) (allows L s k r) _ _ (λ e. put-good L s g k r (allows-is L s k r e)) (λ e. g)
-step-good L s take g = hand-out-good L s g
+step-good L s (putOp k r) g = if-ind (GoodShared L) (allows L s k r) _ _ (λ e. put-good L s g k r (allows-is L s k r e)) (λ e. g)
+step-good L s takeOp g = hand-out-good L s g
 
 pub after-good : (L : ℕ) (s : Shared) (os : List Op) → GoodShared L s → GoodShared L (sharedAfter L s os)
 unfolding sharedAfter

@@ -9,9 +9,10 @@ use lib.Dec.{leb, eqb}
 use lib.ListN.{length, getD, set, length-set}
 use borrow.Author.Tests.{eq-eqb, ne-eqb, leb-true, leb-false}
 use Rattle.units.specs.Plain.{if_then_else_, times}
+use Rattle.units.proofs.Bools.{if-ind}
+use Rattle.units.proofs.Lists.{set-cases, times-append}
 use Rattle.rounds.specs.Round.{BareRec, Train, Shared, trainCount, trainDepth, noTrain, queued?, raised, begin, handOf, handIn, sharedHandOut}
 use Rattle.rounds.specs.Good.{Lengths, Deficit, GoodTrain, GoodShared}
-use Rattle.rounds.proofs.Lists.{if-ind, set-cases, times-append}
 
 -- ---- trains
 

@@ -1,4 +1,3 @@
-pub mod Lists
 pub mod KeepHand
 pub mod Keep
 pub mod Order

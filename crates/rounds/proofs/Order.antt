@@ -2,18 +2,18 @@
 -- first of one train's: each train's records go out once and in order. Assumes nothing.
 use Prim.Native.Nat.{ℕ, _-_, _≤_, _<_}
 use native.Mathlib.Omega.{arith}
-use mathlib.Core.Path.{_≡_, refl, sym, ap, _∙_}
-use mathlib.Core.Bool.{Bool, true, false}
-use mathlib.Core.Option.{none, some}
+use mathlib.Core.Path.{_≡_, refl, ap}
+use mathlib.Core.Option.{some}
 use mathlib.Core.List.{List, [], _∷_, _++_, append-nil}
 use lib.Dec.{leb, eqb}
 use lib.ListN.{length, getD, set}
 use borrow.Author.Tests.{eq-eqb, ne-eqb}
 use Rattle.units.specs.Plain.{if_then_else_}
+use Rattle.units.proofs.Bools.{if-ind}
+use Rattle.units.proofs.Lists.{set-cases, set-keeps}
 use Rattle.rounds.specs.Round.{BareRec, Train, Shared, noTrain, trainAt, trainHolds, TrainItem, firstOfTrain, firstInTurn, sharedFirst, raised, begin, added, join, sharedPut, handOf, handIn, sharedHandOut}
 use Rattle.rounds.specs.Good.{Lengths, GoodShared}
 use Rattle.rounds.specs.Runs.{itemOfTrain}
-use Rattle.rounds.proofs.Lists.{if-ind, set-cases, set-keeps}
 use Rattle.rounds.proofs.KeepHand.{held-inside, turn-holds}
 
 -- ---- the chosen record

@@ -7,10 +7,10 @@ use mathlib.Core.Bool.{Bool, true, false, false≢true}
 use mathlib.Core.List.{List, [], _∷_, _++_, append-nil}
 use borrow.Author.Tests.{ne-eqb, eqb-true}
 use Rattle.units.specs.Plain.{times}
+use Rattle.units.proofs.Bools.{if-ind}
 use Rattle.rounds.specs.Round.{BareRec, Shared, queued?, trainAt, inTurn, trainHolds}
 use Rattle.rounds.specs.Good.{Deficit, GoodShared, Lengths}
-use Rattle.rounds.specs.Runs.{itemOfTrain, bytes, Op, offer, take, allows, sharedStep, sent, sharedAfter, trainSent, Even, Others}
-use Rattle.rounds.proofs.Lists.{if-ind}
+use Rattle.rounds.specs.Runs.{itemOfTrain, bytes, Op, putOp, takeOp, allows, sharedStep, sent, sharedAfter, trainSent, Even, Others}
 use Rattle.rounds.proofs.KeepHand.{named-holds}
 use Rattle.rounds.proofs.Keep.{step-good, after-good}
 use Rattle.rounds.proofs.Figure.{Size, Under, ahead, deficitOf, down, ranged, size, some-length, up}
@@ -24,8 +24,8 @@ module _ (L a b : ℕ) (apart : a ≡ b → ⊥) where
   step-under : (s : Shared) (o : Op) → GoodShared L s → trainHolds s a ≡ true → trainHolds (sharedStep L s o) a ≡ true
       → Under L a b s (sharedStep L s o) (bytes (itemOfTrain a (sent s o))) (bytes (itemOfTrain b (sent s o)))
   unfolding sharedStep sent itemOfTrain
-  step-under s (offer k r) g h h′ = if-ind (λ (u : Shared). Under L a b s u 0 0) (allows L s k r) _ _ (λ e. put-under L a b apart s k r g h) (λ e. omega arith)
-  step-under s take g h h′ = hand-under L a b apart s g h h′
+  step-under s (putOp k r) g h h′ = if-ind (λ (u : Shared). Under L a b s u 0 0) (allows L s k r) _ _ (λ e. put-under L a b apart s k r g h) (λ e. omega arith)
+  step-under s takeOp g h h′ = hand-under L a b apart s g h h′
 
   -- ---- the figure's range, also where b holds nothing
 

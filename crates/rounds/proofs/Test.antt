@@ -1,25 +1,25 @@
 -- The rule for a good shared lane and its test agree. Assumes nothing.
-use Prim.Native.Nat.{ℕ, zero, suc, _+_, _*_, _≤_, _<_}
+use Prim.Native.Nat.{ℕ, zero, suc, _*_, _≤_, _<_}
 use native.Mathlib.Omega.{arith}
 use native.Mathlib.Nat.{eq-or-lt-of-le, le-of-suc-le-suc, not-suc-le-zero}
 use native.Mathlib.Decide.{decLt}
-use mathlib.Core.Path.{_≡_, refl, sym, ap, subst, _∙_}
-use mathlib.Core.Bool.{Bool, true, false, _&&_, false≢true}
+use mathlib.Core.Path.{_≡_, refl, ap, _∙_}
+use mathlib.Core.Bool.{Bool, true, false}
 use mathlib.Core.Logic.{_⊎_, inl, inr}
 use mathlib.Core.List.{List, [], _∷_}
 use lib.Dec.{leb, ltb, eqb}
-use lib.ListN.{length, getD}
+use lib.ListN.{length, List·getD-eq-default}
 use borrow.Author.Tests.{leb-true, le-leb, ltb-true, lt-ltb, eqb-true, eq-eqb, ne-eqb}
 use Rattle.units.specs.Plain.{if_then_else_, times}
+use Rattle.units.proofs.Bools.{and-parts}
 use Rattle.rounds.specs.Round.{BareRec, Train, Shared, trainCount, trainDepth, noTrain, queued?, trainAt, inTurn}
 use Rattle.rounds.specs.Good.{Lengths, Deficit, GoodTrain, GoodShared, every, everyBelow, lengthTest, deficitTest, trainTest, goodTest}
-use Rattle.rounds.proofs.Lists.{and-parts}
 use Rattle.rounds.proofs.KeepHand.{named-holds, held-inside}
 
 -- ---- every
 
 module _ (p : ℕ → Bool) where
-  below-at : (n : ℕ) → everyBelow p n ≡ true → (k : ℕ) → k < n → p k ≡ true
+  pub below-at : (n : ℕ) → everyBelow p n ≡ true → (k : ℕ) → k < n → p k ≡ true
   unfolding everyBelow
   below-at zero e k h = absurd (not-suc-le-zero h)
   below-at (suc n) e k h = go (eq-or-lt-of-le (le-of-suc-le-suc h)) (below-at n (and-parts (p n) (everyBelow p n) e .1) k)
@@ -28,13 +28,13 @@ module _ (p : ℕ → Bool) where
       go (inl q) r = ap p q ∙ and-parts (p n) (everyBelow p n) e .0
       go (inr q) r = r q
 
-  at-below : (n : ℕ) → ((k : ℕ) → p k ≡ true) → everyBelow p n ≡ true
+  pub at-below : (n : ℕ) → ((k : ℕ) → p k ≡ true) → everyBelow p n ≡ true
   unfolding everyBelow
   at-below zero h = refl
   at-below (suc n) h = simp (h n, at-below n h)
 
--- a number over 7 stands nowhere in a round of numbers up to 7
-times-none : (n k : ℕ) (js : List ℕ) → every (λ (j : ℕ). ltb j n) js ≡ true → n ≤ k → times k js ≡ 0
+-- a number from n on stands nowhere in a list of numbers below n
+pub times-none : (n k : ℕ) (js : List ℕ) → every (λ (j : ℕ). ltb j n) js ≡ true → n ≤ k → times k js ≡ 0
 unfolding every
 times-none n k [] e h = refl
 times-none n k (j ∷ js) e h =
@@ -42,16 +42,11 @@ times-none n k (j ∷ js) e h =
     let lt = ltb-true j n (a .0) in
     simp (ne-eqb j k (λ q. omega arith)) (omega (arith, times-none n k js (a .1) h))
 
-named-small : (n : ℕ) (js : List ℕ) → ((k : ℕ) → 0 < times k js → k < n) → every (λ (j : ℕ). ltb j n) js ≡ true
+pub named-small : (n : ℕ) (js : List ℕ) → ((k : ℕ) → 0 < times k js → k < n) → every (λ (j : ℕ). ltb j n) js ≡ true
 unfolding every
 named-small n [] h = refl
 named-small n (j ∷ js) h =
     simp (lt-ltb j n (h j (simp (eq-eqb j j refl) (omega arith))), named-small n js (λ k p. h k (omega arith)))
-
-pub beyond : (ts : List Train) (k : ℕ) → length ts ≤ k → getD ts k noTrain ≡ noTrain
-beyond [] k h = refl
-beyond (t ∷ ts) zero h = absurd (not-suc-le-zero h)
-beyond (t ∷ ts) (suc k) h = beyond ts k (le-of-suc-le-suc h)
 
 -- ---- one train
 
@@ -122,7 +117,7 @@ test-good L s e =
         | yes h ↦ train-true L _ _ (trainAt s k) (below-at (λ (k : ℕ). trainTest L (inTurn k (s .round)) (times k (s .round)) (trainAt s k)) trainCount (b .1) k h)
         | no h ↦
             let far : times k (s .round) ≡ 0 = times-none trainCount k (s .round) (b .0) (omega arith) in
-            rw (beyond (s .trains) k (omega arith), not-in-turn k (s .round) far, far) (record { room = omega arith; lengths = tt; deficit = refl; named-once = refl })
+            rw (List·getD-eq-default (s .trains) noTrain {n = k} (omega arith), not-in-turn k (s .round) far, far) (record { room = omega arith; lengths = tt; deficit = refl; named-once = refl })
       ];
     }
 

@@ -9,10 +9,11 @@ use lib.Dec.{leb, eqb}
 use lib.ListN.{length, getD, set, length-set}
 use borrow.Author.Tests.{eq-eqb, ne-eqb}
 use Rattle.units.specs.Plain.{if_then_else_, times}
+use Rattle.units.proofs.Bools.{if-ind}
+use Rattle.units.proofs.Lists.{same-or, set-cases, times-append, set-keeps}
 use Rattle.rounds.specs.Round.{BareRec, Train, Shared, noTrain, queued?, trainAt, firstOfTrain, handOf, trainHolds, firstInTurn, sharedFirst, added, join, sharedPut, handIn, sharedHandOut}
 use Rattle.rounds.specs.Good.{Deficit, GoodShared}
 use Rattle.rounds.specs.Runs.{itemOfTrain, bytes}
-use Rattle.rounds.proofs.Lists.{if-ind, same-or, set-cases, times-append, set-keeps}
 use Rattle.rounds.proofs.KeepHand.{held-inside, named-holds, turn-holds, turn-once}
 use Rattle.rounds.proofs.Order.{begin-queue}
 use Rattle.rounds.proofs.Figure.{Inside, Under, ahead, ahead-end, alone, before, begin-level, deficitOf, ofTrain-bytes, worth}

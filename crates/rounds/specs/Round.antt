@@ -26,6 +26,10 @@ pub record BareRec : Type 0 where
   pub mark : ℕ
   pub len : ℕ
 
+-- what stands past a queue's end
+abbrev pub noRec : BareRec
+noRec = record { mark = 0; len = 0 }
+
 -- R18.2: a deficit counts bare bytes, without framing
 pub record Train : Type 0 where
   pub deficit : ℕ
@@ -63,8 +67,8 @@ inTurn k [] = false
 inTurn k (j ∷ js) = eqb j k
 
 -- a lane in which nothing waits
-unfoldable pub empty : Shared
-empty = record { trains = replicate trainCount noTrain; round = [] }
+unfoldable pub emptyShared : Shared
+emptyShared = record { trains = replicate trainCount noTrain; round = [] }
 
 abbrev pub trainHeld : Train → ℕ
 trainHeld t = length (t .queue)

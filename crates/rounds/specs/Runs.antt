@@ -20,20 +20,20 @@ use Rattle.rounds.specs.Round.{BareRec, Shared, TrainItem, trainCount, t
 use Rattle.rounds.specs.Good.{GoodShared}
 
 pub data Op : Type 0 where
-  offer : ℕ → BareRec → Op
-  take : Op
+  putOp : ℕ → BareRec → Op
+  takeOp : Op
 
 -- 70 train over 7, 12 length, 71 train's queue full: none of these
 unfoldable pub allows : ℕ → Shared → ℕ → BareRec → Bool
 allows L s k r = ltb k trainCount && leb 1 (r .len) && leb (r .len) L && ltb (length (trainAt s k .queue)) trainDepth
 
 unfoldable pub sharedStep : ℕ → Shared → Op → Shared
-sharedStep L s (offer k r) = if allows L s k r then sharedPut L s k r else s
-sharedStep L s take = sharedHandOut L s
+sharedStep L s (putOp k r) = if allows L s k r then sharedPut L s k r else s
+sharedStep L s takeOp = sharedHandOut L s
 
 unfoldable pub sent : Shared → Op → Option TrainItem
-sent s (offer k r) = none
-sent s take = sharedFirst s
+sent s (putOp k r) = none
+sent s takeOp = sharedFirst s
 
 -- train k's records of it
 unfoldable pub itemOfTrain : ℕ → Option TrainItem → List BareRec

@@ -1,7 +1,7 @@
 -- What an accepted put answers is how many records of its train its lane held before it. Assumes nothing.
 use Prim.Native.Nat.{ℕ, _+_, _<_}
 use native.Mathlib.Omega.{arith}
-use mathlib.Core.Path.{_≡_, refl, sym, ap, subst, _∙_}
+use mathlib.Core.Path.{_≡_, sym, ap, subst, _∙_}
 use mathlib.Core.Bool.{Bool}
 use mathlib.Core.List.{List, [], _∷_, _++_}
 use mathlib.Core.Option.{Option, none, some}
@@ -18,7 +18,7 @@ use Rattle.rules.proofs.Queues.{queueAt}
 use Rattle.rules.proofs.SameSetup.{setting-lane, setup-kept, fresh-setup}
 use Rattle.rules.proofs.Kind.{fresh-kind, kind-run}
 use Rattle.rules.proofs.Order.{in-order}
-use Rattle.rules.proofs.Runs.{Split, split}
+use Rattle.rules.proofs.Runs.{split}
 
 -- of one state
 pub put-says : (s : State) (j : ℕ) (r : Rec) (n : ℕ) (o : Option ℕ) → PutOk s j r o → (putOf s j r o) .reply ≡ accepted n → (n ≡ ahead s j (r .train)) × (n < (if isShared (laneAt s j .waiting) then trainDepth else laneDepth))

@@ -1,13 +1,13 @@
 -- R6.13: all states that calls make from a fresh one are good, and each stands beside one of the endless rules. `Twins` is what every call keeps and a fresh
 -- state has; it gives `Good`, and is stronger: not every call on every good state leaves a good one. Assumes nothing.
-use Prim.Native.Nat.{ℕ, _+_, _*_, _^_, _≤_, _<_}
+use Prim.Native.Nat.{ℕ, _+_, _*_, _<_}
 use native.Mathlib.Omega.{arith}
 use mathlib.Core.Path.{_≡_, refl, sym, ap, subst, _∙_}
 use mathlib.Core.Bool.{Bool, true, false}
 use mathlib.Core.List.{List, [], _∷_, map}
 use mathlib.Core.Option.{Option, none, some}
 use Rattle.units.specs.Plain.{if_then_else_}
-use Rattle.rules.specs.State.{clockStep, Rec, Setting, settingAt, Lane, State, slot, finishR, some?, firstOf, holds, laneAt, setupOf, charge, rate, group, startR, eligible}
+use Rattle.rules.specs.State.{clockStep, Rec, Setting, settingAt, Lane, State, slot, finishR, some?, firstOf, holds, laneAt, setupOf}
 use Rattle.rules.specs.Setup.{Setup, margin, framingOf}
 use Rattle.rules.specs.Calls.{Call, fresh, step, idle, shifted}
 use Rattle.rules.specs.Runs.{after, Event, trace}

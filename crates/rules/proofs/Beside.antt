@@ -11,12 +11,12 @@ use lib.ListN.{length, getD, set, length-set}
 use borrow.Author.Tests.{ltb-true}
 use Rattle.units.specs.Numbers.{lineRate}
 use Rattle.units.specs.Plain.{if_then_else_, without}
+use Rattle.units.proofs.Bools.{if-ind, and-parts}
 use Rattle.waiting.specs.Waiting.{Waiting, first}
 use Rattle.rules.specs.State.{clockStep, Rec, Setting, Lane, noLane, State, charge, group, startR, some?, holds, laneAt, anyHolds}
 use Rattle.rules.specs.Choice.{Candidate, choose}
 use Rattle.rules.specs.Calls.{Outcome, putRefusal, appended, woken, accept, served, settled, serve, Pick, pickFirst, pickOf, picked, takeOf, doTake, lookOf, doLook}
 use Rattle.rules.specs.Endless.{LaneBeside, Beside}
-use Rattle.rules.proofs.Bools.{if-ind, and-parts}
 use Rattle.rules.proofs.Lists.{set-two}
 use Rattle.rules.proofs.Serve.{served-ind}
 use Rattle.rules.proofs.Moves.{Sound, MayEnter, woken-holds}

@@ -5,16 +5,17 @@ use native.Mathlib.Nat.{le-refl, mul-le-mul-right}
 use mathlib.Core.Path.{_≡_, refl, sym, ap, subst, _∙_}
 use mathlib.Core.Bool.{Bool, true, false, false≢true}
 use mathlib.Core.List.{List, [], _∷_, map}
-use mathlib.Core.Option.{Option, none, some}
+use mathlib.Core.Option.{some}
 use lib.ListN.{getD}
 use Rattle.units.proofs.Round.{lt-round-slot}
 use Rattle.units.specs.Plain.{if_then_else_, sum}
-use Rattle.rules.specs.State.{Rec, Setting, noSetting, Lane, charge, slot, finishR, some?, firstOf, holds, noLane}
+use Rattle.rules.specs.State.{Setting, noSetting, Lane, charge, slot, finishR, some?, firstOf, holds, noLane}
 use Rattle.waiting.proofs.Laws.{first-nothing, good-nothing}
 use Rattle.rules.specs.Calls.{idle}
 use Rattle.rules.proofs.Lists.{le-sum, getD-map}
 use Rattle.rules.proofs.Lane.{slot-pos}
 use Rattle.rules.proofs.Claim.{from-due, claim, weightOf, Queued, LaneOk, Inv, in-range}
+use Rattle.rules.proofs.Moves.{busy-first}
 
 -- ---- a fresh table
 
@@ -50,10 +51,6 @@ fresh-inv M gs s = record {
   due = λ D k e h. absurd (idle-lane M (getD gs k noSetting) (s .short k) .0 (rw idle-at at e));
 }
 
-pub first-is : (o : Option Rec) → some? o ≡ true → (r : Rec) × (o ≡ some r)
-first-is none e = absurd (false≢true e)
-first-is (some r) e = (r, refl)
-
 -- (U): a holding lane's start is below the clock plus two slots
 pub upper : (M v : ℕ) (ls : List Lane) → Inv M v ls → (k : ℕ) → holds (getD ls k noLane) ≡ true → (getD ls k noLane) .start < v + 2 * slot ((getD ls k noLane) .given)
 upper M v ls inv k e =
@@ -65,7 +62,7 @@ pub lower : (M v : ℕ) (ls : List Lane) → Inv M v ls → (k : ℕ) → holds 
 lower M v ls inv k e =
     let l : Lane = getD ls k noLane in
     let E : ℕ = finishR l in
-    let f = first-is (firstOf l) e in
+    let f = busy-first (firstOf l) e in
     let q : Queued (l .given) (l .start) (l .finish) (some (f .0)) = subst (Queued (l .given) (l .start) (l .finish)) (f .1) (inv .ok k .queued) in
     omega (
       arith,

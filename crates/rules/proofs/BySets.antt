@@ -4,19 +4,19 @@ use Prim.Native.Nat.{ℕ, suc, _+_, _*_, _^_, _≤_, _<_}
 use native.Mathlib.Nat.{zero-add}
 use native.Mathlib.Omega.{arith}
 use mathlib.Core.Path.{_≡_, refl, sym, ap, subst, _∙_}
-use mathlib.Core.Bool.{Bool, true, false, _&&_, false≢true}
+use mathlib.Core.Bool.{Bool, true, false, false≢true}
 use mathlib.Core.Option.{Option, none, some}
 use mathlib.Core.List.{List, [], _∷_}
 use lib.Dec.{eqb}
 use borrow.Author.Tests.{eqb-true, eq-eqb, ne-eqb}
 use Rattle.units.specs.Plain.{if_then_else_, place, times}
+use Rattle.units.proofs.Bools.{and-parts, and-made}
 use Rattle.rules.specs.State.{Setting, Lane, State, group, slot, startR, finishR, holds, eligible, laneAt, setupOf}
 use Rattle.rules.specs.Choice.{Candidate, choose}
 use Rattle.rules.specs.Sets.{groups, inGroup, groupStart, finishFrom, groupFinish, firstGroup, SetsRule}
 use Rattle.rules.specs.Good.{Good}
 pub use Rattle.rules.specs.BySets.{standsAt, firstIn, laneOfGroup, chooseBySets, candidateLane}
 use Rattle.rules.specs.BySets.{SameChoice}
-use Rattle.rules.proofs.Bools.{and-parts, and-made}
 use Rattle.rules.proofs.Lane.{group-most}
 use Rattle.rules.proofs.Lowest.{LowOf}
 use Rattle.rules.proofs.Chosen.{Chosen, Choice, chosen}

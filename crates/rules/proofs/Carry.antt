@@ -1,21 +1,19 @@
 -- A law of what waits in one lane, carried to lists of calls: whatever a record that enters and one that is handed out keep, and adds up, every stretch of calls
 -- keeps. `Rel L w u xs`: as w became u the records xs were handed out. Assumes nothing.
 use Prim.Native.Nat.{ℕ}
-use native.Mathlib.Omega.{arith}
-use mathlib.Core.Path.{_≡_, refl, sym, ap, subst, _∙_}
-use mathlib.Core.Bool.{Bool, true, false}
+use mathlib.Core.Path.{_≡_, refl, sym, ap, subst}
 use mathlib.Core.Option.{Option, none, some}
 use mathlib.Core.List.{List, [], _∷_, _++_}
 use lib.Dec.{ltb, eqb}
 use lib.ListN.{set}
 use borrow.Author.Tests.{eq-eqb, ne-eqb}
 use Rattle.units.specs.Plain.{if_then_else_}
+use Rattle.units.proofs.Bools.{if-ind}
+use Rattle.units.proofs.Lists.{set-cases}
 use Rattle.waiting.specs.Waiting.{Waiting, first, enter, handOut, GoodWaiting}
 use Rattle.rules.specs.State.{Rec, Setting, Lane, noLane, State, firstOf, holds, laneAt, anyHolds}
 use Rattle.rules.specs.Calls.{Call, put, take, look, sets, lag, restart, Reply, accepted, seen, lagged, refused, Outcome, no, ahead, shifted, entered, appended, woken, accept, putOf, doPut, served, serve, Pick, picked, takeOf, doTake, lookOf, doLook, doSets, lagOf, doLag, doRestart, step}
 use Rattle.rules.specs.Runs.{after, trace, sentIn, ofLane, sentOf}
-use Rattle.rules.proofs.Bools.{if-ind}
-use Rattle.rules.proofs.Lists.{set-cases}
 use Rattle.rules.proofs.Claim.{weightOf, in-range}
 use Rattle.rules.proofs.Moves.{idle-first}
 use Rattle.rules.proofs.Lowest.{none-holds}

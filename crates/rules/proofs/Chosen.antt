@@ -1,5 +1,5 @@
 -- The plain choice is an eligible lane, and no eligible lane is ahead of it by finish, then group, then place in the tie order. Assumes nothing.
-use Prim.Native.Nat.{ℕ, zero, suc, _+_, _≤_}
+use Prim.Native.Nat.{ℕ, zero, suc, _+_}
 use native.Mathlib.Omega.{arith}
 use native.Mathlib.Nat.{add-suc, suc-add, add-zero}
 use mathlib.Core.Path.{_≡_, refl, sym, _∙_}
@@ -9,12 +9,12 @@ use mathlib.Core.List.{List, [], _∷_}
 use lib.Dec.{ltb, eqb}
 use lib.ListN.{getD}
 use borrow.Author.Tests.{ltb-true, ltb-false, eqb-true, eqb-false}
-use Rattle.rules.specs.State.{Lane, State, group, finishR, eligible, noLane}
+use Rattle.rules.specs.State.{Lane, group, finishR, eligible, noLane}
 use Rattle.units.specs.Plain.{place}
+use Rattle.units.proofs.Bools.{if-ind}
 use Rattle.rules.specs.Choice.{Candidate, before, best, chooseFrom, choose, least}
 pub use Rattle.rules.specs.Chosen.{Ahead, Chosen, Choice}
 use Rattle.rules.specs.Chosen.{AheadOf, ChoiceRule}
-use Rattle.rules.proofs.Bools.{if-ind}
 
 -- ---- the choice
 

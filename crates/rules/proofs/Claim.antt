@@ -12,10 +12,11 @@ use lib.Dec.{leb}
 use lib.ListN.{length, getD, set}
 use borrow.Author.Tests.{leb-true, le-leb}
 use Rattle.units.specs.Plain.{if_then_else_, sum}
+use Rattle.units.proofs.Bools.{if-ind}
+use Rattle.units.proofs.Lists.{sum-set}
 use Rattle.waiting.specs.Waiting.{GoodWaiting}
 use Rattle.rules.specs.State.{Setting, Lane, Rec, rate, slot, charge, finishR, firstOf, holds, noLane}
-use Rattle.rules.proofs.Lists.{sum-set, sum-mono, sum-scale}
-use Rattle.rules.proofs.Bools.{if-ind}
+use Rattle.rules.proofs.Lists.{sum-mono, sum-scale}
 
 -- a later start claims no more
 pub claim-falls : (w D a b : ℕ) → a ≤ b → w * (D - b) ≤ w * (D - a)

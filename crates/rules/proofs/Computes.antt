@@ -10,5 +10,5 @@ use Rattle.rounds.specs.Round as round
 use Rattle.rules.specs.Runs.{after, trace}
 
 unfoldable pub rules : Unit {0}
-unfolding perByte powerFrom leastPower roundDown charge group slot eligible anyHolds place before best chooseFrom choose leastOf inGroup groupStart heldStart reached finishFrom groupHolds groupEligible groupFinish anyBelow wordOf blocks blocked ready ineligibleReady eligibleBlocked ineligibleBlocked putRefusal takenOff lowered lowerAll shifted appended woken accept putOf doPut served settledAt settled without serve timed pickFirst tail enter handOut queueOf full known round.empty round.firstOfTrain round.firstInTurn round.sharedFirst round.raised round.begin round.added round.join round.sharedPut round.handOf round.handIn round.sharedHandOut pickOf picked takeOf doTake lookOf doLook doSets lagOf doLag idle fresh doRestart step after trace
+unfolding perByte powerFrom leastPower roundDown charge group slot eligible anyHolds place before best chooseFrom choose leastOf inGroup groupStart heldStart reached finishFrom groupHolds groupEligible groupFinish anyBelow wordOf blocks blocked ready ineligibleReady eligibleBlocked ineligibleBlocked putRefusal takenOff lowered lowerAll shifted appended woken accept putOf doPut served settledAt settled without serve timed pickFirst tail enter handOut queueOf full known round.emptyShared round.firstOfTrain round.firstInTurn round.sharedFirst round.raised round.begin round.added round.join round.sharedPut round.handOf round.handIn round.sharedHandOut pickOf picked takeOf doTake lookOf doLook doSets lagOf doLag idle fresh doRestart step after trace
 rules = tt

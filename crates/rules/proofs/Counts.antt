@@ -5,7 +5,6 @@ use mathlib.Core.Path.{_≡_, refl, sym, ap, _∙_}
 use mathlib.Core.List.{List, [], _∷_, _++_, append-assoc}
 use lib.ListN.{length, drop, length-append}
 use borrow.Author.Tests.{eq-eqb}
-use Rattle.units.specs.Plain.{sum}
 use Rattle.rounds.specs.Round as round
 use Rattle.waiting.specs.Waiting.{bare}
 use Rattle.rules.specs.State.{Rec}
@@ -19,10 +18,6 @@ module _ {A : Type 0} where
   pub drop-front : (a b : List A) → drop (length a) (a ++ b) ≡ b
   drop-front [] b = refl
   drop-front (x ∷ a) b = drop-front a b
-
-  pub sum-append : (f : A → ℕ) (a b : List A) → sum f (a ++ b) ≡ sum f a + sum f b
-  sum-append f [] b = omega arith
-  sum-append f (x ∷ a) b = omega (arith, sum-append f a b)
 
   -- of two lists that begin the same list the longer goes on as that list does
   pub goes-on : (a b c d : List A) (x : A) → a ++ b ≡ c ++ x ∷ d → length c < length a → (more : List A) × (a ≡ c ++ x ∷ more)

@@ -7,13 +7,14 @@ use mathlib.Core.Bool.{true, false}
 use mathlib.Core.Option.{Option, none, some}
 use lib.ListN.{replicate}
 use Rattle.units.specs.Plain.{sum}
+use Rattle.units.proofs.Bools.{not-passed}
+use Rattle.units.proofs.Lists.{sum-set, sum-zero}
 use Rattle.waiting.specs.Waiting.{held}
 use Rattle.waiting.proofs.Laws.{held-hand, held-none}
 use Rattle.rules.specs.State.{noLane, State, firstOf, holds, laneAt, anyHolds}
 use Rattle.rules.specs.Calls.{take, taken, served, serve, Pick, picked, takeOf, doTake, step}
 use Rattle.rules.specs.Runs.{after}
-use Rattle.rules.proofs.Bools.{not-passed}
-use Rattle.rules.proofs.Lists.{sum-set, le-sum, sum-zero}
+use Rattle.rules.proofs.Lists.{le-sum}
 use Rattle.rules.proofs.Moves.{idle-first, busy-first}
 use Rattle.rules.proofs.Keep.{AllSound, PickIs, pick-is}
 use Rattle.rules.proofs.Queues.{held-inside, served-waiting}

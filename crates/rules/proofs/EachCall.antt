@@ -2,10 +2,10 @@
 use Prim.Native.Nat.{ℕ}
 use mathlib.Core.Path.{sym, subst}
 use mathlib.Core.List.{List, [], _∷_}
+use Rattle.units.proofs.Bools.{if-ind}
 use Rattle.rules.specs.State.{Rec, Setting, setupOf, State, anyHolds}
 use Rattle.rules.specs.Calls.{Call, Outcome, put, take, look, sets, lag, restart, putRefusal, putOf, doPut, picked, takeOf, doTake, doLook, doSets, fresh, doRestart, step}
 use Rattle.rules.specs.Runs.{after}
-use Rattle.rules.proofs.Bools.{if-ind}
 use Rattle.rules.proofs.Keep.{look-same, lag-same}
 
 module _ (P : State → Type 0) (begun : (gs : List Setting) → P (fresh gs))

@@ -5,11 +5,11 @@ use mathlib.Core.Path.{_≡_, refl, sym, ap, subst, _∙_}
 use mathlib.Core.Bool.{true}
 use mathlib.Core.List.{List, [], _∷_, _++_}
 use lib.ListN.{length, length-append}
+use Rattle.units.proofs.Lists.{same-or}
 use Rattle.rounds.specs.Round as round
-use Rattle.rounds.proofs.Lists.{same-or}
 use Rattle.waiting.specs.Waiting.{queueOf}
 use Rattle.waiting.proofs.Others.{Has}
-use Rattle.rules.specs.State.{Rec, Setting, settingAt, State, laneAt}
+use Rattle.rules.specs.State.{Setting, settingAt, State, laneAt}
 use Rattle.rules.specs.Calls.{Call, fresh}
 use Rattle.rules.specs.Runs.{Event, after, trace, sentOf, ofTrain, InOrder}
 use Rattle.rules.specs.Even.{HoldingTrain, trainBytes, OthersTight, EvenTight, EvenTrains}

@@ -6,28 +6,26 @@ use native.Mathlib.Omega.{arith}
 use mathlib.Core.Path.{_≡_, refl, sym, ap, subst, _∙_}
 use mathlib.Core.Bool.{true}
 use mathlib.Core.List.{List, [], _∷_, _++_, append-nil}
-use mathlib.Core.Option.{Option, none, some}
 use Rattle.waiting.specs.Waiting.{Waiting, first}
 use Rattle.waiting.proofs.Laws.{held-none}
-use lib.ListN.{length, length-append}
 use Rattle.units.proofs.Round.{round-le}
-use Rattle.rules.specs.State.{Rec, Setting, settingAt, State, rate, slot, some?, firstOf, Lane, holds, laneAt, setupOf}
+use Rattle.rules.specs.State.{Setting, settingAt, State, rate, slot, some?, holds, laneAt, setupOf}
 use Rattle.rules.specs.Setup.{Setup, longestCharge, margin, framingOf}
 use Rattle.rules.specs.Calls.{Call, fresh, step}
-use Rattle.rules.specs.Runs.{Event, after, trace, sentOf, InOrder}
+use Rattle.rules.specs.Runs.{Event, after, trace}
 use Rattle.rules.specs.Endless.{afterBy, endless, endlessAfter}
 use Rattle.rules.specs.Fair.{bytesSent, bytesSentOf, Holding, Fair, Demand3, Compared, TwoLanes, ComparedTight}
 use Rattle.rules.proofs.Bounds.{SetupOk, fresh-inv, lower, upper}
 pub use Rattle.rules.proofs.Figures.{tight-ok, longest-most, framing-most, setup-ok, longest-at, framing-at, group-at, slot-at}
 use Rattle.rules.proofs.Keep.{Kept, kept, step-kept}
 use Rattle.rules.proofs.SameSetup.{setting-lane, same-setup, setup-kept, fresh-setup}
-use Rattle.rules.proofs.Moves.{Sound}
 use Rattle.rules.proofs.Sound.{fresh-sound, sound-run}
 use Rattle.rules.proofs.Order.{held-run, fresh-held}
 use Rattle.rules.proofs.GoodShift.{small-lanes, setup-beside}
 use Rattle.rules.proofs.AlwaysGood.{Twins, fresh-twins, step-twins, run-twins}
 use Rattle.rules.proofs.Track.{step-moved}
 use Rattle.rules.proofs.Runs.{after-append, trace-append, Split, split}
+use Rattle.rules.proofs.Moves.{not-idle}
 
 -- ---- the stretch
 
@@ -57,14 +55,9 @@ module _ (M k : ℕ) (gs : List Setting) where
 
 -- a lane that holds a record by the events' count holds one in the state
 pub holds-of : (gs : List Setting) (k : ℕ) (cs : List Call) → Holding k (trace (fresh gs) cs) → holds (laneAt (after (fresh gs) cs) k) ≡ true
-holds-of gs k cs h = go (firstOf l) refl
-  where
-    l : Lane
-    l = laneAt (after (fresh gs) cs) k
-
-    go : (o : Option Rec) → firstOf l ≡ o → holds l ≡ true
-    go none e = absurd (omega (arith, held-run k (fresh gs) cs (fresh-sound gs), fresh-held gs k, held-none (l .given .longest) (l .waiting) (sound-run (fresh gs) cs (fresh-sound gs) k) e))
-    go (some r) e = ap some? e
+holds-of gs k cs h =
+    let l = laneAt (after (fresh gs) cs) k in
+    not-idle l (λ e. omega (arith, held-run k (fresh gs) cs (fresh-sound gs), fresh-held gs k, held-none (l .given .longest) (l .waiting) (sound-run (fresh gs) cs (fresh-sound gs) k) e))
 
 module _ (M : ℕ) (gs : List Setting) (setup : Setup gs) (ok : SetupOk M gs) (k : ℕ) where
   -- Over a stretch in which lane k holds records, c O and the move of the endless clock differ by less than 4 slots and M, both ways.

@@ -1,33 +1,34 @@
 -- The computed test for a good state and the rule agree. Assumes nothing.
-use Prim.Native.Nat.{ℕ, zero, suc, _+_, _*_, _^_, _≤_, _<_}
+use Prim.Native.Nat.{ℕ, zero, suc, _+_, _*_, _≤_, _<_}
 use native.Mathlib.Omega.{arith}
-use native.Mathlib.Nat.{le-of-suc-le-suc, not-suc-le-zero}
 use native.Mathlib.Decide.{decLt}
 use mathlib.Core.Path.{_≡_, refl, ap, _∙_}
 use mathlib.Core.Bool.{Bool, true, false, not, _&&_, _||_, false≢true, or-true}
 use mathlib.Core.List.{List, [], _∷_}
-use lib.Dec.{leb, ltb}
-use lib.ListN.{length, getD, length-map}
-use borrow.Author.Tests.{leb-true, le-leb, ltb-true, lt-ltb, eqb-true, eq-eqb, ne-eqb}
+use lib.Dec.{ltb}
+use lib.ListN.{length, getD, length-map, List·getD-eq-default}
+use borrow.Author.Tests.{ltb-true, lt-ltb, eqb-true, eq-eqb}
 use Rattle.units.specs.Plain.{if_then_else_, times}
-use Rattle.waiting.specs.Waiting.{nothing, isShared, waitingTest}
+use Rattle.units.proofs.Bools.{and-parts, or-right}
+use Rattle.rounds.proofs.Test.{below-at, at-below, times-none, named-small}
+use Rattle.rounds.specs.Good.{every, everyBelow}
+use Rattle.waiting.specs.Waiting.{noneWaiting, isShared, waitingTest}
 use Rattle.waiting.proofs.Laws as waiting
 use Rattle.waiting.proofs.Sharing as sharing
 use Rattle.rules.specs.State.{clockEdge, noSetting, Lane, noLane, State, slot, firstOf, holds, eligible, laneAt, setupOf, anyHolds}
 use Rattle.rules.specs.Setup.{Setup}
 use Rattle.rules.specs.Good.{Good}
-use Rattle.rules.proofs.Bools.{and-parts, or-right}
 use Rattle.rules.proofs.Lane.{slot-pos}
 use Rattle.rules.proofs.Live.{some-holds, holds-some}
-use Rattle.rules.proofs.GoodTest.{kindTest, kind-true, true-kind, every, everyBelow, setupTest, timesTest, laneTest, anyEligible, namedOnce, goodTest, every-at, at-every, below-at, at-below, setup-true, true-setup, times-true, true-times}
+use Rattle.rules.proofs.GoodTest.{kindTest, kind-true, true-kind, setupTest, timesTest, laneTest, anyEligible, namedOnce, goodTest, every-at, at-every, setup-true, true-setup, times-true, true-times}
 
 idle-true : (v : ℕ) → laneTest v noLane ≡ true
 unfolding laneTest every timesTest
 idle-true v =
     simp (
-      waiting.good-test 0 (nothing false) (waiting.good-nothing 0 false),
+      waiting.good-test 0 (noneWaiting false) (waiting.good-nothing 0 false),
       lt-ltb 0 (v + 2 * slot noSetting) (omega (arith, slot-pos noSetting)),
-      true-kind (isShared (nothing false)) false (sharing.shared-nothing false),
+      true-kind (isShared (noneWaiting false)) false (sharing.shared-nothing false),
     )
 
 eligible-some : (v : ℕ) (ls : List Lane) → anyEligible v ls ≡ true → (k : ℕ) × (eligible v (getD ls k noLane) ≡ true)
@@ -47,25 +48,14 @@ some-eligible v (l ∷ ls) (suc k) e = simp (some-eligible v ls k e, or-true (el
 
 -- ---- the two agree
 
-beyond : (ls : List Lane) (k : ℕ) → length ls ≤ k → getD ls k noLane ≡ noLane
-beyond [] k h = refl
-beyond (l ∷ ls) zero h = absurd (not-suc-le-zero h)
-beyond (l ∷ ls) (suc k) h = beyond ls k (le-of-suc-le-suc h)
-
--- a number that no element passes stands nowhere
-times-none : (k : ℕ) (js : List ℕ) → every (λ (j : ℕ). ltb j 64) js ≡ true → 64 ≤ k → times k js ≡ 0
-unfolding every
-times-none k [] e h = refl
-times-none k (j ∷ js) e h =
-    let a = and-parts (ltb j 64) (every (λ (j : ℕ). ltb j 64) js) e in
-    let lt = ltb-true j 64 (a .0) in
-    simp (ne-eqb j k (λ q. omega arith)) (omega (arith, times-none k js (a .1) h))
-
-named-small : (js : List ℕ) → ((k : ℕ) → 0 < times k js → k < 64) → every (λ (j : ℕ). ltb j 64) js ≡ true
-unfolding every
-named-small [] h = refl
-named-small (j ∷ js) h =
-    simp (lt-ltb j 64 (h j (simp (eq-eqb j j refl) (omega arith))), named-small js (λ k p. h k (omega arith)))
+-- a lane that the tie order of a good state names is one of the 64
+pub order-inside : (s : State) → Good s → (k : ℕ) → 0 < times k (s .order) → k < 64
+order-inside s g k h = elim (decLt k 64) [
+  | yes q ↦ q
+  | no q ↦
+      let far : length (s .lanes) ≤ k = omega (arith, g .setup .size, length-map (s .lanes) (λ (l : Lane). l .given)) in
+      absurd (omega (arith, rw (List·getD-eq-default (s .lanes) noLane far) at (g .order k)))
+]
 
 module _ (s : State) where
   order-true : Setup (setupOf s) → every (λ (j : ℕ). ltb j 64) (s .order) ≡ true → everyBelow (namedOnce s) 64 ≡ true
@@ -74,7 +64,7 @@ module _ (s : State) where
     | yes h ↦ eqb-true (times k (s .order)) _ (below-at (namedOnce s) 64 e k h)
     | no h ↦
         let far : length (s .lanes) ≤ k = omega (arith, g .size, length-map (s .lanes) (λ (l : Lane). l .given)) in
-        times-none k (s .order) small (omega arith) ∙ rw (beyond (s .lanes) k far)
+        times-none 64 k (s .order) small (omega arith) ∙ rw (List·getD-eq-default (s .lanes) noLane far)
   ]
 
   pub test-good : goodTest s ≡ true → Good s
@@ -107,7 +97,7 @@ module _ (s : State) where
         lt-ltb (s .clock) (clockEdge) (g .clock),
         at-every (laneTest (s .clock)) noLane (idle-true (s .clock)) (s .lanes) (λ k. lane k),
         live (anyHolds (s .lanes)) refl,
-        named-small (s .order) inside,
+        named-small 64 (s .order) (order-inside s g),
         at-below (namedOnce s) 64 (λ k. eq-eqb (times k (s .order)) _ (g .order k)),
       )
     where
@@ -117,11 +107,3 @@ module _ (s : State) where
       live : (b : Bool) → anyHolds (s .lanes) ≡ b → (not b || anyEligible (s .clock) (s .lanes)) ≡ true
       live false e = refl
       live true e = let h = some-holds (s .lanes) e in let i = g .live (h .0) (h .1) in some-eligible (s .clock) (s .lanes) (i .0) (i .1)
-
-      inside : (k : ℕ) → 0 < times k (s .order) → k < 64
-      inside k h = elim (decLt k 64) [
-        | yes q ↦ q
-        | no q ↦
-            let far : length (s .lanes) ≤ k = omega (arith, g .setup .size, length-map (s .lanes) (λ (l : Lane). l .given)) in
-            absurd (omega (arith, rw (beyond (s .lanes) k far) at (g .order k)))
-      ]

@@ -1,31 +1,23 @@
 -- The rule for a good state as a computed test, and the laws of its parts. proofs/GoodAgrees.antt: the two agree. Assumes nothing.
-use Prim.Native.Nat.{ℕ, zero, suc, _+_, _*_, _^_, _<_}
+use Prim.Native.Nat.{ℕ, zero, suc, _+_, _*_, _<_}
 use native.Mathlib.Omega.{arith}
-use native.Mathlib.Nat.{eq-or-lt-of-le, le-of-suc-le-suc, not-suc-le-zero}
 use mathlib.Core.Path.{_≡_, refl, ap, _∙_, sym}
 use mathlib.Core.Bool.{Bool, true, false, not, _&&_, _||_}
 use mathlib.Core.Logic.{_⊎_, inl, inr}
 use mathlib.Core.List.{List, [], _∷_}
 use mathlib.Core.Option.{Option, none, some}
+use Rattle.rounds.specs.Good.{every, everyBelow}
 use Rattle.waiting.specs.Waiting.{isShared, waitingTest}
 use lib.Dec.{leb, ltb, eqb}
 use lib.ListN.{length, getD}
 use borrow.Author.Tests.{leb-true, le-leb, ltb-true, lt-ltb, eqb-true, eqb-false, eq-eqb, ne-eqb, not-true}
 use Rattle.units.specs.Plain.{if_then_else_, times}
+use Rattle.units.proofs.Bools.{and-parts, and-made}
 use Rattle.rules.specs.State.{clockEdge, Rec, Setting, noSetting, settingAt, Lane, State, charge, rate, slot, startR, firstOf, holds, eligible, laneAt, setupOf, anyHolds}
 use Rattle.rules.specs.Setup.{InNumbers, weights, Setup, margin, framingOf}
 use Rattle.rules.specs.Good.{Times}
-use Rattle.rules.proofs.Bools.{and-parts, and-made}
 
 -- ---- the test
-
-unfoldable pub every : {A : Type 0} → (A → Bool) → List A → Bool
-every p [] = true
-every p (x ∷ xs) = p x && every p xs
-
-unfoldable pub everyBelow : (ℕ → Bool) → ℕ → Bool
-everyBelow p zero = true
-everyBelow p (suc n) = p n && everyBelow p n
 
 unfoldable pub inNumbers : Setting → Bool
 inNumbers g = leb 1 (g .weight) && (leb (g .weight) 1024 && (leb 64 (g .longest) && leb (g .longest) 1500))
@@ -94,20 +86,6 @@ module _ {A : Type 0} (p : A → Bool) (d : A) (pd : p d ≡ true) where
   unfolding every
   at-every [] h = refl
   at-every (x ∷ xs) h = and-made (p x) (every p xs) (h 0) (at-every xs (λ k. h (suc k)))
-
-pub below-at : (p : ℕ → Bool) (n : ℕ) → everyBelow p n ≡ true → (k : ℕ) → k < n → p k ≡ true
-unfolding everyBelow
-below-at p zero e k h = absurd (not-suc-le-zero h)
-below-at p (suc n) e k h = go (eq-or-lt-of-le (le-of-suc-le-suc h)) (below-at p n (and-parts (p n) (everyBelow p n) e .1) k)
-  where
-    go : (k ≡ n) ⊎ (k < n) → (k < n → p k ≡ true) → p k ≡ true
-    go (inl q) r = ap p q ∙ and-parts (p n) (everyBelow p n) e .0
-    go (inr q) r = r q
-
-pub at-below : (p : ℕ → Bool) (n : ℕ) → ((k : ℕ) → p k ≡ true) → everyBelow p n ≡ true
-unfolding everyBelow
-at-below p zero h = refl
-at-below p (suc n) h = and-made (p n) (everyBelow p n) (h n) (at-below p n h)
 
 setting-true : (g : Setting) → settingTest g ≡ true → InNumbers g ⊎ (g ≡ noSetting)
 unfolding inNumbers absent

@@ -15,9 +15,9 @@ use borrow.Author.Tests.{leb-true, le-leb, ltb-true, ltb-false, lt-ltb, eqb-true
 use Rattle.rules.specs.State.{Lane, group, slot, startR, finishR, holds, eligible, noLane}
 use Rattle.rules.specs.Choice.{Candidate}
 use Rattle.units.specs.Plain.{anyBelow, wordOf, count}
+use Rattle.units.proofs.Bools.{and-parts, and-made, or-parts, not-passed}
 use Rattle.rules.specs.Sets.{groups, inGroup, groupStart, reached, finishFrom, groupEligible, groupFinish, blocks, blocked, ready, ineligibleReady, eligibleBlocked, ineligibleBlocked, groupHolds, heldStart}
 use Rattle.rules.proofs.Lowest.{LowOf, lowest-of}
-use Rattle.rules.proofs.Bools.{and-parts, and-made, or-parts, not-passed}
 use Rattle.rules.proofs.Chosen.{Chosen}
 use Rattle.rules.proofs.Keep.{eligible-is, is-eligible}
 use Rattle.rules.proofs.Word.{first-bit}

@@ -1,5 +1,5 @@
 -- Every call of the endless rules keeps the invariant. Assumes nothing.
-use Prim.Native.Nat.{ℕ, _+_, _*_, _^_, _≤_, _<_}
+use Prim.Native.Nat.{ℕ, _+_, _*_, _≤_, _<_}
 use native.Mathlib.Omega.{arith}
 use native.Mathlib.Nat.{le-refl}
 use mathlib.Core.Path.{_≡_, refl, sym, ap, subst, _∙_}
@@ -8,14 +8,14 @@ use mathlib.Core.Option.{Option, none, some}
 use mathlib.Core.List.{List, [], _∷_, map}
 use lib.Dec.{leb, ltb}
 use lib.ListN.{set}
-use borrow.Author.Tests.{le-leb, leb-true, leb-false, ltb-true, ltb-false, not-true, not-false}
+use borrow.Author.Tests.{le-leb, leb-true, ltb-true, ltb-false, not-true, not-false}
 use Rattle.units.specs.Plain.{sum}
+use Rattle.units.proofs.Bools.{if-ind, and-parts, or-parts}
 use Rattle.waiting.specs.Waiting.{full, known}
 use Rattle.rules.specs.State.{Setting, noSetting, setupOf, Lane, Rec, State, charge, startR, finishR, firstOf, holds, some?, eligible, noLane, laneAt, anyHolds}
 use Rattle.rules.specs.Choice.{Candidate, choose, chooseFrom, leastOf}
 use Rattle.rules.specs.Calls.{Pick, Call, Outcome, put, take, look, sets, lag, restart, served, woken, settled, settledAt, serve, pickFirst, pickOf, takeOf, lookOf, picked, doTake, putRefusal, accept, doLook, doLag, doSets, doRestart, fresh}
 use Rattle.rules.specs.Endless.{endlessPutOf, endlessPut, endless, afterBy, endlessAfter}
-use Rattle.rules.proofs.Bools.{if-ind, and-parts, or-parts}
 use Rattle.rules.proofs.Lists.{set-all, getD-map}
 use Rattle.rules.proofs.Claim.{Inv, weightOf}
 use Rattle.rules.proofs.Serve.{serve-inv}

@@ -3,12 +3,12 @@ use Prim.Native.Nat.{ℕ}
 use mathlib.Core.Path.{_≡_, sym, subst, _∙_}
 use mathlib.Core.Option.{Option, none, some}
 use mathlib.Core.List.{List}
+use Rattle.units.proofs.Bools.{if-ind}
 use Rattle.waiting.specs.Waiting.{isShared}
 use Rattle.waiting.proofs.Sharing.{shared-nothing, shared-enter, shared-hand}
 use Rattle.rules.specs.State.{Rec, Setting, settingAt, Lane, noLane, State, holds, laneAt}
 use Rattle.rules.specs.Calls.{Pick, Call, putRefusal, shifted, appended, woken, accept, putOf, served, serve, picked, takeOf, idle, fresh, step}
 use Rattle.rules.specs.Runs.{after}
-use Rattle.rules.proofs.Bools.{if-ind}
 use Rattle.rules.proofs.Lists.{set-all}
 use Rattle.rules.proofs.Serve.{served-ind}
 use Rattle.rules.proofs.Bounds.{idle-at}

@@ -3,17 +3,17 @@ use Prim.Native.Nat.{ℕ, suc, _+_, _-_, _*_, _<_}
 use native.Mathlib.Omega.{arith}
 use mathlib.Core.Path.{_≡_, refl, sym, ap, subst, _∙_}
 use mathlib.Core.Bool.{Bool, true, false, cond}
-use mathlib.Core.List.{List, [], _∷_, _++_, append-nil, append-assoc}
+use mathlib.Core.List.{List, [], _∷_, _++_, append-nil}
 use lib.Dec.{ltb}
 use lib.IntN.{ℤ, pos, negsuc, subℕ}
 use borrow.Author.Tests.{ltb-true, ltb-false}
 use Rattle.units.specs.Plain.{if_then_else_}
-use Rattle.rules.specs.State.{Rec, Setting, settingAt, State, rate, slot, charge, holds, laneAt}
+use Rattle.rules.specs.State.{Setting, settingAt, State, rate, slot, holds, laneAt}
 use Rattle.rules.specs.Setup.{Setup}
 use Rattle.rules.specs.Calls.{Call, lag, lagged, no, lagOf, doLag, fresh, step}
 use Rattle.rules.specs.Runs.{Event, after, trace, sentIn, offeredIn, isAccepted, ofLane, acceptedOf, sentOf}
 use Rattle.rules.specs.Fair.{chargedTo, bytesSent, bytesSentOf, Holding}
-use Rattle.rules.specs.Waits.{accepts, lags, NotYet, FairFrom, WaitsFrom, WaitsFromBy}
+use Rattle.rules.specs.Waits.{accepts, lags, FairFrom, WaitsFrom, WaitsFromBy}
 use Rattle.rules.proofs.Bounds.{SetupOk}
 use Rattle.rules.proofs.Keep.{lag-same}
 use Rattle.rules.proofs.Runs.{trace-append, split}

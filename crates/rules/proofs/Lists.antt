@@ -1,8 +1,8 @@
 -- Laws of sums over a list, and of a list with one element replaced. Assumes nothing.
-use Prim.Native.Nat.{ℕ, zero, suc, _+_, _*_, _≤_, _<_}
-use native.Mathlib.Nat.{not-suc-le-zero, le-of-suc-le-suc, suc-inj}
+use Prim.Native.Nat.{ℕ, zero, suc, _*_, _≤_, _<_}
+use native.Mathlib.Nat.{not-suc-le-zero, le-of-suc-le-suc}
 use native.Mathlib.Omega.{arith}
-use mathlib.Core.Path.{_≡_, refl, sym, subst, ap}
+use mathlib.Core.Path.{_≡_, refl, sym, subst}
 use mathlib.Core.Bool.{Bool, true, false, not}
 use mathlib.Core.Logic.{_⊎_, inl, inr}
 use mathlib.Core.List.{List, [], _∷_, map}
@@ -11,11 +11,6 @@ use lib.ListN.{length, getD, set}
 use Rattle.units.specs.Plain.{sum}
 
 module _ {A : Type 0} where
-  pub sum-set : (f : A → ℕ) (xs : List A) (j : ℕ) (y d : A) → j < length xs → sum f (set xs j y) + f (getD xs j d) ≡ sum f xs + f y
-  sum-set f [] j y d h = absurd (not-suc-le-zero h)
-  sum-set f (x ∷ xs) zero y d h = omega arith
-  sum-set f (x ∷ xs) (suc j) y d h = omega (arith, sum-set f xs j y d (le-of-suc-le-suc h))
-
   pub sum-mono : (f g : A → ℕ) (xs : List A) (d : A) → ((k : ℕ) → f (getD xs k d) ≤ g (getD xs k d)) → sum f xs ≤ sum g xs
   sum-mono f g [] d h = omega arith
   sum-mono f g (x ∷ xs) d h = omega (arith, h 0, sum-mono f g xs d (λ k. h (suc k)))
@@ -50,14 +45,6 @@ module _ {A : Type 0} where
       go false e (inl (k, t)) = inl (suc k, t)
       go false e (inr f) = inr (elim [ zero ↦ subst (λ (b : Bool). T (not b)) (sym e) tt | suc k ↦ f k ])
 
-  -- the changed list at k: the new element if k is the place, else the old one
-  pub set-cases : (P : A → Type 0) (xs : List A) (j k : ℕ) (y d : A) → j < length xs → (j ≡ k → P y) → ((j ≡ k → ⊥) → P (getD xs k d)) → P (getD (set xs j y) k d)
-  set-cases P [] j k y d h p q = absurd (not-suc-le-zero h)
-  set-cases P (x ∷ xs) zero zero y d h p q = p refl
-  set-cases P (x ∷ xs) zero (suc k) y d h p q = q (λ e. omega arith)
-  set-cases P (x ∷ xs) (suc j) zero y d h p q = q (λ e. omega arith)
-  set-cases P (x ∷ xs) (suc j) (suc k) y d h p q = set-cases P xs j k y d (le-of-suc-le-suc h) (λ e. p (ap suc e)) (λ n. q (λ e. n (suc-inj e)))
-
   -- one element of each of two lists of one length replaced
   pub set-two : (P : A → A → Type 0) (xs ys : List A) (j : ℕ) (x y d : A) → length ys ≡ length xs → P x y → ((k : ℕ) → P (getD xs k d) (getD ys k d)) → (k : ℕ) → P (getD (set xs j x) k d) (getD (set ys j y) k d)
   set-two P [] [] j x y d z p h k = h k
@@ -72,11 +59,3 @@ module _ {A : Type 0} where
   getD-map f [] k d d′ e = sym e
   getD-map f (x ∷ xs) zero d d′ e = refl
   getD-map f (x ∷ xs) (suc k) d d′ e = getD-map f xs k d d′ e
-
-  pub sum-bound : (f : A → ℕ) (b : ℕ) (xs : List A) (d : A) → ((k : ℕ) → f (getD xs k d) ≤ b) → sum f xs ≤ length xs * b
-  sum-bound f b [] d h = omega arith
-  sum-bound f b (x ∷ xs) d h = omega (arith, h 0, sum-bound f b xs d (λ k. h (suc k)))
-
-  pub sum-zero : (f : A → ℕ) (xs : List A) (d : A) → ((k : ℕ) → f (getD xs k d) ≡ 0) → sum f xs ≡ 0
-  sum-zero f [] d h = refl
-  sum-zero f (x ∷ xs) d h = omega (arith, h 0, sum-zero f xs d (λ k. h (suc k)))

@@ -11,12 +11,12 @@ use lib.Dec.{ltb}
 use lib.ListN.{length, getD, set}
 use borrow.Author.Tests.{ltb-false}
 use Rattle.units.specs.Plain.{if_then_else_}
+use Rattle.units.proofs.Bools.{if-ind, or-right}
+use Rattle.units.proofs.Lists.{set-cases}
 use Rattle.rules.specs.State.{Setting, setupOf, Lane, Rec, State, charge, startR, holds, noLane, laneAt, eligible, anyHolds}
 use Rattle.rules.specs.Choice.{leastOf}
 use Rattle.rules.specs.Calls.{Pick, Call, Outcome, put, take, look, sets, lag, restart, served, woken, appended, settled, settledAt, serve, takeOf, picked, doTake, putRefusal, accept, doLook, doSets, doRestart, idle, fresh}
 use Rattle.rules.specs.Endless.{endlessPutOf, endlessPut, endless}
-use Rattle.rules.proofs.Bools.{if-ind, or-right}
-use Rattle.rules.proofs.Lists.{set-cases}
 use Rattle.rules.proofs.Claim.{in-range}
 use Rattle.rules.proofs.Moves.{appended-holds, woken-holds}
 use Rattle.rules.proofs.Bounds.{fresh-free}

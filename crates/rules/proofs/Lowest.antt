@@ -1,5 +1,5 @@
 -- What the least start of the lanes that pass a test is: the start of one of them, and none is below it. And what `anyHolds` says. Assumes nothing.
-use Prim.Native.Nat.{ℕ, zero, suc, _≤_}
+use Prim.Native.Nat.{ℕ, zero, suc}
 use native.Mathlib.Omega.{arith}
 use native.Mathlib.Nat.{le-refl}
 use mathlib.Core.Path.{_≡_, refl, sym, _∙_}
@@ -9,11 +9,11 @@ use mathlib.Core.List.{List, [], _∷_}
 use lib.Dec.{leb}
 use lib.ListN.{getD}
 use borrow.Author.Tests.{leb-true, leb-false}
+use Rattle.units.proofs.Bools.{if-ind, or-parts}
 use Rattle.rules.specs.State.{Lane, startR, holds, noLane, anyHolds}
 use Rattle.rules.specs.Choice.{least, leastOf}
 pub use Rattle.rules.specs.Lowest.{LowestOf, LowOf}
 use Rattle.rules.specs.Lowest.{LowestRule}
-use Rattle.rules.proofs.Bools.{if-ind, or-parts}
 
 module _ (p : Lane → Bool) (l : Lane) (ls : List Lane) where
   low-skip : (o : Option ℕ) → p l ≡ false → LowOf p ls o → LowOf p (l ∷ ls) o

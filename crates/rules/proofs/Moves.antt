@@ -16,8 +16,9 @@ use Rattle.waiting.proofs.Laws.{Enters, first-enter, first-stays, good-enter}
 use Rattle.rules.specs.State.{Lane, Rec, slot, finishR, firstOf, holds, some?, noLane}
 use Rattle.rules.specs.Calls.{woken, appended, idle}
 use Rattle.units.proofs.Round.{lt-round-slot}
-use Rattle.rules.proofs.Bools.{if-ind}
-use Rattle.rules.proofs.Lists.{sum-set, set-all, any-or-none}
+use Rattle.units.proofs.Bools.{if-ind}
+use Rattle.units.proofs.Lists.{sum-set}
+use Rattle.rules.proofs.Lists.{set-all, any-or-none}
 use Rattle.rules.proofs.Lane.{slot-pos}
 use Rattle.rules.proofs.Claim.{from, from-ge, from-held, claim, spread, weightOf, LaneOk, Inv, in-range, same-weights}
 
@@ -30,6 +31,14 @@ idle-first (some r) e = absurd (false≢true (sym e))
 pub busy-first : (o : Option Rec) → some? o ≡ true → (r : Rec) × (o ≡ some r)
 busy-first none e = absurd (false≢true e)
 busy-first (some r) e = (r, refl)
+
+-- a lane that cannot be idle holds a record
+pub not-idle : (l : Lane) → (firstOf l ≡ none → ⊥) → holds l ≡ true
+not-idle l h = go (firstOf l) refl
+  where
+    go : (o : Option Rec) → firstOf l ≡ o → holds l ≡ true
+    go none e = absurd (h e)
+    go (some r) e = ap some? e
 
 -- what waits in a lane is good, and the record may enter
 abbrev pub Sound : Lane → Type 0

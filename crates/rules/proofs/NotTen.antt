@@ -4,13 +4,13 @@ use native.Mathlib.Omega.{arith}
 use mathlib.Core.Path.{_≡_}
 use mathlib.Core.Bool.{not, _||_}
 use mathlib.Core.Option.{Option, none, some}
-use lib.Dec.{leb, ltb}
+use lib.Dec.{ltb}
+use Rattle.units.proofs.Bools.{if-ind}
 use Rattle.waiting.specs.Waiting.{full, known}
 use Rattle.rules.specs.State.{Rec, State, laneAt, anyHolds}
-use Rattle.rules.specs.Calls.{Call, put, take, look, sets, lag, restart, Reply, accepted, taken, seen, words, lagged, restarted, refused, Outcome, putRefusal, putOf, doPut, Pick, picked, takeOf, doTake, lookOf, doLook, doSets, doLag, doRestart, step}
+use Rattle.rules.specs.Calls.{Call, put, take, look, sets, lag, restart, Outcome, putRefusal, putOf, doPut, Pick, picked, takeOf, doTake, lookOf, doLook, doSets, doLag, doRestart, step}
 pub use Rattle.rules.specs.Refusals.{NotTen}
 use Rattle.rules.specs.Refusals.{RulesNotTen}
-use Rattle.rules.proofs.Bools.{if-ind}
 
 OtherThanTen : Option ℕ → Type 0
 OtherThanTen none = Unit {0}

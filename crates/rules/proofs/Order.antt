@@ -10,7 +10,7 @@ use mathlib.Core.List.{List, [], _∷_, _++_, append-assoc, append-nil}
 use Rattle.rounds.specs.Round as round
 use Rattle.waiting.specs.Waiting.{bare, queueOf, held}
 use Rattle.waiting.proofs.Laws.{queue-nothing, held-nothing}
-use Rattle.rules.specs.State.{Rec, Setting, noSetting, Lane, State, laneAt}
+use Rattle.rules.specs.State.{Rec, Setting, noSetting, Lane, State}
 use Rattle.rules.specs.Calls.{Call, idle, fresh, step}
 use Rattle.rules.specs.Runs.{after, trace, acceptedIn, ofLane, sentIn, acceptedOf, sentOf, ofTrain, InOrder}
 use Rattle.rules.proofs.Bounds.{idle-at}

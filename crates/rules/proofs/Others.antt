@@ -15,7 +15,7 @@ use Rattle.waiting.proofs.Laws.{queue-none}
 use Rattle.waiting.proofs.Others.{upOf, downOf, Has, Under, under-enter, under-hand, under-range}
 use Rattle.rules.specs.State.{Rec, State, laneAt}
 use Rattle.rules.specs.Calls.{Call}
-use Rattle.rules.specs.Runs.{after, trace, sentOf, ofTrain}
+use Rattle.rules.specs.Runs.{after, trace, ofTrain}
 use Rattle.rules.specs.Even.{trainBytes}
 use Rattle.rules.proofs.Keep.{AllSound}
 use Rattle.rules.proofs.Queues.{of-one}

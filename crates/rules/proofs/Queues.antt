@@ -11,14 +11,15 @@ use lib.Dec.{ltb, eqb}
 use lib.ListN.{length, getD, set}
 use borrow.Author.Tests.{eq-eqb, ne-eqb}
 use Rattle.units.specs.Plain.{if_then_else_}
+use Rattle.units.proofs.Bools.{if-ind}
+use Rattle.units.proofs.Lists.{set-cases}
 use Rattle.waiting.specs.Waiting.{Waiting, queueOf, bare, held}
 use Rattle.waiting.proofs.Laws.{queue-enter, queue-hand, queue-none, queue-nothing, held-enter, held-hand, held-none, held-nothing}
 use Rattle.rounds.specs.Round as round
 use Rattle.rules.specs.State.{Rec, noSetting, Lane, noLane, State, some?, firstOf, holds, laneAt, setupOf, anyHolds}
 use Rattle.rules.specs.Calls.{Call, put, take, look, sets, lag, restart, Reply, accepted, seen, refused, lagged, Outcome, no, putRefusal, ahead, entered, appended, woken, accept, putOf, doPut, behind, served, serve, Pick, picked, takeOf, doTake, lookOf, doLook, doSets, lagOf, doLag, idle, fresh, doRestart, step, shifted}
 use Rattle.rules.specs.Runs.{sentIn, offeredIn, isAccepted, acceptedIn, ofLane, ofTrain}
-use Rattle.rules.proofs.Bools.{if-ind}
-use Rattle.rules.proofs.Lists.{set-cases, getD-map}
+use Rattle.rules.proofs.Lists.{getD-map}
 use Rattle.rules.proofs.Claim.{weightOf, in-range}
 use Rattle.rules.proofs.Serve.{served-ind}
 use Rattle.rules.proofs.Moves.{idle-first}

@@ -15,8 +15,9 @@ use Rattle.waiting.proofs.Laws.{held-nothing, held-enter, held-none, held-most,
 use Rattle.rules.specs.State.{clockFar, laneDepth, Setting, noSetting, setupOf, Lane, Rec, State, slot, startR, firstOf, holds, noLane, laneAt, anyHolds}
 use Rattle.rules.specs.Calls.{Pick, Call, Outcome, put, take, look, sets, lag, restart, entered, woken, appended, takeOf, picked, doTake, putRefusal, accept, putOf, doPut, doLook, doSets, doRestart, idle, fresh, step, lowerAll, shifted}
 use Rattle.units.proofs.Round.{round-le}
-use Rattle.rules.proofs.Bools.{if-ind}
-use Rattle.rules.proofs.Lists.{sum-set, sum-bound, sum-zero, set-all, getD-map}
+use Rattle.units.proofs.Bools.{if-ind}
+use Rattle.units.proofs.Lists.{sum-set, sum-bound, sum-zero}
+use Rattle.rules.proofs.Lists.{set-all, getD-map}
 use Rattle.rules.proofs.Lane.{slot-pos}
 use Rattle.rules.proofs.Claim.{in-range}
 use Rattle.rules.proofs.Moves.{MayEnter, idle-first}

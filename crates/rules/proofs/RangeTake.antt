@@ -15,8 +15,9 @@ use Rattle.rules.specs.State.{clockFar, laneDepth, Lane, State, charge, 
 use Rattle.rules.specs.Choice.{leastOf}
 use Rattle.rules.specs.Calls.{Pick, served, settled, settledAt, serve}
 use Rattle.units.proofs.Round.{round-le}
-use Rattle.rules.proofs.Bools.{if-ind}
-use Rattle.rules.proofs.Lists.{sum-set, set-all}
+use Rattle.units.proofs.Bools.{if-ind}
+use Rattle.units.proofs.Lists.{sum-set}
+use Rattle.rules.proofs.Lists.{set-all}
 use Rattle.rules.proofs.Lane.{charge-mono}
 use Rattle.rules.proofs.Claim.{LaneOk, Queued, in-range}
 use Rattle.rules.proofs.Serve.{served-ok}

@@ -1,13 +1,12 @@
 -- On a good state take and look give 16 only where nothing is held. Assumes nothing.
 use Prim.Native.Nat.{ℕ}
-use mathlib.Core.Path.{_≡_, refl}
+use mathlib.Core.Path.{_≡_}
 use mathlib.Core.Bool.{false}
 use mathlib.Core.Logic.{_⊎_, inl, inr}
 use mathlib.Core.Option.{Option, none, some}
 use native.Mathlib.Omega.{arith}
-use Rattle.rules.specs.State.{State, holds, laneAt}
-use Rattle.rules.specs.Calls.{take, look, refused, Pick, picked, takeOf, lookOf, doTake, doLook, step}
-use Rattle.rules.specs.Good.{Good}
+use Rattle.rules.specs.State.{holds, laneAt}
+use Rattle.rules.specs.Calls.{refused, Pick, picked, takeOf, lookOf, doTake, doLook, step}
 use Rattle.rules.specs.Refusals.{NothingHeld}
 use Rattle.rules.proofs.Keep.{PickIs, pick-is}
 use Rattle.rules.proofs.Live.{Live, nothing-held}

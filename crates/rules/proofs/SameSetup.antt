@@ -5,10 +5,10 @@ use mathlib.Core.Option.{Option, none, some}
 use mathlib.Core.List.{List, [], _∷_}
 use lib.ListN.{length, length-map, length-set}
 use lib.Seq.{ext-getD}
+use Rattle.units.proofs.Bools.{if-ind}
 use Rattle.rules.specs.State.{Rec, Setting, noSetting, Lane, noLane, State, settingAt, holds, laneAt, setupOf, anyHolds}
 use Rattle.rules.specs.Calls.{Call, put, take, look, sets, lag, restart, Outcome, putRefusal, shifted, accept, putOf, doPut, serve, Pick, picked, takeOf, doTake, doLook, doSets, idle, fresh, doRestart, step}
 use Rattle.rules.specs.Runs.{after}
-use Rattle.rules.proofs.Bools.{if-ind}
 use Rattle.rules.proofs.Lists.{getD-map}
 use Rattle.rules.proofs.Keep.{look-same, lag-same}
 use Rattle.rules.proofs.Shift.{shifted-size}

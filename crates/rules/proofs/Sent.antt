@@ -1,29 +1,28 @@
 -- What is handed out fits its lane: no record is over the longest, and one of a lane that is not shared is of train 0. Assumes nothing.
-use Prim.Native.Nat.{ℕ, zero, suc, _+_, _*_, _≤_, _<_}
+use Prim.Native.Nat.{ℕ, _+_, _*_, _≤_, _<_}
 use native.Mathlib.Omega.{arith}
-use mathlib.Core.Path.{_≡_, refl, sym, ap, subst, _∙_}
+use mathlib.Core.Path.{_≡_, refl, subst, _∙_}
 use mathlib.Core.Bool.{Bool, true, false}
 use mathlib.Core.Option.{Option, none, some}
 use mathlib.Core.List.{List, [], _∷_, _++_}
 use lib.Dec.{eqb, ltb}
-use lib.ListN.{length, length-append}
+use lib.ListN.{length}
 use borrow.Author.Tests.{eqb-true, eq-eqb}
 use Rattle.units.specs.Plain.{if_then_else_, sum}
+use Rattle.units.proofs.Bools.{if-ind}
+use Rattle.units.proofs.Lists.{sum-append}
 use Rattle.rounds.specs.Round.{trainCount}
-use Rattle.waiting.specs.Waiting.{bare}
 use Rattle.waiting.proofs.Laws.{first-fits}
 use Rattle.waiting.proofs.Sharing.{first-train, first-known}
 use Rattle.rules.specs.State.{Rec, Setting, settingAt, State, charge, laneAt, anyHolds}
 use Rattle.rules.specs.Calls.{Call, put, take, look, sets, lag, restart, Outcome, putRefusal, putOf, doPut, Pick, picked, takeOf, doTake, lookOf, doLook, doSets, doLag, doRestart, step}
-use Rattle.rules.specs.Runs.{Event, after, trace, Moving, sentIn, ofLane, sentOf, ofTrain}
+use Rattle.rules.specs.Runs.{Event, trace, Moving, sentIn, ofLane, sentOf, ofTrain}
 use Rattle.rules.specs.Fair.{chargedTo, bytesSentOf}
-use Rattle.rules.proofs.Bools.{if-ind}
 use Rattle.rules.proofs.Lane.{charge-mono}
 use Rattle.rules.proofs.Keep.{AllSound, PickIs, pick-is}
 use Rattle.rules.proofs.Sound.{step-sound}
 use Rattle.rules.proofs.Kind.{AllKind, step-kind}
 use Rattle.rules.proofs.Queues.{step-passed}
-use Rattle.rules.proofs.Counts.{sum-append}
 
 abbrev pub Fit : Setting → List Rec → Type 0
 Fit g [] = Unit {0}

@@ -7,7 +7,7 @@ use native.Mathlib.Decide.{decLe}
 use native.Mathlib.Nat.{mul-le-mul-left}
 use mathlib.Core.Path.{_≡_, refl, sym, subst, ap, _∙_}
 use mathlib.Core.Bool.{true, false≢true}
-use mathlib.Core.List.{List, [], _∷_}
+use mathlib.Core.List.{List}
 use mathlib.Core.Option.{Option, none, some}
 use lib.ListN.{getD, set}
 use Rattle.units.specs.Plain.{sum}
@@ -16,7 +16,8 @@ use Rattle.rules.specs.Calls.{timed, behind, served}
 use Rattle.waiting.specs.Waiting.{first}
 use Rattle.waiting.proofs.Laws.{good-hand, first-fits}
 use Rattle.units.proofs.Round.{round-le, lt-round-slot, round-mono}
-use Rattle.rules.proofs.Lists.{sum-set, set-all}
+use Rattle.units.proofs.Lists.{sum-set}
+use Rattle.rules.proofs.Lists.{set-all}
 use Rattle.rules.proofs.Lane.{weight-rate, charge-mono, charge-slot, slot-pos}
 use Rattle.rules.proofs.Claim.{claim-drops, from, from-ge, from-due, claim, claims-mono, spread, weightOf, Queued, LaneOk, Inv, in-range, same-weights}
 

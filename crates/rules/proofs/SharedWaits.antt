@@ -8,18 +8,17 @@ use mathlib.Core.Bool.{Bool, true, false}
 use mathlib.Core.Option.{Option, none, some}
 use mathlib.Core.List.{List, [], _∷_, _++_, append-assoc}
 use lib.Dec.{eqb}
-use lib.ListN.{length, length-append}
-use borrow.Author.Tests.{eq-eqb, ne-eqb}
+use lib.ListN.{length}
 use Rattle.units.specs.Plain.{if_then_else_, sum}
-use Rattle.rounds.specs.Round as round
+use Rattle.units.proofs.Lists.{same-or}
+use Rattle.units.proofs.Below.{sumBelow, below-add, below-own}
 use Rattle.rounds.specs.Round.{trainCount}
 use Rattle.rounds.specs.Runs.{bytes}
-use Rattle.rounds.proofs.Lists.{same-or}
 use Rattle.rounds.proofs.Figure.{worth, ofTrain-bytes}
 use Rattle.rounds.proofs.Others.{bytes-append}
 use Rattle.waiting.specs.Waiting.{bare}
 use Rattle.waiting.proofs.Sharing.{known-inside}
-use Rattle.rules.specs.State.{Rec, Setting, settingAt, State, charge, rate, slot, laneAt}
+use Rattle.rules.specs.State.{Rec, Setting, settingAt, State, charge, rate, laneAt}
 use Rattle.rules.specs.Setup.{Setup}
 use Rattle.rules.specs.Calls.{Call, accepted, putRefusal, putOf, doPut, fresh, step}
 use Rattle.rules.specs.Runs.{Event, after, trace, sentOf, ofTrain}
@@ -35,28 +34,9 @@ use Rattle.rules.proofs.SameSetup.{setting-lane, setup-kept, fresh-setu
 use Rattle.rules.proofs.Runs.{split}
 use Rattle.rules.proofs.EvenTrains.{others-tight}
 use Rattle.rules.proofs.Sent.{Fit, sent-fit, charges, bytes-of}
-use Rattle.rules.proofs.Waits.{front, joined, still-train, waits, out-more}
+use Rattle.rules.proofs.Waits.{joined, still-train, waits, out-more}
 
 -- ---- sums over the trains
-
-abbrev sumBelow : (ℕ → ℕ) → ℕ → ℕ
-sumBelow f zero = 0
-sumBelow f (suc n) = f n + sumBelow f n
-
-others-none : (k l n : ℕ) → n ≤ k → sumBelow (λ (t : ℕ). worth (eqb k t) l) n ≡ 0
-others-none k l zero h = refl
-others-none k l (suc n) h = let own : worth (eqb k n) l ≡ 0 = simp (ne-eqb k n (λ e. omega arith)) in omega (arith, others-none k l n (omega arith), own)
-
-own-only : (k l n : ℕ) → k < n → sumBelow (λ (t : ℕ). worth (eqb k t) l) n ≡ l
-own-only k l zero h = absurd (omega arith)
-own-only k l (suc n) h =
-    same-or k n
-    (λ e. let own : worth (eqb k n) l ≡ l = simp (eq-eqb k n e) in omega (arith, own, others-none k l n (omega arith)))
-    (λ m. let own : worth (eqb k n) l ≡ 0 = simp (ne-eqb k n m) in omega (arith, own, own-only k l n (omega arith)))
-
-sum-both : (f g h : ℕ → ℕ) (n : ℕ) → ((t : ℕ) → f t ≡ g t + h t) → sumBelow f n ≡ sumBelow g n + sumBelow h n
-sum-both f g h zero e = refl
-sum-both f g h (suc n) e = omega (arith, e n, sum-both f g h n e)
 
 -- where all but the one at a are at most B
 module _ (f : ℕ → ℕ) (a B : ℕ) (h : (t : ℕ) → (a ≡ t → ⊥) → f t ≤ B) where
@@ -83,9 +63,9 @@ lens-trains g (x ∷ xs) f =
     let one : (t : ℕ) → ℕ = λ t. worth (eqb (x .train) t) (x .len) in
     omega (
       arith,
-      own-only (x .train) (x .len) 8 (f .0 .2),
+      below-own (x .train) (x .len) 8 (f .0 .2),
       lens-trains g xs (f .1),
-      sum-both (λ (t : ℕ). bytes (ofTrain t (x ∷ xs))) one (λ (t : ℕ). bytes (ofTrain t xs)) 8
+      below-add (λ (t : ℕ). bytes (ofTrain t (x ∷ xs))) one (λ (t : ℕ). bytes (ofTrain t xs)) 8
           (λ t. bytes-append (if eqb (x .train) t then bare x ∷ [] else []) (ofTrain t xs) ∙ ap (λ (y : ℕ). y + bytes (ofTrain t xs)) (ofTrain-bytes t (x .train) (bare x))),
     )
 

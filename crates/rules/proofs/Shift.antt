@@ -1,16 +1,14 @@
 -- What the shift of a put leaves alone, and K. Assumes nothing.
-use Prim.Native.Nat.{ℕ, _+_, _-_, _*_, _/_, _^_, _≤_, _<_}
+use Prim.Native.Nat.{ℕ, _+_, _-_, _*_, _/_, _≤_, _<_}
 use native.Mathlib.Omega.{arith}
-use mathlib.Core.Path.{_≡_, refl, sym, ap, _∙_}
-use mathlib.Core.Bool.{true}
-use mathlib.Core.List.{List}
+use mathlib.Core.Path.{_≡_, refl, ap, _∙_}
 use lib.Dec.{leb}
-use lib.ListN.{length, getD, length-map}
+use lib.ListN.{length, length-map}
 use Rattle.units.proofs.Round.{round-le, lt-round-slot, round-div}
+use Rattle.units.proofs.Bools.{if-ind}
 use Rattle.waiting.specs.Waiting.{Waiting, known, full}
-use Rattle.rules.specs.State.{clockFar, clockStep, clockKept, Rec, Setting, Lane, noLane, State, holds, laneAt}
-use Rattle.rules.specs.Calls.{takenOff, lowered, lowerAll, shifted, putRefusal}
-use Rattle.rules.proofs.Bools.{if-ind}
+use Rattle.rules.specs.State.{clockFar, clockStep, clockKept, Rec, Setting, Lane, noLane, State, laneAt}
+use Rattle.rules.specs.Calls.{takenOff, lowered, lowerAll, shifted}
 use Rattle.rules.proofs.Lists.{getD-map}
 use Rattle.rules.proofs.Keep.{AllSound, Allowed}
 

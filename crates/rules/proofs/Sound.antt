@@ -4,11 +4,11 @@ use mathlib.Core.Path.{sym, subst}
 use mathlib.Core.Option.{Option, none, some}
 use mathlib.Core.List.{List}
 use lib.ListN.{getD}
+use Rattle.units.proofs.Bools.{if-ind}
 use Rattle.waiting.proofs.Laws.{good-nothing, good-enter, good-hand}
 use Rattle.rules.specs.State.{Rec, Setting, noLane, State, holds, laneAt, noSetting}
 use Rattle.rules.specs.Calls.{Pick, Call, putRefusal, shifted, appended, woken, accept, putOf, served, serve, picked, takeOf, idle, fresh, step}
 use Rattle.rules.specs.Runs.{after}
-use Rattle.rules.proofs.Bools.{if-ind}
 use Rattle.rules.proofs.Lists.{set-all}
 use Rattle.rules.proofs.Serve.{served-ind}
 use Rattle.rules.proofs.Moves.{Sound}

@@ -16,11 +16,11 @@ use Rattle.rules.specs.Fair.{charged, bytesSent, Holding}
 use Rattle.rules.specs.Waits.{accepts, NotYet, OutBy, isTake, takesIn, OutByTakes}
 use Rattle.rules.proofs.Lane.{le-charge}
 use Rattle.rules.proofs.Keep.{PickIs, pick-is}
-use Rattle.rules.proofs.Live.{Live, nothing-held}
+use Rattle.rules.proofs.Live.{nothing-held}
 use Rattle.rules.proofs.AlwaysGood.{Reached, fresh-reached, step-reached, reached, reached-good, reached-live}
 use Rattle.rules.proofs.Runs.{after-append, trace-append, split}
 use Rattle.rules.proofs.Fair.{holds-of, setup-ok}
-use Rattle.rules.proofs.Waits.{front, joined, still-holds, out-more, out-by}
+use Rattle.rules.proofs.Waits.{joined, still-holds, out-more, out-by}
 
 take-sends : (gs : List Setting) (k : ℕ) (s : State) → Reached s → holds (laneAt s k) ≡ true → 1 ≤ charged gs (sentIn ((step s take) .reply))
 unfolding step doTake takeOf sentIn charged

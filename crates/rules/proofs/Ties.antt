@@ -9,11 +9,11 @@ use mathlib.Core.List.{List, [], _∷_, _++_}
 use lib.Dec.{eqb}
 use borrow.Author.Tests.{eqb-true, eq-eqb, ne-eqb}
 use Rattle.units.specs.Plain.{if_then_else_, times, without}
+use Rattle.units.proofs.Bools.{if-ind}
+use Rattle.units.proofs.Lists.{set-cases, times-append}
 use Rattle.waiting.specs.Waiting.{Waiting, first}
 use Rattle.rules.specs.State.{Setting, setupOf, Lane, Rec, State, holds, some?, noLane, laneAt, anyHolds}
 use Rattle.rules.specs.Calls.{Pick, Call, Outcome, put, take, look, sets, lag, restart, served, woken, appended, serve, takeOf, picked, doTake, putRefusal, shifted, accept, putOf, doPut, doLook, doSets, doRestart, idle, fresh, step}
-use Rattle.rules.proofs.Bools.{if-ind}
-use Rattle.rules.proofs.Lists.{set-cases}
 use Rattle.rules.proofs.Claim.{in-range}
 use Rattle.rules.proofs.Moves.{appended-holds, woken-holds}
 use Rattle.rules.proofs.Bounds.{fresh-free}
@@ -23,10 +23,6 @@ use Rattle.rules.proofs.Shift.{shifted-waiting, shifted-sound, shifted-
 
 unfoldable pub Tied : State → Type 0
 Tied s = (k : ℕ) → times k (s .order) ≡ (if holds (laneAt s k) then 1 else 0)
-
-times-append : (k : ℕ) (a b : List ℕ) → times k (a ++ b) ≡ times k a + times k b
-times-append k [] b = omega arith
-times-append k (j ∷ js) b = omega (arith, times-append k js b)
 
 pub times-same : (j : ℕ) (js : List ℕ) → times j (without j js) ≡ 0
 unfolding without

@@ -5,19 +5,19 @@ use native.Mathlib.Nat.{le-refl}
 use mathlib.Core.Path.{_≡_, refl, sym, ap, subst, _∙_}
 use mathlib.Core.Bool.{Bool, true, not, _&&_, false≢true}
 use mathlib.Core.Option.{Option, none, some}
-use mathlib.Core.List.{List, [], _∷_}
+use mathlib.Core.List.{List}
 use lib.Dec.{ltb, eqb}
 use lib.ListN.{set}
 use borrow.Author.Tests.{ltb-true, eq-eqb, ne-eqb}
 use Rattle.units.specs.Plain.{if_then_else_}
+use Rattle.units.proofs.Bools.{if-ind, and-parts}
+use Rattle.units.proofs.Lists.{set-cases}
 use Rattle.rules.specs.State.{Rec, Lane, noLane, State, charge, rate, startR, some?, holds, laneAt, setupOf, anyHolds}
 use Rattle.rules.specs.Choice.{leastOf}
 use Rattle.rules.specs.Calls.{Call, put, take, look, sets, lag, restart, Reply, accepted, seen, lagged, refused, Outcome, no, putRefusal, ahead, appended, woken, accept, served, settledAt, settled, serve, Pick, picked, takeOf, doTake, lookOf, doLook, doSets, lagOf, doLag, doRestart}
 use Rattle.rules.specs.Endless.{endlessPutOf, endlessPut, endless}
 use Rattle.rules.specs.Runs.{sentIn}
 use Rattle.rules.specs.Fair.{charged, chargedTo}
-use Rattle.rules.proofs.Bools.{if-ind, and-parts}
-use Rattle.rules.proofs.Lists.{set-cases}
 use Rattle.rules.proofs.Claim.{weightOf, Queued, in-range}
 use Rattle.rules.proofs.Serve.{served-ind}
 use Rattle.rules.proofs.Lowest.{none-holds}
@@ -48,7 +48,7 @@ unfolding settledAt
 settled-ge v none = le-refl v
 settled-ge v (some r) = if-ind (λ (u : ℕ). v ≤ u) (ltb v r) r v (λ e. omega (arith, ltb-true v r e)) (λ e. le-refl v)
 
-served-start : (l : Lane) → holds (served l) ≡ true → (served l) .start ≡ l .finish
+pub served-start : (l : Lane) → holds (served l) ≡ true → (served l) .start ≡ l .finish
 served-start l = served-ind (λ (m : Lane). holds m ≡ true → m .start ≡ l .finish) l (λ e t. absurd (false≢true (sym (ap some? e) ∙ t))) (λ r e t. refl)
 
 take-moved : (M k : ℕ) (s : State) (o : Option Pick) → Kept M s → PickIs s o → Moved k s (takeOf s o)

@@ -1,7 +1,7 @@
 -- A shared lane, computed: the examples of specs/TrainExamples.antt, and a random run whose replies an independent program worked out. Assumes nothing.
 use mathlib.Core.Path.{_≡_, refl}
 use mathlib.Core.Bool.{true}
-use mathlib.Core.List.{List, [], _∷_}
+use mathlib.Core.List.{[], _∷_}
 use mathlib.Core.Option.{none}
 use lib.ListN.{replicate}
 use Rattle.rules.specs.State.{noSetting}

@@ -5,7 +5,7 @@ use mathlib.Core.Path.{_≡_, refl, ap}
 use Rattle.rules.specs.State.{settingAt}
 use Rattle.rules.specs.Setup.{framingOf, margin}
 use Rattle.rules.specs.Waits.{worstWait, worstShared, OutBy, RecordsOut}
-use Rattle.rules.specs.Examples.{twoLanes}
+use Rattle.rules.specs.Examples.{sessionLanes}
 use Rattle.rules.specs.WaitExamples.{SessionFigures, Figures, QuietFigures, SharedFigures, HaltFigures, OutThen}
 use Rattle.rules.proofs.Computes.{rules}
 use Rattle.rules.proofs.Examples.{two-lanes}
@@ -31,15 +31,15 @@ pub halt-figures : HaltFigures
 unfolding HaltFigures rules worstWait
 halt-figures = refl
 
-its-framing : framingOf twoLanes ≡ 0
+its-framing : framingOf sessionLanes ≡ 0
 unfolding framingOf
 its-framing = refl
 
-its-wait : worstWait (margin 0) (settingAt twoLanes 0) 0 ≡ 17884
+its-wait : worstWait (margin 0) (settingAt sessionLanes 0) 0 ≡ 17884
 unfolding rules worstWait
 its-wait = refl
 
 pub out-then : OutThen
 unfolding OutThen RecordsOut OutBy
 out-then calls past since rest r e much =
-    records-out twoLanes two-lanes .0 calls past since rest 0 r 0 e refl (omega (arith, much, its-wait, ap (λ (h : ℕ). worstWait (margin h) (settingAt twoLanes 0) 0) its-framing))
+    records-out sessionLanes two-lanes .0 calls past since rest 0 r 0 e refl (omega (arith, much, its-wait, ap (λ (h : ℕ). worstWait (margin h) (settingAt sessionLanes 0) 0) its-framing))

@@ -5,7 +5,7 @@ use native.Mathlib.Omega.{arith}
 use native.Mathlib.Nat.{mul-le-mul-left, mul-le-mul-right}
 use native.Mathlib.Decide.{decLe}
 use mathlib.Core.Path.{_≡_, refl, sym, ap, subst, _∙_}
-use mathlib.Core.Bool.{Bool, true, false, false≢true}
+use mathlib.Core.Bool.{false}
 use mathlib.Core.Option.{Option, none, some}
 use mathlib.Core.List.{List, [], _∷_, _++_, append-assoc}
 use lib.ListN.{length, drop, length-append}
@@ -13,15 +13,15 @@ use Rattle.rounds.specs.Round as round
 use Rattle.waiting.specs.Waiting.{isShared, bare}
 use Rattle.waiting.proofs.Laws.{queue-none, held-hand}
 use Rattle.waiting.proofs.Sharing.{known-train}
-use Rattle.rules.specs.State.{Rec, Setting, settingAt, Lane, State, charge, rate, slot, firstOf, laneAt}
+use Rattle.rules.specs.State.{Rec, Setting, settingAt, Lane, State, charge, rate, firstOf, laneAt}
 use Rattle.rules.specs.Setup.{Setup, longestCharge, framingOf, margin}
-use Rattle.rules.specs.Calls.{Call, put, accepted, putRefusal, putOf, doPut, fresh, step}
+use Rattle.rules.specs.Calls.{Call, accepted, putRefusal, putOf, doPut, fresh, step}
 use Rattle.rules.specs.Runs.{Event, after, trace, acceptedOf, sentOf, ofTrain, InOrder, SaysAhead}
 use Rattle.rules.specs.Fair.{bytesSent, bytesSentOf, Holding, Fair}
 use Rattle.rules.specs.Even.{HoldingTrain}
 use Rattle.rules.specs.Waits.{accepts, queued, InTurn, NotYet, Out, Waits, waitSpan, worstWait, WaitsBy, OutBy, RecordsOut}
 use Rattle.rules.proofs.Bounds.{SetupOk}
-use Rattle.rules.proofs.Keep.{PutOk, put-ok, Allowed, allowed-enters}
+use Rattle.rules.proofs.Keep.{PutOk, put-ok, allowed-enters}
 use Rattle.rules.proofs.Sound.{fresh-sound, sound-run}
 use Rattle.rules.proofs.Kind.{fresh-kind, kind-run}
 use Rattle.rules.proofs.Queues.{queueAt}

@@ -8,7 +8,7 @@ use lib.Count.{trailingZeros}
 use lib.Pow.{pow-add, pow-pos, high}
 use mathlib.Core.Logic.{_⊎_, inl, inr}
 use Rattle.units.specs.Plain.{if_then_else_, wordOf, count}
-use Rattle.rules.proofs.Bools.{if-ind}
+use Rattle.units.proofs.Bools.{if-ind}
 
 none-set : (p : ℕ → Bool) (m : ℕ) → ((i : ℕ) → i < m → p i ≡ false) → wordOf p m ≡ 0
 unfolding wordOf

@@ -6,7 +6,7 @@
 --   step                   any call
 --
 -- A refused call leaves the state as it is. Assumes nothing.
-use Prim.Native.Nat.{ℕ, _+_, _-_, _*_, _^_, max}
+use Prim.Native.Nat.{ℕ, _+_, _-_, _*_, max}
 use mathlib.Core.Bool.{not, _&&_, _||_}
 use mathlib.Core.List.{List, [], _∷_, _++_, map}
 use mathlib.Core.Option.{Option, none, some}
@@ -15,7 +15,7 @@ use lib.IntN.{ℤ, subℕ}
 use lib.ListN.{length, set}
 use Rattle.units.specs.Numbers.{lineRate, roundDown}
 use Rattle.units.specs.Plain.{if_then_else_, without}
-use Rattle.waiting.specs.Waiting.{Waiting, nothing, first, enter, handOut, queueOf, full, known}
+use Rattle.waiting.specs.Waiting.{Waiting, noneWaiting, first, enter, handOut, queueOf, full, known}
 use Rattle.rules.specs.State.{clockFar, clockStep, clockKept, Rec, Setting, Lane, State, charge, rate, startR, firstOf, holds, laneAt, setupOf, anyHolds}
 use Rattle.rules.specs.Choice.{Candidate, choose, leastOf}
 use Rattle.rules.specs.Sets.{ready, ineligibleReady, eligibleBlocked, ineligibleBlocked, setWord}
@@ -207,7 +207,7 @@ doLag s j =
 
 -- R2.3, R2.4
 unfoldable pub idle : Setting → Lane
-idle g = record { given = g; start = 0; finish = 0; waiting = nothing (g .shared) }
+idle g = record { given = g; start = 0; finish = 0; waiting = noneWaiting (g .shared) }
 
 -- R2.4
 unfoldable pub fresh : List Setting → State

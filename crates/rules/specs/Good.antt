@@ -1,7 +1,7 @@
 -- A good state: what a good table (docs/RULES.md, R6) asks of the state that it encodes, field by field.
 --
 -- proofs/GoodTest.antt computes it, and shows that the two agree. Assumes nothing.
-use Prim.Native.Nat.{ℕ, _+_, _*_, _^_, _≤_, _<_}
+use Prim.Native.Nat.{ℕ, _+_, _*_, _<_}
 use mathlib.Core.Path.{_≡_}
 use mathlib.Core.Bool.{true}
 use mathlib.Core.Option.{Option, none, some}

@@ -23,7 +23,7 @@ use Rattle.units.specs.Numbers.{perByte, leastPower, roundDown}
 use Rattle.units.specs.Plain.{if_then_else_}
 use Rattle.rounds.specs.Round.{trainDepth}
 pub use Rattle.waiting.specs.Waiting.{Rec, laneDepth}
-use Rattle.waiting.specs.Waiting.{Waiting, nothing, first}
+use Rattle.waiting.specs.Waiting.{Waiting, noneWaiting, first}
 
 -- ---- what a state holds
 
@@ -119,7 +119,7 @@ noSetting = record { weight = 0; longest = 0; framing = 0; shared = false }
 
 -- R2.1
 abbrev pub noLane : Lane
-noLane = record { given = noSetting; start = 0; finish = 0; waiting = nothing false }
+noLane = record { given = noSetting; start = 0; finish = 0; waiting = noneWaiting false }
 
 abbrev pub settingAt : List Setting → ℕ → Setting
 settingAt gs k = getD gs k noSetting

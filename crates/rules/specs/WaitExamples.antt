@@ -1,6 +1,6 @@
 -- How long a record waits, in figures (docs/RULES.md, R16.14, R16.15).
 --
---   wait             the worst wait in bytes: weight, longest, records ahead; no framing
+--   laneWait         the worst wait in bytes: weight, longest, records ahead; no framing
 --   SessionFigures   lane 0 of the first session (R16.1) with 0, 2 and 15 records ahead
 --   Figures          weights 1, 16, 128, 512 by longest 64, 576, 1,500, with no record ahead, and with three
 --   QuietFigures     the same with no record ahead, where lag answered 0 or more right after the put (`WaitsFromBy`): two slots in place of four
@@ -21,21 +21,21 @@ use Rattle.rules.specs.Calls.{Call, fresh}
 use Rattle.rules.specs.Runs.{Event, trace}
 use Rattle.rules.specs.Fair.{bytesSent}
 use Rattle.rules.specs.Waits.{accepts, worstWait, worstShared, Out}
-use Rattle.rules.specs.Examples.{twoLanes}
+use Rattle.rules.specs.Examples.{sessionLanes}
 
-abbrev pub wait : ℕ → ℕ → ℕ → ℕ
-wait w l n = worstWait (margin 0) (record { weight = w; longest = l; framing = 0; shared = false }) n
+abbrev pub laneWait : ℕ → ℕ → ℕ → ℕ
+laneWait w l n = worstWait (margin 0) (record { weight = w; longest = l; framing = 0; shared = false }) n
 
 unfoldable pub SessionFigures : Type 0
-SessionFigures = map (worstWait (margin 0) (settingAt twoLanes 0)) (0 ∷ 2 ∷ 15 ∷ []) ≡ 17884 ∷ 23884 ∷ 62884 ∷ []
+SessionFigures = map (worstWait (margin 0) (settingAt sessionLanes 0)) (0 ∷ 2 ∷ 15 ∷ []) ≡ 17884 ∷ 23884 ∷ 62884 ∷ []
 
 -- a row for each weight
 abbrev pub table : ℕ → List ℕ
 table n =
-    wait 1 64 n ∷ wait 1 576 n ∷ wait 1 1500 n
-    ∷ wait 16 64 n ∷ wait 16 576 n ∷ wait 16 1500 n
-    ∷ wait 128 64 n ∷ wait 128 576 n ∷ wait 128 1500 n
-    ∷ wait 512 64 n ∷ wait 512 576 n ∷ wait 512 1500 n ∷ []
+    laneWait 1 64 n ∷ laneWait 1 576 n ∷ laneWait 1 1500 n
+    ∷ laneWait 16 64 n ∷ laneWait 16 576 n ∷ laneWait 16 1500 n
+    ∷ laneWait 128 64 n ∷ laneWait 128 576 n ∷ laneWait 128 1500 n
+    ∷ laneWait 512 64 n ∷ laneWait 512 576 n ∷ laneWait 512 1500 n ∷ []
 
 unfoldable pub Figures : Type 0
 Figures =
@@ -80,5 +80,5 @@ HaltFigures =
 
 unfoldable pub OutThen : Type 0
 OutThen =
-    (calls : List Call) (past since rest : List Event) (r : Rec) → trace (fresh twoLanes) calls ≡ past ++ accepts 0 r 0 ∷ since ++ rest
-    → 17884 ≤ bytesSent twoLanes since → Out 0 r past since
+    (calls : List Call) (past since rest : List Event) (r : Rec) → trace (fresh sessionLanes) calls ≡ past ++ accepts 0 r 0 ∷ since ++ rest
+    → 17884 ≤ bytesSent sessionLanes since → Out 0 r past since

@@ -6,7 +6,7 @@ use mathlib.Core.List.{List}
 use Rattle.units.specs.Plain.{if_then_else_}
 use Rattle.rounds.specs.Round.{trainDepth}
 use Rattle.rules.specs.State.{Rec, Setting, laneDepth}
-use Rattle.rules.specs.Calls.{put, accepted, putRefusal, doPut, step}
+use Rattle.rules.specs.Calls.{put, putRefusal, doPut, step}
 use Rattle.rules.proofs.Keep.{put-ok}
 use Rattle.rules.proofs.Ahead.{put-says}
 use Rattle.pages.specs.Offers.{DeviceEvent}

@@ -1,11 +1,11 @@
 -- How a list of calls begins. Assumes nothing.
 use Prim.Native.Nat.{ℕ, _<_}
 use native.Mathlib.Omega.{arith}
-use mathlib.Core.Path.{_≡_, refl, sym, ap, subst, _∙_}
+use mathlib.Core.Path.{_≡_, refl, sym, subst, _∙_}
 use mathlib.Core.Bool.{Bool, true, false, false≢true}
 use mathlib.Core.List.{List, [], _∷_}
 use mathlib.Core.Option.{Option, none, some}
-use lib.Dec.{leb, eqb}
+use lib.Dec.{eqb}
 use borrow.Author.Tests.{eqb-true, eqb-false, lt-leb}
 use Rattle.units.specs.Plain.{if_then_else_}
 use Rattle.rules.specs.State.{Setting, State, setupOf, anyHolds}
@@ -13,9 +13,8 @@ use Rattle.rules.specs.Setup.{Setup}
 use Rattle.rules.specs.Calls.{restart, restarted, no, fresh, doRestart, step}
 use Rattle.rules.specs.Reads.{reads}
 use Rattle.rules.specs.declared.Answer.{Answer}
-use Rattle.pages.specs.Device.{Page, Device, startPage, freshDevice, inForceOf, DeviceCall, ruled, offer, DeviceOutcome, answered, inForceNow, newestEdition, doOffer, deviceStep, deviceStepBy}
-use Rattle.pages.specs.Offers.{DeviceEvent, deviceAfterBy, deviceTraceBy, Read, AllRead}
-use Rattle.pages.specs.Claims.{GoodPage}
+use Rattle.pages.specs.Device.{Page, freshDevice, inForceOf, offer, DeviceOutcome, inForceNow, newestEdition, doOffer, deviceStep, deviceStepBy}
+use Rattle.pages.specs.Offers.{deviceAfterBy, deviceTraceBy, Read, AllRead}
 use Rattle.pages.proofs.Run.{fresh-none}
 use Rattle.plan.specs.Read.{SetupReply}
 use Rattle.plan.proofs.Accepted.{accepted-whole}

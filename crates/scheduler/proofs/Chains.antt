@@ -6,8 +6,8 @@ use mathlib.Core.List.{List, [], _∷_, _++_, map}
 use Rattle.rules.specs.State.{Setting}
 use Rattle.rules.specs.Setup.{Setup}
 use Rattle.rules.specs.Calls.{Call}
-use Rattle.rules.proofs.AlwaysGood.{Reached, reached-good}
-use Rattle.pages.specs.Device.{Page, Device, freshDevice, inForceOf, DeviceCall, ruled, offer, unread, DeviceReply, deviceStep, deviceStepBy}
+use Rattle.rules.proofs.AlwaysGood.{reached-good}
+use Rattle.pages.specs.Device.{Device, freshDevice, DeviceCall, ruled, DeviceReply, deviceStep}
 use Rattle.pages.specs.Offers.{DeviceEvent, deviceAfter, deviceAfterBy, deviceTrace, deviceTraceBy, Read, AllRead}
 use Rattle.pages.specs.Claims.{GoodDevice}
 use Rattle.pages.proofs.Run.{Run, step-run, run-all}

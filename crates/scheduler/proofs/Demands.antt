@@ -2,25 +2,25 @@
 use Prim.Native.Nat.{ℕ}
 use native.Mathlib.Omega.{arith}
 use mathlib.Core.Path.{_≡_, refl, sym, ap, subst, _∙_}
-use mathlib.Core.Logic.{_⊎_, inl, inr}
+use mathlib.Core.Logic.{_⊎_}
 use mathlib.Core.List.{List, [], _∷_, _++_, map}
-use mathlib.Core.Option.{Option, none, some}
+use mathlib.Core.Option.{none}
 use lib.Dec.{leb}
 use lib.ListN.{getD}
 use Rattle.units.specs.Plain.{if_then_else_}
 use Rattle.waiting.specs.Waiting.{queueOf}
 use Rattle.rules.specs.State.{Setting, Lane, noLane, laneAt}
-use Rattle.rules.specs.Calls.{take, refused, Pick, picked, takeOf, doTake, step}
+use Rattle.rules.specs.Calls.{take, refused}
 use Rattle.rules.specs.Runs.{acceptedOf, sentOf, ofTrain}
-use Rattle.pages.specs.Device.{Page, Device, startPage, freshDevice, DeviceCall, ruled, offer, DeviceReply, answered, inForceNow, waitsNow, deviceStep, deviceStepBy}
-use Rattle.pages.specs.Offers.{DeviceEvent, eventOf, deviceAfter, deviceAfterBy, deviceTrace, deviceTraceBy, AllRead, ofRules, anyHeld, newest, pageIn}
+use Rattle.pages.specs.Device.{Page, Device, startPage, freshDevice, DeviceCall, ruled, offer, answered, inForceNow, waitsNow, deviceStep, deviceStepBy}
+use Rattle.pages.specs.Offers.{DeviceEvent, eventOf, deviceAfter, deviceTrace, deviceTraceBy, ofRules, anyHeld, newest, pageIn}
 use Rattle.pages.specs.Claims.{ownPage, FairPages, Demand3Pages, SameSetupThroughout, InForceCounted, InOrderPages, OfferAnswers, FreeAtChange}
 use Rattle.pages.specs.Carried.{HandsOut, RestartHeldPages, NeverTenPages, DrainsPages}
 use Rattle.pages.proofs.Events.{device-split}
 use Rattle.pages.proofs.Stretch.{same-setup-throughout}
 use Rattle.pages.proofs.Fair.{demand3-pages}
 use Rattle.pages.proofs.Answers.{in-force, in-order-pages, offer-answers, free-at-change}
-use Rattle.pages.proofs.Carried.{restart-held-pages, never-ten-pages, drains-pages}
+use Rattle.pages.proofs.Carried.{restart-held-pages, never-ten-pages, drains-pages, take-gives}
 use Rattle.paged.specs.Paged.{EncodesDevice}
 use Rattle.scheduler.specs.Chain.{callsOf, Led}
 use Rattle.scheduler.specs.Demands.{FairCalls, SameSetup, NeverTen, OrderKept, SetupKept, RestartHeld, Drains, OfferTold, FreeChange, Demands, EveryList, AfterMake, AfterRestart, AsRuled}
@@ -44,15 +44,6 @@ first-is d [] e rest q = let z : _≡_ {A = ℕ} 0 1 = cc in absurd (omega arith
 first-is d (c ∷ cs) e rest q =
     let same : eventOf d c ≡ e = cc in
     ap (eventOf d) (sym (ap (λ (x : DeviceEvent). x .call) same)) ∙ same
-
--- a take hands a record out or gives 16
-take-is : (d : Device) → HandsOut ((deviceStep d (ruled take)) .reply) ⊎ ((deviceStep d (ruled take)) .reply ≡ answered (refused 16 none))
-unfolding deviceStepBy step doTake takeOf
-take-is d = go (picked (d .state))
-  where
-    go : (o : Option Pick) → HandsOut (answered ((takeOf (d .state) o) .reply)) ⊎ (answered ((takeOf (d .state) o) .reply) ≡ answered (refused 16 none))
-    go none = inr refl
-    go (some p) = inl (record { lane = p .lane; train = p .first .train; mark = p .first .mark; len = p .first .len; is = refl })
 
 -- ---- of a list that led to a table
 
@@ -95,12 +86,12 @@ module _ (gs : List Setting) (es : List DeviceEvent) (u : List ℕ) (l : Led gs 
   restart-held past rest e q k h c = restart-held-pages gs (l .setup) (callsOf es) (l .read) past rest e (l .answers ∙ q) k h c
 
   drains : Drains es
-  unfolding Drains DrainsPages
+  unfolding Drains DrainsPages deviceStepBy
   drains past rest e q c =
       let two = device-split (freshDevice gs) (callsOf es) past (e ∷ rest) (l .read) (l .answers ∙ q) in
       let d = deviceAfter (freshDevice gs) (two .calls) in
       let same : eventOf d (ruled take) ≡ e = ap (eventOf d) (sym c) ∙ first-is d (two .more) e rest (two .rest-is) in (
-        subst (λ (x : DeviceEvent). HandsOut (x .reply) ⊎ (x .reply ≡ answered (refused 16 none))) same (take-is d),
+        subst (λ (x : DeviceEvent). HandsOut (x .reply) ⊎ (x .reply ≡ answered (refused 16 none))) same (take-gives (d .state)),
         λ f more h none-held r.
             drains-pages gs (l .setup) (callsOf es) (l .read) past more e f (l .answers ∙ q ∙ ap (λ (xs : List DeviceEvent). past ++ e ∷ xs) h) c .1 none-held r,
       )

@@ -7,13 +7,13 @@ use mathlib.Core.List.{List, [], _∷_, _++_}
 use mathlib.Core.Option.{Option, none, some}
 use lib.ListN.{replicate}
 use Rattle.units.specs.Plain.{sum}
+use Rattle.units.proofs.Bools.{if-ind}
+use Rattle.units.proofs.Lists.{sum-zero}
 use Rattle.waiting.specs.Waiting.{held}
 use Rattle.waiting.proofs.Laws.{held-none}
 use Rattle.rules.specs.State.{Setting, Lane, noLane, State, firstOf, some?, laneAt, anyHolds}
-use Rattle.rules.specs.Calls.{take, restart, restarted, refused, Pick, picked, takeOf, doTake, fresh, doRestart, step}
+use Rattle.rules.specs.Calls.{take, restart, restarted, refused, Pick, picked, takeOf, doTake, fresh, step}
 use Rattle.rules.specs.Runs.{after}
-use Rattle.rules.proofs.Bools.{if-ind}
-use Rattle.rules.proofs.Lists.{sum-zero}
 use Rattle.rules.proofs.Lowest.{none-holds}
 use Rattle.rules.proofs.Moves.{idle-first}
 use Rattle.rules.proofs.Keep.{AllSound, PickIs, pick-is}
@@ -21,13 +21,14 @@ use Rattle.rules.proofs.Sound.{fresh-sound, step-sound}
 use Rattle.rules.proofs.Live.{holds-some}
 use Rattle.rules.proofs.RangeTake.{heldIn}
 use Rattle.rules.proofs.Drain.{heldBy, take-one, drained}
-use Rattle.rules.proofs.AlwaysGood.{Reached, reached-good, reached-live}
+use Rattle.rules.proofs.AlwaysGood.{reached-good, reached-live}
 use Rattle.pages.specs.Device.{Page, Device, freshDevice, inForceOf, DeviceCall, ruled, DeviceReply, answered, settledDevice, deviceStep, deviceStepBy}
 use Rattle.pages.specs.Offers.{DeviceEvent, deviceAfter, deviceAfterBy, deviceTrace, deviceTraceBy, eventOf, Read, AllRead}
 use Rattle.pages.specs.Claims.{RefusedKeeps}
 use Rattle.pages.specs.Carried.{HandsOut}
 use Rattle.pages.proofs.Run.{Run, fresh-none, step-run, run}
 use Rattle.pages.proofs.Answers.{refused-keeps}
+use Rattle.pages.proofs.Carried.{restart-yes}
 use Rattle.paged.specs.Paged.{EncodesDevice}
 use Rattle.scheduler.specs.Chain.{callsOf, Led}
 use Rattle.scheduler.specs.Drained as specs
@@ -93,10 +94,6 @@ take-none d h = go (picked (d .state)) (pick-is (d .state))
     go none p = refl
     go (some x) p = absurd (false≢true (sym h ∙ holds-some (d .state .lanes) (x .lane) (ap some? (p .is-first))))
 
-restart-none : (d : Device) → anyHolds (d .state .lanes) ≡ false → (deviceStep d (ruled restart)) .reply ≡ answered restarted
-unfolding deviceStepBy step doRestart
-restart-none d h = simp h
-
 -- the one call of a list, and the second of two
 call-is : (d : Device) (e : DeviceEvent) (c : DeviceCall) (r : DeviceReply) → deviceTrace d (callsOf (e ∷ [])) ≡ e ∷ [] → e .call ≡ c → (deviceStep d c) .reply ≡ r → e .reply ≡ r
 unfolding deviceTraceBy
@@ -111,7 +108,7 @@ second-is gs past d r e f h q first again =
     let left : (deviceStep d (e .call)) .device ≡ d =
     ap (λ (x : DeviceCall). (deviceStep d x) .device) first ∙ refused-keeps d (run-good gs past d r) (ruled take) 16 none (take-none d h) in
     let rest : deviceTrace ((deviceStep d (e .call)) .device) (callsOf (f ∷ [])) ≡ f ∷ [] = cc in
-    call-is d f (ruled restart) (answered restarted) (subst (λ (x : Device). deviceTrace x (callsOf (f ∷ [])) ≡ f ∷ []) left rest) again (restart-none d h)
+    call-is d f (ruled restart) (answered restarted) (subst (λ (x : Device). deviceTrace x (callsOf (f ∷ [])) ≡ f ∷ []) left rest) again (restart-yes d h)
 
 all-takes : (n : ℕ) → AllRead (replicate n (ruled take))
 unfolding AllRead Read
@@ -134,6 +131,6 @@ drained-table gs es t l takes u ch same =
     record {
       hand-out = λ past rest e q. takes-hand-out gs (heldBy (d .state)) es d at refl past rest e (sym (ap (deviceTrace d) are) ∙ r .events ∙ q);
       none-left = λ e v more is. call-is empty e (ruled take) (answered (refused 16 none)) (ran gs _ empty end left more .events) is (take-none empty none-held);
-      restarts = λ e v more is. call-is empty e (ruled restart) (answered restarted) (ran gs _ empty end left more .events) is (restart-none empty none-held);
+      restarts = λ e v more is. call-is empty e (ruled restart) (answered restarted) (ran gs _ empty end left more .events) is (restart-yes empty none-held);
       restarts-then = λ e f v more is again. second-is gs _ empty end e f none-held (ran gs _ empty end left more .events) is again;
     }

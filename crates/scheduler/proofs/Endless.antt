@@ -1,7 +1,7 @@
 -- The endless clock, of the public calls' own answers. Assumes nothing.
 use Prim.Native.Nat.{ℕ}
 use native.Mathlib.Omega.{arith}
-use mathlib.Core.Path.{_≡_, sym, ap, subst, _∙_}
+use mathlib.Core.Path.{sym, ap, subst, _∙_}
 use mathlib.Core.List.{List}
 use Rattle.rules.specs.State.{Setting, State}
 use Rattle.rules.specs.Setup.{Setup}

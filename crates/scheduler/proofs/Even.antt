@@ -1,9 +1,9 @@
 -- The trains of one lane, of the public calls' own answers. Assumes nothing.
-use Prim.Native.Nat.{ℕ, _*_, _+_}
+use Prim.Native.Nat.{ℕ}
 use native.Mathlib.Omega.{arith}
-use mathlib.Core.Path.{_≡_, ap, _∙_}
+use mathlib.Core.Path.{ap, _∙_}
 use mathlib.Core.List.{List}
-use Rattle.rounds.proofs.Lists.{same-or}
+use Rattle.units.proofs.Lists.{same-or}
 use Rattle.rules.specs.State.{Setting}
 use Rattle.rules.specs.Even.{trainBytes}
 use Rattle.pages.specs.Offers.{DeviceEvent, ofRules}

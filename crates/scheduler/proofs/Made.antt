@@ -4,7 +4,6 @@ use native.Mathlib.Omega.{arith}
 use mathlib.Core.Path.{_≡_, refl, sym, ap, subst, _∙_}
 use mathlib.Core.List.{List}
 use lib.ListN.{length}
-use Rattle.rules.specs.Setup.{Setup}
 use Rattle.rules.specs.declared.Refusal.{Refusal}
 use Rattle.rules.specs.declared.Refusal.the-variants.{TableShort}
 use Rattle.pages.specs.Device.{freshDevice}
@@ -12,10 +11,9 @@ use Rattle.plan.specs.Read.{readSetup, setupCame, settings, setupReply, SetupRe
 use Rattle.plan.specs.declared.Reading.{Reading}
 use Rattle.plan.specs.declared.Outcome.the-variants.{Read}
 use Rattle.plan.specs.declared.Outcome.the-variants as outcome
-use Rattle.plan.proofs.Accepted.{accepted-setup}
 use Rattle.table.specs.Layout.{tableSize}
 use Rattle.paged.specs.Settles.{LeadsDevice}
-use Rattle.scheduler.specs.Make.{makeReply, TableBySetup, MakeStep}
+use Rattle.scheduler.specs.Make.{TableBySetup, MakeStep}
 use Rattle.scheduler.specs.declared.Making.the-variants.{Made, Refused}
 
 pub make-short : (setup t : List ℕ) → length t < tableSize → MakeStep setup t (Refused TableShort) t
@@ -27,9 +25,6 @@ make-refused setup t x h r e o = record {
   follows = λ _. subst (λ (y : SetupReply). TableBySetup y t (Refused x) t) (sym (ap (setupCame (r .plan)) o) ∙ e) (refl, refl);
   size = refl;
 }
-
-pub read-setup-good : (setup : List ℕ) (r : Reading) (p : ℕ) → setupReply r ≡ readSetup setup → r .outcome ≡ Read p → Setup (settings (r .plan))
-read-setup-good setup r p e o = accepted-setup r setup p e o .0 .setup
 
 pub make-made : (setup t u : List ℕ) → tableSize ≤ length t → (r : Reading) (p : ℕ) → setupReply r ≡ readSetup setup → r .outcome ≡ Read p → length u ≡ length t
     → LeadsDevice t u (freshDevice (settings (r .plan))) → MakeStep setup t (Made (r .plan .count)) u

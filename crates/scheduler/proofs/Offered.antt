@@ -14,7 +14,7 @@ use Rattle.rules.specs.Setup.{Setup}
 use Rattle.rules.specs.Calls.{refused}
 use Rattle.rules.specs.Reads.{number, placeOf}
 use Rattle.rules.specs.declared.Refusal.{Refusal}
-use Rattle.pages.specs.Device.{Page, DeviceCall, offer, unread, answered, inForceNow, waitsNow, inForceOf, newestEdition, DeviceOutcome, doOffer, deviceStep, deviceStepBy}
+use Rattle.pages.specs.Device.{Page, offer, unread, answered, inForceNow, waitsNow, inForceOf, newestEdition, DeviceOutcome, doOffer, deviceStep, deviceStepBy}
 use Rattle.page.specs.Read.{readPage, pageCame, pageReply, pageRead, PageReply, pageRefused}
 use Rattle.page.specs.Promises.{PagesWithin, PageRefusesInside}
 use Rattle.page.specs.declared.Reading.{Reading}

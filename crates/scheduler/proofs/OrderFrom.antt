@@ -6,14 +6,14 @@ use mathlib.Core.List.{List, [], _∷_, _++_, append-nil, append-assoc}
 use mathlib.Core.Option.{Option, none, some}
 use lib.Dec.{leb}
 use lib.ListN.{length, getD}
+use Rattle.units.proofs.Bools.{if-ind}
 use Rattle.rounds.specs.Round as round
 use Rattle.waiting.specs.Waiting.{queueOf}
 use Rattle.waiting.proofs.Laws.{queue-none}
 use Rattle.rules.specs.State.{Rec, Lane, noLane, State, firstOf, laneAt, anyHolds}
-use Rattle.rules.specs.Calls.{Call, Reply, refused, fresh, step}
+use Rattle.rules.specs.Calls.{refused, fresh, step}
 use Rattle.rules.specs.Runs.{Event, sentIn, isAccepted, acceptedIn, ofLane, acceptedOf, sentOf, ofTrain}
 use Rattle.rules.specs.Good.{Good}
-use Rattle.rules.proofs.Bools.{if-ind}
 use Rattle.rules.proofs.GoodTest.{goodTest}
 use Rattle.rules.proofs.GoodAgrees.{test-good, good-test}
 use Rattle.rules.proofs.Keep.{AllSound}
@@ -30,7 +30,7 @@ use Rattle.pages.specs.OneCall.{KeepsPage}
 use Rattle.pages.proofs.Run.{fresh-none}
 use Rattle.pages.proofs.OneCall.{keeps-page}
 use Rattle.rules.proofs.Counts.{accepted-append, sent-append}
-use Rattle.editions.specs.Part.{lastIn, waitingIn, GoodWait, GoodPart}
+use Rattle.editions.specs.Part.{lastIn, GoodWait, GoodPart}
 use Rattle.table.specs.Layout.{tableSize}
 use Rattle.table.specs.Means.{meant}
 use Rattle.table.specs.Encodes.{Encodes}

@@ -1,20 +1,16 @@
 -- What one call does with settings pages. Assumes nothing.
-use Prim.Native.Nat.{ℕ}
-use mathlib.Core.Path.{_≡_, refl, sym, ap, subst, _∙_}
-use mathlib.Core.Bool.{Bool, true, false}
-use mathlib.Core.List.{List, []}
-use mathlib.Core.Option.{Option, none, some}
-use Rattle.rules.specs.State.{State, anyHolds}
-use Rattle.rules.specs.Calls.{Call, put, take, look, sets, lag, restart, refused, step}
-use Rattle.pages.specs.Device.{Page, Device, ruled, DeviceReply, answered, inForceOf, settledDevice, deviceStep, deviceStepBy}
-use Rattle.page.specs.Read.{pageRead, readPage, PageReply}
-use Rattle.page.specs.Form.{pageBytes}
+use mathlib.Core.Path.{_≡_, refl, subst}
+use mathlib.Core.Bool.{false}
+use Rattle.rules.specs.Calls.{Call, put, take, look, sets, lag, restart, step}
+use Rattle.pages.specs.Device.{DeviceReply, settledDevice, deviceStepBy}
+use Rattle.page.specs.Read.{pageRead, PageReply}
 use Rattle.page.specs.Promises.{WithoutSkipped}
 use Rattle.page.proofs.Promises.{without-skipped}
 use Rattle.editions.specs.Part.{lastIn, waitingIn}
 use Rattle.table.specs.Means.{meant}
 use Rattle.paged.specs.Paged.{partOf, deviceOf, EncodesDevice}
 use Rattle.paged.proofs.Units.{device-encoded}
+use Rattle.paged.proofs.Settled.{comes}
 use Rattle.scheduler.specs.Step.{KeptBy, UnitStep, offeredAs, offering}
 use Rattle.scheduler.specs.One.{OneAnswer}
 use Rattle.scheduler.specs.Pages.{OnlyTakes, LastTake, AsWithout, OfferKeeps}
@@ -35,16 +31,11 @@ only-takes t u a c h g p =
     let left = subst (EncodesDevice u) (others-stay c t (not-taking c h) g) (p .device g (deviceOf t) (device-encoded t g)) in
     (left .edition, left .waiting)
 
--- a page that waits comes into force with nothing held
-forced : (s : State) (n : ℕ) (w : Option Page) (p : Page) → w ≡ some p → anyHolds (s .lanes) ≡ false → settledDevice s n w ≡ inForceOf p
-unfolding settledDevice
-forced s n w p e h = rw (e, h)
-
 pub last-take : LastTake
 unfolding LastTake deviceStepBy deviceOf
 last-take t u a p g st w h =
     let left : EncodesDevice u (settledDevice ((step (meant t) take) .state) (lastIn (partOf t)) (waitingIn (partOf t))) = st .device g (deviceOf t) (device-encoded t g) in
-    (step-says take t _ u g st, subst (EncodesDevice u) (forced ((step (meant t) take) .state) (lastIn (partOf t)) (waitingIn (partOf t)) p w h) left)
+    (step-says take t _ u g st, subst (EncodesDevice u) (comes ((step (meant t) take) .state) (lastIn (partOf t)) (waitingIn (partOf t)) p w h) left)
 
 pub as-without : AsWithout
 unfolding AsWithout WithoutSkipped OneAnswer

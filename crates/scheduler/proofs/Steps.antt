@@ -2,9 +2,9 @@
 use Prim.Native.Nat.{ℕ}
 use native.Mathlib.Omega.{arith}
 use mathlib.Core.Path.{_≡_, refl, sym, ap, subst, _∙_}
-use mathlib.Core.Bool.{Bool, true, false, not, false≢true}
+use mathlib.Core.Bool.{Bool, true, false, false≢true}
 use mathlib.Core.List.{List}
-use mathlib.Core.Option.{Option, none}
+use mathlib.Core.Option.{none}
 use lib.ListN.{length, drop}
 use lib.Seq.{drop-drop}
 use Rattle.rules.specs.State.{State}
@@ -14,7 +14,7 @@ use Rattle.rules.specs.declared.Answer.{Answer}
 use Rattle.alike.specs.AlikeDevice.{AlikeDevice, RespectsDevice, DeviceRespects}
 use Rattle.alike.proofs.Alike.{alike-trans}
 use Rattle.alike.proofs.AlikeDevice.{device-respects}
-use Rattle.pages.specs.Device.{Page, Device, DeviceCall, ruled, DeviceReply, answered, deviceStep, deviceStepBy}
+use Rattle.pages.specs.Device.{Device, DeviceCall, ruled, DeviceReply, answered, deviceStep, deviceStepBy}
 use Rattle.pages.specs.OneCall.{OnlyTake}
 use Rattle.pages.proofs.OneCall.{only-take}
 use Rattle.editions.specs.Part.{lastIn, waitingIn, Fits}
@@ -29,7 +29,7 @@ use Rattle.paged.proofs.Units.{device-good, device-encoded}
 use Rattle.engine.specs.Does.{SaysReply, Does}
 use Rattle.engine.proofs.Still.{looks-does}
 use Rattle.scheduler.specs.Step.{KeptBy, UnitStep, Step}
-pub use Rattle.paged.proofs.Tested.{found-good, found-bad}
+pub use Rattle.lane_test.proofs.Setting.{says-yes, says-no}
 
 pub good-known : (t : List ℕ) → GoodTable t → Known t
 good-known t g = record { sound = good-sound t g; listed = g .listed; good = g .good }

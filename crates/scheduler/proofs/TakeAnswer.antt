@@ -9,7 +9,7 @@ use Rattle.rules.specs.State.{Rec, State, group, finishR, firstOf, eligible, la
 use Rattle.rules.specs.Choice.{Candidate, choose, chooseFrom}
 use Rattle.rules.specs.Calls.{Pick, take, look, taken, seen, refused, step, doTake, doLook, picked, pickFirst, pickOf, takeOf, lookOf}
 use Rattle.rules.specs.Reads.{reads}
-use Rattle.rules.proofs.Chosen.{Ahead, Chosen, Choice, chosen}
+use Rattle.rules.proofs.Chosen.{Chosen, Choice, chosen}
 use Rattle.table.specs.Means.{meant}
 use Rattle.scheduler.proofs.Steps.{step-says}
 use Rattle.scheduler.specs.TakeAnswer.{Served, TakeCall, LookTakes}

@@ -2,10 +2,12 @@
 use Prim.Native.Nat.{ℕ}
 use native.Mathlib.Omega.{arith}
 use mathlib.Core.Path.{_≡_, refl, sym, ap, subst, _∙_}
-use mathlib.Core.Bool.{Bool, true, false, false≢true}
+use mathlib.Core.Bool.{Bool, true, false, not}
 use mathlib.Core.List.{List, [], _∷_}
 use mathlib.Core.Option.{Option, none, some}
-use lib.ListN.{length, drop}
+use lib.Dec.{T}
+use lib.ListN.{length}
+use mir.Val.{hasKey}
 use types.Run.{OneOf, miss}
 use denote.Enum.Declared.{tagOf}
 use Rattle.units.specs.Plain.{if_then_else_}
@@ -24,7 +26,6 @@ use Rattle.pages.specs.Device.{Page, ruled, answered, inForceOf, settledDevice,
 use Rattle.pages.specs.Claims.{RefusedKeeps}
 use Rattle.pages.proofs.Answers.{refused-keeps}
 use Rattle.editions.specs.Part.{lastIn, waitingIn, Fits}
-use Rattle.table.specs.Layout.{tableSize}
 use Rattle.table.specs.Means.{meant}
 use Rattle.paged.specs.Paged.{partOf, deviceOf, EncodesDevice, GoodUnit}
 use Rattle.paged.specs.Settles.{PageReady, Rests, LeadsDevice}
@@ -37,36 +38,42 @@ use Rattle.scheduler.proofs.Steps.{alike-encoded, unit-step, past-table
 abbrev pub Other : Answer → Type 0
 Other a = OneOf (0 ∷ 2 ∷ 3 ∷ 4 ∷ 5 ∷ 6 ∷ []) (tagOf the-type a)
 
-isTaken : Reply → Bool
-isTaken (accepted n) = false
-isTaken (taken j k m n) = true
-isTaken (seen j k m n) = false
-isTaken (words a b c d) = false
-isTaken (lagged z) = false
-isTaken restarted = false
-isTaken (refused n p) = false
+-- a reply's variant, by number
+unfoldable pub kindOf : Reply → ℕ
+kindOf (accepted n) = 0
+kindOf (taken j k m n) = 1
+kindOf (seen j k m n) = 2
+kindOf (words a b c d) = 3
+kindOf (lagged z) = 4
+kindOf restarted = 5
+kindOf (refused n p) = 6
 
-not-taken : (a : Answer) → Other a → isTaken (reads a) ≡ false
-unfolding isTaken
-not-taken (Accepted n) o = refl
-not-taken (Taken r) o = absurd (miss (0 ∷ 2 ∷ 3 ∷ 4 ∷ 5 ∷ 6 ∷ []) 1 tt o)
-not-taken (Seen r) o = refl
-not-taken (Sets w) o = refl
-not-taken (Lag z) o = refl
-not-taken Restarted o = refl
-not-taken (Refused x) o = refl
+-- it is the answer's
+kind-reads : (a : Answer) → kindOf (reads a) ≡ tagOf the-type a
+unfolding kindOf
+kind-reads (Accepted n) = refl
+kind-reads (Taken r) = refl
+kind-reads (Seen r) = refl
+kind-reads (Sets w) = refl
+kind-reads (Lag z) = refl
+kind-reads Restarted = refl
+kind-reads (Refused x) = refl
+
+-- so an answer of an arm is read as no reply of another variant
+pub not-kind : (ks : List ℕ) (k : ℕ) → T (not (hasKey ks k)) → (a : Answer) → OneOf ks (tagOf the-type a) → kindOf (reads a) ≡ k → ⊥
+not-kind ks k h a o e = miss ks k h (subst (OneOf ks) (sym (kind-reads a) ∙ e) o)
 
 -- a take answers a record, or 16
-take-or : (s : State) (o : Option Pick) → isTaken ((takeOf s o) .reply) ≡ false → (takeOf s o) .reply ≡ refused 16 none
-unfolding takeOf isTaken
-take-or s none e = refl
-take-or s (some p) e = absurd (false≢true (sym e))
+take-or : (s : State) (o : Option Pick) → (kindOf ((takeOf s o) .reply) ≡ 1 → ⊥) → (takeOf s o) .reply ≡ refused 16 none
+unfolding takeOf kindOf
+take-or s none n = refl
+take-or s (some p) n = absurd (n refl)
 
 -- one that hands nothing out leaves the unit as it was
 pub took-none : (t : List ℕ) (a : Answer) (u : List ℕ) → GoodUnit t → length u ≡ length t → Does take t a u → Other a → Step take t a u
 unfolding deviceOf deviceStepBy step doTake RefusedKeeps
 took-none t a u g len d h =
-    let sixteen : reads a ≡ refused 16 none = d .says ∙ take-or (meant t) (picked (meant t)) (sym (ap isTaken (d .says)) ∙ not-taken a h) in
+    let sixteen : reads a ≡ refused 16 none = d .says ∙ take-or (meant t) (picked (meant t)) (λ e. not-kind (0 ∷ 2 ∷ 3 ∷ 4 ∷ 5 ∷ 6 ∷ []) 1 tt a h (ap kindOf (d .says) ∙ e)) in
     let same : u ≡ t = subst (λ (r : Reply). Unchanged r t u) sixteen (d .unchanged) in
     let kept : (deviceStep (deviceOf t) (ruled take)) .device ≡ deviceOf t = refused-keeps (deviceOf t) (device-good t g) (ruled take) 16 none (ap answered (sym (d .says) ∙ sixteen)) in
     unit-step (ruled take) t (answered (reads a)) u g (ap answered (d .says))

@@ -1,6 +1,6 @@
 -- How long a record waits, of the public calls' own answers. Assumes nothing.
-use Prim.Native.Nat.{ℕ, _+_, _*_}
-use mathlib.Core.Path.{_≡_, _∙_}
+use Prim.Native.Nat.{ℕ}
+use mathlib.Core.Path.{_∙_}
 use mathlib.Core.List.{List}
 use Rattle.rules.specs.State.{Setting, settingAt}
 use Rattle.rules.specs.Setup.{Setup}

@@ -19,7 +19,7 @@ use Rattle.rules.specs.Runs.{Event, after, trace}
 use Rattle.rules.specs.Fair.{Fair, Compared}
 use Rattle.plan.specs.Read.{readPlan, setupRead}
 use Rattle.lines.specs.Line.{lanesLine}
-use Rattle.requests.specs.Request.{RequestItem, request, last, badRequest, requestItemAt}
+use Rattle.requests.specs.Request.{request, last, badRequest, requestItemAt}
 use Rattle.answers.specs.Lines.{lineBy}
 use Rattle.walk.specs.Script.{Script, closing, runOf}
 

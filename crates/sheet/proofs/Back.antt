@@ -8,12 +8,13 @@ use Prim.Native.Nat.{ℕ, _+_, _≤_}
 use native.Mathlib.Omega.{arith}
 use mathlib.Core.Path.{_≡_, refl, sym, ap, subst, _∙_}
 use mathlib.Core.Bool.{Bool, true, false, _&&_}
-use mathlib.Core.List.{List, [], _∷_, _++_}
+use mathlib.Core.List.{List, [], _∷_, _++_, append-assoc, append-nil}
 use mathlib.Core.Option.{some}
 use lib.Dec.{ltb}
 use lib.ListN.{length}
 use borrow.Author.Tests.{ltb-true, ltb-false}
 use Rattle.units.specs.Plain.{if_then_else_}
+use Rattle.units.proofs.Bools.{true-false}
 use Rattle.rules.specs.State.{Setting, noSetting}
 use Rattle.rules.specs.Setup.{Setup, framingOf}
 use Rattle.rules.proofs.Figures.{framing-bound, framed-by}
@@ -39,8 +40,7 @@ use Rattle.sheet.specs.declared.form.Step.the-variants.{More, Whole, Wro
 use Rattle.sheet.specs.declared.judge.Verdict.{Verdict}
 use Rattle.sheet.specs.declared.judge.Verdict.the-variants.{Taken, Refused}
 use Rattle.sheet.proofs.Turn.{after-line, after-byte}
-use Rattle.sheet.proofs.Decimals.{append-assoc, append-nil}
-use Rattle.sheet.proofs.Steps.{soFar, lastBytes, bytesOf, rowBytes, Sane, sane-begin, Stepped, stepped, true-false}
+use Rattle.sheet.proofs.Steps.{soFar, lastBytes, bytesOf, rowBytes, Sane, sane-begin, Stepped, stepped}
 use Rattle.sheet.proofs.Rows.{Bare, is-taken, in-place}
 use Rattle.sheet.proofs.Sheets.{sheet-set}
 use Rattle.sheet.proofs.Unshared.{stays}
@@ -119,38 +119,23 @@ module _ (v′ : ℕ) (gs′ : List Setting) (n p : ℕ) where
     abbrev go : Seen → List Setting → Line → SetupReply
     go seen₁ gs₁ f₁ = sheetWalk seen₁ gs₁ f₁ (at + 1) bs
 
+    -- what is read behind a byte, read with it
+    with-byte : (gs₁ : List Setting) (f₁ : Line) → sheetBytes gs ++ (bytesOf f ++ (b ∷ bs)) ≡ sheetBytes gs₁ ++ (bytesOf f₁ ++ bs) → Back gs₁ f₁ (at + 1) bs → Back gs f at (b ∷ bs)
+    with-byte gs₁ f₁ e k = record { bytes = e ∙ k .bytes; end = omega (arith, k .end); format = k .format; setup = k .setup; bare = k .bare; count = k .count; some-lane = k .some-lane }
+
     back-line : (r : Row) → bytesOf f ++ b ∷ [] ≡ rowBytes r → (v : Verdict) → verdict seen r ≡ v → after-line seen gs (at + 1) r v go ≡ setupRead v′ gs′ n p → Back gs f at (b ∷ bs)
     back-line r x (Refused y) e h = refused-read h
     back-line r x Taken e h =
         let g = grows seen gs r ok bare e in
-        let k = more (seenAfter seen (Lane (rowField r))) (placed sheetFormat 0 gs (Lane (rowField r))) (newLine (at + 1)) (g .sound) (g .bare) (sane-begin (at + 1)) h in
-        record {
-          bytes =
-              ap (λ (l : List ℕ). sheetBytes gs ++ l) (add-byte f (rowBytes r) b bs x)
-              ∙ sym (append-assoc (sheetBytes gs) (rowBytes r) bs)
-              ∙ ap (λ (l : List ℕ). l ++ bs) (sym (g .sheet))
-              ∙ k .bytes;
-          end = omega (arith, k .end);
-          format = k .format;
-          setup = k .setup;
-          bare = k .bare;
-          count = k .count;
-          some-lane = k .some-lane;
-        }
+        with-byte (placed sheetFormat 0 gs (Lane (rowField r))) (newLine (at + 1))
+        (ap (λ (l : List ℕ). sheetBytes gs ++ l) (add-byte f (rowBytes r) b bs x)
+        ∙ sym (append-assoc (sheetBytes gs) (rowBytes r) bs)
+        ∙ ap (λ (l : List ℕ). l ++ bs) (sym (g .sheet)))
+        (more (seenAfter seen (Lane (rowField r))) (placed sheetFormat 0 gs (Lane (rowField r))) (newLine (at + 1)) (g .sound) (g .bare) (sane-begin (at + 1)) h)
 
     back-step : (s : Step) → Stepped f at b s → after-byte seen gs at s go ≡ setupRead v′ gs′ n p → Back gs f at (b ∷ bs)
     back-step Wrong x h = refused-read h
-    back-step (More g) x h =
-        let k = more seen gs g ok bare (x .0) h in
-        record {
-          bytes = ap (λ (l : List ℕ). sheetBytes gs ++ l) (add-byte f (bytesOf g) b bs (x .1)) ∙ k .bytes;
-          end = omega (arith, k .end);
-          format = k .format;
-          setup = k .setup;
-          bare = k .bare;
-          count = k .count;
-          some-lane = k .some-lane;
-        }
+    back-step (More g) x h = with-byte gs g (ap (λ (l : List ℕ). sheetBytes gs ++ l) (add-byte f (bytesOf g) b bs (x .1))) (more seen gs g ok bare (x .0) h)
     back-step (Whole r) x h = back-line r (x .1) (verdict seen r) refl h
 
   pub back : (bs : List ℕ) (seen : Seen) (gs : List Setting) (f : Line) (at : ℕ) → Sound seen gs → Bare seen → Sane f at → sheetWalk seen gs f at bs ≡ setupRead v′ gs′ n p → Back gs f at bs

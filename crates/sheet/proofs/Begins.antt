@@ -8,8 +8,7 @@ use Prim.Native.Nat.{ℕ, _+_, _<_}
 use native.Mathlib.Omega.{arith}
 use mathlib.Core.Path.{_≡_, refl, sym, ap, _∙_}
 use mathlib.Core.Bool.{Bool, true, false}
-use mathlib.Core.List.{List, [], _∷_, _++_}
-use Rattle.rules.specs.Reads.{number}
+use mathlib.Core.List.{List, [], _∷_, _++_, append-assoc, append-nil}
 use Rattle.plan.specs.declared.parse.SetupField.the-variants.{Lane}
 use Rattle.text.specs.Decimal.{decimal}
 use Rattle.sheet.specs.Text.{Entry, entryBytes, ShortNumbers, linesBytes, AllShort, BeginsSheet}
@@ -17,7 +16,6 @@ use Rattle.sheet.specs.declared.form.Part as part
 use Rattle.sheet.specs.declared.form.Part.the-variants as parts
 use Rattle.sheet.specs.declared.form.Line.{Line}
 use Rattle.sheet.specs.declared.form.Row.{Row}
-use Rattle.sheet.proofs.Decimals.{append-assoc, append-nil}
 use Rattle.sheet.proofs.Steps.{soFar, lastBytes, soFar-append, bytesOf, rowBytes, Sane, SaneRow}
 
 pub record Ends (t : List ℕ) : Type 0 where

@@ -2,14 +2,10 @@
 use Prim.Native.Nat.{ℕ, zero, suc, _+_, _-_, _*_, _/_, _%_, _^_, _≤_, _<_}
 use native.Mathlib.Nat.{pow-suc, pow-succ', div-div-eq-div-mul}
 use native.Mathlib.Omega.{arith}
-use mathlib.Core.Path.{_≡_, refl, sym, ap, _∙_}
+use mathlib.Core.Path.{_≡_, sym, ap, _∙_}
 use mathlib.Core.List.{List, [], _∷_, _++_}
 use Rattle.text.specs.Decimal.{digits, Width, width, decimal}
 use Rattle.text.proofs.Widths.{width-is, width-unique}
-
-pub append-assoc : {A : Type 0} (xs ys zs : List A) → (xs ++ ys) ++ zs ≡ xs ++ (ys ++ zs)
-append-assoc [] ys zs = refl
-append-assoc {A} (x ∷ xs) ys zs = ap (λ (l : List A). x ∷ l) (append-assoc xs ys zs)
 
 module _ (q d : ℕ) (small : d < 10) where
   tens : (k : ℕ) → (q * 10 + d) / 10 ^ suc k ≡ q / 10 ^ k
@@ -39,17 +35,3 @@ module _ (q d : ℕ) (small : d < 10) where
   decimal-more p few =
       let w : suc (width q) ≡ width (q * 10 + d) = width-unique (q * 10 + d) (suc (width q)) (omega arith) (wider p (width q) (width-is q (omega arith))) in
       ap (λ (k : ℕ). digits k (q * 10 + d)) (sym w) ∙ digits-more (width q)
-
-digits-one : (d : ℕ) → d < 10 → digits 1 d ≡ (48 + d) ∷ []
-unfolding digits
-digits-one d h = ap (λ (x : ℕ). x ∷ []) (omega arith)
-
-pub decimal-one : (d : ℕ) → d < 10 → decimal d ≡ (48 + d) ∷ []
-unfolding decimal
-decimal-one d h =
-    let w : 1 ≡ width d = width-unique d 1 (omega arith) (record { some = omega arith; enough = omega arith; none-below = λ j a b. a }) in
-    ap (λ (k : ℕ). digits k d) (sym w) ∙ digits-one d h
-
-pub append-nil : {A : Type 0} (xs : List A) → xs ++ [] ≡ xs
-append-nil [] = refl
-append-nil {A} (x ∷ xs) = ap (λ (l : List A). x ∷ l) (append-nil xs)

@@ -21,7 +21,7 @@ use Rattle.plan.specs.Accepted.{among}
 use Rattle.plan.specs.Read.{SetupReply, setupRead, setupRefused, noLanes, placed}
 use Rattle.plan.specs.declared.judge.Seen.{Seen}
 use Rattle.plan.specs.declared.parse.SetupField.the-variants.{Lane}
-use Rattle.plan.proofs.Rest.{refused-read}
+use Rattle.plan.proofs.Refusals.{read-refused}
 use Rattle.sheet.specs.Form.{newLine, lineStep}
 use Rattle.sheet.specs.Judge.{verdict, rowField}
 use Rattle.sheet.specs.Read.{sheetFormat, noneSeen, blank, sheetWalk, readSheet}
@@ -62,9 +62,6 @@ judged-fault seen r m h =
     go true true true true e = record { listed = refl; place = r .lane .place; is = refl; behind = h .lane-behind }
     go true true true false true = record { listed = refl; place = r .weight .place; is = refl; behind = h .weight-behind }
     go true true true false false = tt
-
-pub read-refused : {A : Type 0} {v : ℕ} {gs : List Setting} {n p m : ℕ} {q : Option ℕ} → setupRead v gs n p ≡ setupRefused m q → A
-read-refused h = refused-read (sym h)
 
 -- a refusal: one of the list, with a place before an end, or for 81 at it
 pub record Fault (n : ℕ) (q : Option ℕ) (end : ℕ) : Type 0 where

@@ -12,12 +12,14 @@ use mathlib.Core.Option.{Option, some}
 use lib.ListN.{length}
 use borrow.Author.Tests.{lt-ltb}
 use Rattle.units.specs.Plain.{if_then_else_}
+use Rattle.units.proofs.Bools.{true-false}
 use Rattle.rules.specs.State.{Setting}
 use Rattle.rules.specs.Reads.{number}
 use Rattle.plan.specs.Judge.{seenAfter}
 use Rattle.plan.specs.Read.{setupRead, setupRefused, noLanes, placed}
 use Rattle.plan.specs.declared.judge.Seen.{Seen}
 use Rattle.plan.specs.declared.parse.SetupField.the-variants.{Lane}
+use Rattle.plan.proofs.Refusals.{read-refused}
 use Rattle.sheet.specs.Form.{newLine}
 use Rattle.sheet.specs.Judge.{verdict, rowField}
 use Rattle.sheet.specs.Read.{sheetFormat, noneSeen, sheetWalk, readSheet}
@@ -27,9 +29,9 @@ use Rattle.sheet.specs.declared.form.Row.{Row}
 use Rattle.sheet.specs.declared.judge.Verdict.{Verdict}
 use Rattle.sheet.specs.declared.judge.Verdict.the-variants.{Taken, Refused}
 use Rattle.sheet.proofs.Turn.{after-line}
-use Rattle.sheet.proofs.Steps.{SaneRow, true-false}
+use Rattle.sheet.proofs.Steps.{SaneRow}
 use Rattle.sheet.proofs.Numbers.{line-walk}
-use Rattle.sheet.proofs.Faults.{lineNumber, Judged, judged-fault, read-refused}
+use Rattle.sheet.proofs.Faults.{lineNumber, Judged, judged-fault}
 
 -- no refusal of a line is 80 or 81
 pub line-not : (n m : ℕ) → lineNumber n ≡ true → n ≡ m → lineNumber m ≡ true

@@ -8,7 +8,7 @@ use Prim.Native.Nat.{ℕ, suc, _+_, _≤_, _<_}
 use native.Mathlib.Omega.{arith}
 use mathlib.Core.Path.{_≡_, refl, sym, ap, _∙_}
 use mathlib.Core.Bool.{Bool, true, false}
-use mathlib.Core.List.{List, [], _∷_, _++_}
+use mathlib.Core.List.{List, [], _∷_, _++_, append-assoc}
 use mathlib.Core.Logic.{_⊎_, ⊎-elim}
 use lib.Dec.{ltb}
 use lib.ListN.{length, getD, set, replicate, length-append}
@@ -29,7 +29,6 @@ use Rattle.sheet.specs.Text.{lineBytes, laneLine, sheetFrom, sheetBytes}
 use Rattle.sheet.specs.declared.form.Row.{Row}
 use Rattle.sheet.specs.declared.judge.Verdict.{Verdict}
 use Rattle.sheet.proofs.Turn.{after-line}
-use Rattle.sheet.proofs.Decimals.{append-assoc}
 use Rattle.sheet.proofs.Rows.{passes}
 use Rattle.sheet.proofs.Sheets.{line-there}
 use Rattle.sheet.specs.Promises.{Unshared, place₃, rowAt}
@@ -66,8 +65,18 @@ goes-end pre seen k at h =
     rw (lt-ltb 0 (seen .count) c) (ap (λ (m : ℕ). setupRead sheetFormat (pre ++ []) m at) n ∙ ap (setupRead sheetFormat (pre ++ []) (seen .count + 0)) p)
 
 module _ (g : Setting) (rest pre : List Setting) (seen : Seen) (k at : ℕ) (h : Ready (g ∷ rest) pre seen k) where
-  size-next : length (pre ++ g ∷ []) ≡ suc k
-  size-next = omega (arith, h .size, length-append pre (g ∷ []))
+  -- what is known behind the lane, of what is seen then
+  ready-next : (seen₁ : Seen) → seen₁ .floor ≤ suc k → seen₁ .total + weights rest ≤ 1024 → 0 < seen₁ .count + present rest → Ready rest (pre ++ g ∷ []) seen₁ (suc k)
+  ready-next seen₁ floor total some-lane = record {
+    size = omega (arith, h .size, length-append pre (g ∷ []));
+    whole = omega (arith, h .whole);
+    each = λ j. h .each (suc j);
+    bare = λ j. h .bare (suc j);
+    unshared = λ j. h .unshared (suc j);
+    floor = floor;
+    total = total;
+    some-lane = some-lane;
+  }
 
   -- a lane that is not there
   goes-absent : g ≡ noSetting → (Ready rest (pre ++ g ∷ []) seen (suc k) → Goes rest (pre ++ g ∷ []) seen (suc k) at) → Goes (g ∷ rest) pre seen k at
@@ -76,16 +85,7 @@ module _ (g : Setting) (rest pre : List Setting) (seen : Seen) (k at : ℕ) (h :
       let w : g .weight ≡ 0 = ap (λ (x : Setting). x .weight) e in
       let t : there g ≡ 0 = ap there e in
       let bytes : sheetFrom k (g ∷ rest) ≡ sheetFrom (suc k) rest = ap (λ (x : Setting). laneLine k x ++ sheetFrom (suc k) rest) e in
-      let r : Ready rest (pre ++ g ∷ []) seen (suc k) = record {
-        size = size-next;
-        whole = omega (arith, h .whole);
-        each = λ j. h .each (suc j);
-        bare = λ j. h .bare (suc j);
-        unshared = λ j. h .unshared (suc j);
-        floor = omega (arith, h .floor);
-        total = omega (arith, h .total);
-        some-lane = omega (arith, h .some-lane, t);
-      } in
+      let r = ready-next seen (omega (arith, h .floor)) (omega (arith, h .total)) (omega (arith, h .some-lane, t)) in
       ap (λ (x : List ℕ). sheetWalk seen (pre ++ noSetting ∷ blanks rest) (newLine at) at x) bytes
       ∙ ap (λ (x : Setting). sheetWalk seen (pre ++ x ∷ blanks rest) (newLine at) at (sheetFrom (suc k) rest)) (sym e)
       ∙ ap (λ (x : List Setting). sheetWalk seen x (newLine at) at (sheetFrom (suc k) rest)) (snoc pre g (blanks rest))
@@ -111,16 +111,7 @@ module _ (g : Setting) (rest pre : List Setting) (seen : Seen) (k at : ℕ) (h :
         let small : k < 64 = omega (arith, h .whole) in
         let t : there g ≡ 1 = rw (lt-ltb 0 (g .weight) (i .weight-low)) in
         let bytes : sheetFrom k (g ∷ rest) ≡ lineBytes k (g .weight) (g .longest) ++ sheetFrom (suc k) rest = ap (λ (x : List ℕ). x ++ sheetFrom (suc k) rest) (line-there k g (i .weight-low)) in
-        let r : Ready rest (pre ++ g ∷ []) seen₁ (suc k) = record {
-          size = size-next;
-          whole = omega (arith, h .whole);
-          each = λ j. h .each (suc j);
-          bare = λ j. h .bare (suc j);
-          unshared = λ j. h .unshared (suc j);
-          floor = omega arith;
-          total = omega (arith, h .total);
-          some-lane = omega arith;
-        } in
+        let r = ready-next seen₁ (omega arith) (omega (arith, h .total)) (omega arith) in
         let ok = passes seen row (omega arith) (i .weight-low) (i .weight-high) (i .longest-low) (i .longest-high) (h .floor) (omega (arith, h .total)) in
         let own : given sheetFormat 0 (rowField row) ≡ g =
         ap (λ (n : ℕ). record { weight = g .weight; longest = g .longest; framing = n; shared = false }) (sym (h .bare 0))

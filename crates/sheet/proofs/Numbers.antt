@@ -10,12 +10,13 @@ use native.Mathlib.Omega.{arith}
 use native.Mathlib.Decide.{decLe}
 use mathlib.Core.Path.{_≡_, refl, sym, ap, _∙_}
 use mathlib.Core.Bool.{true, false}
-use mathlib.Core.List.{List, [], _∷_, _++_}
+use mathlib.Core.List.{List, [], _∷_, _++_, append-assoc}
 use lib.ListN.{length, length-append}
 use borrow.Author.Tests.{le-leb, lt-ltb}
 use Rattle.rules.specs.State.{Setting}
 use Rattle.plan.specs.declared.judge.Seen.{Seen}
 use Rattle.text.specs.Decimal.{decimal}
+use Rattle.text.proofs.Widths.{decimal-one}
 use Rattle.sheet.specs.Form.{isDigit, extends, stop, noDigits, newLine, numberClosed, lineStep}
 use Rattle.sheet.specs.Judge.{verdict}
 use Rattle.sheet.specs.Read.{sheetWalk}
@@ -26,7 +27,7 @@ use Rattle.sheet.specs.declared.form.Part.the-variants.{Lane, Weight, Lo
 use Rattle.sheet.specs.declared.form.Line.{Line}
 use Rattle.sheet.specs.declared.form.Step.{Step}
 use Rattle.sheet.proofs.Turn.{after-line, after-byte}
-use Rattle.sheet.proofs.Decimals.{append-assoc, decimal-more, decimal-one}
+use Rattle.sheet.proofs.Decimals.{decimal-more}
 use Rattle.sheet.proofs.Answers.{step-digit, step-stop}
 
 -- one byte of the walk

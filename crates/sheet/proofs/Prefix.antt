@@ -8,17 +8,19 @@ use Prim.Native.Nat.{ℕ, _+_}
 use native.Mathlib.Omega.{arith}
 use mathlib.Core.Path.{_≡_, refl, sym, ap, subst, _∙_}
 use mathlib.Core.Bool.{Bool, true, false, _&&_}
-use mathlib.Core.List.{List, [], _∷_, _++_}
+use mathlib.Core.List.{List, [], _∷_, _++_, append-nil}
 use mathlib.Core.Option.{some}
 use lib.Dec.{ltb}
 use lib.ListN.{length}
 use Rattle.units.specs.Plain.{if_then_else_}
+use Rattle.units.proofs.Bools.{true-false}
 use Rattle.rules.specs.State.{Setting}
 use Rattle.rules.specs.Reads.{number}
 use Rattle.plan.specs.Judge.{seenAfter}
 use Rattle.plan.specs.Read.{SetupReply, setupRead, setupRefused, noLanes, placed}
 use Rattle.plan.specs.declared.judge.Seen.{Seen}
 use Rattle.plan.specs.declared.parse.SetupField.the-variants.{Lane}
+use Rattle.plan.proofs.Refusals.{read-refused}
 use Rattle.sheet.specs.Form.{newLine, lineStep}
 use Rattle.sheet.specs.Judge.{verdict, rowField}
 use Rattle.sheet.specs.Read.{sheetFormat, noneSeen, blank, sheetWalk, readSheet}
@@ -31,11 +33,10 @@ use Rattle.sheet.specs.declared.form.Step.the-variants.{More, Whole, Wro
 use Rattle.sheet.specs.declared.judge.Verdict.{Verdict}
 use Rattle.sheet.specs.declared.judge.Verdict.the-variants.{Taken, Refused}
 use Rattle.sheet.proofs.Turn.{after-line, after-byte}
-use Rattle.sheet.proofs.Decimals.{append-nil}
-use Rattle.sheet.proofs.Steps.{bytesOf, rowBytes, Sane, SaneRow, sane-begin, Stepped, stepped, true-false}
+use Rattle.sheet.proofs.Steps.{bytesOf, rowBytes, Sane, SaneRow, sane-begin, Stepped, stepped}
 use Rattle.sheet.proofs.Back.{add-byte}
 use Rattle.sheet.proofs.Numbers.{walk-byte}
-use Rattle.sheet.proofs.Faults.{Judged, judged-fault, read-refused}
+use Rattle.sheet.proofs.Faults.{Judged, judged-fault}
 use Rattle.sheet.proofs.Begins.{begins-line, begins-behind}
 use Rattle.sheet.proofs.Formed.{line-not, never-formed}
 

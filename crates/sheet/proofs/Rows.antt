@@ -13,6 +13,7 @@ use mathlib.Core.Bool.{Bool, true, false, not}
 use lib.Dec.{leb, ltb}
 use borrow.Author.Tests.{leb-true, le-ltb, le-leb}
 use Rattle.units.specs.Plain.{if_then_else_}
+use Rattle.units.proofs.Bools.{and-parts}
 use Rattle.rules.specs.declared.Refusal.{Refusal}
 use Rattle.rules.specs.declared.Refusal.the-variants.{OutOfOrder}
 use Rattle.plan.specs.Judge.{lastLane, within, misplaced, laneOutside, over}
@@ -24,7 +25,6 @@ use Rattle.sheet.specs.Read.{sheetFormat}
 use Rattle.sheet.specs.declared.form.Row.{Row}
 use Rattle.sheet.specs.declared.judge.Verdict.{Verdict}
 use Rattle.sheet.specs.declared.judge.Verdict.the-variants.{Taken, Refused}
-use Rattle.sheet.proofs.Steps.{and-true}
 
 pub record Bare (seen : Seen) : Type 0 where
   pub begun : seen .begun ≡ true
@@ -73,12 +73,12 @@ module _ (seen : Seen) (r : Row) where
   tests true true true true e p q s t u h = refused-taken h
   tests true true true false true p q s t u h = refused-taken h
   tests true true true false false p q s t u h =
-      let w = and-true (leb 1 (r .weight .value)) (leb (r .weight .value) 1024) q in
+      let w = and-parts (leb 1 (r .weight .value)) (leb (r .weight .value) 1024) q in
       record {
         number = leb-true (r .lane .value) 63 p;
         weight-low = leb-true 1 (r .weight .value) (w .0);
         weight-high = leb-true (r .weight .value) 1024 (w .1);
-        longest-high = leb-true (r .longest .value) 1500 (and-true (leb 64 (r .longest .value)) (leb (r .longest .value) 1500) s .1);
+        longest-high = leb-true (r .longest .value) 1500 (and-parts (leb 64 (r .longest .value)) (leb (r .longest .value) 1500) s .1);
         inside = rw (p, q, s);
         rising = t;
         under = rw u;

@@ -4,12 +4,11 @@ use Prim.Native.Nat.{ℕ, zero, suc, _+_, _≤_, _<_}
 use native.Mathlib.Nat.{not-suc-le-zero, le-of-suc-le-suc}
 use native.Mathlib.Omega.{arith}
 use mathlib.Core.Path.{_≡_, refl, sym, ap, _∙_}
-use mathlib.Core.List.{List, [], _∷_, _++_}
+use mathlib.Core.List.{List, [], _∷_, _++_, append-assoc, append-nil}
 use lib.ListN.{length, getD, set}
 use borrow.Author.Tests.{lt-ltb}
 use Rattle.rules.specs.State.{Setting, noSetting}
 use Rattle.sheet.specs.Text.{lineBytes, laneLine, sheetFrom, sheetBytes}
-use Rattle.sheet.proofs.Decimals.{append-assoc, append-nil}
 
 -- no lane, no line
 pub sheet-none : (i : ℕ) (gs : List Setting) → ((j : ℕ) → getD gs j noSetting ≡ noSetting) → sheetFrom i gs ≡ []

@@ -9,11 +9,13 @@ use Prim.Native.Nat.{ℕ, _+_, _-_, _*_, _≤_, _<_}
 use native.Mathlib.Omega.{arith}
 use mathlib.Core.Path.{_≡_, refl, sym, ap, _∙_}
 use mathlib.Core.Bool.{Bool, true, false, _&&_}
-use mathlib.Core.List.{List, [], _∷_, _++_}
+use mathlib.Core.List.{List, [], _∷_, _++_, append-assoc}
 use lib.Dec.{leb, ltb, eqb}
 use borrow.Author.Tests.{leb-true, ltb-true, eqb-true}
 use Rattle.units.specs.Plain.{if_then_else_}
+use Rattle.units.proofs.Bools.{and-parts, true-false}
 use Rattle.text.specs.Decimal.{decimal}
+use Rattle.text.proofs.Widths.{decimal-one}
 use Rattle.sheet.specs.Form.{isDigit, extends, stop, noDigits, newLine, grown, numberClosed, lineStep}
 use Rattle.sheet.specs.Text.{lineBytes}
 use Rattle.sheet.specs.declared.form.Part.{Part}
@@ -23,7 +25,7 @@ use Rattle.sheet.specs.declared.form.Line.{Line}
 use Rattle.sheet.specs.declared.form.Row.{Row}
 use Rattle.sheet.specs.declared.form.Step.{Step}
 use Rattle.sheet.specs.declared.form.Step.the-variants.{More, Whole, Wrong}
-use Rattle.sheet.proofs.Decimals.{append-assoc, decimal-more, decimal-one}
+use Rattle.sheet.proofs.Decimals.{decimal-more}
 
 abbrev pub lastBytes : Bool → ℕ → List ℕ
 lastBytes true v = decimal v
@@ -75,13 +77,6 @@ sane-begin at = record {
   last-behind = omega arith;
 }
 
-pub true-false : {A : Type 0} → true ≡ false → A
-true-false h = absurd (let z : _≡_ {A = ℕ} 0 1 = cc in omega arith)
-
-pub and-true : (a b : Bool) → (a && b) ≡ true → (a ≡ true) × (b ≡ true)
-and-true true b h = (refl, h)
-and-true false b h = true-false (sym h)
-
 abbrev pub Stepped : Line → ℕ → ℕ → Step → Type 0
 Stepped f at b (More g) = Sane g (at + 1) × (bytesOf f ++ b ∷ [] ≡ bytesOf g)
 Stepped f at b (Whole r) = SaneRow r at × (bytesOf f ++ b ∷ [] ≡ rowBytes r)
@@ -94,7 +89,7 @@ module _ (f : Line) (at b : ℕ) (sane : Sane f at) where
   -- a digit
   module _ (d : isDigit b ≡ true) where
     ten : (48 ≤ b) × (b - 48 < 10)
-    ten = let t = and-true (leb 48 b) (leb b 57) d in let lo = leb-true 48 b (t .0) in let hi = leb-true b 57 (t .1) in omega arith
+    ten = let t = and-parts (leb 48 b) (leb b 57) d in let lo = leb-true 48 b (t .0) in let hi = leb-true b 57 (t .1) in omega arith
 
     self : 48 + (b - 48) ≡ b
     self = omega (arith, ten)
@@ -105,7 +100,7 @@ module _ (f : Line) (at b : ℕ) (sane : Sane f at) where
         let n : v * 10 + (b - 48) ≡ b - 48 = omega arith in
         (omega (arith, ten), sym (ap decimal n ∙ decimal-one (b - 48) (ten .1) ∙ ap (λ (x : ℕ). x ∷ []) self))
     grows true e o =
-        let t = and-true (ltb 0 v) (ltb v 10000) o in
+        let t = and-parts (ltb 0 v) (ltb v 10000) o in
         let lo = ltb-true 0 v (t .0) in
         let hi = ltb-true v 10000 (t .1) in
         (omega (arith, ten), sym (decimal-more v (b - 48) (ten .1) lo (omega arith) ∙ ap (λ (x : ℕ). decimal v ++ x ∷ []) self))
@@ -187,6 +182,6 @@ module _ (f : Line) (at b : ℕ) (sane : Sane f at) where
       go true true e p q r = stepped-digit p q
       go true false e p q r = tt
       go false o true p q r =
-          let t = and-true (f .begun) (eqb b (stop (f .part))) r in
+          let t = and-parts (f .begun) (eqb b (stop (f .part))) r in
           stepped-closed (t .0) (eqb-true b (stop (f .part)) (t .1))
       go false o false p q r = tt

@@ -11,11 +11,11 @@ use mathlib.Core.Option.{some}
 use lib.Dec.{ltb}
 use Rattle.units.specs.Plain.{if_then_else_}
 use Rattle.rules.specs.State.{Setting, noSetting}
+use Rattle.rules.proofs.Lists.{set-all}
 use Rattle.plan.specs.Judge.{given, seenAfter}
 use Rattle.plan.specs.Read.{SetupReply, setupRead, setupRefused, placed}
 use Rattle.plan.specs.declared.judge.Seen.{Seen}
 use Rattle.plan.specs.declared.parse.SetupField.the-variants.{Lane}
-use Rattle.plan.proofs.Lists.{set-cases}
 use Rattle.plan.proofs.Rest.{refused-read}
 use Rattle.sheet.specs.Form.{newLine, lineStep}
 use Rattle.sheet.specs.Judge.{verdict, rowField}
@@ -30,7 +30,7 @@ use Rattle.sheet.specs.declared.judge.Verdict.the-variants.{Taken, Refus
 use Rattle.sheet.proofs.Turn.{after-line, after-byte}
 
 placed-unshared : (gs : List Setting) (r : Row) → Unshared gs → Unshared (placed sheetFormat 0 gs (Lane (rowField r)))
-placed-unshared gs r un k = set-cases (λ (g : Setting). g .shared ≡ false) gs (r .lane .value) k (given sheetFormat 0 (rowField r)) noSetting (λ e. refl) (λ e. un k) refl
+placed-unshared gs r un = set-all (λ (g : Setting). g .shared ≡ false) gs (r .lane .value) (given sheetFormat 0 (rowField r)) noSetting refl un
 
 module _ (v : ℕ) (gs′ : List Setting) (n p : ℕ) where
   ended : (gs : List Setting) (count at : ℕ) (b : Bool) → Unshared gs → (if b then setupRead sheetFormat gs count at else setupRefused 81 (some at)) ≡ setupRead v gs′ n p → Unshared gs′

@@ -5,7 +5,6 @@
 --   verdict      the first refusal of a line, or none
 --
 -- Assumes nothing.
-use Prim.Native.Nat.{ℕ}
 use lib.Dec.{ltb}
 use Rattle.units.specs.Plain.{if_then_else_}
 use Rattle.rules.specs.declared.Refusal.the-variants.{OutOfOrder, WeightsOver, LaneOutside, WeightOutside, LongestOutside}

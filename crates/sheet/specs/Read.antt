@@ -22,10 +22,7 @@ use Rattle.sheet.specs.Judge.{verdict, rowField}
 use Rattle.sheet.specs.declared.form.Part as part
 use Rattle.sheet.specs.declared.form.Part.the-variants as parts
 use Rattle.sheet.specs.declared.form.Line.{Line}
-use Rattle.sheet.specs.declared.form.Row.{Row}
-use Rattle.sheet.specs.declared.form.Step.{Step}
 use Rattle.sheet.specs.declared.form.Step.the-variants.{More, Whole, Wrong}
-use Rattle.sheet.specs.declared.judge.Verdict.{Verdict}
 use Rattle.sheet.specs.declared.judge.Verdict.the-variants.{Taken, Refused}
 
 abbrev pub sheetFormat : ℕ

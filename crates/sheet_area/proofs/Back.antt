@@ -11,9 +11,10 @@ use lib.Seq.{take-at}
 use Rattle.plan.specs.Judge.{knownFormat}
 use Rattle.plan.specs.Read.{setupRead, SetupReply}
 use Rattle.plan_writer.specs.Write.{Planned, Within, writtenSize}
+use Rattle.plan_writer.proofs.Calls.{size-refused}
 use Rattle.plan_area.specs.Area.{planIn, AreaWithin}
-use Rattle.plan_area.specs.Step.{areaLanes, AreaBySetup}
-use Rattle.plan_area.proofs.Back.{read-into, within-area, size-refused}
+use Rattle.plan_area.specs.Step.{AreaBySetup}
+use Rattle.plan_area.proofs.Back.{read-into, within-area}
 use Rattle.plan_area.proofs.Shown.{shows-plan, shows-within, area-shows}
 use Rattle.sheet.specs.Read.{sheetFormat, readSheet}
 use Rattle.sheet.proofs.Back.{accepted-sheet}

@@ -24,10 +24,13 @@ use Rattle.sheet_writer.specs.declared.Written.the-variants as written
 use Rattle.sheet_writer.specs.declared.Unwritten.the-variants.{Outside}
 use Rattle.sheet_area.specs.Step.{SheetWriteStep}
 
-pub sheet-good : (s : List ℕ) (r : Reading) → setupReply r ≡ readSheet s → (next : ℕ) → r .outcome ≡ Read next → Setup (settings (r .plan)) × (r .plan .format ≤ 2)
-sheet-good s r e next o =
-    let x = accepted-sheet s (r .plan .format) (settings (r .plan)) (r .plan .count) next (sym e ∙ ap (setupCame (r .plan)) o) in
-    (x .setup, omega (arith, x .format))
+-- a sheet that was read can be stored
+module _ (s : List ℕ) (r : Reading) (e : setupReply r ≡ readSheet s) (next : ℕ) (o : r .outcome ≡ Read next) where
+  pub sheet-good : Setup (settings (r .plan))
+  sheet-good = accepted-sheet s (r .plan .format) (settings (r .plan)) (r .plan .count) next (sym e ∙ ap (setupCame (r .plan)) o) .setup
+
+  pub sheet-low : r .plan .format ≤ 2
+  sheet-low = omega (arith, accepted-sheet s (r .plan .format) (settings (r .plan)) (r .plan .count) next (sym e ∙ ap (setupCame (r .plan)) o) .format)
 
 module _ (area before : List ℕ) where
   not-within : (AreaWithin area → ⊥) → SheetWriteStep area before (written.Refused Outside) before

@@ -19,12 +19,12 @@ use Rattle.rules.specs.State.{Setting, settingAt}
 use Rattle.rules.specs.Setup.{framingOf}
 use Rattle.plan.specs.Judge.{knownFormat}
 use Rattle.plan.specs.Read.{setupRead, settings, setupCame}
-use Rattle.plan_writer.specs.Write.{Planned, planned, Within, shareds, writtenSize, notWritten}
+use Rattle.plan_writer.specs.Write.{Planned, planned, Within, shareds, writtenSize}
 use Rattle.plan_writer.proofs.Decided.{within-or-not}
 use Rattle.plan_writer.proofs.Numbered.{numbered-all}
 use Rattle.plan_writer.proofs.Writing.{stored-first}
+use Rattle.plan_writer.proofs.Calls.{size-refused}
 use Rattle.sheet.specs.Read.{sheetFormat, readSheet}
-use Rattle.sheet.specs.Text.{sheetBytes}
 use Rattle.sheet.specs.Promises.{Unshared}
 use Rattle.sheet.proofs.Back.{accepted-sheet}
 use Rattle.sheet.proofs.Forth.{written-read}
@@ -61,9 +61,6 @@ module _ (p : Planned) (before : List ℕ) where
   }
 
 -- ---- of the answers
-
-size-refused : {A : Type 0} {k n : ℕ} → writtenSize k ≡ notWritten n → A
-size-refused h = absurd (let z : _≡_ {A = ℕ} 0 1 = cc in omega arith)
 
 pub bare-or-not : (p : Planned) → Bare p ⊎ (Bare p → ⊥)
 bare-or-not p =

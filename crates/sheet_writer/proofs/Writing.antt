@@ -6,20 +6,19 @@
 --   Sizing        and how the counting of the bytes does: the invariant of `sheet_size`
 --
 -- Assumes nothing.
-use Prim.Native.Nat.{ℕ, zero, suc, _+_, _*_, _^_, _≤_, _<_}
+use Prim.Native.Nat.{ℕ, suc, _+_, _*_, _^_, _≤_, _<_}
 use native.Mathlib.Omega.{arith}
 use mathlib.Core.Path.{_≡_, refl, sym, ap, subst, _∙_}
-use mathlib.Core.List.{List, [], _∷_, _++_}
+use mathlib.Core.List.{List, [], _∷_, _++_, append-assoc, append-nil}
 use mathlib.Core.Logic.{_⊎_, ⊎-elim}
 use lib.ListN.{length, getD, drop, length-append, drop-of-length-le}
 use lib.Seq.{sets, drop-cons}
 use Rattle.rules.specs.State.{Setting, noSetting}
 use Rattle.rules.specs.Setup.{Setup, InNumbers}
-use Rattle.text.specs.Decimal.{decimal, Width}
+use Rattle.text.specs.Decimal.{decimal}
 use Rattle.text.proofs.Stores.{sets-append}
-use Rattle.text.proofs.Widths.{written-width, ten-mono}
+use Rattle.text.proofs.Widths.{written-width, ten-mono, decimal-one}
 use Rattle.sheet.specs.Text.{lineBytes, laneLine, sheetFrom, sheetBytes}
-use Rattle.sheet.proofs.Decimals.{append-assoc, append-nil, decimal-one}
 use Rattle.sheet.proofs.Numbers.{length-line}
 use Rattle.sheet.proofs.Sheets.{line-there}
 

@@ -1,33 +1,25 @@
 -- From what is read of a table to what it shows. Assumes nothing.
-use Prim.Native.Nat.{ℕ, _+_, _≤_, _<_}
-use native.Mathlib.Omega.{arith}
-use native.Mathlib.Nat.{pos-of-ne-zero}
+use Prim.Native.Nat.{ℕ}
 use mathlib.Core.Path.{_≡_, refl, sym, ap, subst, _∙_}
 use mathlib.Core.Bool.{Bool, true, false}
 use mathlib.Core.List.{List}
 use mathlib.Core.Option.{none, some}
 use lib.Dec.{ltb, eqb}
-use lib.ListN.{getD}
-use borrow.Author.Tests.{lt-ltb, le-ltb, eqb-true}
+use borrow.Author.Tests.{le-ltb, eqb-true}
 use Rattle.units.specs.Plain.{if_then_else_}
-use Rattle.waiting.specs.Waiting.{Waiting, plain, held, queueOf, GoodWaiting}
-use Rattle.words.proofs.Runs.{getD-tab}
-use Rattle.rules.specs.State.{Lane, group, holds, laneAt, laneDepth, noLane}
-use Rattle.table.specs.Layout.{cells, rowAt, placeInLane, entryAt}
-use Rattle.table.specs.Means.{presentAt, givenOf, meant, RowAgrees}
+use Rattle.waiting.specs.Waiting.{held}
+use Rattle.rules.specs.State.{Lane, group, holds, laneAt, noLane}
+use Rattle.table.specs.Means.{givenOf, meant, RowAgrees}
 use Rattle.table.specs.declared.LaneRow.{LaneRow}
-use Rattle.table.specs.declared.Entry.{Entry}
-use Rattle.table.proofs.Footprint.{lane-is}
-use Rattle.table.proofs.Rows.{waiting-row}
 use Rattle.alike.specs.AlikeDevice.{AlikeDevice}
-use Rattle.pages.specs.Device.{Page, Device}
+use Rattle.pages.specs.Device.{Device}
 use Rattle.editions.specs.Part.{lastIn, newIn, planOf, waitingIn}
 use Rattle.good.proofs.Encodes.{good-sound}
 use Rattle.paged.specs.Paged.{partOf, deviceOf, GoodUnit}
 use Rattle.scheduler.proofs.Steps.{encoded-alike}
-use Rattle.engine.proofs.RowIs.{RowIs, row-is, row-weighs, count-holds, count-idle}
+use Rattle.engine.proofs.RowIs.{RowIs, row-is, row-weighs}
 use Rattle.rules.specs.declared.Refusal.the-variants as why
-use Rattle.show.specs.Views.{Ask, View, clock, lane, backlog, waits, edition, wait, clockIs, viewRefused, backlogIs, settingIs, recordIs, editionIs, noRec, timeOf, waitingEdition, view}
+use Rattle.show.specs.Views.{Ask, clock, lane, backlog, waits, edition, wait, clockIs, viewRefused, backlogIs, settingIs, editionIs, waitingEdition, view}
 use Rattle.show.specs.Shows.{viewReply, Shows, FindIs}
 use Rattle.show.specs.declared.Shown.{Shown}
 use Rattle.show.specs.declared.Shown.the-variants.{Refused}

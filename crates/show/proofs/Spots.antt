@@ -1,8 +1,8 @@
 -- Where a train's record stands. Assumes nothing.
-use Prim.Native.Nat.{ℕ, zero, suc, _+_, _*_, _%_, _≤_, _<_}
+use Prim.Native.Nat.{ℕ, _+_, _*_, _%_, _≤_, _<_}
 use native.Mathlib.Omega.{arith}
 use mathlib.Core.Path.{_≡_, refl, sym, ap, subst, _∙_}
-use mathlib.Core.Bool.{Bool, true, false, false≢true}
+use mathlib.Core.Bool.{true, false, false≢true}
 use mathlib.Core.List.{List, []}
 use mathlib.Core.Option.{none}
 use lib.Dec.{leb, ltb}
@@ -10,6 +10,7 @@ use lib.ListN.{length, getD}
 use borrow.Author.Tests.{lt-ltb, le-ltb, lt-leb}
 use Rattle.words.proofs.Runs.{getD-tab}
 use Rattle.rounds.specs.Round as round
+use Rattle.rounds.specs.Round.{noRec}
 use Rattle.turns.specs.Turns as turns
 use Rattle.turns.specs.Turns.{headOf, countOf, trainOf, sharedOf}
 use Rattle.turns.proofs.Train as train
@@ -18,14 +19,14 @@ use Rattle.waiting.specs.Waiting.{Waiting, plain, shared, queueOf, known, isSha
 use Rattle.waiting.specs.Waiting.{withTrain}
 use Rattle.waiting.proofs.Laws.{held-most, queue-nothing}
 use Rattle.rules.specs.State.{Lane, laneAt, laneDepth}
-use Rattle.table.specs.Layout.{cells, rowAt, placeInLane, entryAt, trainNumber, roundAt}
+use Rattle.table.specs.Layout.{cells, placeInLane, entryAt, trainNumber}
 use Rattle.table.specs.Means.{recOf, recAt, laneRing, sharedAt, waitingOf, meant}
 use Rattle.table.specs.declared.LaneRow.{LaneRow}
 use Rattle.table.specs.declared.Entry.{Entry}
 use Rattle.table.proofs.Footprint.{lane-is}
 use Rattle.table.proofs.Rows.{waiting-row, waiting-plain, waiting-none, waiting-shared, waiting-kind, length-ring}
 use Rattle.paged.specs.Paged.{deviceOf}
-use Rattle.show.specs.Views.{waits, viewRefused, recordIs, noRec, view}
+use Rattle.show.specs.Views.{waits, viewRefused, recordIs, view}
 use Rattle.show.specs.Shows.{RowFound, SpotIs}
 use Rattle.show.specs.declared.Spot.{Spot}
 use Rattle.show.specs.declared.Spot.the-variants.{NoTrain, Nothing, At}

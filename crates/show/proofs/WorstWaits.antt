@@ -9,7 +9,7 @@ use mathlib.Core.Option.{none}
 use lib.ListN.{length, drop}
 use borrow.Author.Tests.{lt-ltb, le-ltb}
 use Rattle.units.specs.Plain.{if_then_else_}
-use Rattle.rules.specs.State.{Setting, Lane, noSetting, settingAt, setupOf, charge, roomOf, laneAt}
+use Rattle.rules.specs.State.{Setting, Lane, noSetting, settingAt, setupOf, charge, roomOf}
 use Rattle.rules.specs.Setup.{Setup, InNumbers, framingOf, longestCharge, margin}
 use Rattle.rules.specs.Waits.{worstOf}
 use Rattle.rules.proofs.SameSetup.{setting-lane}

@@ -12,6 +12,7 @@ use mathlib.Core.Bool.{true, false}
 use mathlib.Core.List.{List}
 use mathlib.Core.Option.{none}
 use lib.ListN.{length, getD}
+use Rattle.rounds.specs.Round.{noRec}
 use Rattle.waiting.specs.Waiting.{queueOf, known}
 use Rattle.rules.specs.State.{laneAt, laneDepth, noLane}
 use Rattle.rules.specs.Reads as rules
@@ -20,7 +21,7 @@ use Rattle.table.specs.Means.{presentAt, recOf, meant}
 use Rattle.table.specs.declared.LaneRow.{LaneRow}
 use Rattle.pages.specs.Device.{Device}
 use Rattle.paged.specs.Paged.{EncodesDevice, GoodUnit}
-use Rattle.show.specs.Views.{Ask, View, clockIs, settingIs, backlogIs, recordIs, editionIs, waitIs, viewRefused, noRec, view}
+use Rattle.show.specs.Views.{Ask, View, clockIs, settingIs, backlogIs, recordIs, editionIs, waitIs, viewRefused, view}
 use Rattle.show.specs.declared.Shown.{Shown}
 use Rattle.show.specs.declared.Shown.the-variants.{Clock, Setting, Backlog, Record, Edition, Wait, Refused}
 use Rattle.show.specs.declared.Found.{Found}

@@ -55,15 +55,12 @@ pub data View : Type 0 where
 abbrev pub timeOf : Lane → ℕ
 timeOf l = if holds l then l .start else l .finish
 
-abbrev pub noRec : round.BareRec
-noRec = record { mark = 0; len = 0 }
-
 -- R17.5, R17.7: of train t of lane k; the records stand in the order in which the lane hands out those of this train. A lane that is not shared knows train 0
 -- only.
 abbrev pub recordOf : ℕ → Lane → ℕ → ℕ → View
 recordOf k l t i =
     if not (known (l .waiting) t) then viewRefused 70 none
-    else if ltb i (length (queueOf (l .waiting) t)) then recordIs k (withTrain t (getD (queueOf (l .waiting) t) i noRec))
+    else if ltb i (length (queueOf (l .waiting) t)) then recordIs k (withTrain t (getD (queueOf (l .waiting) t) i round.noRec))
     else viewRefused 16 none
 
 -- R17.3: 11 for a lane that is not in the setup

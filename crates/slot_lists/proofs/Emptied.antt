@@ -1,17 +1,16 @@
 -- Lists of which no group has lanes. Assumes nothing.
-use mathlib.Core.Path.{_≡_, sym, ap, _∙_}
-use Prim.Native.Nat.{ℕ, _^_, _≤_, _<_}
+use mathlib.Core.Path.{_≡_, ap, _∙_}
+use Prim.Native.Nat.{ℕ}
 use mathlib.Core.List.{List, []}
 use mathlib.Core.Option.{none}
 use native.Mathlib.Omega.{arith}
-use lib.ListN.{length}
 use lib.Pow.{pow-pos}
 use Rattle.words.specs.Bits.{bit}
 use Rattle.words.specs.Words.{putWord}
 use Rattle.words.proofs.Bits.{bit-above}
 use Rattle.words.proofs.Laws.{length-putWord, wordAt-putWord-same, wordAt-putWord-other}
 use Rattle.rings.specs.Rings.{Long}
-use Rattle.slot_lists.specs.Lists.{groupsWord, backWord, groupsAt, mapOf, listAt, startAt, Fills, Solid, Empty}
+use Rattle.slot_lists.specs.Lists.{groupsWord, backWord, groupsAt, mapOf, listAt, startAt, Solid, Empty}
 use Rattle.slot_lists.specs.Changes.{ListsEmptied}
 use Rattle.slot_lists.proofs.Laws.{map-off, start-off, list-off, rest-word}
 

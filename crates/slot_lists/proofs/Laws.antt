@@ -1,13 +1,12 @@
 -- Laws of the slot lists: from the changes of rings and words to the lists that they leave. Assumes nothing.
 use mathlib.Core.Path.{_≡_, refl, sym, ap, subst, _∙_}
 use mathlib.Core.Bool.{Bool, true, false, false≢true}
-use mathlib.Core.Logic.{_⊎_, inl, inr, ⊎-elim}
-use Prim.Native.Nat.{ℕ, _+_, _-_, _*_, _/_, _^_, _≤_, _<_}
+use mathlib.Core.Logic.{_⊎_, ⊎-elim}
+use Prim.Native.Nat.{ℕ, _+_, _-_, _*_, _/_, _≤_, _<_}
 use mathlib.Core.List.{List, [], _∷_, _++_}
 use mathlib.Core.Option.{Option, none, some}
 use native.Mathlib.Omega.{arith}
 use borrow.Author.Tests.{eq-eqb, ne-eqb}
-use lib.Dec.{eqb}
 use lib.ListN.{length, getD, drop, length-append}
 use lib.Pow.{pow-pos}
 use Rattle.units.specs.Plain.{if_then_else_}
@@ -17,9 +16,9 @@ use Rattle.words.proofs.Bits.{bit-above}
 use Rattle.words.proofs.Runs.{eq-or-ne, reads-ext, tab-ext, getD-sets-above}
 use Rattle.words.proofs.Laws.{drop-putWord}
 use Rattle.rings.specs.Rings.{ringsFrom, ringsEnd, headByte, countByte, placeByte, ringOf, ringAt, Rung}
-use Rattle.slot_lists.specs.Lists.{groupsEnd, groupsWord, startWord, mapWord, ringNumber, groupsAt, mapOf, listIn, startAt, Fills}
-use Rattle.slot_lists.specs.Changes.{Moved, WithBit}
-use Rattle.slot_lists.proofs.Bits.{bit-two, bit-stays}
+use Rattle.slot_lists.specs.Lists.{groupsEnd, startWord, mapWord, ringNumber, groupsAt, mapOf, listIn, startAt, Fills}
+use Rattle.slot_lists.specs.Changes.{ListMoved, WithBit}
+use Rattle.slot_lists.proofs.Bits.{bit-stays}
 
 length-zero : (l : List ℕ) → length l ≡ 0 → l ≡ []
 length-zero [] h = refl
@@ -146,7 +145,7 @@ module _ (t u l : List ℕ) (g b m m′ : ℕ) (on : Bool) (lo : 16 ≤ g) (hi :
             (eq-or-ne c b);
       }
 
-  pub moved-as : Moved t u g m m′ b l
+  pub moved-as : ListMoved t u g m m′ b l
   moved-as =
       record {
         list = list-here on refl;
@@ -160,12 +159,12 @@ module _ (t u l : List ℕ) (g b m m′ : ℕ) (on : Bool) (lo : 16 ≤ g) (hi :
 -- ---- from what `append` and `remove_first` call to what they leave
 
 module _ (t t′ : List ℕ) (g b m n : ℕ) (lo : 16 ≤ g) (hi : g ≤ 31) (hb : b < 32) (en : n ≡ ringNumber g b) where
-  pub append-push : (k : ℕ) → bit b m ≡ 1 → Rung t t′ n (ringAt t n ++ (k ∷ [])) → Moved t t′ g m m b (listIn t g m b ++ (k ∷ []))
+  pub append-push : (k : ℕ) → bit b m ≡ 1 → Rung t t′ n (ringAt t n ++ (k ∷ [])) → ListMoved t t′ g m m b (listIn t g m b ++ (k ∷ []))
   append-push k e r =
       let r′ : Rung t t′ (ringNumber g b) (ringAt t (ringNumber g b) ++ (k ∷ [])) = subst (λ (n : ℕ). Rung t t′ n (ringAt t n ++ (k ∷ []))) en r in
       rw (list-on t g m b e) (moved-as t t′ _ g b m m true lo hi hb r′ (bit-stays m b true e) (λ q. simp length-append (omega arith)) (λ q. absurd (false≢true (sym q))))
 
-  pub append-begin : (k m′ : ℕ) → (bit b m ≡ 1 → ⊥) → Rung t t′ n (k ∷ []) → WithBit m b true m′ → Moved t t′ g m m′ b (listIn t g m b ++ (k ∷ []))
+  pub append-begin : (k m′ : ℕ) → (bit b m ≡ 1 → ⊥) → Rung t t′ n (k ∷ []) → WithBit m b true m′ → ListMoved t t′ g m m′ b (listIn t g m b ++ (k ∷ []))
   append-begin k m′ e r w =
       let r′ : Rung t t′ (ringNumber g b) (k ∷ []) = subst (λ (n : ℕ). Rung t t′ n (k ∷ [])) en r in
       rw (list-off t g m b e) (moved-as t t′ (k ∷ []) g b m m′ true lo hi hb r′ w (λ q. omega arith) (λ q. absurd (false≢true (sym q))))
@@ -184,8 +183,8 @@ module _ (t t′ : List ℕ) (g b m n : ℕ) (lo : 16 ≤ g) (hi : g ≤ 31) (hb
       left : h ≡ length (drop 1 (listIn t g m b))
       left = eh ∙ ap (λ (n : ℕ). length (drop 1 (ringAt t n))) en ∙ ap (λ (l : List ℕ). length (drop 1 l)) (sym (list-on t g m b has))
 
-      pub remove-more : (h ≡ 0 → ⊥) → Moved t t′ g m m b (drop 1 (listIn t g m b))
+      pub remove-more : (h ≡ 0 → ⊥) → ListMoved t t′ g m m b (drop 1 (listIn t g m b))
       remove-more ne = moved-as t t′ _ g b m m true lo hi hb popped (bit-stays m b true has) (λ q. omega (arith, ne, left)) (λ q. absurd (false≢true (sym q)))
 
-      pub remove-last : (m′ : ℕ) → h ≡ 0 → WithBit m b false m′ → Moved t t′ g m m′ b (drop 1 (listIn t g m b))
+      pub remove-last : (m′ : ℕ) → h ≡ 0 → WithBit m b false m′ → ListMoved t t′ g m m′ b (drop 1 (listIn t g m b))
       remove-last m′ z w = moved-as t t′ _ g b m m′ false lo hi hb popped w (λ q. absurd (false≢true q)) (λ q. length-zero _ (omega (arith, z, left)))

@@ -2,19 +2,19 @@
 use mathlib.Core.Path.{_≡_, refl, sym, ap, subst, _∙_}
 use mathlib.Core.Bool.{Bool, true, false}
 use mathlib.Core.Logic.{⊎-elim}
-use Prim.Native.Nat.{ℕ, _+_, _-_, _*_, _%_, _^_, _≤_, _<_}
+use Prim.Native.Nat.{ℕ, _+_, _-_, _%_, _^_, _≤_, _<_}
 use mathlib.Core.List.{List}
-use mathlib.Core.Option.{Option, none, some}
+use mathlib.Core.Option.{none, some}
 use native.Mathlib.Omega.{arith}
 use lib.Dec.{eqb}
-use lib.ListN.{length, drop}
+use lib.ListN.{drop}
 use Rattle.units.specs.Plain.{if_then_else_}
 use Rattle.words.specs.Bits.{bit}
 use Rattle.words.specs.Words.{wordAt, putWord}
-use Rattle.words.proofs.Laws.{length-putWord, wordAt-putWord-same, wordAt-putWord-other}
+use Rattle.words.proofs.Laws.{wordAt-putWord-same, wordAt-putWord-other}
 use Rattle.words.proofs.Runs.{eq-or-ne}
 use Rattle.rings.specs.Rings.{Long, ringsEnd, ringAt}
-use Rattle.slot_lists.specs.Lists.{groupsWord, backWord, startWord, mapWord, ringNumber, groupsAt, backAt, mapOf, listIn, listAt, startAt, Fills, Solid}
+use Rattle.slot_lists.specs.Lists.{groupsWord, backWord, startWord, mapWord, ringNumber, groupsAt, backAt, mapOf, listAt, startAt, Solid}
 use Rattle.slot_lists.specs.Changes.{earlierBy, Lowered}
 use Rattle.slot_lists.proofs.Laws.{ring-word, rest-word, map-same, list-same}
 

@@ -1,20 +1,19 @@
 -- What storing a group's words leaves. Assumes nothing.
-use mathlib.Core.Path.{_≡_, refl, sym, ap, subst, _∙_}
-use mathlib.Core.Bool.{Bool, true, false}
+use mathlib.Core.Path.{_≡_, refl, sym, ap, _∙_}
+use mathlib.Core.Bool.{true, false}
 use mathlib.Core.Logic.{_⊎_, inl, inr, ⊎-elim}
-use Prim.Native.Nat.{ℕ, _+_, _^_, _≤_, _<_}
+use Prim.Native.Nat.{ℕ, _^_, _≤_, _<_}
 use mathlib.Core.List.{List}
-use mathlib.Core.Option.{none, some}
+use mathlib.Core.Option.{some}
 use native.Mathlib.Omega.{arith}
-use borrow.Author.Tests.{eq-eqb, ne-eqb}
+use borrow.Author.Tests.{ne-eqb}
 use lib.Dec.{eqb}
-use Rattle.units.specs.Plain.{if_then_else_}
 use Rattle.words.specs.Bits.{bit}
 use Rattle.words.specs.Words.{wordAt, putWord}
 use Rattle.words.proofs.Laws.{length-putWord, wordAt-putWord-same, wordAt-putWord-other}
 use Rattle.rings.specs.Rings.{Long}
 use Rattle.slot_lists.specs.Lists.{groupsEnd, groupsWord, backWord, startWord, mapWord, groupsAt, mapOf}
-use Rattle.slot_lists.specs.Changes.{WithBit, Stored}
+use Rattle.slot_lists.specs.Changes.{WithBit, GroupStored}
 use Rattle.slot_lists.proofs.Laws.{ring-word, rest-word, map-on, map-off, map-same, start-on, start-off, start-same}
 
 module _ (t : List ℕ) (g m r : ℕ) (long : Long t) (lo : 16 ≤ g) (hi : g ≤ 31) (pos : 0 < m) (fits : m < 2 ^ 64) (start-fits : r < 2 ^ 64) where
@@ -35,7 +34,7 @@ module _ (t : List ℕ) (g m r : ℕ) (long : Long t) (lo : 16 ≤ g) (hi : g �
   some-map = ne-eqb m 0 (λ z. omega arith)
 
   -- it is marked now
-  pub stored-new : (x : ℕ) → x < 2 ^ 64 → WithBit (groupsAt t) g true x → Stored t (putWord two groupsWord x) g m r
+  pub stored-new : (x : ℕ) → x < 2 ^ 64 → WithBit (groupsAt t) g true x → GroupStored t (putWord two groupsWord x) g m r
   stored-new x hx w =
       let u = putWord two groupsWord x in
       let groups : groupsAt u ≡ x = wordAt-putWord-same two groupsWord x (omega (arith, length-putWord t (mapWord g) m, length-putWord (putWord t (mapWord g) m) (startWord g) r)) hx in
@@ -60,7 +59,7 @@ module _ (t : List ℕ) (g m r : ℕ) (long : Long t) (lo : 16 ≤ g) (hi : g �
 
 -- one word of a group that is marked: its other word stays
 module _ (t : List ℕ) (g : ℕ) (long : Long t) (lo : 16 ≤ g) (hi : g ≤ 31) (on : bit g (groupsAt t) ≡ 1) where
-  stored-one : (j v m r : ℕ) → (j ≡ mapWord g) ⊎ (j ≡ startWord g) → 0 < m → wordAt (putWord t j v) (mapWord g) ≡ m → wordAt (putWord t j v) (startWord g) ≡ r → Stored t (putWord t j v) g m r
+  stored-one : (j v m r : ℕ) → (j ≡ mapWord g) ⊎ (j ≡ startWord g) → 0 < m → wordAt (putWord t j v) (mapWord g) ≡ m → wordAt (putWord t j v) (startWord g) ≡ r → GroupStored t (putWord t j v) g m r
   stored-one j v m r which pos map-is start-is =
       let u = putWord t j v in
       let near : (j ≡ mapWord g → ⊥) → j ≡ startWord g = λ ne. ⊎-elim (λ (e : j ≡ mapWord g). absurd (ne e)) (λ (e : j ≡ startWord g). e) which in
@@ -85,15 +84,15 @@ module _ (t : List ℕ) (g : ℕ) (long : Long t) (lo : 16 ≤ g) (hi : g ≤ 31
         rings = λ i h. ring-word t j v i (bounds .1);
       }
 
-  pub stored-lists : (m : ℕ) → 0 < m → m < 2 ^ 64 → Stored t (putWord t (mapWord g) m) g m (wordAt t (startWord g))
+  pub stored-lists : (m : ℕ) → 0 < m → m < 2 ^ 64 → GroupStored t (putWord t (mapWord g) m) g m (wordAt t (startWord g))
   stored-lists m pos fits = stored-one (mapWord g) m m (wordAt t (startWord g)) (inl refl) pos (wordAt-putWord-same t (mapWord g) m (omega arith) fits) (wordAt-putWord-other t (mapWord g) (startWord g) m (omega arith))
 
-  pub stored-start : (r : ℕ) → 0 < mapOf t g → r < 2 ^ 64 → Stored t (putWord t (startWord g) r) g (mapOf t g) r
+  pub stored-start : (r : ℕ) → 0 < mapOf t g → r < 2 ^ 64 → GroupStored t (putWord t (startWord g) r) g (mapOf t g) r
   stored-start r pos fits =
       stored-one (startWord g) r (mapOf t g) r (inr refl) pos (wordAt-putWord-other t (startWord g) (mapWord g) r (omega arith) ∙ sym (map-on t g on)) (wordAt-putWord-same t (startWord g) r (omega arith) fits)
 
 -- the group has no lanes any more
-pub stored-none : (t : List ℕ) (g x : ℕ) → Long t → 16 ≤ g → g ≤ 31 → x < 2 ^ 64 → WithBit (groupsAt t) g false x → Stored t (putWord t groupsWord x) g 0 0
+pub stored-none : (t : List ℕ) (g x : ℕ) → Long t → 16 ≤ g → g ≤ 31 → x < 2 ^ 64 → WithBit (groupsAt t) g false x → GroupStored t (putWord t groupsWord x) g 0 0
 stored-none t g x long lo hi hx w =
     let u = putWord t groupsWord x in
     let groups : groupsAt u ≡ x = wordAt-putWord-same t groupsWord x (omega arith) hx in
@@ -113,7 +112,7 @@ stored-none t g x long lo hi hx w =
     }
 
 -- one store after another
-pub stored-then : (t u w : List ℕ) (g m r x : ℕ) → Stored t u g m x → Stored u w g m r → Stored t w g m r
+pub stored-then : (t u w : List ℕ) (g m r x : ℕ) → GroupStored t u g m x → GroupStored u w g m r → GroupStored t w g m r
 stored-then t u w g m r x a b =
     record {
       apart = record { below = λ j h. b .apart .below j h ∙ a .apart .below j h; back = b .apart .back ∙ a .apart .back; rest = b .apart .rest ∙ a .apart .rest };

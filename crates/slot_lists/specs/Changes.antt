@@ -1,8 +1,8 @@
 -- What the functions on slot lists leave.
 --
---   Moved          one list was changed, m and m′ being the words of the group's lists before and after; no word is stored yet
+--   ListMoved      one list was changed, m and m′ being the words of the group's lists before and after; no word is stored yet
 --   Apart          the words below this part, what was taken off the clock, and the bytes past the rings stay
---   Stored         a group's words were stored
+--   GroupStored    a group's words were stored
 --   ListsEmptied   all groups were cleared
 --   Lowered        the clock was taken back
 --   Nearest        the first set bit of a word of lists from one of them on, in circular order
@@ -22,7 +22,7 @@ use Rattle.words.specs.Words.{wordAt}
 use Rattle.rings.specs.Rings.{ringCount, ringsFrom, ringsEnd, ringAt}
 use Rattle.slot_lists.specs.Lists.{lowestGroup, highestGroup, slotLists, listsFrom, ringNumber, backEnd, groupsAt, backAt, mapOf, listIn, startAt, Fills, Empty}
 
-pub record Moved (before after : List ℕ) (g m m′ b : ℕ) (l : List ℕ) : Type 0 where
+pub record ListMoved (before after : List ℕ) (g m m′ b : ℕ) (l : List ℕ) : Type 0 where
   pub list : listIn after g m′ b ≡ l
   pub others : (c : ℕ) → c < slotLists → (c ≡ b → ⊥) → listIn after g m′ c ≡ listIn before g m c
   pub fills : Fills before g m → Fills after g m′
@@ -36,7 +36,7 @@ pub record Apart (before after : List ℕ) : Type 0 where
   pub rest : drop ringsEnd after ≡ drop ringsEnd before
 
 -- the group has lanes exactly if its word of lists is not 0
-pub record Stored (before after : List ℕ) (g m r : ℕ) : Type 0 where
+pub record GroupStored (before after : List ℕ) (g m r : ℕ) : Type 0 where
   pub apart : Apart before after
   pub map : mapOf after g ≡ m
   pub maps : (i : ℕ) → lowestGroup ≤ i → i ≤ highestGroup → (i ≡ g → ⊥) → mapOf after i ≡ mapOf before i

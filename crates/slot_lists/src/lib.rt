@@ -14,7 +14,7 @@ ghost use Rattle.words.specs.Bits.{bit};
 ghost use Rattle.rings.specs.Rings.{Long};
 ghost use Rattle.words.specs.Words.{wordAt};
 ghost use Rattle.slot_lists.specs.Lists.{startWord, ringNumber, groupsAt, backAt, mapOf, listIn, Fills};
-ghost use Rattle.slot_lists.specs.Changes.{Moved, Stored, ListsEmptied, Lowered, Nearest};
+ghost use Rattle.slot_lists.specs.Changes.{ListMoved, GroupStored, ListsEmptied, Lowered, Nearest};
 use parts::LISTS;
 use rings::begin;
 use rings::entry;
@@ -73,7 +73,7 @@ pub fn first(t: &[u8], g: u32, b: u32, map: u64) -> usize
 // Puts lane `k` at the end of a list; the word of the group's lists after it.
 pub fn append(t: &mut [u8], g: u32, b: u32, map: u64, k: usize) -> u64
     requires { ⌜ Long (now t) × (16 ≤ g) × (g ≤ 31) × (b < 32) × (k < 256) × Fills (now t) g map × (length (listIn (now t) g map b) < 64) ⌝ }
-    ensures { λ r. ⌜ Moved (now (t .entry)) (now (t .exit)) g map r b (listIn (now (t .entry)) g map b ++ (k ∷ [])) ⌝ }
+    ensures { λ r. ⌜ ListMoved (now (t .entry)) (now (t .exit)) g map r b (listIn (now (t .entry)) g map b ++ (k ∷ [])) ⌝ }
 {
     let i = ring_number(g, b);
     if (map >> b) % 2 == 1 {
@@ -88,7 +88,7 @@ pub fn append(t: &mut [u8], g: u32, b: u32, map: u64, k: usize) -> u64
 // Takes the first lane out of a list that has lanes; the word of the group's lists after it.
 pub fn remove_first(t: &mut [u8], g: u32, b: u32, map: u64) -> u64
     requires { ⌜ Long (now t) × (16 ≤ g) × (g ≤ 31) × (b < 32) × Fills (now t) g map × (0 < length (listIn (now t) g map b)) ⌝ }
-    ensures { λ r. ⌜ Moved (now (t .entry)) (now (t .exit)) g map r b (drop 1 (listIn (now (t .entry)) g map b)) ⌝ }
+    ensures { λ r. ⌜ ListMoved (now (t .entry)) (now (t .exit)) g map r b (drop 1 (listIn (now (t .entry)) g map b)) ⌝ }
 {
     let left = pop(t, ring_number(g, b));
     if left == 0 { map - (1u64 << b) } else { map }
@@ -106,7 +106,7 @@ pub fn nearest(map: u64, b: u32) -> u32
 // Stores the words of group `g`, which had no lanes; `groups` is the word of the groups that had.
 pub fn open_group(t: &mut [u8], g: u32, groups: u64, map: u64, start: u64)
     requires { ⌜ Long (now t) × (16 ≤ g) × (g ≤ 31) × (groups ≡ groupsAt (now t)) × (bit g groups ≡ 0) × (0 < map) ⌝ }
-    ensures { λ _. ⌜ Stored (now (t .entry)) (now (t .exit)) g map start ⌝ }
+    ensures { λ _. ⌜ GroupStored (now (t .entry)) (now (t .exit)) g map start ⌝ }
 {
     let i = g as usize;
     set_word(t, MAPS + i, map);
@@ -117,7 +117,7 @@ pub fn open_group(t: &mut [u8], g: u32, groups: u64, map: u64, start: u64)
 // Stores the word of the lists of group `g`, which had lanes and has some.
 pub fn set_lists(t: &mut [u8], g: u32, map: u64)
     requires { ⌜ Long (now t) × (16 ≤ g) × (g ≤ 31) × (bit g (groupsAt (now t)) ≡ 1) × (0 < map) ⌝ }
-    ensures { λ _. ⌜ Stored (now (t .entry)) (now (t .exit)) g map (wordAt (now (t .entry)) (startWord g)) ⌝ }
+    ensures { λ _. ⌜ GroupStored (now (t .entry)) (now (t .exit)) g map (wordAt (now (t .entry)) (startWord g)) ⌝ }
 {
     set_word(t, MAPS + (g as usize), map);
 }
@@ -125,7 +125,7 @@ pub fn set_lists(t: &mut [u8], g: u32, map: u64)
 // Stores the start of group `g`, which has lanes.
 pub fn set_start(t: &mut [u8], g: u32, start: u64)
     requires { ⌜ Long (now t) × (16 ≤ g) × (g ≤ 31) × (bit g (groupsAt (now t)) ≡ 1) × (0 < mapOf (now t) g) ⌝ }
-    ensures { λ _. ⌜ Stored (now (t .entry)) (now (t .exit)) g (mapOf (now (t .entry)) g) start ⌝ }
+    ensures { λ _. ⌜ GroupStored (now (t .entry)) (now (t .exit)) g (mapOf (now (t .entry)) g) start ⌝ }
 {
     set_word(t, STARTS + (g as usize), start);
 }
@@ -133,7 +133,7 @@ pub fn set_start(t: &mut [u8], g: u32, start: u64)
 // Group `g`, which had lanes, has none any more.
 pub fn clear_group(t: &mut [u8], g: u32, groups: u64)
     requires { ⌜ Long (now t) × (16 ≤ g) × (g ≤ 31) × (groups ≡ groupsAt (now t)) × (bit g groups ≡ 1) ⌝ }
-    ensures { λ _. ⌜ Stored (now (t .entry)) (now (t .exit)) g 0 0 ⌝ }
+    ensures { λ _. ⌜ GroupStored (now (t .entry)) (now (t .exit)) g 0 0 ⌝ }
 {
     set_word(t, GROUPS, groups - (1u64 << g));
 }

@@ -8,16 +8,15 @@ use native.Mathlib.Omega.{arith}
 use lib.ListN.{length, getD, set}
 use lib.Seq.{getD-set-same, getD-set-other}
 use Rattle.words.specs.Runs.{tab}
-use Rattle.words.proofs.Runs.{eq-or-ne, tab-ext, tab-set, getD-tab}
+use Rattle.words.proofs.Runs.{eq-or-ne, tab-ext, tab-set, getD-tab, length-tab}
 use Rattle.parts.specs.Parts.{rowsFrom}
-use Rattle.rounds.specs.Round.{Shared, sharedHeld}
+use Rattle.rounds.specs.Round.{sharedHeld}
 use Rattle.turns.specs.Turns.{sharedOf, Ordered}
 use Rattle.turns.proofs.Train.{shared-same}
 use Rattle.rules.specs.State.{noLane, laneAt}
-use Rattle.table.specs.Layout.{CELLS, presentWord, depthWord, framingWord, laneWord, roundWord, roundAt, lengthsCell, lengthWords, marksCell, markWords, trainsCell, placeInLane, entryAt, rowAt, rowOf, trainNumber}
-use Rattle.table.specs.Means.{presentAt, recOf, recAt, laneRing, sharedAt, waitingOf, rowLane, laneOf, stateOf, RowAgrees, PlacesFit, TrainsFit, Housed, RowsFit, withClock, withLane}
+use Rattle.table.specs.Layout.{CELLS, cells, presentWord, depthWord, framingWord, laneWord, roundWord, roundAt, lengthsCell, lengthWords, marksCell, markWords, trainsCell, placeInLane, entryAt, rowAt, rowOf, trainNumber}
+use Rattle.table.specs.Means.{presentAt, recOf, recAt, laneRing, sharedAt, waitingOf, rowLane, laneOf, stateOf, meant, RowAgrees, PlacesFit, Housed, RowsFit, withClock, withLane}
 use Rattle.table.specs.declared.LaneRow.{LaneRow}
-use Rattle.table.specs.declared.Entry.{Entry}
 use Rattle.table.proofs.Stores.{rowOf-eq}
 use Rattle.table.proofs.Entries.{entry-kept, train-kept}
 
@@ -86,6 +85,11 @@ module _ (w u : List ℕ) (k : ℕ) (s : SameLane w u k) where
 pub lane-is : (w o : List ℕ) (k : ℕ) → k < 64 → laneAt (stateOf w o) k ≡ laneOf w k
 unfolding stateOf
 lane-is w o k h = getD-tab 64 k (laneOf w) noLane h
+
+-- a table has 64 lanes
+pub lanes-many : (t : List ℕ) → length (meant t .lanes) ≡ 64
+unfolding stateOf
+lanes-many t = length-tab 64 (laneOf (cells t))
 
 -- ---- a change in one lane's words but its setting
 

@@ -1,10 +1,10 @@
 -- The slot lists lie between a table's cells: what stores in the one leaves the other. Assumes nothing.
-use mathlib.Core.Path.{_≡_, refl, sym, ap, subst, _∙_}
+use mathlib.Core.Path.{_≡_, sym, ap, subst, _∙_}
 use mathlib.Core.Logic.{⊎-elim}
-use Prim.Native.Nat.{ℕ, _+_, _-_, _*_, _/_, _%_, _^_, _≤_, _<_}
+use Prim.Native.Nat.{ℕ, _+_, _-_, _*_, _/_, _≤_, _<_}
 use mathlib.Core.List.{List, []}
 use native.Mathlib.Omega.{arith}
-use lib.ListN.{length, getD, drop}
+use lib.ListN.{getD, drop}
 use lib.Seq.{getD-drop, drop-drop}
 use Rattle.words.specs.Bits.{bit}
 use Rattle.words.specs.Words.{leVal, wordAt}
@@ -14,10 +14,10 @@ use Rattle.rules.specs.Calls.{fresh}
 use Rattle.table.specs.Layout.{CELLS, SIZE, marksCell, Behind, cells}
 use Rattle.table.specs.Means.{meant, Listed}
 use Rattle.rings.specs.Rings.{ringsEnd, headByte, countByte, placeByte, ringOf, ringAt}
-use Rattle.slot_lists.specs.Lists.{listsFrom, groupsAt, groupsWord, backWord, startWord, mapWord, ringNumber, backAt, mapOf, listIn, listAt, startAt, Fills, Solid, Empty}
+use Rattle.slot_lists.specs.Lists.{listsFrom, groupsAt, groupsWord, backWord, startWord, mapWord, ringNumber, backAt, mapOf, listIn, listAt, startAt, Solid, Empty}
 use Rattle.slot_lists.proofs.Emptied.{no-list, no-start, empty-solid}
 use Rattle.slot_lists.specs.Changes.{Apart}
-use Rattle.filing.specs.Filing.{flat, inARow, Agrees}
+use Rattle.filing.specs.Filing.{inARow, Agrees}
 use Rattle.filing.proofs.Flat.{flat-none, flat-ext}
 use Rattle.filing.proofs.Others.{fresh-agrees}
 use Rattle.table.proofs.Stores.{word-before, word-behind}

@@ -4,10 +4,10 @@ use Prim.Native.Nat.{ℕ, _+_, _-_, _*_, _/_, _%_, _^_, _≤_, _<_}
 use mathlib.Core.List.{List}
 use native.Mathlib.Numerals.{add-one}
 use native.Mathlib.Omega.{arith}
-use lib.ListN.{length, getD, set}
+use lib.ListN.{length, set}
 use Rattle.words.specs.Words.{wordAt, putWord}
 use Rattle.rings.specs.Rings.{ringsEnd}
-use Rattle.digits.specs.Digits.{digit, putDigit, Stored}
+use Rattle.digits.specs.Digits.{digit, putDigit, WordStored}
 use Rattle.digits.proofs.Bytes.{word-stored}
 use Rattle.table.specs.Layout.{CELLS, placeCount, halfCount, lengthsCell, marksCell, lengthCell, markCell, wordOfCell, Now, cells, entryAt, putLength, putMark, clearCells, trainPlace, trainNumber, putTrain}
 use Rattle.table.specs.declared.Entry.{Entry}
@@ -27,7 +27,7 @@ module _ (p : ℕ) (hp : p < halfCount) where
   mark-digit : halfOf p % 2 ≡ p % 2
   mark-digit = omega arith
 
-  pub mark-stored : (t u : List ℕ) (m : ℕ) → Stored t u (halfOf p / 2) (putDigit 32 (halfOf p % 2) m (wordAt t (halfOf p / 2))) → Now t u (putMark (cells t) p m)
+  pub mark-stored : (t u : List ℕ) (m : ℕ) → WordStored t u (halfOf p / 2) (putDigit 32 (halfOf p % 2) m (wordAt t (halfOf p / 2))) → Now t u (putMark (cells t) p m)
   unfolding putMark
   mark-stored t u m s = rw (cell-is t (markCell p) (omega arith)) (now-stored t u (markCell p) _ (omega arith) (rw (mark-word, mark-digit) at s))
 
@@ -42,7 +42,7 @@ module _ (p : ℕ) (hp : p < placeCount) where
   unfolding entryAt
   entry-read t q h a b = rw (a, b, length-word, mark-word p (omega arith), length-digit, mark-digit p (omega arith), cell-is t (lengthCell p) (omega arith), cell-is t (markCell p) (omega arith))
 
-  pub length-stored : (t u : List ℕ) (n : ℕ) → Stored t u (quarterOf p / 4) (putDigit 16 (quarterOf p % 4) (n - 1) (wordAt t (quarterOf p / 4))) → Now t u (putLength (cells t) p n)
+  pub length-stored : (t u : List ℕ) (n : ℕ) → WordStored t u (quarterOf p / 4) (putDigit 16 (quarterOf p % 4) (n - 1) (wordAt t (quarterOf p / 4))) → Now t u (putLength (cells t) p n)
   unfolding putLength
   length-stored t u n s = rw (cell-is t (lengthCell p) (omega arith)) (now-stored t u (lengthCell p) _ (omega arith) (rw (length-word, length-digit) at s))
 
@@ -56,14 +56,14 @@ module _ (k j : ℕ) (hk : k < 64) (hj : j < 8) where
   unfolding trainNumber
   train-read t h i e q = rw (e, q, mark-word (trainPlace k j) (omega arith), mark-digit (trainPlace k j) (omega arith), cell-is t (markCell (trainPlace k j)) (omega arith))
 
-  pub train-stored : (t u : List ℕ) (n i : ℕ) → Stored t u (i / 2) (putDigit 32 (i % 2) n (wordAt t (i / 2))) → i ≡ halfOf (trainPlace k j) → Now t u (putTrain (cells t) k j n)
-  train-stored t u n i s q = mark-stored (trainPlace k j) (omega arith) t u n (subst (λ (x : ℕ). Stored t u (x / 2) (putDigit 32 (x % 2) n (wordAt t (x / 2)))) q s)
+  pub train-stored : (t u : List ℕ) (n i : ℕ) → WordStored t u (i / 2) (putDigit 32 (i % 2) n (wordAt t (i / 2))) → i ≡ halfOf (trainPlace k j) → Now t u (putTrain (cells t) k j n)
+  train-stored t u n i s q = mark-stored (trainPlace k j) (omega arith) t u n (subst (λ (x : ℕ). WordStored t u (x / 2) (putDigit 32 (x % 2) n (wordAt t (x / 2)))) q s)
 
 -- a word behind the slot lists
 pub behind-stored : (t u : List ℕ) (c j v : ℕ) → u ≡ putWord t j v → c < CELLS → marksCell ≤ c → j ≡ c - marksCell + ringsEnd / 8 → j * 8 + 8 ≤ length t → v < 2 ^ 64 → Now t u (set (cells t) c v)
 behind-stored t u c j v e h lo q room fits =
     subst (λ (x : List ℕ). Now t x (set (cells t) c v)) (sym e)
-    (now-stored t (putWord t j v) c v h (subst (λ (x : ℕ). Stored t (putWord t j v) x v) (q ∙ sym (word-behind c lo)) (word-stored t j v room fits)))
+    (now-stored t (putWord t j v) c v h (subst (λ (x : ℕ). WordStored t (putWord t j v) x v) (q ∙ sym (word-behind c lo)) (word-stored t j v room fits)))
 
 -- ---- cells cleared one after another
 

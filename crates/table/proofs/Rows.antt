@@ -12,8 +12,8 @@ use Rattle.table.specs.Layout.{CELLS, presentWord, framingWord, laneWord
 use Rattle.table.specs.Means.{presentAt, laneRing, givenOf, sharedAt, sharedIf, waitingOf, timedByWord, rowLane, laneOf, stateOf, Housed}
 use Rattle.table.specs.declared.LaneRow.{LaneRow}
 use Rattle.words.proofs.Runs.{length-tab}
-use Rattle.rounds.specs.Round.{empty}
-use Rattle.waiting.specs.Waiting.{plain, shared, nothing, isShared, held}
+use Rattle.rounds.specs.Round.{emptyShared}
+use Rattle.waiting.specs.Waiting.{plain, shared, noneWaiting, isShared, held}
 use Rattle.waiting.proofs.Laws.{held-nothing}
 use Rattle.rules.specs.State.{Lane, laneAt, holds, noLane, laneDepth}
 use Rattle.table.proofs.Timed.{timed-given, timed-waiting}
@@ -110,11 +110,11 @@ module _ (w : List ℕ) (k : ℕ) (l : LaneRow) where
   unfolding waitingOf
   waiting-plain e = rw e
 
-  pub waiting-none : l .count ≡ 0 → waitingOf w k l ≡ nothing (l .shared)
+  pub waiting-none : l .count ≡ 0 → waitingOf w k l ≡ noneWaiting (l .shared)
   unfolding waitingOf sharedIf laneRing tab tabFrom
   waiting-none e = rw e (go (l .shared))
     where
-      go : (b : Bool) → (if b then shared empty else plain []) ≡ nothing b
+      go : (b : Bool) → (if b then shared emptyShared else plain []) ≡ noneWaiting b
       go true = refl
       go false = refl
 

@@ -1,18 +1,15 @@
 -- Laws of reading and storing cells. Assumes nothing.
-use mathlib.Core.Path.{_≡_, refl, sym, ap, _∙_}
-use mathlib.Core.Bool.{true, false}
+use mathlib.Core.Path.{_≡_, refl, ap, _∙_}
 use mathlib.Core.Logic.{⊎-elim}
 use Prim.Native.Nat.{ℕ, _+_, _-_, _*_, _/_, _≤_, _<_}
 use mathlib.Core.List.{List}
 use native.Mathlib.Omega.{arith}
 use borrow.Author.Tests.{lt-ltb, le-ltb}
-use lib.Dec.{ltb}
 use lib.ListN.{length, getD, set}
-use Rattle.units.specs.Plain.{if_then_else_}
 use Rattle.words.specs.Words.{wordAt}
 use Rattle.words.proofs.Runs.{le-or-lt, length-tab, getD-tab, tab-set}
 use Rattle.rings.specs.Rings.{ringsEnd}
-use Rattle.digits.specs.Digits.{Stored}
+use Rattle.digits.specs.Digits.{WordStored}
 use Rattle.table.specs.Layout.{CELLS, SIZE, marksCell, wordOfCell, Behind, Now, cells, rowOf}
 
 pub length-cells : (t : List ℕ) → length (cells t) ≡ CELLS
@@ -59,7 +56,7 @@ pub behind-then : {t u v : List ℕ} → Behind t u → Behind u v → Behind t 
 behind-then a b = record { lists = λ x p q. b .lists x p q ∙ a .lists x p q; past = b .past ∙ a .past }
 
 -- a word that is a cell was stored
-pub now-stored : (t t′ : List ℕ) (c v : ℕ) → c < CELLS → Stored t t′ (wordOfCell c) v → Now t t′ (set (cells t) c v)
+pub now-stored : (t t′ : List ℕ) (c v : ℕ) → c < CELLS → WordStored t t′ (wordOfCell c) v → Now t t′ (set (cells t) c v)
 unfolding cells
 now-stored t t′ c v h s =
     record {

@@ -1,10 +1,10 @@
 -- Laws of a lane by its one clock word: each change that a call makes to a lane is a new clock word and a change of what waits. Assumes nothing.
-use mathlib.Core.Path.{_≡_, refl, ap, _∙_}
+use mathlib.Core.Path.{_≡_, refl, ap}
 use mathlib.Core.Bool.{true, false≢true}
 use Prim.Native.Nat.{ℕ, _+_, _*_, max}
 use mathlib.Core.Option.{Option, none, some}
-use Rattle.rules.specs.State.{Rec, Setting, Lane, charge, rate, some?}
-use Rattle.waiting.specs.Waiting.{Waiting, nothing, first, enter, handOut}
+use Rattle.rules.specs.State.{Rec, Setting, charge, rate, some?}
+use Rattle.waiting.specs.Waiting.{Waiting, noneWaiting, first, enter, handOut}
 use Rattle.waiting.proofs.Laws.{first-nothing}
 use Rattle.rules.specs.Calls as rules
 use Rattle.rules.specs.Calls.{appended, woken, served, idle}
@@ -72,6 +72,6 @@ unfolding timedByWord served
 timed-served g x w r e = ap served (timed-some g x w r e)
 
 -- fresh
-pub timed-idle : (g : Setting) → idle g ≡ timedByWord g 0 (nothing (g .shared))
+pub timed-idle : (g : Setting) → idle g ≡ timedByWord g 0 (noneWaiting (g .shared))
 unfolding idle
-timed-idle g = rw (timed-none g 0 (nothing (g .shared)) (first-nothing (g .shared)))
+timed-idle g = rw (timed-none g 0 (noneWaiting (g .shared)) (first-nothing (g .shared)))

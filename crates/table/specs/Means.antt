@@ -27,7 +27,7 @@ use lib.ListN.{getD, set}
 use Rattle.words.specs.Bits.{bit}
 use Rattle.words.specs.Runs.{tab}
 use Rattle.units.specs.Plain.{if_then_else_}
-use Rattle.rounds.specs.Round.{BareRec, Shared, empty, sharedHeld}
+use Rattle.rounds.specs.Round.{BareRec, Shared, emptyShared, sharedHeld}
 use Rattle.turns.specs.Turns.{sharedOf, Ordered}
 use Rattle.waiting.specs.Waiting.{Waiting, plain, shared, first}
 use Rattle.rules.specs.State.{Setting, Lane, State, rate, group, noLane, laneDepth}
@@ -72,7 +72,7 @@ sharedAt w k = sharedOf (recAt w k) (trainNumber w k) (roundAt w k)
 
 -- the words of trains and round mean nothing while the lane holds no record
 unfoldable pub sharedIf : ℕ → Shared → Waiting
-sharedIf zero s = shared empty
+sharedIf zero s = shared emptyShared
 sharedIf (suc n) s = shared s
 
 unfoldable pub waitingOf : List ℕ → ℕ → LaneRow → Waiting

@@ -64,6 +64,10 @@ pub width-le : (n j : ℕ) → 0 < j → n < 10 ^ j → width n ≤ j
 unfolding width
 width-le n j p q = from-le 19 1 n j p q
 
+-- a number below 10 ^ k has at most k digits
+pub decimal-le : (n k : ℕ) → 0 < k → n < 10 ^ k → length (decimal n) ≤ k
+decimal-le n k p h = omega (arith, length-decimal n, width-le n k p h)
+
 -- ---- what is left of a number once its k lowest digits are taken off
 
 pub left-next : (n k : ℕ) → n / 10 ^ k / 10 ≡ n / 10 ^ suc k

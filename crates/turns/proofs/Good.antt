@@ -1,73 +1,19 @@
 -- What a good shared lane gives of its numbers: all that the two functions ask. Assumes nothing.
-use Prim.Native.Nat.{ℕ, zero, suc, _+_, _-_, _*_, _/_, _%_, _^_, _≤_, _<_}
+use Prim.Native.Nat.{ℕ, zero, suc, _+_, _-_, _/_, _%_, _≤_, _<_}
 use native.Mathlib.Omega.{arith}
 use mathlib.Core.Path.{_≡_, refl, sym, ap, subst, _∙_}
 use mathlib.Core.Bool.{Bool, true, false, false≢true}
-use mathlib.Core.List.{List, [], _∷_, _++_}
-use mathlib.Core.Option.{Option, none, some}
-use lib.Dec.{eqb}
-use lib.ListN.{length, getD}
-use borrow.Author.Tests.{eq-eqb, ne-eqb}
+use mathlib.Core.List.{List, [], _∷_}
+use mathlib.Core.Option.{some}
+use borrow.Author.Tests.{eq-eqb}
 use Rattle.units.specs.Plain.{if_then_else_, times}
-use Rattle.rounds.specs.Round.{BareRec, Train, Shared, TrainItem, noTrain, queued?, trainAt, inTurn, firstOfTrain, firstInTurn, sharedFirst}
+use Rattle.units.proofs.Below.{length-times, below-less}
+use Rattle.rounds.specs.Round.{BareRec, Train, queued?, trainAt, inTurn, firstOfTrain, firstInTurn, sharedFirst}
 use Rattle.rounds.specs.Good.{Lengths, Deficit, GoodTrain, GoodShared}
-use Rattle.rounds.proofs.Lists.{same-or}
 use Rattle.rounds.proofs.KeepHand.{named-holds, held-inside, turn-holds}
-use Rattle.turns.specs.Turns.{headOf, countOf, deficitOf, placeInTrain, trainRing, trainOf, trainsOf, sharedOf, fours, namedOf, orderOf, roundOf, turnOf, Ordered, Known, Light}
+use Rattle.turns.specs.Turns.{headOf, countOf, deficitOf, placeInTrain, trainRing, trainOf, trainsOf, sharedOf, fours, namedOf, orderOf, roundOf, turnOf, Ordered, NamesTrains, Light}
 use Rattle.turns.proofs.Round.{length-fours, round-cons}
 use Rattle.turns.proofs.Train.{length-ring, ring-none, ring-cons, train-is}
-
--- ---- a round of distinct trains has at most 8, and one less for each that it does not name
-
-countBelow : (ℕ → ℕ) → ℕ → ℕ
-countBelow f zero = 0
-countBelow f (suc n) = f n + countBelow f n
-
-count-add : (f g h : ℕ → ℕ) (n : ℕ) → ((k : ℕ) → f k ≡ g k + h k) → countBelow f n ≡ countBelow g n + countBelow h n
-unfolding countBelow
-count-add f g h zero e = omega arith
-count-add f g h (suc n) e = omega (arith, e n, count-add f g h n e)
-
-count-none : (j n : ℕ) → n ≤ j → countBelow (λ (k : ℕ). if eqb j k then 1 else 0) n ≡ 0
-unfolding countBelow
-count-none j zero h = refl
-count-none j (suc n) h = simp (ne-eqb j n (λ e. omega arith)) (omega (arith, count-none j n (omega arith)))
-
-count-one : (j n : ℕ) → j < n → countBelow (λ (k : ℕ). if eqb j k then 1 else 0) n ≡ 1
-unfolding countBelow
-count-one j zero h = absurd (omega arith)
-count-one j (suc n) h =
-    same-or j n
-    (λ e. simp (eq-eqb j n e) (omega (arith, count-none j n (omega arith))))
-    (λ e. simp (ne-eqb j n e) (omega (arith, count-one j n (omega arith))))
-
-length-times : (n : ℕ) (js : List ℕ) → ((j : ℕ) → 0 < times j js → j < n) → countBelow (λ (k : ℕ). times k js) n ≡ length js
-unfolding countBelow
-length-times n [] h = zeros n
-  where
-    zeros : (n : ℕ) → countBelow (λ (k : ℕ). times k []) n ≡ 0
-    zeros zero = refl
-    zeros (suc n) = omega (arith, zeros n)
-length-times n (j ∷ js) h =
-    omega (
-      arith,
-      count-add (λ (k : ℕ). times k (j ∷ js)) (λ (k : ℕ). if eqb j k then 1 else 0) (λ (k : ℕ). times k js) n (λ k. refl),
-      count-one j n (h j (simp (eq-eqb j j refl) (omega arith))),
-      length-times n js (λ i p. h i (omega arith)),
-    )
-
-count-most : (f : ℕ → ℕ) (n : ℕ) → ((k : ℕ) → f k ≤ 1) → countBelow f n ≤ n
-unfolding countBelow
-count-most f zero h = omega arith
-count-most f (suc n) h = omega (arith, h n, count-most f n h)
-
-count-less : (f : ℕ → ℕ) (n i : ℕ) → ((k : ℕ) → f k ≤ 1) → i < n → f i ≡ 0 → countBelow f n < n
-unfolding countBelow
-count-less f zero i h p z = absurd (omega arith)
-count-less f (suc n) i h p z =
-    same-or i n
-    (λ e. omega (arith, count-most f n h, ap f e))
-    (λ e. omega (arith, h n, count-less f n i h (omega arith) z))
 
 -- ---- by the rule for a good lane
 
@@ -84,7 +30,7 @@ module _ (L r : ℕ) (at : ℕ → BareRec) (ts : ℕ → ℕ) (good : GoodShare
       go true e = omega arith
       go false e = omega arith
 
-  pub good-known : Known r
+  pub good-known : NamesTrains r
   unfolding sharedOf
   good-known i p = omega (arith, held-inside (trainsOf at ts) i (named-holds (good .each i) p), good .size)
 
@@ -110,7 +56,7 @@ module _ (L r : ℕ) (at : ℕ → BareRec) (ts : ℕ → ℕ) (good : GoodShare
       omega (
         arith,
         length-times 8 (roundOf r) good-known,
-        count-less (λ (i : ℕ). times i (roundOf r)) 8 k good-once h none-named,
+        below-less (λ (i : ℕ). times i (roundOf r)) 8 k good-once h none-named,
         length-fours (namedOf r) (orderOf r),
       )
 

@@ -7,13 +7,13 @@ use mathlib.Core.List.{List, [], _∷_, _++_}
 use lib.ListN.{length, set}
 use borrow.Author.Tests.{le-leb, lt-leb, eq-eqb}
 use Rattle.units.specs.Plain.{times}
+use Rattle.units.proofs.Lists.{times-append}
 use Rattle.rounds.specs.Round.{BareRec, Train, noTrain, begin, handOf, handIn, sharedHandOut}
-use Rattle.rounds.proofs.Lists.{times-append}
-use Rattle.turns.specs.Turns.{headOf, countOf, deficitOf, placeInTrain, trainRing, trainOf, trainsOf, sharedOf, fours, namedOf, orderOf, roundOf, turnOf, Ordered, Known, Light, with, begun, HandsOutTurn}
+use Rattle.turns.specs.Turns.{headOf, countOf, deficitOf, placeInTrain, trainRing, trainOf, trainsOf, sharedOf, fours, namedOf, orderOf, roundOf, turnOf, Ordered, NamesTrains, Light, with, turnBegun, HandsOutTurn}
 use Rattle.turns.proofs.Round.{round-cons, ordered-rest, round-rest, named-rest, ordered-turned, round-turned, named-turned}
 use Rattle.turns.proofs.Train.{ring-none, ring-cons, train-made, trains-with, train-is, begin-is, not-begun}
 
-module _ (t r : ℕ) (light : Light t) (some-held : 0 < countOf t) (o : Ordered r) (known : Known r) (m : ℕ) (named : namedOf r ≡ suc m) where
+module _ (t r : ℕ) (light : Light t) (some-held : 0 < countOf t) (o : Ordered r) (known : NamesTrains r) (m : ℕ) (named : namedOf r ≡ suc m) where
   abbrev k : ℕ
   k = turnOf r
 
@@ -77,7 +77,7 @@ module _ (t r : ℕ) (light : Light t) (some-held : 0 < countOf t) (o : Ordered 
           ∙ ap (handOf L (trainsOf at ts) k ks (deficitOf t)) (ap (trainRing at k (headOf t)) one ∙ ring-cons at k (headOf t) 0 ∙ ap (λ (q : List BareRec). e ∷ q) (ring-none at k h))
           ∙ ap (λ (x : List Train). begin L x ks) (sym last-trains)
 
-      last-none : m ≡ 0 → sharedOf at (begun L false (with ts k h) left) left ≡ sharedHandOut L (sharedOf at ts r)
+      last-none : m ≡ 0 → sharedOf at (turnBegun L false (with ts k h) left) left ≡ sharedHandOut L (sharedOf at ts r)
       unfolding fours begin
       last-none z =
           not-begun (with ts k h) at L left
@@ -90,7 +90,7 @@ module _ (t r : ℕ) (light : Light t) (some-held : 0 < countOf t) (o : Ordered 
           over : begin L (trainsOf at (with ts k h)) [] ≡ record { trains = trainsOf at (with ts k h); round = [] }
           over = refl
 
-      last-some : (n : ℕ) → m ≡ suc n → sharedOf at (begun L true (with ts k h) left) left ≡ sharedHandOut L (sharedOf at ts r)
+      last-some : (n : ℕ) → m ≡ suc n → sharedOf at (turnBegun L true (with ts k h) left) left ≡ sharedHandOut L (sharedOf at ts r)
       last-some n z =
           let cons : roundOf left ≡ turnOf left ∷ fours n (orderOf left / 16) = round-cons left n (ordered-rest r m o named) (named-rest r m o named ∙ z) in
           begin-is (with ts k h) at L left (turnOf left) (fours n (orderOf left / 16)) cons refl (left-turn n z)
@@ -113,7 +113,7 @@ module _ (t r : ℕ) (light : Light t) (some-held : 0 < countOf t) (o : Ordered 
           trains-with ts at k x turn-small
           ∙ ap (set (trainsOf at ts) k) (train-made at k h (suc c) d (omega arith) (omega (arith, light .0)) ∙ rw (d-is, ring-cons at k h c))
 
-      stays-lane : f .len ≤ d → sharedOf at (begun L false (with ts k x) r) r ≡ sharedHandOut L (sharedOf at ts r)
+      stays-lane : f .len ≤ d → sharedOf at (turnBegun L false (with ts k x) r) r ≡ sharedHandOut L (sharedOf at ts r)
       unfolding handOf
       stays-lane p =
           not-begun (with ts k x) at L r
@@ -121,7 +121,7 @@ module _ (t r : ℕ) (light : Light t) (some-held : 0 < countOf t) (o : Ordered 
           ∙ ap (λ (y : List Train). record { trains = y; round = k ∷ ks }) left-trains
           ∙ sym (handed-is ∙ ap (handOf L (trainsOf at ts) k ks (deficitOf t)) queue-is ∙ simp (le-leb (f .len) (deficitOf t - e .len) (omega arith)))
 
-      goes-lane : d < f .len → sharedOf at (begun L true (with ts k x) turned) turned ≡ sharedHandOut L (sharedOf at ts r)
+      goes-lane : d < f .len → sharedOf at (turnBegun L true (with ts k x) turned) turned ≡ sharedHandOut L (sharedOf at ts r)
       unfolding handOf
       goes-lane p =
           begin-round
@@ -129,7 +129,7 @@ module _ (t r : ℕ) (light : Light t) (some-held : 0 < countOf t) (o : Ordered 
           ∙ ap (λ (y : List Train). begin L y (ks ++ (k ∷ []))) left-trains
           ∙ sym (handed-is ∙ ap (handOf L (trainsOf at ts) k ks (deficitOf t)) queue-is ∙ simp (lt-leb (f .len) (deficitOf t - e .len) (omega arith)))
         where
-          begin-round : sharedOf at (begun L true (with ts k x) turned) turned ≡ begin L (trainsOf at (with ts k x)) (roundOf turned)
+          begin-round : sharedOf at (turnBegun L true (with ts k x) turned) turned ≡ begin L (trainsOf at (with ts k x)) (roundOf turned)
           begin-round =
               let cons : roundOf turned ≡ turnOf turned ∷ fours m (orderOf turned / 16) = round-cons turned m (ordered-turned r m o named) (named-turned r m o named) in
               begin-is (with ts k x) at L turned (turnOf turned) (fours m (orderOf turned / 16)) cons refl turned-turn

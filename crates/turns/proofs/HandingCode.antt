@@ -6,11 +6,11 @@ use mathlib.Core.Bool.{true, false, not}
 use lib.Dec.{eqb}
 use lib.ListN.{length}
 use borrow.Author.Tests.{eq-eqb, ne-eqb}
-use Rattle.turns.specs.Turns.{headOf, countOf, deficitOf, namedOf, orderOf, turnOf, Ordered, Known, Light, HandsOutTurn}
+use Rattle.turns.specs.Turns.{headOf, countOf, deficitOf, namedOf, orderOf, turnOf, Ordered, NamesTrains, Light, HandsOutTurn}
 use Rattle.turns.proofs.Round.{turned-small}
 use Rattle.turns.proofs.Handing.{hands-last-none, hands-last-some, hands-stays, hands-goes}
 
-module _ (t r length next : ℕ) (light : Light t) (some-held : 0 < countOf t) (o : Ordered r) (known : Known r) (some-named : 0 < namedOf r) where
+module _ (t r length next : ℕ) (light : Light t) (some-held : 0 < countOf t) (o : Ordered r) (known : NamesTrains r) (some-named : 0 < namedOf r) where
   abbrev before : ℕ
   before = namedOf r - 1
 

@@ -1,14 +1,14 @@
 -- A record more for a train. Assumes nothing.
-use Prim.Native.Nat.{ℕ, zero, suc, _+_, _-_, _*_, _/_, _%_, _^_, _≤_, _<_}
+use Prim.Native.Nat.{ℕ, zero, suc, _+_, _-_, _*_, _%_, _^_, _≤_, _<_}
 use native.Mathlib.Omega.{arith}
-use mathlib.Core.Path.{_≡_, refl, sym, ap, subst, _∙_}
+use mathlib.Core.Path.{_≡_, refl, sym, ap, _∙_}
 use mathlib.Core.Bool.{Bool, true, false}
 use mathlib.Core.List.{List, [], _∷_, _++_}
-use lib.ListN.{length, getD, set}
+use lib.ListN.{getD, set}
 use lib.Seq.{set-set, getD-set-same}
 use Rattle.units.specs.Plain.{if_then_else_}
 use Rattle.rounds.specs.Round.{BareRec, Train, Shared, noTrain, queued?, trainHolds, trainAt, raised, added, join, sharedPut, begin}
-use Rattle.turns.specs.Turns.{headOf, countOf, deficitOf, placeInTrain, trainRing, trainOf, trainsOf, sharedOf, fours, namedOf, orderOf, roundOf, turnOf, Ordered, Light, with, begun, Puts}
+use Rattle.turns.specs.Turns.{headOf, countOf, placeInTrain, trainRing, trainOf, trainsOf, sharedOf, fours, namedOf, orderOf, roundOf, Ordered, Light, with, Puts}
 use Rattle.turns.proofs.Round.{round-made, ordered-made, ordered-joined, round-joined, joined-small}
 use Rattle.turns.proofs.Train.{parts, ring-none, ring-cons, train-more, train-raised, trains-with, train-is, length-trains}
 

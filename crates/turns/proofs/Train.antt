@@ -1,18 +1,16 @@
 -- Laws of a train's number and of the lane's trains. Assumes nothing.
-use Prim.Native.Nat.{ℕ, zero, suc, _+_, _-_, _*_, _/_, _%_, _^_, _≤_, _<_}
+use Prim.Native.Nat.{ℕ, suc, _+_, _-_, _*_, _/_, _%_, _<_}
 use native.Mathlib.Nat.{add-zero, div-div-eq-div-mul}
 use native.Mathlib.Omega.{arith}
 use mathlib.Core.Path.{_≡_, refl, sym, ap, subst, _∙_}
-use mathlib.Core.Bool.{Bool, true, false}
+use mathlib.Core.Bool.{true, false}
 use mathlib.Core.List.{List, [], _∷_, _++_}
 use lib.ListN.{length, getD, set}
-use lib.Seq.{set-set}
 use borrow.Author.Tests.{eq-eqb, ne-eqb}
-use Rattle.units.specs.Plain.{if_then_else_}
 use Rattle.words.specs.Runs.{tab, tabFrom}
 use Rattle.words.proofs.Runs.{tab-ext, tab-set, tab-cons, tab-snoc, length-tab, getD-tab}
-use Rattle.rounds.specs.Round.{BareRec, Train, Shared, noTrain, empty, raised, added, begin}
-use Rattle.turns.specs.Turns.{headOf, countOf, deficitOf, placeInTrain, trainRing, trainOf, trainsOf, sharedOf, fours, roundOf, turnOf, with, begun}
+use Rattle.rounds.specs.Round.{BareRec, Train, noTrain, emptyShared, raised, added, begin}
+use Rattle.turns.specs.Turns.{headOf, countOf, deficitOf, placeInTrain, trainRing, trainOf, trainsOf, sharedOf, fours, roundOf, turnOf, with, turnBegun}
 
 -- ---- parts of a number
 
@@ -126,15 +124,15 @@ module _ (ts : ℕ → ℕ) where
     length-trains = length-tab 8 _
 
     -- the turn of the round's first train begins
-    pub begin-is : (L r k : ℕ) (ks : List ℕ) → roundOf r ≡ k ∷ ks → turnOf r ≡ k → k < 8 → sharedOf at (begun L true ts r) r ≡ begin L (trainsOf at ts) (roundOf r)
-    unfolding sharedOf begun begin
+    pub begin-is : (L r k : ℕ) (ks : List ℕ) → roundOf r ≡ k ∷ ks → turnOf r ≡ k → k < 8 → sharedOf at (turnBegun L true ts r) r ≡ begin L (trainsOf at ts) (roundOf r)
+    unfolding sharedOf turnBegun begin
     begin-is L r k ks e q h =
         let raises : trainsOf at (with ts (turnOf r) (ts (turnOf r) + 128 * L)) ≡ set (trainsOf at ts) k (raised L (getD (trainsOf at ts) k noTrain)) =
         rw q (trains-with k (ts k + 128 * L) h ∙ ap (set (trainsOf at ts) k) (train-raised at k (ts k) L ∙ ap (raised L) (sym (train-is k h)))) in
         rw e (ap (λ (x : List Train). record { trains = x; round = k ∷ ks }) raises)
 
-    pub not-begun : (L r : ℕ) → sharedOf at (begun L false ts r) r ≡ record { trains = trainsOf at ts; round = roundOf r }
-    unfolding sharedOf begun
+    pub not-begun : (L r : ℕ) → sharedOf at (turnBegun L false ts r) r ≡ record { trains = trainsOf at ts; round = roundOf r }
+    unfolding sharedOf turnBegun
     not-begun L r = refl
 
 -- only the numbers of the 8 trains and the records in their places count
@@ -158,6 +156,6 @@ module _ (at bt : ℕ → BareRec) (ts : ℕ → ℕ) (r j : ℕ) (room : countO
       (tab-ext 8 _ _ (λ k h. ap (λ (q : List BareRec). record { deficit = deficitOf (ts k); queue = q }) (tab-ext (countOf (ts k)) _ _ (λ i p. f (placeInTrain k (headOf (ts k) + i)) (omega arith) (apart k i h p)))))
 
 -- numbers of 0 are those of a lane in which nothing waits
-pub shared-none : (at : ℕ → BareRec) → sharedOf at (λ (k : ℕ). 0) 0 ≡ empty
-unfolding sharedOf trainsOf trainOf trainRing roundOf fours empty tab tabFrom
+pub shared-none : (at : ℕ → BareRec) → sharedOf at (λ (k : ℕ). 0) 0 ≡ emptyShared
+unfolding sharedOf trainsOf trainOf trainRing roundOf fours emptyShared tab tabFrom
 shared-none at = refl

@@ -8,14 +8,14 @@
 --   sharedOf at ts r             the shared lane: at has the records by place, ts the trains' numbers, r is the round's
 --   with                         the trains' numbers with one changed
 --   Ordered                      nothing stands behind the trains that the round names
---   Known                        the round names trains only
+--   NamesTrains                  the round names trains only
 --   Light                        a train's number is that of a good lane
 --   Puts, HandsOutTurn           what the two functions leave
 --
 -- L is the lane's longest record, in bytes. Assumes nothing.
 use Prim.Native.Nat.{ℕ, zero, suc, _+_, _*_, _/_, _%_, _^_, _≤_, _<_}
 use mathlib.Core.Path.{_≡_}
-use mathlib.Core.Bool.{Bool, true, false}
+use mathlib.Core.Bool.{Bool, true}
 use mathlib.Core.List.{List, [], _∷_}
 use lib.Dec.{eqb}
 use Rattle.units.specs.Plain.{if_then_else_, times}
@@ -85,8 +85,8 @@ pub record Ordered (r : ℕ) : Type 0 where
   pub fits : orderOf r < nameRange ^ namedOf r
 
 -- every number that the round names is one of a train
-abbrev pub Known : ℕ → Type 0
-Known r = (i : ℕ) → 0 < times i (roundOf r) → i < trainCount
+abbrev pub NamesTrains : ℕ → Type 0
+NamesTrains r = (i : ℕ) → 0 < times i (roundOf r) → i < trainCount
 
 -- ---- the lane
 
@@ -114,14 +114,14 @@ pub record Puts (L t r k : ℕ) (c : Change) : Type 0 where
   pub small : c .train < 2 ^ 32
 
 -- where a turn begins, the deficit of the train then in turn grows by the longest
-unfoldable pub begun : ℕ → Bool → (ℕ → ℕ) → ℕ → ℕ → ℕ
-begun L b ts r = if b then with ts (turnOf r) (ts (turnOf r) + deficitUnit * L) else ts
+unfoldable pub turnBegun : ℕ → Bool → (ℕ → ℕ) → ℕ → ℕ → ℕ
+turnBegun L b ts r = if b then with ts (turnOf r) (ts (turnOf r) + deficitUnit * L) else ts
 
 -- of a lane whose first record is of this length, and the one behind it, where there is one, of the next length
 pub record HandsOutTurn (t r length next : ℕ) (c : Change) : Type 0 where
   pub lane : (L : ℕ) (at : ℕ → BareRec) (ts : ℕ → ℕ) → ts (turnOf r) ≡ t
       → at (placeInTrain (turnOf r) (headOf t)) .len ≡ length → at (placeInTrain (turnOf r) (headOf t + 1)) .len ≡ next
-      → sharedOf at (begun L (c .begins) (with ts (turnOf r) (c .train)) (c .round)) (c .round) ≡ sharedHandOut L (sharedOf at ts r)
+      → sharedOf at (turnBegun L (c .begins) (with ts (turnOf r) (c .train)) (c .round)) (c .round) ≡ sharedHandOut L (sharedOf at ts r)
   pub ordered : Ordered (c .round)
   -- so small that a turn may still add its longest
   pub small : c .train < 2 ^ 20

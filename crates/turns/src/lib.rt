@@ -8,7 +8,7 @@
 ghost use mathlib.Core.Path.{_≡_};
 ghost use Prim.Native.Nat.{_*_, _^_, _<_, _≤_};
 ghost use Rattle.rounds.specs.Round.{trainCount, trainDepth};
-ghost use Rattle.turns.specs.Turns.{countOf, deficitOf, namedOf, Ordered, Known, Light, Puts, HandsOutTurn};
+ghost use Rattle.turns.specs.Turns.{countOf, deficitOf, namedOf, Ordered, NamesTrains, Light, Puts, HandsOutTurn};
 
 // Each train has a queue of 8 places.
 pub const TRAIN_DEPTH: u64 = 8;
@@ -70,7 +70,7 @@ pub fn put(train: u64, round: u64, k: u64, longest: u64) -> Change
 
 // The chosen record, of `length`, is handed out: `train` is the number of the train in turn, and `next` the length of the record behind it.
 pub fn hand_out(train: u64, round: u64, length: u64, next: u64) -> Change
-    requires { ⌜ Light train × (0 < countOf train) × (length ≤ deficitOf train) × Ordered round × Known round × (0 < namedOf round) ⌝ }
+    requires { ⌜ Light train × (0 < countOf train) × (length ≤ deficitOf train) × Ordered round × NamesTrains round × (0 < namedOf round) ⌝ }
     ensures { λ c. ⌜ HandsOutTurn train round length next c ⌝ }
 {
     let head = (train + 1) % TRAIN_DEPTH;

@@ -1,3 +1,6 @@
+pub mod Bools
+pub mod Lists
+pub mod Below
 pub mod PerByte
 pub mod Group
 pub mod Round

@@ -2,13 +2,15 @@
 use Prim.Native.Nat.{ℕ, zero, suc, _≤_, _<_}
 use native.Mathlib.Omega.{arith}
 use mathlib.Core.Path.{_≡_, refl, sym, ap, _∙_}
-use mathlib.Core.Bool.{Bool, true, false, _&&_}
-use mathlib.Core.List.{List, [], _∷_, _++_}
+use mathlib.Core.Bool.{Bool, true, false}
+use mathlib.Core.List.{[], _∷_, _++_}
 use mathlib.Core.Option.{Option, none, some}
 use lib.Dec.{leb, eqb}
 use lib.ListN.{length, length-append}
 use borrow.Author.Tests.{leb-true, leb-false, ltb-true, le-leb, eq-eqb, ne-eqb}
 use Rattle.units.specs.Plain.{if_then_else_}
+use Rattle.units.proofs.Bools.{and-parts}
+use Rattle.units.proofs.Lists.{some-inj}
 use Rattle.rounds.specs.Round as round
 use Rattle.rounds.specs.Round.{TrainItem, Shared, trainAt, trainCount, trainDepth}
 use Rattle.rounds.specs.Good.{GoodShared, every, lengthTest}
@@ -17,8 +19,7 @@ use Rattle.rounds.proofs.Keep as keep
 use Rattle.rounds.proofs.Order as order
 use Rattle.rounds.proofs.Held as heldLaws
 use Rattle.rounds.proofs.Test as test
-use Rattle.rounds.proofs.Lists.{and-parts}
-use Rattle.waiting.specs.Waiting.{laneDepth, Rec, bare, Waiting, plain, shared, nothing, itemOf, isShared, tail, first, enter, handOut, held, queueOf, full, known, GoodWaiting, waitingTest}
+use Rattle.waiting.specs.Waiting.{laneDepth, Rec, bare, Waiting, plain, shared, noneWaiting, itemOf, isShared, tail, first, enter, handOut, held, queueOf, full, known, GoodWaiting, waitingTest}
 
 -- what an accepted record has
 pub record Enters (L : ℕ) (w : Waiting) (r : Rec) : Type 0 where
@@ -29,9 +30,6 @@ pub record Enters (L : ℕ) (w : Waiting) (r : Rec) : Type 0 where
 
 pub clash {ℓ} : {A : Type 0} {P : Type ℓ} (x : A) → none ≡ some x → P
 clash x e = let z : _≡_ {A = ℕ} 0 1 = cc in absurd (omega arith)
-
-pub some-inj : (x y : Rec) → some x ≡ some y → x ≡ y
-some-inj x y e = cc
 
 -- a shared lane's choice, taken apart
 item-none : (o : Option TrainItem) → itemOf o ≡ none → o ≡ none
@@ -47,23 +45,23 @@ item-some (some x) r e = ap (λ (z : Rec). some (moved z)) (some-inj _ r e)
 
 -- ---- nothing waits
 
-pub first-nothing : (b : Bool) → first (nothing b) ≡ none
-unfolding round.sharedFirst round.firstInTurn round.empty
+pub first-nothing : (b : Bool) → first (noneWaiting b) ≡ none
+unfolding round.sharedFirst round.firstInTurn round.emptyShared
 first-nothing false = refl
 first-nothing true = refl
 
-pub held-nothing : (b : Bool) → held (nothing b) ≡ 0
-unfolding held round.empty
+pub held-nothing : (b : Bool) → held (noneWaiting b) ≡ 0
+unfolding held round.emptyShared
 held-nothing false = refl
 held-nothing true = refl
 
-pub queue-nothing : (b : Bool) (k : ℕ) → queueOf (nothing b) k ≡ []
+pub queue-nothing : (b : Bool) (k : ℕ) → queueOf (noneWaiting b) k ≡ []
 unfolding queueOf
 queue-nothing false zero = refl
 queue-nothing false (suc k) = refl
 queue-nothing true k = ap (λ (t : round.Train). t .queue) (heldLaws.empty-train k)
 
-pub good-nothing : (L : ℕ) (b : Bool) → GoodWaiting L (nothing b)
+pub good-nothing : (L : ℕ) (b : Bool) → GoodWaiting L (noneWaiting b)
 unfolding GoodWaiting
 good-nothing L false = (omega arith, tt)
 good-nothing L true = heldLaws.empty-good L

@@ -3,14 +3,13 @@
 use Prim.Native.Nat.{ℕ, zero, suc, _+_, _*_, _≤_, _<_}
 use native.Mathlib.Omega.{arith}
 use mathlib.Core.Path.{_≡_, refl, sym, ap, _∙_}
-use mathlib.Core.Bool.{Bool, true, false, false≢true}
+use mathlib.Core.Bool.{true, false, false≢true}
 use mathlib.Core.List.{List, [], _∷_}
-use mathlib.Core.Option.{Option, none, some}
+use mathlib.Core.Option.{Option, some}
 use lib.Dec.{eqb}
 use borrow.Author.Tests.{ne-eqb}
-use Rattle.units.specs.Plain.{if_then_else_}
 use Rattle.rounds.specs.Round as round
-use Rattle.rounds.specs.Round.{TrainItem, Shared, queued?}
+use Rattle.rounds.specs.Round.{TrainItem, queued?}
 use Rattle.rounds.specs.Runs.{itemOfTrain, bytes}
 use Rattle.rounds.proofs.Figure as figure
 use Rattle.rounds.proofs.Figure.{worth, ofTrain-bytes}

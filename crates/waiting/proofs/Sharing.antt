@@ -6,15 +6,16 @@ use mathlib.Core.Bool.{Bool, true, false, false≢true}
 use mathlib.Core.List.{[], _∷_}
 use mathlib.Core.Option.{some}
 use borrow.Author.Tests.{leb-true, ltb-true}
+use Rattle.units.proofs.Lists.{some-inj}
 use Rattle.rounds.specs.Round as round
 use Rattle.rounds.specs.Round.{trainCount}
 use Rattle.rounds.proofs.Held as heldLaws
-use Rattle.waiting.specs.Waiting.{Rec, Waiting, plain, shared, nothing, isShared, first, enter, handOut, known, GoodWaiting}
-use Rattle.waiting.proofs.Laws.{clash, some-inj, moved, item-some}
+use Rattle.waiting.specs.Waiting.{Rec, Waiting, plain, shared, noneWaiting, isShared, first, enter, handOut, known, GoodWaiting}
+use Rattle.waiting.proofs.Laws.{clash, moved, item-some}
 
 -- ---- a lane is shared or not for good
 
-pub shared-nothing : (b : Bool) → isShared (nothing b) ≡ b
+pub shared-nothing : (b : Bool) → isShared (noneWaiting b) ≡ b
 unfolding isShared
 shared-nothing false = refl
 shared-nothing true = refl

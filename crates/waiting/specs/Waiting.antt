@@ -1,7 +1,7 @@
 -- What waits in one lane.
 --
 --   Waiting       the records of one lane
---   nothing       no record
+--   noneWaiting   no record
 --   first         the first record, the one that the lane hands out next
 --   enter         a record more, of a train
 --   handOut       without the first record
@@ -43,9 +43,9 @@ pub data Waiting : Type 0 where
   shared : Shared → Waiting
 
 -- what waits in a lane, shared or not, at first
-abbrev pub nothing : Bool → Waiting
-nothing false = plain []
-nothing true = shared round.empty
+abbrev pub noneWaiting : Bool → Waiting
+noneWaiting false = plain []
+noneWaiting true = shared round.emptyShared
 
 abbrev pub head : List round.BareRec → Option Rec
 head [] = none

@@ -1,7 +1,6 @@
 -- How large the products are. Assumes nothing.
-use Prim.Native.Nat.{ℕ, _*_, _^_, _≤_, _<_}
+use Prim.Native.Nat.{ℕ, _*_, _^_, _≤_}
 use native.Mathlib.Nat.{mul-le-mul}
-use native.Mathlib.Omega.{arith}
 
 module _ (n k b c : ℕ) (count : n ≤ 77) (times : k ≤ 65) (length : b ≤ 1564) (rate : c ≤ 2 ^ 20) where
   pub bytes-small : n * b ≤ 77 * 1564

@@ -1,5 +1,5 @@
 -- A page's part in which no page was taken and none waits, and the table of a run over it. Assumes nothing.
-use Prim.Native.Nat.{ℕ, _+_, _-_, _≤_}
+use Prim.Native.Nat.{ℕ, _-_, _≤_}
 use native.Mathlib.Omega.{arith}
 use mathlib.Core.Path.{_≡_, sym, ap, subst, _∙_}
 use mathlib.Core.List.{List}
@@ -13,6 +13,7 @@ use Rattle.editions.proofs.Lent.{tail-all, lent-tail}
 use Rattle.table.specs.Layout.{SIZE, pagePartBytes, tableSize}
 use Rattle.table.specs.Encodes.{Encodes}
 use Rattle.paged.specs.Paged.{partOf}
+use Rattle.paged.proofs.Lending.{drop-further}
 use Rattle.walk.specs.Follows.{Tabled}
 
 pub record Blank (t u : List ℕ) : Type 0 where
@@ -20,10 +21,6 @@ pub record Blank (t u : List ℕ) : Type 0 where
   pub waiting : waitingIn (partOf u) ≡ none
   pub fits : Fits (partOf u)
   pub rest : drop tableSize u ≡ drop tableSize t
-
--- bytes that are alike from some place on are so from any later one
-further : (a b : ℕ) (t u : List ℕ) → drop a u ≡ drop a t → drop (a + b) u ≡ drop (a + b) t
-further a b t u e = sym (drop-drop b a u) ∙ ap (drop b) e ∙ drop-drop b a t
 
 pub blank-stored : (t p : List ℕ) → tableSize ≤ length t → Stores (take (length t - SIZE) (drop SIZE t)) p 0 none × Fits p → Blank t (putMid SIZE (length t - SIZE) t p)
 blank-stored t p room st =
@@ -35,7 +32,7 @@ blank-stored t p room st =
       waiting = ap waitingIn tail ∙ st .0 .waiting;
       fits = subst Fits (sym tail) (st .1);
       rest =
-          sym (drop-drop pagePartBytes SIZE r) ∙ ap (drop pagePartBytes) tail ∙ further partBytes (pagePartBytes - partBytes) q p (st .0 .rest) ∙ ap (drop pagePartBytes) (tail-all SIZE t)
+          sym (drop-drop pagePartBytes SIZE r) ∙ ap (drop pagePartBytes) tail ∙ drop-further partBytes (pagePartBytes - partBytes) q p (st .0 .rest) ∙ ap (drop pagePartBytes) (tail-all SIZE t)
           ∙ drop-drop pagePartBytes SIZE t;
     }
 
@@ -49,5 +46,5 @@ blank-tabled t t₀ t′ σ room b e kept = record {
     waiting = ap waitingIn kept ∙ b .waiting;
     fits = subst Fits (sym kept) (b .fits);
   };
-  rest = further SIZE pagePartBytes t₀ t′ kept ∙ b .rest;
+  rest = drop-further SIZE pagePartBytes t₀ t′ kept ∙ b .rest;
 }

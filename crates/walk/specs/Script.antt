@@ -20,7 +20,7 @@ use Rattle.rules.specs.Calls.{fresh, step}
 use Rattle.plan.specs.Read.{SetupReply, setupRefused, setupRead, readPlan}
 use Rattle.table.specs.Layout.{tableSize}
 use Rattle.lines.specs.Line.{noLine, lanesLine, endLine}
-use Rattle.requests.specs.Request.{RequestItem, request, last, badRequest, requestItemAt}
+use Rattle.requests.specs.Request.{request, last, badRequest, requestItemAt}
 use Rattle.answers.specs.Lines.{lineBy}
 
 -- R10.11: the reasons for a stop; a refusal has its number, and its place if there is one

@@ -1,5 +1,5 @@
 -- Laws of words in bytes: the same word, another word, the length and the bytes past a run of words. Assumes nothing.
-use mathlib.Core.Path.{_≡_, ap, _∙_}
+use mathlib.Core.Path.{_≡_, refl, ap, _∙_}
 use mathlib.Core.Logic.{⊎-elim}
 use Prim.Native.Nat.{ℕ, zero, suc, _+_, _*_, _/_, _%_, _^_, _≤_, _<_}
 use mathlib.Core.List.{List}
@@ -11,6 +11,11 @@ use lib.Seq.{sets, length-sets}
 use Rattle.words.specs.Runs.{elementsFrom}
 use Rattle.words.specs.Words.{leVal, leBytes, wordAt, putWord}
 use Rattle.words.proofs.Runs.{le-or-lt, drop-sets-lt, reads-below, reads-above, reads-same}
+
+pub length-leBytes : (k v : ℕ) → length (leBytes k v) ≡ k
+unfolding leBytes
+length-leBytes zero v = refl
+length-leBytes (suc k) v = ap suc (length-leBytes k (v / 256))
 
 pub leVal-leBytes : (k v : ℕ) → v < 256 ^ k → leVal (leBytes k v) ≡ v
 unfolding leVal leBytes

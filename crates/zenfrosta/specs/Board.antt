@@ -9,7 +9,7 @@ use mathlib.Core.Path.{_≡_}
 use mathlib.Core.List.{List}
 use mathlib.Core.Option.{none, some}
 use Rattle.desk.specs.Calls.{clear}
-use Rattle.journal.specs.Reads.{Plain, line, stands, begun, plainRefused, told, shown, beginning}
+use Rattle.journal.specs.Reads.{Plain, line, stands, begun, plainRefused, plainTold, shown, beginning}
 use Rattle.journal.specs.Step.{BoardStep, RecordStep, LineStep, BeginStep}
 use Rattle.zenfrosta.specs.Crossing.{four, refusalWords, Crosses}
 use Rattle.zenfrosta.specs.declared.Four.{Four}
@@ -36,12 +36,12 @@ CrossesBegin board board′ out r out′ =
 -- R13.5
 abbrev pub CrossesRecord : (field board board′ out : List ℕ) (r : ℕ) (out′ : List ℕ) → Type 0
 CrossesRecord field board board′ out r out′ =
-    Crosses (λ a. boardCode (told a)) (λ a. boardValues (told a)) (λ a. RecordStep field board a board′) (board′ ≡ board) out r out′
+    Crosses (λ a. boardCode (plainTold a)) (λ a. boardValues (plainTold a)) (λ a. RecordStep field board a board′) (board′ ≡ board) out r out′
 
 -- R13.5
 abbrev pub CrossesClear : (train : ℕ) (board board′ out : List ℕ) (r : ℕ) (out′ : List ℕ) → Type 0
 CrossesClear train board board′ out r out′ =
-    Crosses (λ a. boardCode (told a)) (λ a. boardValues (told a)) (λ a. BoardStep (clear train) board a board′) (board′ ≡ board) out r out′
+    Crosses (λ a. boardCode (plainTold a)) (λ a. boardValues (plainTold a)) (λ a. BoardStep (clear train) board a board′) (board′ ≡ board) out r out′
 
 -- R13.5: the board is lent to be read, so there is no byte of it that could change
 abbrev pub CrossesLine : (line : ℕ) (board out : List ℕ) (r : ℕ) (out′ : List ℕ) → Type 0

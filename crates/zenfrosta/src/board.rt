@@ -2,7 +2,7 @@
 ghost use mathlib.Core.Path.{_≡_};
 ghost use Prim.Native.Nat.{_≤_};
 ghost use lib.ListN.{length};
-ghost use Rattle.journal.specs.Reads.{boardListed, told, shown, beginning, refusedBy};
+ghost use Rattle.journal.specs.Reads.{boardListed, plainTold, shown, beginning, refusedBy};
 ghost use Rattle.journal.specs.Step.{boardSize};
 ghost use Rattle.zenfrosta.specs.Crossing.{Spoken};
 ghost use Rattle.zenfrosta.specs.Board.{boardCode, boardValues, CrossesBegin, CrossesRecord, CrossesClear, CrossesLine};
@@ -75,7 +75,7 @@ fn refuse(out: &mut [u8], x: Refusal) -> u64
 // Tells the line that record or clear changed.
 fn tell_line(out: &mut [u8], x: Told) -> u64
     requires { ⌜ 32 ≤ length (now out) ⌝ }
-    ensures { λ r. ⌜ (r ≡ boardCode (told x)) × Spoken (now (out .entry)) (boardValues (told x)) (now (out .exit)) ⌝ }
+    ensures { λ r. ⌜ (r ≡ boardCode (plainTold x)) × Spoken (now (out .entry)) (boardValues (plainTold x)) (now (out .exit)) ⌝ }
 {
     match x {
         Told::Line(k) => {

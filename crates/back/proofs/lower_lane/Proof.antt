@@ -3,11 +3,6 @@ use Rattle.back.proofs.Lanes.{lower-leaves}
 use borrow.Author.Needs.{needs}
 use Rattle.back.proofs.lower_lane.Statement.{statement}
 use Rattle.back.proofs.lower_lane.Tie as tie
-use Rattle.back.proofs.lower_lane.Reads as reads
-use Rattle.back.proofs.lower_lane.Lts as lts
-use Rattle.slot_lists.proofs.earlier_by.Reads as earlier-by-reads
-use Rattle.table.proofs.cell.Reads as cell-reads
-use Rattle.table.proofs.set_cell.Reads as set-cell-reads
 
 mul-at : tie.Need-mul-at
 mul-at c = search needs

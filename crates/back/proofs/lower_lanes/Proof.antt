@@ -6,8 +6,9 @@ use lib.ListN.{length}
 use Rattle.words.specs.Bits.{bit}
 use Rattle.table.specs.Means.{meant, Sound, Leaves}
 use Rattle.table.proofs.Leave.{sound-after}
+use Rattle.fresh.proofs.Leaves.{still-weight}
 use Rattle.back.specs.Back.{loweredTo}
-use Rattle.back.proofs.Lanes.{lower-none, lower-weight, lower-above, lower-more}
+use Rattle.back.proofs.Lanes.{lower-none, lower-same, lower-above, lower-more}
 use borrow.Author.Needs.{needs}
 use Rattle.back.proofs.lower_lanes.Statement.{statement}
 use Rattle.back.proofs.lower_lanes.Tie as tie
@@ -37,7 +38,7 @@ lower-lane-requires c κs =
     let lt = c .before .loop-test .taken in
     let s = c .before .before .before .before .before .before .before in
     let w = c .before .before .before .before .cell .ensures in
-    (l .inv .1, lt, lower-weight (s .args .t .now) (s .args .d .0) _ w _ (l .k) lt (l .inv .0) (s .pre .0) (l .inv .4 lt), lower-above (s .args .t .now) (s .args .d .0) _ w _ (l .k) lt (l .inv .0) (s .pre .1))
+    (l .inv .1, lt, still-weight (s .args .t .now) _ _ w (s .pre .0) (l .k) lt (lower-same (s .args .t .now) (s .args .d .0) _ w _ (l .k) lt (l .inv .0)) (l .inv .4 lt), lower-above (s .args .t .now) (s .args .d .0) _ w _ (l .k) lt (l .inv .0) (s .pre .1))
 
 add-next-present : tie.Need-add-next-present Inv-loop μ-loop
 add-next-present c = search needs

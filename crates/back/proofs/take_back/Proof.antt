@@ -9,13 +9,6 @@ use Rattle.back.proofs.Back.{back-near, back-above, back-small, back-ta
 use borrow.Author.Needs.{needs}
 use Rattle.back.proofs.take_back.Statement.{statement}
 use Rattle.back.proofs.take_back.Tie as tie
-use Rattle.back.proofs.take_back.Reads as reads
-use Rattle.back.proofs.take_back.Lts as lts
-use Rattle.back.proofs.lower_lanes.Reads as lower-lanes-reads
-use Rattle.slot_lists.proofs.lower.Reads as lower-reads
-use Rattle.table.proofs.clock.Reads as clock-reads
-use Rattle.table.proofs.set_clock.Reads as set-clock-reads
-use Rattle.units.proofs.before.Reads as before-reads
 
 clock-requires : tie.Need-clock-requires
 clock-requires c κs = search needs

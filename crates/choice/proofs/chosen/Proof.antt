@@ -1,7 +1,7 @@
 -- `chosen` meets its contract. Assumes nothing.
-use mathlib.Core.Path.{_≡_, sym, ap, subst, _∙_}
+use mathlib.Core.Path.{sym, ap, subst, _∙_}
 use mathlib.Core.Option.{some}
-use Prim.Native.Nat.{ℕ, _+_, _-_, _*_, _/_, _%_, _^_, _<_}
+use Prim.Native.Nat.{ℕ, _+_, _-_, _/_, _%_, _^_, _<_}
 use mathlib.Core.List.{List}
 use native.Mathlib.Omega.{arith}
 use lib.ListN.{length, getD}
@@ -13,13 +13,6 @@ use Rattle.choice.proofs.Leading.{starts-early, found-none, found-at, t
 use borrow.Author.Needs.{needs}
 use Rattle.choice.proofs.chosen.Statement.{statement}
 use Rattle.choice.proofs.chosen.Tie as tie
-use Rattle.choice.proofs.chosen.Reads as reads
-use Rattle.choice.proofs.chosen.Lts as lts
-use Rattle.groups.proofs.next_group.Reads as next-group-reads
-use Rattle.slot_lists.proofs.first.Reads as first-reads
-use Rattle.slot_lists.proofs.list_number.Reads as list-number-reads
-use Rattle.table.proofs.clock.Reads as clock-reads
-use Rattle.words.proofs.word.Reads as word-reads
 
 clock-requires : tie.Need-clock-requires
 clock-requires c κs = search needs

@@ -6,9 +6,7 @@ use native.Mathlib.Nat.{le-refl}
 use native.Mathlib.Omega.{arith}
 use lib.Count.{leadingZeros}
 use lib.Pow.{pow-mono}
-use Rattle.words.specs.Words.{wordAt}
 use Rattle.rules.specs.Sets.{groups}
-use Rattle.slot_lists.specs.Lists.{startWord}
 use Rattle.table.specs.Means.{meant}
 use Rattle.choice.specs.Sweep.{swept}
 use Rattle.choice.proofs.Held.{start-early}
@@ -17,12 +15,6 @@ use Rattle.choice.proofs.Sweeps.{swept-none, swept-all, swept-fits}
 use Rattle.choice.proofs.Walked.{Walked, walk-next, walk-on, walk-end}
 use Rattle.choice.proofs.set_words.Statement.{statement}
 use Rattle.choice.proofs.set_words.Tie as tie
-use Rattle.choice.proofs.set_words.Reads as reads
-use Rattle.choice.proofs.set_words.Lts as lts
-use Rattle.choice.proofs.group_bit.Reads as group-bit-reads
-use Rattle.choice.proofs.sweep_group.Reads as sweep-group-reads
-use Rattle.table.proofs.clock.Reads as clock-reads
-use Rattle.words.proofs.word.Reads as word-reads
 
 abbrev Inv-loop : tie.InvT-loop
 Inv-loop t v a₀ left₀ a left = Walked (meant t .clock) (meant t .lanes) left a

@@ -2,8 +2,6 @@
 use borrow.Author.Needs.{needs}
 use Rattle.choice.proofs.sorted.Statement.{statement}
 use Rattle.choice.proofs.sorted.Tie as tie
-use Rattle.choice.proofs.sorted.Reads as reads
-use Rattle.choice.proofs.sorted.Lts as lts
 
 add-next : tie.Need-add-next
 add-next c = search needs

@@ -1,20 +1,11 @@
 -- `sweep_group` meets its contract. Assumes nothing.
-use mathlib.Core.Path.{_≡_, refl, sym, ap, _∙_}
-use mathlib.Core.Bool.{Bool}
+use mathlib.Core.Path.{_≡_, refl, sym, _∙_}
 use lib.Dec.{leb, ltb}
 use Rattle.choice.specs.Sweep.{sortedInto}
 use Rattle.choice.proofs.Sweeps.{swept-eligible, swept-not-yet}
 use borrow.Author.Needs.{needs}
 use Rattle.choice.proofs.sweep_group.Statement.{statement}
 use Rattle.choice.proofs.sweep_group.Tie as tie
-use Rattle.choice.proofs.sweep_group.Reads as reads
-use Rattle.choice.proofs.sweep_group.Lts as lts
-use Rattle.choice.proofs.group_bit.Reads as group-bit-reads
-use Rattle.choice.proofs.sorted.Reads as sorted-reads
-use Rattle.units.proofs.before.Reads as before-reads
-use Rattle.units.proofs.earlier.Reads as earlier-reads
-use Rattle.units.proofs.not_after.Reads as not-after-reads
-use Rattle.units.proofs.rounded_finish.Reads as rounded-finish-reads
 
 rounded-finish-requires : tie.Need-rounded-finish-requires
 rounded-finish-requires c κs = search needs

@@ -5,11 +5,6 @@ use Rattle.convert.proofs.Answering.{converts-short, converts-bad, conv
 use borrow.Author.Needs.{needs}
 use Rattle.convert.proofs.convert.Statement.{statement}
 use Rattle.convert.proofs.convert.Tie as tie
-use Rattle.convert.proofs.convert.Reads as reads
-use Rattle.convert.proofs.convert.Lts as lts
-use Rattle.editions.proofs.set_taken.Reads as set-taken-reads
-use Rattle.old_table.proofs.good.Reads as good-reads
-use Rattle.convert.proofs.write.Reads as write-reads
 
 returns : tie.Need-returns
 returns c = let s = c .before .before .before in converts-short (s .args .old .now) (s .args .new .now) (c .if1 .taken)

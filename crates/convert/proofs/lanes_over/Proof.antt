@@ -2,9 +2,9 @@
 use Prim.Native.Nat.{_-_, _≤_, _<_}
 use mathlib.Core.Path.{_≡_, refl, subst, _∙_}
 use native.Mathlib.Omega.{arith}
-use lib.ListN.{length, getD}
+use lib.ListN.{length}
 use Rattle.words.specs.Bits.{bit}
-use Rattle.table.specs.Layout.{Behind, cells, presentWord}
+use Rattle.table.specs.Layout.{Behind}
 use Rattle.table.proofs.Stores.{behind-refl, behind-then}
 use Rattle.table.proofs.Next.{bit-present}
 use Rattle.convert.specs.Over.{Over}

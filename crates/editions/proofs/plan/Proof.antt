@@ -11,9 +11,6 @@ use Rattle.plan_area.specs.Area.{planIn, Gives}
 use Rattle.editions.proofs.Lent.{tail-all}
 use Rattle.editions.proofs.plan.Statement.{statement}
 use Rattle.editions.proofs.plan.Tie as tie
-use Rattle.editions.proofs.plan.Reads as reads
-use Rattle.editions.proofs.plan.Lts as lts
-use Rattle.plan_area.proofs.plan_in.Reads as plan-in-reads
 
 sub-plan-in : tie.Need-sub-plan-in
 sub-plan-in c = search needs

@@ -3,9 +3,6 @@ use borrow.Author.Needs.{needs}
 use Rattle.editions.proofs.Stored.{taken-stored}
 use Rattle.editions.proofs.set_taken.Statement.{statement}
 use Rattle.editions.proofs.set_taken.Tie as tie
-use Rattle.editions.proofs.set_taken.Reads as reads
-use Rattle.editions.proofs.set_taken.Lts as lts
-use Rattle.words.proofs.set_word.Reads as set-word-reads
 
 set-word-requires : tie.Need-set-word-requires
 set-word-requires c κs = search needs

@@ -12,10 +12,6 @@ use Rattle.editions.proofs.Lent.{tail-all}
 use Rattle.editions.proofs.Stored.{long, waiting-stored}
 use Rattle.editions.proofs.set_waiting.Statement.{statement}
 use Rattle.editions.proofs.set_waiting.Tie as tie
-use Rattle.editions.proofs.set_waiting.Reads as reads
-use Rattle.editions.proofs.set_waiting.Lts as lts
-use Rattle.plan_area.proofs.store.Reads as store-reads
-use Rattle.words.proofs.set_word.Reads as set-word-reads
 
 set-word-requires : tie.Need-set-word-requires
 set-word-requires c κs = search needs

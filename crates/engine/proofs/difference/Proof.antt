@@ -3,8 +3,6 @@ use Rattle.engine.proofs.Signed.{diff-fits, diff-read}
 use borrow.Author.Needs.{needs}
 use Rattle.engine.proofs.difference.Statement.{statement}
 use Rattle.engine.proofs.difference.Tie as tie
-use Rattle.engine.proofs.difference.Reads as reads
-use Rattle.engine.proofs.difference.Lts as lts
 
 cast-result : tie.Need-cast-result
 cast-result c = search needs

@@ -15,13 +15,6 @@ use Rattle.engine.proofs.Replies.{refusal-says, lag-none, lag-busy, lag
 use borrow.Author.Needs.{needs}
 use Rattle.engine.proofs.lag.Statement.{statement}
 use Rattle.engine.proofs.lag.Tie as tie
-use Rattle.engine.proofs.lag.Reads as reads
-use Rattle.engine.proofs.lag.Lts as lts
-use Rattle.engine.proofs.difference.Reads as difference-reads
-use Rattle.table.proofs.clock.Reads as clock-reads
-use Rattle.table.proofs.present.Reads as present-reads
-use Rattle.table.proofs.row.Reads as row-reads
-use Rattle.units.proofs.later.Reads as later-reads
 
 returns : tie.Need-returns
 returns c =

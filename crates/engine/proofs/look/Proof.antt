@@ -12,10 +12,6 @@ use Rattle.engine.proofs.Handing.{at-chosen}
 use borrow.Author.Needs.{needs}
 use Rattle.engine.proofs.look.Statement.{statement}
 use Rattle.engine.proofs.look.Tie as tie
-use Rattle.engine.proofs.look.Reads as reads
-use Rattle.engine.proofs.look.Lts as lts
-use Rattle.choice.proofs.chosen.Reads as chosen-reads
-use Rattle.queue.proofs.first.Reads as first-reads
 
 chosen-requires : tie.Need-chosen-requires
 chosen-requires c κs = search needs

@@ -2,9 +2,6 @@
 use borrow.Author.Needs.{needs}
 use Rattle.engine.proofs.none_held.Statement.{statement}
 use Rattle.engine.proofs.none_held.Tie as tie
-use Rattle.engine.proofs.none_held.Reads as reads
-use Rattle.engine.proofs.none_held.Lts as lts
-use Rattle.words.proofs.word.Reads as word-reads
 
 word-requires : tie.Need-word-requires
 word-requires c κs = search needs

@@ -8,11 +8,6 @@ use Rattle.engine.proofs.Replies.{put-allowed, back-allowed, put-refuse
 use borrow.Author.Needs.{needs}
 use Rattle.engine.proofs.put.Statement.{statement}
 use Rattle.engine.proofs.put.Tie as tie
-use Rattle.engine.proofs.put.Reads as reads
-use Rattle.engine.proofs.put.Lts as lts
-use Rattle.back.proofs.take_back.Reads as take-back-reads
-use Rattle.engine.proofs.put_record.Reads as put-record-reads
-use Rattle.engine.proofs.put_verdict.Reads as put-verdict-reads
 
 put-verdict-requires : tie.Need-put-verdict-requires
 put-verdict-requires c κs = search needs

@@ -8,16 +8,6 @@ use Rattle.engine.proofs.Putting.{small, weight, idle-t, lane-good, lan
 use borrow.Author.Needs.{needs}
 use Rattle.engine.proofs.put_first.Statement.{statement}
 use Rattle.engine.proofs.put_first.Tie as tie
-use Rattle.engine.proofs.put_first.Reads as reads
-use Rattle.engine.proofs.put_first.Lts as lts
-use Rattle.lane_moves.proofs.add.Reads as add-reads
-use Rattle.words.proofs.word.Reads as word-reads
-use Rattle.queue.proofs.wake.Reads as wake-reads
-use Rattle.table.proofs.clock.Reads as clock-reads
-use Rattle.table.proofs.row.Reads as row-reads
-use Rattle.table.proofs.set_clock.Reads as set-clock-reads
-use Rattle.units.proofs.later.Reads as later-reads
-use Rattle.units.proofs.rounded_start.Reads as rounded-start-reads
 
 row-requires : tie.Need-row-requires
 row-requires c κs =

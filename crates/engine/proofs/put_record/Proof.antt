@@ -12,11 +12,6 @@ use Rattle.engine.proofs.Appending.{append-turns}
 use borrow.Author.Needs.{needs}
 use Rattle.engine.proofs.put_record.Statement.{statement}
 use Rattle.engine.proofs.put_record.Tie as tie
-use Rattle.engine.proofs.put_record.Reads as reads
-use Rattle.engine.proofs.put_record.Lts as lts
-use Rattle.engine.proofs.put_first.Reads as put-first-reads
-use Rattle.queue.proofs.append.Reads as append-reads
-use Rattle.table.proofs.row.Reads as row-reads
 
 row-requires : tie.Need-row-requires
 row-requires c κs =

@@ -20,13 +20,6 @@ use Rattle.engine.proofs.Verdicts.{no-lane, no-train, empty-record, too
 use borrow.Author.Needs.{needs}
 use Rattle.engine.proofs.put_verdict.Statement.{statement}
 use Rattle.engine.proofs.put_verdict.Tie as tie
-use Rattle.engine.proofs.put_verdict.Reads as reads
-use Rattle.engine.proofs.put_verdict.Lts as lts
-use Rattle.engine.proofs.depth.Reads as depth-reads
-use Rattle.engine.proofs.train_held.Reads as train-held-reads
-use Rattle.engine.proofs.trains.Reads as trains-reads
-use Rattle.table.proofs.present.Reads as present-reads
-use Rattle.table.proofs.row.Reads as row-reads
 
 returns : tie.Need-returns
 returns c =

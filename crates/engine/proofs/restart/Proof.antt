@@ -11,10 +11,6 @@ use Rattle.engine.proofs.Replies.{refusal-does, restart-held, restart-d
 use borrow.Author.Needs.{needs}
 use Rattle.engine.proofs.restart.Statement.{statement}
 use Rattle.engine.proofs.restart.Tie as tie
-use Rattle.engine.proofs.restart.Reads as reads
-use Rattle.engine.proofs.restart.Lts as lts
-use Rattle.engine.proofs.none_held.Reads as none-held-reads
-use Rattle.fresh.proofs.renew.Reads as renew-reads
 
 none-held-requires : tie.Need-none-held-requires
 none-held-requires c κs = search needs

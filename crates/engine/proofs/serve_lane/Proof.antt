@@ -10,17 +10,6 @@ use Rattle.engine.proofs.Handing.{sound₂, early₂, start-now, handed
 use borrow.Author.Needs.{needs}
 use Rattle.engine.proofs.serve_lane.Statement.{statement}
 use Rattle.engine.proofs.serve_lane.Tie as tie
-use Rattle.engine.proofs.serve_lane.Reads as reads
-use Rattle.engine.proofs.serve_lane.Lts as lts
-use Rattle.engine.proofs.settle.Reads as settle-reads
-use Rattle.lane_moves.proofs.refile.Reads as refile-reads
-use Rattle.queue.proofs.take_first.Reads as take-first-reads
-use Rattle.table.proofs.charged.Reads as charged-reads
-use Rattle.table.proofs.clock.Reads as clock-reads
-use Rattle.table.proofs.row.Reads as row-reads
-use Rattle.units.proofs.lane_charge.Reads as lane-charge-reads
-use Rattle.units.proofs.line_charge.Reads as line-charge-reads
-use Rattle.units.proofs.plus.Reads as plus-reads
 
 row-requires : tie.Need-row-requires
 row-requires c κs =

@@ -3,9 +3,6 @@ use Rattle.rules.specs.Calls.{step, doSets}
 use borrow.Author.Needs.{needs}
 use Rattle.engine.proofs.sets.Statement.{statement}
 use Rattle.engine.proofs.sets.Tie as tie
-use Rattle.engine.proofs.sets.Reads as reads
-use Rattle.engine.proofs.sets.Lts as lts
-use Rattle.choice.proofs.set_words.Reads as set-words-reads
 
 set-words-requires : tie.Need-set-words-requires
 set-words-requires c κs = search needs

@@ -3,10 +3,6 @@ use Rattle.engine.proofs.Handing.{settled-stays}
 use borrow.Author.Needs.{needs}
 use Rattle.engine.proofs.settle.Statement.{statement}
 use Rattle.engine.proofs.settle.Tie as tie
-use Rattle.engine.proofs.settle.Reads as reads
-use Rattle.engine.proofs.settle.Lts as lts
-use Rattle.groups.proofs.settled_clock.Reads as settled-clock-reads
-use Rattle.table.proofs.set_clock.Reads as set-clock-reads
 
 set-clock-requires : tie.Need-set-clock-requires
 set-clock-requires c κs = search needs

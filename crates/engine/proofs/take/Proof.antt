@@ -8,10 +8,6 @@ use Rattle.engine.proofs.Replies.{take-does, take-none, refusal-does}
 use borrow.Author.Needs.{needs}
 use Rattle.engine.proofs.take.Statement.{statement}
 use Rattle.engine.proofs.take.Tie as tie
-use Rattle.engine.proofs.take.Reads as reads
-use Rattle.engine.proofs.take.Lts as lts
-use Rattle.choice.proofs.chosen.Reads as chosen-reads
-use Rattle.engine.proofs.serve_lane.Reads as serve-lane-reads
 
 chosen-requires : tie.Need-chosen-requires
 chosen-requires c κs = search needs

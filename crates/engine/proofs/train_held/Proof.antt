@@ -6,9 +6,6 @@ use borrow.Author.Tests.{eq-eqb, ne-eqb, not-true, not-false}
 use Rattle.engine.specs.Does.{laneTrains, heldBy}
 use Rattle.engine.proofs.train_held.Statement.{statement}
 use Rattle.engine.proofs.train_held.Tie as tie
-use Rattle.engine.proofs.train_held.Reads as reads
-use Rattle.engine.proofs.train_held.Lts as lts
-use Rattle.table.proofs.train.Reads as train-reads
 
 returns : tie.Need-returns
 unfolding heldBy

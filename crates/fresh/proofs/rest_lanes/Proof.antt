@@ -1,4 +1,4 @@
-use Rattle.fresh.proofs.Leaves.{rest-none, rest-weight, rest-more}
+use Rattle.fresh.proofs.Leaves.{still-weight, rest-none, rest-same, rest-more}
 use Rattle.fresh.specs.Makes.{restedTo}
 use Rattle.table.proofs.Leave.{sound-after}
 use Rattle.table.specs.Means.{meant, Sound, Leaves}
@@ -33,7 +33,7 @@ rest-lane-requires : tie.Need-rest-lane-requires Inv-loop μ-loop
 rest-lane-requires c κs =
     let l = c .before .before .loop in
     let lt = c .before .loop-test .taken in
-    (l .inv .1, lt, rest-weight (c .before .before .before .before .before .before .before .args .t .now) _ (c .before .before .before .before .cell .ensures) _ (l .k) lt (l .inv .0) (c .before .before .before .before .before .before .before .pre) (l .inv .4 lt))
+    (l .inv .1, lt, still-weight (c .before .before .before .before .before .before .before .args .t .now) _ _ (c .before .before .before .before .cell .ensures) (c .before .before .before .before .before .before .before .pre) (l .k) lt (rest-same (c .before .before .before .before .before .before .before .args .t .now) _ (c .before .before .before .before .cell .ensures) _ (l .k) lt (l .inv .0)) (l .inv .4 lt))
 
 add-next-present : tie.Need-add-next-present Inv-loop μ-loop
 add-next-present c = search needs

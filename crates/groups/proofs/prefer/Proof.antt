@@ -8,8 +8,6 @@ use borrow.Author.Tests.{lt-ltb, le-ltb}
 use borrow.Author.Needs.{needs}
 use Rattle.groups.proofs.prefer.Statement.{statement}
 use Rattle.groups.proofs.prefer.Tie as tie
-use Rattle.groups.proofs.prefer.Reads as reads
-use Rattle.groups.proofs.prefer.Lts as lts
 
 returns : tie.Need-returns
 returns c = rw (lt-ltb _ _ (c .if1 .taken))

@@ -1,5 +1,5 @@
 -- `lanes_are` meets its contract. Assumes nothing.
-use Rattle.paged.proofs.Tested.{found-good, found-bad}
+use Rattle.lane_test.proofs.Setting.{says-yes, says-no}
 use Rattle.halt.proofs.Setups.{has-four, four-say, lane-says}
 use borrow.Author.Needs.{needs}
 use Rattle.halt.proofs.lanes_are.Statement.{statement}
@@ -14,7 +14,7 @@ lane-is-requires c κs = search needs
 returns : tie.Need-returns
 returns c =
     let l = c .before .lane-is in
-    λ e. found-bad (l .result) (lane-says (c .before .before .before .args .t1) 0 512 (l .result) (l .ensures)) (c .if1 .taken) (has-four _ e .lane-0)
+    λ e. says-no (l .result) (lane-says (c .before .before .before .args .t1) 0 512 (l .result) (l .ensures)) (c .if1 .taken) (has-four _ e .lane-0)
 
 array-copy-out-lane-is-2 : tie.Need-array-copy-out-lane-is-2
 array-copy-out-lane-is-2 c = search needs
@@ -25,7 +25,7 @@ lane-is-requires-2 c κs = search needs
 returns-2 : tie.Need-returns-2
 returns-2 c =
     let l = c .before .lane-is2 in
-    λ e. found-bad (l .result) (lane-says (c .before .before .before .before .before .before .args .t1) 1 256 (l .result) (l .ensures)) (c .if2 .taken) (has-four _ e .lane-1)
+    λ e. says-no (l .result) (lane-says (c .before .before .before .before .before .before .args .t1) 1 256 (l .result) (l .ensures)) (c .if2 .taken) (has-four _ e .lane-1)
 
 array-copy-out-lane-is-3 : tie.Need-array-copy-out-lane-is-3
 array-copy-out-lane-is-3 c = search needs
@@ -36,7 +36,7 @@ lane-is-requires-3 c κs = search needs
 returns-3 : tie.Need-returns-3
 returns-3 c =
     let l = c .before .lane-is3 in
-    λ e. found-bad (l .result) (lane-says (c .before .before .before .before .before .before .before .before .before .args .t1) 2 128 (l .result) (l .ensures)) (c .if3 .taken) (has-four _ e .lane-2)
+    λ e. says-no (l .result) (lane-says (c .before .before .before .before .before .before .before .before .before .args .t1) 2 128 (l .result) (l .ensures)) (c .if3 .taken) (has-four _ e .lane-2)
 
 array-copy-out-lane-is-4 : tie.Need-array-copy-out-lane-is-4
 array-copy-out-lane-is-4 c = search needs
@@ -51,9 +51,9 @@ returns-4 c =
     let l1 = c .before .before .before .before .before in
     let l2 = c .before .before in
     four-say _ (s .pre)
-    (found-good (l0 .before .lane-is .result) (lane-says (s .args .t1) 0 512 (l0 .before .lane-is .result) (l0 .before .lane-is .ensures)) (l0 .if1 .left))
-    (found-good (l1 .before .lane-is2 .result) (lane-says (s .args .t1) 1 256 (l1 .before .lane-is2 .result) (l1 .before .lane-is2 .ensures)) (l1 .if2 .left))
-    (found-good (l2 .before .lane-is3 .result) (lane-says (s .args .t1) 2 128 (l2 .before .lane-is3 .result) (l2 .before .lane-is3 .ensures)) (l2 .if3 .left))
+    (says-yes (l0 .before .lane-is .result) (lane-says (s .args .t1) 0 512 (l0 .before .lane-is .result) (l0 .before .lane-is .ensures)) (l0 .if1 .left))
+    (says-yes (l1 .before .lane-is2 .result) (lane-says (s .args .t1) 1 256 (l1 .before .lane-is2 .result) (l1 .before .lane-is2 .ensures)) (l1 .if2 .left))
+    (says-yes (l2 .before .lane-is3 .result) (lane-says (s .args .t1) 2 128 (l2 .before .lane-is3 .result) (l2 .before .lane-is3 .ensures)) (l2 .if3 .left))
     (c .lane-is4 .result) (lane-says (s .args .t1) 3 128 (c .lane-is4 .result) (c .lane-is4 .ensures))
 
 pub lanes-are-spec : {M : Type 1} → statement M

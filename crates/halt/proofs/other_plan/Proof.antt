@@ -1,7 +1,7 @@
 -- `other_plan` meets its contract. Assumes nothing.
-use Rattle.scheduler.proofs.Made.{read-setup-good}
+use Rattle.plan_area.proofs.Steps.{setup-good}
+use Rattle.lane_test.proofs.Setting.{says-true, says-false}
 use Rattle.halt.proofs.Setups.{judged-refused, judged-own, judged-other}
-use Rattle.halt.proofs.Steps.{found, found-not}
 use borrow.Author.Needs.{needs}
 use Rattle.halt.proofs.other_plan.Statement.{statement}
 use Rattle.halt.proofs.other_plan.Tie as tie
@@ -19,14 +19,14 @@ lanes-are-requires : tie.Need-lanes-are-requires
 lanes-are-requires c κs =
     let r = c .before .before .before .before .read-setup in
     let o = c .before .before .enum-told2 .given in
-    read-setup-good (c .before .before .before .before .before .before .args .setup .now) (r .result) (o .0 .0) (r .ensures) (o .1)
+    setup-good (c .before .before .before .before .before .before .args .setup .now) (r .result) (r .ensures) (o .0 .0) (o .1)
 
 returns : tie.Need-returns
 returns c =
     let r = c .before .before .before .before .before .before .read-setup in
     let o = c .before .before .before .before .enum-told2 .given in
     let l = c .before .lanes-are in
-    judged-own (c .before .before .before .before .before .before .before .before .args .setup .now) (r .result) (r .ensures) (o .0 .0) (o .1) (found (l .result) (l .ensures) (c .if1 .taken))
+    judged-own (c .before .before .before .before .before .before .before .before .args .setup .now) (r .result) (r .ensures) (o .0 .0) (o .1) (says-true (l .result) (l .ensures) (c .if1 .taken))
 
 returns-2 : tie.Need-returns-2
 returns-2 c =
@@ -38,7 +38,7 @@ returns-3 c =
     let r = c .before .before .before .before .before .before .read-setup in
     let o = c .before .before .before .before .enum-told2 .given in
     let l = c .before .lanes-are in
-    judged-other (c .before .before .before .before .before .before .before .before .args .setup .now) (r .result) (r .ensures) (o .0 .0) (o .1) (found-not (l .result) (l .ensures) (c .if1 .left))
+    judged-other (c .before .before .before .before .before .before .before .before .args .setup .now) (r .result) (r .ensures) (o .0 .0) (o .1) (says-false (l .result) (l .ensures) (c .if1 .left))
 
 pub other-plan-spec : {M : Type 1} → statement M
 other-plan-spec =

@@ -3,11 +3,6 @@ use Rattle.inner.proofs.Calls.{put-at, take-at}
 use borrow.Author.Needs.{needs}
 use Rattle.inner.proofs.call.Statement.{statement}
 use Rattle.inner.proofs.call.Tie as tie
-use Rattle.inner.proofs.call.Reads as reads
-use Rattle.inner.proofs.call.Lts as lts
-use Rattle.engine.proofs.put.Reads as put-reads
-use Rattle.engine.proofs.take.Reads as take-reads
-use Rattle.fields.proofs.u16_at.Reads as u16-at-reads
 
 shared-slice-read-lane : tie.Need-shared-slice-read-lane
 shared-slice-read-lane c = search needs

@@ -8,9 +8,6 @@ use Rattle.answers.proofs.Made.{reached-known}
 use Rattle.inner.proofs.Calls.{So, so-none, so-more, so-all}
 use Rattle.inner.proofs.work.Statement.{statement}
 use Rattle.inner.proofs.work.Tie as tie
-use Rattle.inner.proofs.work.Reads as reads
-use Rattle.inner.proofs.work.Lts as lts
-use Rattle.inner.proofs.call.Reads as call-reads
 
 abbrev Inv-loop : tie.InvT-loop
 Inv-loop t₀ calls many i₀ t i = So calls t₀ t i × (length t ≡ length t₀) × (i ≤ many)

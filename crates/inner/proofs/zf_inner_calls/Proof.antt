@@ -5,7 +5,7 @@ use Rattle.rules.specs.Calls.{restart}
 use Rattle.rules.specs.declared.Answer.{Answer}
 use Rattle.good.specs.Table.{GoodTable}
 use Rattle.engine.specs.Does.{Does}
-use Rattle.scheduler.proofs.Steps.{found-good, found-bad, good-known}
+use Rattle.scheduler.proofs.Steps.{says-yes, says-no, good-known}
 use Rattle.inner.proofs.Calls.{Begun, begun, bad-works, held-works, done-works}
 use Rattle.inner.proofs.zf_inner_calls.Statement.{statement}
 use Rattle.inner.proofs.zf_inner_calls.Tie as tie
@@ -13,7 +13,7 @@ use Rattle.inner.proofs.zf_inner_calls.Tie as tie
 -- ---- what is known at a place of the code
 
 table-good : (c : tie.After-slice-known2) → GoodTable (c .before .before .before .before .before .before .before .before .before .args .table .now)
-table-good c = let g = c .before .before .before .before .before .good2 in found-good (g .result) (g .ensures) (c .before .before .before .before .if1 .left)
+table-good c = let g = c .before .before .before .before .before .good2 in says-yes (g .result) (g .ensures) (c .before .before .before .before .if1 .left)
 
 is-begun : (c : tie.After-enum-told) → Begun (c .before .before .before .before .before .before .before .before .before .before .before .args .table .now) (c .before .before .before .before .restart .last .0)
 is-begun c =
@@ -29,10 +29,10 @@ same-length : tie.Need-same-length
 same-length c = search needs
 
 returns : tie.Need-returns
-returns c = bad-works _ _ (found-bad (c .before .good2 .result) (c .before .good2 .ensures) (c .if1 .taken))
+returns c = bad-works _ _ (says-no (c .before .good2 .result) (c .before .good2 .ensures) (c .if1 .taken))
 
 restart-requires : tie.Need-restart-requires
-restart-requires c κs = good-known _ (found-good (c .before .before .good2 .result) (c .before .before .good2 .ensures) (c .before .if1 .left))
+restart-requires c κs = good-known _ (says-yes (c .before .before .good2 .result) (c .before .before .good2 .ensures) (c .before .if1 .left))
 
 enum-told : tie.Need-enum-told
 enum-told c = search needs

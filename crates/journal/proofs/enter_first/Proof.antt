@@ -1,7 +1,7 @@
 -- `enter_first` meets its contract. Assumes nothing.
 use mathlib.Core.Path.{sym, subst}
 use native.Mathlib.Omega.{arith}
-use Rattle.desk.specs.Calls.{enter}
+use Rattle.desk.specs.Calls.{enterRecord}
 use Rattle.journal.specs.Step.{BoardStep}
 use Rattle.journal.specs.declared.Told.the-variants.{Line}
 use Rattle.journal.specs.Record.{recLine}
@@ -35,7 +35,7 @@ same-length-3 : tie.Need-same-length-3
 same-length-3 c = search needs
 
 returns-3 : tie.Need-returns-3
-returns-3 c = subst (BoardStep (enter (recLine (c .before .before .before .before .before .before .before .before .before .before .args .r))) (c .before .before .before .before .before .before .before .before .before .before .args .t .now) (Line (c .before .before .before .before .before .before .before .lowest .result))) (sym (c .before .before .set-line .ensures)) (first-join (c .before .before .before .before .before .before .before .before .before .before .args .t .now) (recLine (c .before .before .before .before .before .before .before .before .before .before .args .r)) (c .before .before .before .before .before .before .before .before .before .before .pre .0) (c .before .before .before .before .before .before .before .before .before .before .pre .2) (c .before .before .before .before .before .before .before .before .before .before .pre .3) (c .before .before .before .before .before .before .before .lowest .result) (c .before .before .before .before .before .before .before .before .before .before .pre .1) (c .before .before .before .before .before .before .before .lowest .ensures) (omega (arith, c .before .before .before .before .before .before .before .lowest .ensures .within, c .before .before .before .before .before .before .if1 .left)) (c .before .before .before .before .if2 .left))
+returns-3 c = subst (BoardStep (enterRecord (recLine (c .before .before .before .before .before .before .before .before .before .before .args .r))) (c .before .before .before .before .before .before .before .before .before .before .args .t .now) (Line (c .before .before .before .before .before .before .before .lowest .result))) (sym (c .before .before .set-line .ensures)) (first-join (c .before .before .before .before .before .before .before .before .before .before .args .t .now) (recLine (c .before .before .before .before .before .before .before .before .before .before .args .r)) (c .before .before .before .before .before .before .before .before .before .before .pre .0) (c .before .before .before .before .before .before .before .before .before .before .pre .2) (c .before .before .before .before .before .before .before .before .before .before .pre .3) (c .before .before .before .before .before .before .before .lowest .result) (c .before .before .before .before .before .before .before .before .before .before .pre .1) (c .before .before .before .before .before .before .before .lowest .ensures) (omega (arith, c .before .before .before .before .before .before .before .lowest .ensures .within, c .before .before .before .before .before .before .if1 .left)) (c .before .before .before .before .if2 .left))
 
 pub enter-first-spec : {M : Type 1} → statement M
 enter-first-spec =

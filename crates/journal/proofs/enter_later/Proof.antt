@@ -1,6 +1,6 @@
 -- `enter_later` meets its contract. Assumes nothing.
 use mathlib.Core.Path.{sym, subst, _∙_}
-use Rattle.desk.specs.Calls.{enter}
+use Rattle.desk.specs.Calls.{enterRecord}
 use Rattle.journal.specs.Step.{BoardStep}
 use Rattle.journal.specs.declared.Told.the-variants.{Line}
 use Rattle.journal.specs.Record.{recLine}
@@ -47,7 +47,7 @@ same-length-3 : tie.Need-same-length-3
 same-length-3 c = search needs
 
 returns-3 : tie.Need-returns-3
-returns-3 c = subst (BoardStep (enter (recLine (c .before .before .before .before .before .before .before .before .before .before .before .before .args .r))) (c .before .before .before .before .before .before .before .before .before .before .before .before .args .t .now) (Line (c .before .before .before .before .before .before .before .before .before .before .before .before .args .k))) (sym (c .before .before .set-line .ensures ∙ ap (λ x. putLine (c .before .before .before .before .before .before .before .before .before .before .before .before .args .t .now) (c .before .before .before .before .before .before .before .before .before .before .before .before .args .k) (some x)) (follows-next (c .before .before .before .before .before .before .before .before .before .before .before .before .args .t .now) (recLine (c .before .before .before .before .before .before .before .before .before .before .before .before .args .r)) (c .before .before .before .before .before .before .before .before .before .before .before .before .pre .0) (c .before .before .before .before .before .before .before .before .before .before .before .before .args .k) (c .before .before .before .before .before .before .before .before .before .before .before .before .pre .2) (c .before .before .before .before .before .before .before .before .before .before .before .before .pre .3) (c .before .before .before .before .before .before .before .before .before .before .before .before .pre .4) (c .before .before .before .before .before .before .before .before .before .line-at .result) (c .before .before .before .before .before .before .before .before .before .line-at .ensures) (c .before .before .before .before .changed .result) (c .before .before .before .before .changed .ensures)))) (follows-on (c .before .before .before .before .before .before .before .before .before .before .before .before .args .t .now) (recLine (c .before .before .before .before .before .before .before .before .before .before .before .before .args .r)) (c .before .before .before .before .before .before .before .before .before .before .before .before .pre .0) (c .before .before .before .before .before .before .before .before .before .before .before .before .args .k) (c .before .before .before .before .before .before .before .before .before .before .before .before .pre .2) (c .before .before .before .before .before .before .before .before .before .before .before .before .pre .3) (c .before .before .before .before .before .before .before .before .before .before .before .before .pre .4) (c .before .before .before .before .before .before .before .before .before .line-at .result) (c .before .before .before .before .before .before .before .before .before .line-at .ensures) (c .before .before .before .before .before .before .before .before .before .before .before .before .pre .1) (sym (c .before .before .before .before .before .before .before .before .in-turn .ensures) ∙ not-false (c .before .before .before .before .before .before .before .before .in-turn .result) (c .before .before .before .before .before .before .before .if1 .left)) (sym (c .before .before .before .before .before .before .follows .ensures) ∙ not-false (c .before .before .before .before .before .before .follows .result) (c .before .before .before .before .before .if2 .left)))
+returns-3 c = subst (BoardStep (enterRecord (recLine (c .before .before .before .before .before .before .before .before .before .before .before .before .args .r))) (c .before .before .before .before .before .before .before .before .before .before .before .before .args .t .now) (Line (c .before .before .before .before .before .before .before .before .before .before .before .before .args .k))) (sym (c .before .before .set-line .ensures ∙ ap (λ x. putLine (c .before .before .before .before .before .before .before .before .before .before .before .before .args .t .now) (c .before .before .before .before .before .before .before .before .before .before .before .before .args .k) (some x)) (follows-next (c .before .before .before .before .before .before .before .before .before .before .before .before .args .t .now) (recLine (c .before .before .before .before .before .before .before .before .before .before .before .before .args .r)) (c .before .before .before .before .before .before .before .before .before .before .before .before .pre .0) (c .before .before .before .before .before .before .before .before .before .before .before .before .args .k) (c .before .before .before .before .before .before .before .before .before .before .before .before .pre .2) (c .before .before .before .before .before .before .before .before .before .before .before .before .pre .3) (c .before .before .before .before .before .before .before .before .before .before .before .before .pre .4) (c .before .before .before .before .before .before .before .before .before .line-at .result) (c .before .before .before .before .before .before .before .before .before .line-at .ensures) (c .before .before .before .before .changed .result) (c .before .before .before .before .changed .ensures)))) (follows-on (c .before .before .before .before .before .before .before .before .before .before .before .before .args .t .now) (recLine (c .before .before .before .before .before .before .before .before .before .before .before .before .args .r)) (c .before .before .before .before .before .before .before .before .before .before .before .before .pre .0) (c .before .before .before .before .before .before .before .before .before .before .before .before .args .k) (c .before .before .before .before .before .before .before .before .before .before .before .before .pre .2) (c .before .before .before .before .before .before .before .before .before .before .before .before .pre .3) (c .before .before .before .before .before .before .before .before .before .before .before .before .pre .4) (c .before .before .before .before .before .before .before .before .before .line-at .result) (c .before .before .before .before .before .before .before .before .before .line-at .ensures) (c .before .before .before .before .before .before .before .before .before .before .before .before .pre .1) (sym (c .before .before .before .before .before .before .before .before .in-turn .ensures) ∙ not-false (c .before .before .before .before .before .before .before .before .in-turn .result) (c .before .before .before .before .before .before .before .if1 .left)) (sym (c .before .before .before .before .before .before .follows .ensures) ∙ not-false (c .before .before .before .before .before .before .follows .result) (c .before .before .before .before .before .if2 .left)))
 
 pub enter-later-spec : {M : Type 1} → statement M
 enter-later-spec =

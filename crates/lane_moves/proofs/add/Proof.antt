@@ -1,5 +1,5 @@
 -- `add` meets its contract. Assumes nothing.
-use mathlib.Core.Path.{_≡_, refl, sym, ap, subst, _∙_}
+use mathlib.Core.Path.{_≡_, sym, ap, subst, _∙_}
 use mathlib.Core.Option.{some}
 use Prim.Native.Nat.{ℕ, _+_, _*_, _/_, _%_, _^_, _<_}
 use native.Mathlib.Nat.{mod-eq-of-lt, div-mul-le-self}
@@ -7,7 +7,6 @@ use native.Mathlib.Omega.{arith}
 use mathlib.Core.List.{List}
 use lib.ListN.{length}
 use Rattle.words.specs.Bits.{bit}
-use Rattle.words.specs.Words.{wordAt}
 use Rattle.slot_lists.specs.Lists.{groupsWord, startWord, groupsAt, mapOf, listIn, listAt, Fills}
 use Rattle.slot_lists.proofs.Bits.{bit-two}
 use Rattle.slot_lists.proofs.Laws.{map-on, map-off}
@@ -16,14 +15,6 @@ use Rattle.lane_moves.proofs.Steps.{joined, marked, then-start, start-f
 use borrow.Author.Needs.{needs}
 use Rattle.lane_moves.proofs.add.Statement.{statement}
 use Rattle.lane_moves.proofs.add.Tie as tie
-use Rattle.lane_moves.proofs.add.Reads as reads
-use Rattle.lane_moves.proofs.add.Lts as lts
-use Rattle.slot_lists.proofs.append.Reads as append-reads
-use Rattle.slot_lists.proofs.list_number.Reads as list-number-reads
-use Rattle.slot_lists.proofs.open_group.Reads as open-group-reads
-use Rattle.slot_lists.proofs.set_lists.Reads as set-lists-reads
-use Rattle.slot_lists.proofs.set_start.Reads as set-start-reads
-use Rattle.words.proofs.word.Reads as word-reads
 
 word-requires : tie.Need-word-requires
 word-requires c κs = search needs

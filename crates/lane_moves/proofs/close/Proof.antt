@@ -5,18 +5,12 @@ use native.Mathlib.Nat.{mod-eq-of-lt, mul-le-mul-left}
 use native.Mathlib.Omega.{arith}
 use lib.Pow.{pow-mono}
 use Rattle.words.specs.Bits.{bit}
-use Rattle.slot_lists.specs.Changes.{Stored}
+use Rattle.slot_lists.specs.Changes.{GroupStored}
 use Rattle.lane_moves.specs.Moves.{empty, onward}
 use Rattle.lane_moves.proofs.Steps.{marked, then-start}
 use borrow.Author.Needs.{needs}
 use Rattle.lane_moves.proofs.close.Statement.{statement}
 use Rattle.lane_moves.proofs.close.Tie as tie
-use Rattle.lane_moves.proofs.close.Reads as reads
-use Rattle.lane_moves.proofs.close.Lts as lts
-use Rattle.slot_lists.proofs.clear_group.Reads as clear-group-reads
-use Rattle.slot_lists.proofs.nearest.Reads as nearest-reads
-use Rattle.slot_lists.proofs.set_lists.Reads as set-lists-reads
-use Rattle.slot_lists.proofs.set_start.Reads as set-start-reads
 
 clear-group-requires : tie.Need-clear-group-requires
 clear-group-requires c κs = search needs
@@ -43,7 +37,7 @@ returns-2 c =
     let m = s .args .map in
     let here : (b + 0) % 32 ≡ b = omega (arith, s .pre .8) in
     onward 0 (s .args .start) (omega (arith, c .before .before .before .before .before .if1 .left)) (record { near = omega arith; set = ap (λ (i : ℕ). bit i m) here ∙ c .if2 .taken; none-before = λ j h. absurd (omega arith) }) (omega arith) (λ v h z. h)
-    (subst (Stored (s .args .t .now) _ (s .args .g) m) (s .pre .7) (c .before .before .before .set-lists .ensures))
+    (subst (GroupStored (s .args .t .now) _ (s .args .g) m) (s .pre .7) (c .before .before .before .set-lists .ensures))
 
 nearest-requires : tie.Need-nearest-requires
 nearest-requires c κs = search needs

@@ -1,29 +1,17 @@
 -- `refile` meets its contract. Assumes nothing.
-use mathlib.Core.Path.{_≡_, refl, sym, ap, subst, _∙_}
-use mathlib.Core.Bool.{Bool, true, false}
-use Prim.Native.Nat.{ℕ, _+_, _*_, _/_, _%_, _^_, _<_}
+use mathlib.Core.Path.{sym, ap, subst, _∙_}
+use Prim.Native.Nat.{ℕ, _+_, _/_, _%_, _^_, _<_}
 use native.Mathlib.Omega.{arith}
 use mathlib.Core.List.{List}
-use lib.ListN.{length, drop, length-drop}
+use lib.ListN.{length}
 use Rattle.words.specs.Bits.{bit}
-use Rattle.words.specs.Words.{wordAt}
-use Rattle.words.proofs.Runs.{eq-or-ne}
-use mathlib.Core.Logic.{⊎-elim}
-use Rattle.slot_lists.specs.Lists.{groupsWord, groupsAt, backAt, mapOf, listIn, listAt, startWord, Fills}
+use Rattle.slot_lists.specs.Lists.{groupsWord, listIn, listAt, startWord, Fills}
 use Rattle.slot_lists.proofs.Laws.{map-on, start-some}
-use Rattle.lane_moves.specs.Moves.{listOf, Refiled}
 use Rattle.lane_moves.proofs.Views.{same-word}
 use Rattle.lane_moves.proofs.Steps.{refile-more, refile-last, rooms-after}
 use borrow.Author.Needs.{needs}
 use Rattle.lane_moves.proofs.refile.Statement.{statement}
 use Rattle.lane_moves.proofs.refile.Tie as tie
-use Rattle.lane_moves.proofs.refile.Reads as reads
-use Rattle.lane_moves.proofs.refile.Lts as lts
-use Rattle.lane_moves.proofs.close.Reads as close-reads
-use Rattle.slot_lists.proofs.append.Reads as append-reads
-use Rattle.slot_lists.proofs.list_number.Reads as list-number-reads
-use Rattle.slot_lists.proofs.remove_first.Reads as remove-first-reads
-use Rattle.words.proofs.word.Reads as word-reads
 
 word-requires : tie.Need-word-requires
 word-requires c κs = search needs

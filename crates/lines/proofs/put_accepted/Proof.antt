@@ -3,21 +3,21 @@ use Prim.Native.Nat.{_+_, _≤_}
 use mathlib.Core.List.{[], _∷_}
 use native.Mathlib.Omega.{arith}
 use lib.ListN.{length, length-set}
-use Rattle.lines.specs.Line.{putOk, line}
+use Rattle.lines.specs.Line.{putOk, textLine}
 use Rattle.lines.proofs.Most.{one-most}
 use Rattle.lines.proofs.Writing.{Left, left-word, left-number, number-fits, left-feed, feed-fits}
 use borrow.Author.Needs.{needs}
 use Rattle.lines.proofs.put_accepted.Statement.{statement}
 use Rattle.lines.proofs.put_accepted.Tie as tie
 
-room : (d : tie.After-put-word) → d .before .before .before .before .args .at + length (line putOk (d .before .before .before .before .args .n ∷ [])) ≤ length (d .before .before .before .before .args .a .now)
+room : (d : tie.After-put-word) → d .before .before .before .before .args .at + length (textLine putOk (d .before .before .before .before .args .n ∷ [])) ≤ length (d .before .before .before .before .args .a .now)
 room d = let s = d .before .before .before .before in omega (arith, s .pre, one-most putOk (s .args .n) (omega arith) (s .fits .n .fits))
 
 -- what is left behind the word, and behind the number
-left-1 : (d : tie.After-put-word) → Left (d .before .before .before .before .args .a .now) (d .put-word .last .0) (d .before .before .before .before .args .at) (line putOk (d .before .before .before .before .args .n ∷ [])) (d .put-word .result) (line [] (d .before .before .before .before .args .n ∷ []))
+left-1 : (d : tie.After-put-word) → Left (d .before .before .before .before .args .a .now) (d .put-word .last .0) (d .before .before .before .before .args .at) (textLine putOk (d .before .before .before .before .args .n ∷ [])) (d .put-word .result) (textLine [] (d .before .before .before .before .args .n ∷ []))
 left-1 d = left-word putOk (d .before .before .before .before .args .n ∷ []) (record { is = d .put-word .ensures .0; past = d .put-word .ensures .1 })
 
-left-2 : (d : tie.After-put-spaced) → Left (d .before .before .before .before .before .before .before .before .args .a .now) (d .put-spaced .last .0) (d .before .before .before .before .before .before .before .before .args .at) (line putOk (d .before .before .before .before .before .before .before .before .args .n ∷ [])) (d .put-spaced .result) (line [] [])
+left-2 : (d : tie.After-put-spaced) → Left (d .before .before .before .before .before .before .before .before .args .a .now) (d .put-spaced .last .0) (d .before .before .before .before .before .before .before .before .args .at) (textLine putOk (d .before .before .before .before .before .before .before .before .args .n ∷ [])) (d .put-spaced .result) (textLine [] [])
 left-2 d = left-number (d .before .before .before .before .before .before .before .before .args .n) [] (left-1 (d .before .before .before .before)) (d .put-spaced .ensures)
 
 slice-aggregate-put-word : tie.Need-slice-aggregate-put-word

@@ -3,7 +3,7 @@ use Prim.Native.Nat.{_≤_}
 use native.Mathlib.Omega.{arith}
 use mathlib.Core.List.{[], _∷_}
 use lib.ListN.{length}
-use Rattle.lines.specs.Line.{line}
+use Rattle.lines.specs.Line.{textLine}
 use Rattle.lines.proofs.Most.{one-most}
 use borrow.Author.Needs.{needs}
 use Rattle.lines.proofs.put_one.Statement.{statement}
@@ -12,7 +12,7 @@ use Rattle.lines.proofs.put_one.Tie as tie
 slice-aggregate-put-line : tie.Need-slice-aggregate-put-line
 slice-aggregate-put-line c = search needs
 
-long : (c : tie.After-ns) → length (line (c .before .before .before .before .args .word .now) (c .before .before .before .before .args .n ∷ [])) ≤ 64
+long : (c : tie.After-ns) → length (textLine (c .before .before .before .before .args .word .now) (c .before .before .before .before .args .n ∷ [])) ≤ 64
 long c = let s = c .before .before .before .before in one-most (s .args .word .now) (s .args .n) (s .pre .0) (s .fits .n .fits)
 
 put-line-requires : tie.Need-put-line-requires

@@ -1,8 +1,7 @@
 use mathlib.Core.Path.{_≡_, sym, ap, subst, _∙_}
-use Prim.Native.Nat.{ℕ, _+_, _-_, _%_, _^_, _≤_, _<_}
+use Prim.Native.Nat.{ℕ, _-_, _%_, _^_, _<_}
 use native.Mathlib.Omega.{arith}
 use Rattle.words.specs.Bits.{bit}
-use Rattle.words.specs.Words.{wordAt}
 use Rattle.slot_lists.specs.Lists.{groupsAt}
 use Rattle.lists_test.specs.Stored.{GroupSays}
 use Rattle.lists_test.specs.declared.Met.{Met}

@@ -3,7 +3,6 @@ use Prim.Native.Nat.{ℕ, _+_, _/_, _^_}
 use native.Mathlib.Nat.{div-mul-le-self, mul-le-mul-left}
 use native.Mathlib.Omega.{arith}
 use lib.Pow.{pow-mono}
-use Rattle.slot_lists.specs.Lists.{backAt}
 use Rattle.table.specs.Layout.{cells, rowAt}
 use Rattle.table.specs.declared.LaneRow.{LaneRow}
 use borrow.Author.Needs.{needs}

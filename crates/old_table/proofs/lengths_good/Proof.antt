@@ -1,6 +1,6 @@
 -- `lengths_good` meets its contract. The loop's invariant: the records before the next one have lengths within the lane's numbers. Assumes nothing.
 use Prim.Native.Nat.{ℕ, _+_, _-_, _≤_, _<_}
-use mathlib.Core.Path.{_≡_, ap}
+use mathlib.Core.Path.{ap}
 use native.Mathlib.Omega.{arith}
 use borrow.Author.Count.{below-none, below-more}
 use Rattle.rules.specs.Older.{oldDepth}

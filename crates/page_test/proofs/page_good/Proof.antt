@@ -6,12 +6,6 @@ use Rattle.plan_writer.specs.Write.{planned}
 use Rattle.page_test.proofs.Tested.{good-none, good-some, not-held, plan-tells}
 use Rattle.page_test.proofs.page_good.Statement.{statement}
 use Rattle.page_test.proofs.page_good.Tie as tie
-use Rattle.page_test.proofs.page_good.Reads as reads
-use Rattle.page_test.proofs.page_good.Lts as lts
-use Rattle.editions.proofs.last.Reads as last-reads
-use Rattle.editions.proofs.new.Reads as new-reads
-use Rattle.editions.proofs.plan.Reads as plan-reads
-use Rattle.plan_writer.proofs.within.Reads as within-reads
 
 last-requires : tie.Need-last-requires
 last-requires c κs = search needs

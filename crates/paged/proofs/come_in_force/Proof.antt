@@ -6,10 +6,6 @@ use Rattle.plan.specs.Read.{settingOf}
 use Rattle.paged.proofs.Lending.{forced}
 use Rattle.paged.proofs.come_in_force.Statement.{statement}
 use Rattle.paged.proofs.come_in_force.Tie as tie
-use Rattle.paged.proofs.come_in_force.Reads as reads
-use Rattle.paged.proofs.come_in_force.Lts as lts
-use Rattle.editions.proofs.set_taken.Reads as set-taken-reads
-use Rattle.fresh.proofs.write.Reads as write-reads
 
 write-requires : tie.Need-write-requires
 write-requires c κs = search needs

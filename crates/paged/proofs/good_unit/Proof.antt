@@ -1,14 +1,10 @@
 -- `good_unit` meets its contract. Assumes nothing.
 use borrow.Author.Needs.{needs}
+use Rattle.lane_test.proofs.Setting.{says-yes, says-no}
 use Rattle.paged.proofs.Units.{good-filed}
-use Rattle.paged.proofs.Tested.{found-good, found-bad, unit-says}
+use Rattle.paged.proofs.Tested.{unit-says}
 use Rattle.paged.proofs.good_unit.Statement.{statement}
 use Rattle.paged.proofs.good_unit.Tie as tie
-use Rattle.paged.proofs.good_unit.Reads as reads
-use Rattle.paged.proofs.good_unit.Lts as lts
-use Rattle.good.proofs.good.Reads as good-reads
-use Rattle.page_test.proofs.page_good.Reads as page-good-reads
-use Rattle.paged.proofs.held.Reads as held-reads
 
 returns : tie.Need-returns
 returns c = search needs
@@ -17,10 +13,10 @@ good-requires : tie.Need-good-requires
 good-requires c κs = search needs
 
 returns-2 : tie.Need-returns-2
-returns-2 c = λ g. found-bad (c .before .good2 .result) (c .before .good2 .ensures) (c .if2 .taken) (g .core)
+returns-2 c = λ g. says-no (c .before .good2 .result) (c .before .good2 .ensures) (c .if2 .taken) (g .core)
 
 held-requires : tie.Need-held-requires
-held-requires c κs = good-filed (c .before .before .before .before .args .t .now) (found-good (c .before .good2 .result) (c .before .good2 .ensures) (c .if2 .left))
+held-requires c κs = good-filed (c .before .before .before .before .args .t .now) (says-yes (c .before .good2 .result) (c .before .good2 .ensures) (c .if2 .left))
 
 sub-page-good : tie.Need-sub-page-good
 sub-page-good c = search needs
@@ -39,7 +35,7 @@ returns-3 c =
     let s = c .before .before .before .before .before .before .before in
     let g = c .before .before .before .before .good2 in
     let h = c .before .before .held in
-    unit-says (s .args .t .now) (h .result) (c .page-good .result) (c .before .before .before .before .before .if1 .left) (found-good (g .result) (g .ensures) (c .before .before .before .if2 .left)) (h .ensures) (c .page-good .ensures)
+    unit-says (s .args .t .now) (h .result) (c .page-good .result) (c .before .before .before .before .before .if1 .left) (says-yes (g .result) (g .ensures) (c .before .before .before .if2 .left)) (h .ensures) (c .page-good .ensures)
 
 pub good-unit-spec : {M : Type 1} → statement M
 good-unit-spec =

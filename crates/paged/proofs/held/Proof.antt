@@ -3,9 +3,6 @@ use borrow.Author.Needs.{needs}
 use Rattle.paged.proofs.Groups.{held-is}
 use Rattle.paged.proofs.held.Statement.{statement}
 use Rattle.paged.proofs.held.Tie as tie
-use Rattle.paged.proofs.held.Reads as reads
-use Rattle.paged.proofs.held.Lts as lts
-use Rattle.words.proofs.word.Reads as word-reads
 
 word-requires : tie.Need-word-requires
 word-requires c κs = search needs

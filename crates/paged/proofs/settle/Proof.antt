@@ -11,12 +11,6 @@ use Rattle.paged.specs.Paged.{partOf}
 use Rattle.paged.proofs.Settled.{ready-plan, ready-lanes, settled-held, settled-none, settled-comes}
 use Rattle.paged.proofs.settle.Statement.{statement}
 use Rattle.paged.proofs.settle.Tie as tie
-use Rattle.paged.proofs.settle.Reads as reads
-use Rattle.paged.proofs.settle.Lts as lts
-use Rattle.editions.proofs.new.Reads as new-reads
-use Rattle.editions.proofs.plan.Reads as plan-reads
-use Rattle.paged.proofs.come_in_force.Reads as come-in-force-reads
-use Rattle.paged.proofs.held.Reads as held-reads
 
 held-requires : tie.Need-held-requires
 held-requires c κs = search needs

@@ -3,9 +3,6 @@ use borrow.Author.Needs.{needs}
 use Rattle.paged.proofs.Lending.{waited}
 use Rattle.paged.proofs.wait.Statement.{statement}
 use Rattle.paged.proofs.wait.Tie as tie
-use Rattle.paged.proofs.wait.Reads as reads
-use Rattle.paged.proofs.wait.Lts as lts
-use Rattle.editions.proofs.set_waiting.Reads as set-waiting-reads
 
 sub-set-waiting : tie.Need-sub-set-waiting
 sub-set-waiting c = search needs

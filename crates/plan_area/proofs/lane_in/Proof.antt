@@ -3,10 +3,6 @@ use borrow.Author.Tests.{ne-eqb}
 use borrow.Author.Needs.{needs}
 use Rattle.plan_area.proofs.lane_in.Statement.{statement}
 use Rattle.plan_area.proofs.lane_in.Tie as tie
-use Rattle.plan_area.proofs.lane_in.Reads as reads
-use Rattle.plan_area.proofs.lane_in.Lts as lts
-use Rattle.plan_area.proofs.fitted.Reads as fitted-reads
-use Rattle.plan_area.proofs.longest_in.Reads as longest-in-reads
 
 cast-weight : tie.Need-cast-weight
 cast-weight c = search needs

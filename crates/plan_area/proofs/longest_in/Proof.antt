@@ -3,8 +3,6 @@ use borrow.Author.Tests.{eq-eqb, ne-eqb}
 use borrow.Author.Needs.{needs}
 use Rattle.plan_area.proofs.longest_in.Statement.{statement}
 use Rattle.plan_area.proofs.longest_in.Tie as tie
-use Rattle.plan_area.proofs.longest_in.Reads as reads
-use Rattle.plan_area.proofs.longest_in.Lts as lts
 
 sub-result : tie.Need-sub-result
 sub-result c = search needs

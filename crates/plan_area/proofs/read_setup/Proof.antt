@@ -1,11 +1,11 @@
 -- `read_setup` meets its contract. Assumes nothing.
-use Rattle.plan_area.proofs.Steps.{read-short, read-refused, setup-good, read-stored}
+use Rattle.plan_area.proofs.Steps.{read-short, read-refused, setup-good, setup-low, read-stored}
 use borrow.Author.Needs.{needs}
 use Rattle.plan_area.proofs.read_setup.Statement.{statement}
 use Rattle.plan_area.proofs.read_setup.Tie as tie
 
 returns : tie.Need-returns
-returns c = read-short (c .if1 .taken)
+returns c = search read-short
 
 read-setup-requires : tie.Need-read-setup-requires
 read-setup-requires c κs = search needs
@@ -17,28 +17,16 @@ enum-told : tie.Need-enum-told
 enum-told c = search needs
 
 store-requires : tie.Need-store-requires
-store-requires c κs =
-    let s = c .before .before .before .before .before .before .before .before in
-    let r = c .before .before .before .before .read-setup in
-    let o = c .before .before .enum-told .given in
-    let good = setup-good (s .args .setup .now) (r .result) (r .ensures) (o .0 .0) (o .1) in
-    (c .before .before .before .before .before .if1 .left, good .0, good .1)
+store-requires c κs = search (setup-good, setup-low)
 
 returns-2 : tie.Need-returns-2
-returns-2 c =
-    let r = c .before .before .before .read-setup in
-    read-refused (c .before .before .before .before .if1 .left) (r .result) (r .ensures) _ (c .before .outcome .given .1)
+returns-2 c = search read-refused
 
 same-length : tie.Need-same-length
 same-length c = search needs
 
 returns-3 : tie.Need-returns-3
-returns-3 c =
-    let r = c .before .before .before .before .before .before .before .read-setup in
-    let o = c .before .before .before .before .before .enum-told .given in
-    let w = c .before .before .store in
-    let room = c .before .before .before .before .before .before .before .before .if1 .left in
-    read-stored room (r .result) (r .ensures) (o .0 .0) (o .1) _ (w .kept .0) (w .ensures)
+returns-3 c = search read-stored
 
 pub read-setup-spec : {M : Type 1} → statement M
 read-setup-spec =

@@ -6,8 +6,8 @@ use mathlib.Core.Path.{sym, _∙_}
 use mathlib.Core.Logic.{⊎-elim}
 use native.Mathlib.Omega.{arith}
 use lib.ListN.{getD}
+use Rattle.units.proofs.Bools.{true-false}
 use Rattle.plan.specs.Read.{settingOf}
-use Rattle.plan.proofs.Inside.{true-false}
 use Rattle.plan_writer.proofs.Numbered.{none}
 use Rattle.plan_writer.proofs.Judging.{So, so-none, line-over, so-outside, so-more, so-skip, so-all, so-zero, so-over}
 use Rattle.plan_writer.proofs.Lane.{tells-no, is-there}

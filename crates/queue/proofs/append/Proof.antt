@@ -8,7 +8,7 @@ use Rattle.table.specs.Layout.{Now, cells, putRing}
 use Rattle.table.specs.Means.{meant, Leaves, withLane}
 use Rattle.table.specs.declared.LaneRow.{LaneRow}
 use Rattle.queue.specs.Queue.{waiting, Ready, Entered}
-use Rattle.queue.proofs.Appending.{append-short, append-fits, append-room, append-ready, append-leaves}
+use Rattle.queue.proofs.Appending.{append-joins, append-room, append-ready, append-leaves}
 use borrow.Author.Needs.{needs}
 use Rattle.queue.proofs.append.Statement.{statement}
 use Rattle.queue.proofs.append.Tie as tie
@@ -23,8 +23,9 @@ enter-requires c κs =
     let k = s .args .k in
     let e = s .args .e in
     let r = c .before .row in
-    let x = subst (λ (l : LaneRow). (l .count < laneDepth) × (l .longest .0 ≤ 1500) × (e .length .0 ≤ l .longest .0) × (l .shared ≡ true → Ready (cells t) k (e .train))) (sym (r .ensures .0)) (append-room t t t k e (s .pre .0) (s .pre .1) (s .pre .2) (s .pre .3) (s .pre .4), append-short t t t k e (s .pre .0) (s .pre .1) (s .pre .2) (s .pre .3) (s .pre .4), append-fits t t t k e (s .pre .0) (s .pre .1) (s .pre .2) (s .pre .3) (s .pre .4) .1, append-ready t t t k e (s .pre .0) (s .pre .1) (s .pre .2) (s .pre .3) (s .pre .4)) in
-    (s .pre .0 .room, s .pre .1, r .ensures .1, x .0, x .1, append-fits t t t k e (s .pre .0) (s .pre .1) (s .pre .2) (s .pre .3) (s .pre .4) .0, x .2, x .3)
+    let j = append-joins t t t k e (s .pre .0) (s .pre .1) (s .pre .2) (s .pre .3) (s .pre .4) in
+    let x = subst (λ (l : LaneRow). (l .count < laneDepth) × (l .longest .0 ≤ 1500) × (e .length .0 ≤ l .longest .0) × (l .shared ≡ true → Ready (cells t) k (e .train))) (sym (r .ensures .0)) (append-room t t t k e (s .pre .0) (s .pre .1) (s .pre .2) (s .pre .3) (s .pre .4), j .here .agrees .numbers .longest-high, j .enters .fits, append-ready t t t k e (s .pre .0) (s .pre .1) (s .pre .2) (s .pre .3) (s .pre .4)) in
+    (s .pre .0 .room, s .pre .1, r .ensures .1, x .0, x .1, j .enters .some-bytes, x .2, x .3)
 
 add-set-ring : tie.Need-add-set-ring
 add-set-ring c =

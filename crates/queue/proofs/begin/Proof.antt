@@ -9,7 +9,7 @@ use Rattle.table.specs.Means.{meant, Leaves, withLane}
 use Rattle.table.specs.declared.LaneRow.{LaneRow}
 use Rattle.table.proofs.Rows.{retimed}
 use Rattle.queue.specs.Queue.{waiting, Cleared, Entered}
-use Rattle.queue.proofs.Waking.{wake-none, wake-short, wake-fits, wake-train, wake-leaves}
+use Rattle.queue.proofs.Waking.{wake-joins, wake-none, wake-train, wake-leaves}
 use borrow.Author.Needs.{needs}
 use Rattle.queue.proofs.begin.Statement.{statement}
 use Rattle.queue.proofs.begin.Tie as tie
@@ -24,7 +24,8 @@ clear-requires c κs =
     let k = s .args .k in
     let e = s .args .e in
     let r = c .before .row in
-    (s .pre .0 .room, s .pre .1, subst (λ (l : LaneRow). 0 < l .longest .0) (sym (r .ensures .0)) (omega (arith, wake-fits t t t t k (s .args .start .0) e (s .pre .0) (s .pre .1) (s .pre .2) (s .pre .3) (s .pre .4) (s .pre .5) (s .pre .6) (s .pre .7) .0, wake-fits t t t t k (s .args .start .0) e (s .pre .0) (s .pre .1) (s .pre .2) (s .pre .3) (s .pre .4) (s .pre .5) (s .pre .6) (s .pre .7) .1)))
+    let j = wake-joins t t t t k (s .args .start .0) e (s .pre .0) (s .pre .1) (s .pre .2) (s .pre .3) (s .pre .4) (s .pre .5) (s .pre .6) (s .pre .7) in
+    (s .pre .0 .room, s .pre .1, subst (λ (l : LaneRow). 0 < l .longest .0) (sym (r .ensures .0)) (omega (arith, j .enters .some-bytes, j .enters .fits)))
 
 enter-requires : tie.Need-enter-requires
 enter-requires c κs =
@@ -33,8 +34,9 @@ enter-requires c κs =
     let k = s .args .k in
     let e = s .args .e in
     let r = c .before .before .before .before .before .row in
-    let x = subst (λ (l : LaneRow). (l .count < laneDepth) × (l .longest .0 ≤ 1500) × (e .length .0 ≤ l .longest .0) × (l .shared ≡ true → e .train < 8)) (sym (r .ensures .0)) (omega (arith, wake-none t t t t k (s .args .start .0) e (s .pre .0) (s .pre .1) (s .pre .2) (s .pre .3) (s .pre .4) (s .pre .5) (s .pre .6) (s .pre .7)), wake-short t t t t k (s .args .start .0) e (s .pre .0) (s .pre .1) (s .pre .2) (s .pre .3) (s .pre .4) (s .pre .5) (s .pre .6) (s .pre .7), wake-fits t t t t k (s .args .start .0) e (s .pre .0) (s .pre .1) (s .pre .2) (s .pre .3) (s .pre .4) (s .pre .5) (s .pre .6) (s .pre .7) .1, wake-train t t t t k (s .args .start .0) e (s .pre .0) (s .pre .1) (s .pre .2) (s .pre .3) (s .pre .4) (s .pre .5) (s .pre .6) (s .pre .7)) in
-    (omega (arith, c .before .before .before .clear .kept .0, s .pre .0 .room), s .pre .1, r .ensures .1, x .0, x .1, wake-fits t t t t k (s .args .start .0) e (s .pre .0) (s .pre .1) (s .pre .2) (s .pre .3) (s .pre .4) (s .pre .5) (s .pre .6) (s .pre .7) .0, x .2, (λ q. c .before .before .before .clear .ensures .ready q (e .train) (x .3 q)))
+    let j = wake-joins t t t t k (s .args .start .0) e (s .pre .0) (s .pre .1) (s .pre .2) (s .pre .3) (s .pre .4) (s .pre .5) (s .pre .6) (s .pre .7) in
+    let x = subst (λ (l : LaneRow). (l .count < laneDepth) × (l .longest .0 ≤ 1500) × (e .length .0 ≤ l .longest .0) × (l .shared ≡ true → e .train < 8)) (sym (r .ensures .0)) (omega (arith, wake-none t t t t k (s .args .start .0) e (s .pre .0) (s .pre .1) (s .pre .2) (s .pre .3) (s .pre .4) (s .pre .5) (s .pre .6) (s .pre .7)), j .here .agrees .numbers .longest-high, j .enters .fits, wake-train t t t t k (s .args .start .0) e (s .pre .0) (s .pre .1) (s .pre .2) (s .pre .3) (s .pre .4) (s .pre .5) (s .pre .6) (s .pre .7)) in
+    (omega (arith, c .before .before .before .clear .kept .0, s .pre .0 .room), s .pre .1, r .ensures .1, x .0, x .1, j .enters .some-bytes, x .2, (λ q. c .before .before .before .clear .ensures .ready q (e .train) (x .3 q)))
 
 set-row-requires : tie.Need-set-row-requires
 set-row-requires c κs = search needs

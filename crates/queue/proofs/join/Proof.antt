@@ -3,7 +3,7 @@ use Prim.Native.Nat.{ℕ, _+_, _<_}
 use native.Mathlib.Omega.{arith}
 use Rattle.turns.specs.Turns.{headOf, countOf, namedOf, Ordered, Light, Puts}
 use Rattle.turns.specs.Turns as turns
-use Rattle.table.specs.Layout.{cells, roundAt, trainNumber}
+use Rattle.table.specs.Layout.{cells, trainNumber}
 use Rattle.table.proofs.Stores.{now-then}
 use borrow.Author.Needs.{needs}
 use Rattle.queue.proofs.join.Statement.{statement}

@@ -8,10 +8,11 @@ use Rattle.table.specs.Means.{meant}
 use Rattle.table.specs.declared.LaneRow.{LaneRow}
 use Rattle.table.proofs.Rows.{retimed}
 use Rattle.queue.specs.Queue.{Takes, Chosen, Turned}
-use Rattle.queue.proofs.Taking.{busy-row, take-room, take-short, take-rate, take-framing, finish-row, take-chosen, take-plain, take-shared}
+use Rattle.queue.proofs.Taking.{take-room, take-rate, finish-row, take-chosen, take-plain, take-shared}
 use borrow.Author.Needs.{needs}
 use Rattle.queue.proofs.take_first.Statement.{statement}
 use Rattle.queue.proofs.take_first.Tie as tie
+use Rattle.queue.proofs.Held.{row-busy}
 
 row-requires : tie.Need-row-requires
 row-requires c κs = search needs
@@ -26,7 +27,7 @@ charged-requires c κs =
     let k = s .args .k in
     let r = c .before .before .row in
     let f = c .first in
-    (subst (λ (l : LaneRow). l .framing .0 ≤ 64) (sym (r .ensures .0)) (take-framing t k (s .pre .0) (s .pre .1) (s .pre .2) (s .pre .3)), omega (arith, f .ensures .1))
+    (subst (λ (l : LaneRow). l .framing .0 ≤ 64) (sym (r .ensures .0)) (row-busy t k (s .pre .0) (s .pre .1) (s .pre .2) (s .pre .3) .here .agrees .framing), omega (arith, f .ensures .1))
 
 lane-charge-requires : tie.Need-lane-charge-requires
 lane-charge-requires c κs =
@@ -54,7 +55,7 @@ sub-next c =
     let k = s .args .k in
     let r = c .before .before .before .before .before .before .row in
     let f = c .before .before .before .before .first in
-    omega (arith, subst (λ (l : LaneRow). 0 < l .count) (sym (r .ensures .0)) (busy-row t k (s .pre .0) (s .pre .1) (s .pre .2) (s .pre .3)))
+    omega (arith, subst (λ (l : LaneRow). 0 < l .count) (sym (r .ensures .0)) (row-busy t k (s .pre .0) (s .pre .1) (s .pre .2) (s .pre .3) .some))
 
 turn-requires : tie.Need-turn-requires
 turn-requires c κs =
@@ -64,7 +65,7 @@ turn-requires c κs =
     let r = c .before .before .before .before .before .before .before .before .row in
     let f = c .before .before .before .before .before .before .first in
     let kind : r .result .shared ≡ true = search needs in
-    let y = subst (λ (l : LaneRow). (l .longest .0 ≤ 1500) × (l .shared ≡ true → Chosen (cells t) k (l .longest .0) (f .result .length .0))) (sym (r .ensures .0)) (take-short t k (s .pre .0) (s .pre .1) (s .pre .2) (s .pre .3), take-chosen t k (s .pre .0) (s .pre .1) (s .pre .2) (s .pre .3) (f .result) (f .ensures .0)) in
+    let y = subst (λ (l : LaneRow). (l .longest .0 ≤ 1500) × (l .shared ≡ true → Chosen (cells t) k (l .longest .0) (f .result .length .0))) (sym (r .ensures .0)) (row-busy t k (s .pre .0) (s .pre .1) (s .pre .2) (s .pre .3) .here .agrees .numbers .longest-high, take-chosen t k (s .pre .0) (s .pre .1) (s .pre .2) (s .pre .3) (f .result) (f .ensures .0)) in
     (s .pre .0 .room, s .pre .1, y .0, y .1 kind)
 
 set-row-requires : tie.Need-set-row-requires

@@ -4,8 +4,6 @@ use Rattle.requests.specs.Request.{callByNumber}
 use borrow.Author.Needs.{needs}
 use Rattle.requests.proofs.request_of.Statement.{statement}
 use Rattle.requests.proofs.request_of.Tie as tie
-use Rattle.requests.proofs.request_of.Reads as reads
-use Rattle.requests.proofs.request_of.Lts as lts
 
 -- src/lib.rt:99:19
 cast-t6 : tie.Need-cast-t6

@@ -3,8 +3,6 @@ use borrow.Author.Needs.{needs}
 use mathlib.Core.Path.{sym, ap, subst, _∙_}
 use native.Mathlib.Omega.{arith}
 use lib.ListN.{length-drop}
-use borrow.Author.Tests.{not-true, not-false}
-use Rattle.pages.specs.Device.{Page}
 use Rattle.plan.specs.Read.{settings}
 use Rattle.editions.specs.Part.{PartRoom, lastIn, newIn}
 use Rattle.editions.proofs.Lent.{tail-all}
@@ -13,13 +11,6 @@ use Rattle.paged.proofs.Units.{good-rests}
 use Rattle.scheduler.proofs.Offered.{offer-old, offer-waits, offer-forced}
 use Rattle.scheduler.proofs.bring.Statement.{statement}
 use Rattle.scheduler.proofs.bring.Tie as tie
-use Rattle.scheduler.proofs.bring.Reads as reads
-use Rattle.scheduler.proofs.bring.Lts as lts
-use Rattle.editions.proofs.last.Reads as last-reads
-use Rattle.editions.proofs.new.Reads as new-reads
-use Rattle.paged.proofs.come_in_force.Reads as come-in-force-reads
-use Rattle.paged.proofs.held.Reads as held-reads
-use Rattle.paged.proofs.wait.Reads as wait-reads
 
 sub-last : tie.Need-sub-last
 sub-last c = search needs

@@ -1,13 +1,10 @@
 -- `make` meets its contract. Assumes nothing.
-use Rattle.scheduler.proofs.Made.{make-short, make-refused, make-made, read-setup-good}
+use Rattle.scheduler.proofs.Made.{make-short, make-refused, make-made}
+use Rattle.plan_area.proofs.Steps.{setup-good}
 use native.Mathlib.Omega.{arith}
 use borrow.Author.Needs.{needs}
 use Rattle.scheduler.proofs.make.Statement.{statement}
 use Rattle.scheduler.proofs.make.Tie as tie
-use Rattle.scheduler.proofs.make.Reads as reads
-use Rattle.scheduler.proofs.make.Lts as lts
-use Rattle.paged.proofs.come_in_force.Reads as come-in-force-reads
-use Rattle.plan.proofs.read_setup.Reads as read-setup-reads
 
 returns : tie.Need-returns
 returns c = make-short (c .before .before .before .args .setup .now) (c .before .before .before .args .t .now) (c .if1 .taken)
@@ -25,7 +22,7 @@ come-in-force-requires : tie.Need-come-in-force-requires
 come-in-force-requires c κs =
     let r = c .before .before .before .before .before .read-setup in
     let o = c .before .before .before .enum-told .given in
-    (c .before .before .before .before .before .before .if1 .left, omega arith, read-setup-good (c .before .before .before .before .before .before .before .before .before .args .setup .now) (r .result) (o .0 .0) (r .ensures) (o .1))
+    (c .before .before .before .before .before .before .if1 .left, omega arith, setup-good (c .before .before .before .before .before .before .before .before .before .args .setup .now) (r .result) (r .ensures) (o .0 .0) (o .1))
 
 returns-2 : tie.Need-returns-2
 returns-2 c = make-refused (c .before .before .before .before .before .before .before .args .setup .now) (c .before .before .before .before .before .before .before .args .t .now) _ (c .before .before .before .before .if1 .left) (c .before .before .before .read-setup .result) (c .before .before .before .read-setup .ensures) (c .before .outcome .given .1)

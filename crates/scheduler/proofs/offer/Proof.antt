@@ -1,15 +1,9 @@
 -- `offer` meets its contract. Assumes nothing.
 use borrow.Author.Needs.{needs}
-use Rattle.paged.specs.Paged.{GoodUnit}
-use Rattle.scheduler.proofs.Steps.{found-good, found-bad, bad-step}
+use Rattle.scheduler.proofs.Steps.{says-yes, says-no, bad-step}
 use Rattle.scheduler.proofs.Offered.{read-page-good, offer-read, offer-refused}
 use Rattle.scheduler.proofs.offer.Statement.{statement}
 use Rattle.scheduler.proofs.offer.Tie as tie
-use Rattle.scheduler.proofs.offer.Reads as reads
-use Rattle.scheduler.proofs.offer.Lts as lts
-use Rattle.page.proofs.read_page.Reads as read-page-reads
-use Rattle.paged.proofs.good_unit.Reads as good-unit-reads
-use Rattle.scheduler.proofs.bring.Reads as bring-reads
 
 good-unit-requires : tie.Need-good-unit-requires
 good-unit-requires c κs = search needs
@@ -18,7 +12,7 @@ same-length : tie.Need-same-length
 same-length c = search needs
 
 returns : tie.Need-returns
-returns c = bad-step _ (c .before .before .before .before .before .args .t .now) (found-bad (c .before .good-unit .result) (c .before .good-unit .ensures) (c .if1 .taken))
+returns c = bad-step _ (c .before .before .before .before .before .args .t .now) (says-no (c .before .good-unit .result) (c .before .good-unit .ensures) (c .if1 .taken))
 
 read-page-requires : tie.Need-read-page-requires
 read-page-requires c κs = search needs
@@ -35,7 +29,7 @@ bring-requires c κs =
     let g = c .before .before .before .before .before .before .before .good-unit in
     let r = c .before .before .before .before .before .read-page in
     let w = read-page-good (s .args .page .now) (r .result) (r .ensures) _ (c .before .before .before .outcome2 .given .1) in
-    (found-good (g .result) (g .ensures) (c .before .before .before .before .before .before .if1 .left), w .0, w .1)
+    (says-yes (g .result) (g .ensures) (c .before .before .before .before .before .before .if1 .left), w .0, w .1)
 
 same-length-2 : tie.Need-same-length-2
 same-length-2 c = search needs
@@ -45,7 +39,7 @@ returns-2 c =
     let s = c .before .before .before .before .before .before .before .before .before in
     let g = c .before .before .before .before .before .good-unit in
     let r = c .before .before .before .read-page in
-    offer-refused (s .args .page .now) (r .result) (r .ensures) _ (s .args .t .now) (found-good (g .result) (g .ensures) (c .before .before .before .before .if1 .left)) (c .before .outcome .given .1)
+    offer-refused (s .args .page .now) (r .result) (r .ensures) _ (s .args .t .now) (says-yes (g .result) (g .ensures) (c .before .before .before .before .if1 .left)) (c .before .outcome .given .1)
 
 same-length-3 : tie.Need-same-length-3
 same-length-3 c = search needs

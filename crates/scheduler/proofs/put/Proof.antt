@@ -2,14 +2,10 @@
 use mathlib.Core.Path.{refl}
 use Rattle.rules.specs.Calls.{put}
 use Rattle.pages.specs.Device.{ruled}
-use Rattle.scheduler.proofs.Steps.{found-good, found-bad, good-known, bad-step, does-step}
+use Rattle.scheduler.proofs.Steps.{says-yes, says-no, good-known, bad-step, does-step}
 use borrow.Author.Needs.{needs}
 use Rattle.scheduler.proofs.put.Statement.{statement}
 use Rattle.scheduler.proofs.put.Tie as tie
-use Rattle.scheduler.proofs.put.Reads as reads
-use Rattle.scheduler.proofs.put.Lts as lts
-use Rattle.engine.proofs.put.Reads as put-reads
-use Rattle.paged.proofs.good_unit.Reads as good-unit-reads
 
 good-unit-requires : tie.Need-good-unit-requires
 good-unit-requires c κs = search needs
@@ -18,17 +14,17 @@ same-length : tie.Need-same-length
 same-length c = search needs
 
 returns : tie.Need-returns
-returns c = bad-step (ruled (put _ _ _ _)) (c .before .before .before .before .args .t .now) (found-bad (c .before .good-unit .result) (c .before .good-unit .ensures) (c .if1 .taken))
+returns c = bad-step (ruled (put _ _ _ _)) (c .before .before .before .before .args .t .now) (says-no (c .before .good-unit .result) (c .before .good-unit .ensures) (c .if1 .taken))
 
 put-requires : tie.Need-put-requires
-put-requires c κs = good-known (c .before .before .before .before .before .args .t .now) ((found-good (c .before .before .good-unit .result) (c .before .before .good-unit .ensures) (c .before .if1 .left)) .core)
+put-requires c κs = good-known (c .before .before .before .before .before .args .t .now) ((says-yes (c .before .before .good-unit .result) (c .before .before .good-unit .ensures) (c .before .if1 .left)) .core)
 
 same-length-2 : tie.Need-same-length-2
 same-length-2 c = search needs
 
 returns-2 : tie.Need-returns-2
 returns-2 c =
-    does-step (put _ _ _ _) (c .before .before .before .before .before .before .before .before .args .t .now) _ _ refl (found-good (c .before .before .before .before .before .good-unit .result) (c .before .before .before .before .before .good-unit .ensures) (c .before .before .before .before .if1 .left)) (c .before .before .put .kept .0) (c .before .before .put .ensures)
+    does-step (put _ _ _ _) (c .before .before .before .before .before .before .before .before .args .t .now) _ _ refl (says-yes (c .before .before .before .before .before .good-unit .result) (c .before .before .before .before .before .good-unit .ensures) (c .before .before .before .before .if1 .left)) (c .before .before .put .kept .0) (c .before .before .put .ensures)
 
 pub put-spec : {M : Type 1} → statement M
 put-spec =

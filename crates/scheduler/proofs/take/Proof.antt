@@ -3,19 +3,14 @@ use borrow.Author.Needs.{needs}
 use Rattle.rules.specs.Calls.{take}
 use Rattle.pages.specs.Device.{ruled}
 use Rattle.paged.specs.Paged.{GoodUnit}
-use Rattle.scheduler.proofs.Steps.{found-good, found-bad, good-known, bad-step}
+use Rattle.scheduler.proofs.Steps.{says-yes, says-no, good-known, bad-step}
 use Rattle.scheduler.proofs.Taken.{took-none, take-rests, took-one}
 use Rattle.scheduler.proofs.take.Statement.{statement}
 use Rattle.scheduler.proofs.take.Tie as tie
-use Rattle.scheduler.proofs.take.Reads as reads
-use Rattle.scheduler.proofs.take.Lts as lts
-use Rattle.engine.proofs.take.Reads as take-reads
-use Rattle.paged.proofs.good_unit.Reads as good-unit-reads
-use Rattle.paged.proofs.settle.Reads as settle-reads
 
 -- what is known after the engine's take
 unit-good : (c : tie.After-slice-known2) → GoodUnit (c .before .before .before .before .before .before .before .before .args .t .now)
-unit-good c = let g = c .before .before .before .before .before .good-unit in found-good (g .result) (g .ensures) (c .before .before .before .before .if1 .left)
+unit-good c = let g = c .before .before .before .before .before .good-unit in says-yes (g .result) (g .ensures) (c .before .before .before .before .if1 .left)
 
 good-unit-requires : tie.Need-good-unit-requires
 good-unit-requires c κs = search needs
@@ -24,11 +19,11 @@ same-length : tie.Need-same-length
 same-length c = search needs
 
 returns : tie.Need-returns
-returns c = bad-step (ruled take) (c .before .before .before .before .args .t .now) (found-bad (c .before .good-unit .result) (c .before .good-unit .ensures) (c .if1 .taken))
+returns c = bad-step (ruled take) (c .before .before .before .before .args .t .now) (says-no (c .before .good-unit .result) (c .before .good-unit .ensures) (c .if1 .taken))
 
 take-requires : tie.Need-take-requires
 take-requires c κs =
-    good-known (c .before .before .before .before .before .args .t .now) (found-good (c .before .before .good-unit .result) (c .before .before .good-unit .ensures) (c .before .if1 .left) .core)
+    good-known (c .before .before .before .before .before .args .t .now) (says-yes (c .before .before .good-unit .result) (c .before .before .good-unit .ensures) (c .before .if1 .left) .core)
 
 enum-told : tie.Need-enum-told
 enum-told c = search needs

@@ -1,5 +1,5 @@
 -- `put_line` meets its contract. Assumes nothing.
-use mathlib.Core.Path.{_≡_, ap, _∙_}
+use mathlib.Core.Path.{_∙_}
 use native.Mathlib.Omega.{arith}
 use Rattle.sheet_writer.proofs.Writing.{line-length, line-stores}
 use borrow.Author.Needs.{needs}

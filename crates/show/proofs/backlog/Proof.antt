@@ -4,9 +4,6 @@ use Rattle.show.proofs.Shows.{good-shows, find-bad, find-row, find-no-b
 use borrow.Author.Needs.{needs}
 use Rattle.show.proofs.backlog.Statement.{statement}
 use Rattle.show.proofs.backlog.Tie as tie
-use Rattle.show.proofs.backlog.Reads as reads
-use Rattle.show.proofs.backlog.Lts as lts
-use Rattle.show.proofs.find.Reads as find-reads
 
 find-requires : tie.Need-find-requires
 find-requires c κs = search needs

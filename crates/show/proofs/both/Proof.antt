@@ -7,11 +7,6 @@ use Rattle.rules.specs.Waits.{worstOf}
 use Rattle.waits.specs.Lane.{settingOfNumbers}
 use Rattle.show.proofs.both.Statement.{statement}
 use Rattle.show.proofs.both.Tie as tie
-use Rattle.show.proofs.both.Reads as reads
-use Rattle.show.proofs.both.Lts as lts
-use Rattle.show.proofs.costliest.Reads as costliest-reads
-use Rattle.units.proofs.line_charge.Reads as line-charge-reads
-use Rattle.waits.proofs.worst_wait.Reads as worst-wait-reads
 
 add-t9 : tie.Need-add-t9
 add-t9 c = search needs

@@ -10,10 +10,6 @@ use Rattle.table.specs.Means.{meant}
 use Rattle.show.proofs.WorstWaits.{most-more, most-all}
 use Rattle.show.proofs.costliest.Statement.{statement}
 use Rattle.show.proofs.costliest.Tie as tie
-use Rattle.show.proofs.costliest.Reads as reads
-use Rattle.show.proofs.costliest.Lts as lts
-use Rattle.show.proofs.greater.Reads as greater-reads
-use Rattle.show.proofs.most_of.Reads as most-of-reads
 
 abbrev Inv-loop : tie.InvT-loop
 Inv-loop t most₀ k₀ most k = (k ≤ 64) × (max most (longestCharge (drop k (setupOf (meant t)))) ≡ longestCharge (setupOf (meant t)))

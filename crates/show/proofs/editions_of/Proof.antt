@@ -8,10 +8,6 @@ use Rattle.table.specs.Layout.{SIZE}
 use borrow.Author.Needs.{needs}
 use Rattle.show.proofs.editions_of.Statement.{statement}
 use Rattle.show.proofs.editions_of.Tie as tie
-use Rattle.show.proofs.editions_of.Reads as reads
-use Rattle.show.proofs.editions_of.Lts as lts
-use Rattle.editions.proofs.last.Reads as last-reads
-use Rattle.editions.proofs.new.Reads as new-reads
 
 sub-last : tie.Need-sub-last
 sub-last c = search needs

@@ -4,9 +4,6 @@ use Rattle.show.proofs.Shows.{good-shows, find-bad, find-row, find-no-l
 use borrow.Author.Needs.{needs}
 use Rattle.show.proofs.lane.Statement.{statement}
 use Rattle.show.proofs.lane.Tie as tie
-use Rattle.show.proofs.lane.Reads as reads
-use Rattle.show.proofs.lane.Lts as lts
-use Rattle.show.proofs.find.Reads as find-reads
 
 find-requires : tie.Need-find-requires
 find-requires c κs = search needs

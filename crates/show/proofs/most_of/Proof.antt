@@ -6,11 +6,6 @@ use Rattle.show.specs.Shows.{RowFound}
 use Rattle.show.proofs.WorstWaits.{most-absent, row-small, row-most-is}
 use Rattle.show.proofs.most_of.Statement.{statement}
 use Rattle.show.proofs.most_of.Tie as tie
-use Rattle.show.proofs.most_of.Reads as reads
-use Rattle.show.proofs.most_of.Lts as lts
-use Rattle.table.proofs.present.Reads as present-reads
-use Rattle.table.proofs.row.Reads as row-reads
-use Rattle.show.proofs.row_most.Reads as row-most-reads
 
 present-requires : tie.Need-present-requires
 present-requires c κs = search needs

@@ -5,11 +5,6 @@ use Rattle.show.proofs.Spots.{shows-no-train, shows-nothing, shows-reco
 use borrow.Author.Needs.{needs}
 use Rattle.show.proofs.record.Statement.{statement}
 use Rattle.show.proofs.record.Tie as tie
-use Rattle.show.proofs.record.Reads as reads
-use Rattle.show.proofs.record.Lts as lts
-use Rattle.show.proofs.find.Reads as find-reads
-use Rattle.show.proofs.seek.Reads as seek-reads
-use Rattle.table.proofs.record_at.Reads as record-at-reads
 
 find-requires : tie.Need-find-requires
 find-requires c κs = search needs

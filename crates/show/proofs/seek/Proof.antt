@@ -7,9 +7,6 @@ use borrow.Author.Needs.{needs}
 use Rattle.show.proofs.Spots.{few, spot-no-train, spot-idle, spot-past, spot-train, spot-other, spot-none, spot-plain}
 use Rattle.show.proofs.seek.Statement.{statement}
 use Rattle.show.proofs.seek.Tie as tie
-use Rattle.show.proofs.seek.Reads as reads
-use Rattle.show.proofs.seek.Lts as lts
-use Rattle.table.proofs.train.Reads as train-reads
 
 returns : tie.Need-returns
 returns c =

@@ -5,13 +5,6 @@ use Rattle.show.proofs.Shows.{good-shows, find-bad, find-row, find-no-w
 use Rattle.show.proofs.WorstWaits.{in-range, shows-wait, shows-no-room}
 use Rattle.show.proofs.wait.Statement.{statement}
 use Rattle.show.proofs.wait.Tie as tie
-use Rattle.show.proofs.wait.Reads as reads
-use Rattle.show.proofs.wait.Lts as lts
-use Rattle.show.proofs.both.Reads as both-reads
-use Rattle.show.proofs.find.Reads as find-reads
-use Rattle.show.proofs.no_room.Reads as no-room-reads
-use Rattle.show.proofs.numbers.Reads as numbers-reads
-use Rattle.show.proofs.room.Reads as room-reads
 
 find-requires : tie.Need-find-requires
 find-requires c κs = search needs

@@ -1,5 +1,5 @@
 -- `append` meets its contract. Assumes nothing.
-use mathlib.Core.Path.{ap, sym, _∙_}
+use mathlib.Core.Path.{ap, sym}
 use Prim.Native.Nat.{ℕ, _+_}
 use native.Mathlib.Omega.{arith}
 use lib.ListN.{length}
@@ -13,11 +13,6 @@ use Rattle.slot_lists.proofs.Laws.{list-on, append-push, append-begin}
 use borrow.Author.Needs.{needs}
 use Rattle.slot_lists.proofs.append.Statement.{statement}
 use Rattle.slot_lists.proofs.append.Tie as tie
-use Rattle.slot_lists.proofs.append.Reads as reads
-use Rattle.slot_lists.proofs.append.Lts as lts
-use Rattle.rings.proofs.begin.Reads as begin-reads
-use Rattle.rings.proofs.push.Reads as push-reads
-use Rattle.slot_lists.proofs.ring_number.Reads as ring-number-reads
 
 ring-number-requires : tie.Need-ring-number-requires
 ring-number-requires c κs = search needs

@@ -1,22 +1,16 @@
 -- `clear_group` meets its contract. Assumes nothing.
-use mathlib.Core.Path.{_≡_, sym, ap, subst, _∙_}
+use mathlib.Core.Path.{sym, subst}
 use mathlib.Core.Bool.{false}
 use mathlib.Core.List.{List}
 use Prim.Native.Nat.{ℕ, _-_, _*_, _%_, _^_}
 use native.Mathlib.Omega.{arith}
-use Rattle.words.specs.Bits.{bit}
-use Rattle.words.specs.Words.{putWord}
 use Rattle.words.proofs.Bits.{shift-one}
-use Rattle.slot_lists.specs.Lists.{groupsWord}
-use Rattle.slot_lists.specs.Changes.{WithBit, Stored}
+use Rattle.slot_lists.specs.Changes.{WithBit, GroupStored}
 use Rattle.slot_lists.proofs.Bits.{bit-has, bit-off}
 use Rattle.slot_lists.proofs.Store.{stored-none}
 use borrow.Author.Needs.{needs}
 use Rattle.slot_lists.proofs.clear_group.Statement.{statement}
 use Rattle.slot_lists.proofs.clear_group.Tie as tie
-use Rattle.slot_lists.proofs.clear_group.Reads as reads
-use Rattle.slot_lists.proofs.clear_group.Lts as lts
-use Rattle.words.proofs.set_word.Reads as set-word-reads
 
 shl-set-word : tie.Need-shl-set-word
 shl-set-word c = search needs
@@ -38,7 +32,7 @@ returns c =
     let one = shift-one (s .args .g) (omega (arith, s .pre .2)) in
     let x : ℕ = s .args .groups - 1 * 2 ^ (s .args .g) % 2 ^ 64 in
     let w : WithBit (s .args .groups) (s .args .g) false x = subst (λ (x : ℕ). WithBit (s .args .groups) (s .args .g) false (s .args .groups - x)) (sym one) (bit-off (s .args .groups) (s .args .g) (s .pre .4)) in
-    subst (λ (u : List ℕ). Stored (s .args .t .now) u (s .args .g) 0 0) (sym (c .before .before .set-word .ensures))
+    subst (λ (u : List ℕ). GroupStored (s .args .t .now) u (s .args .g) 0 0) (sym (c .before .before .set-word .ensures))
     (stored-none (s .args .t .now) (s .args .g) x (s .pre .0) (s .pre .1) (s .pre .2) (omega (arith, s .fits .groups .fits)) (subst (λ (y : ℕ). WithBit y (s .args .g) false x) (s .pre .3) w))
 
 pub clear-group-spec : {M : Type 1} → statement M

@@ -1,5 +1,5 @@
 -- `first` meets its contract. Assumes nothing.
-use mathlib.Core.Path.{_≡_, sym, ap, _∙_}
+use mathlib.Core.Path.{sym, ap, _∙_}
 use Prim.Native.Nat.{ℕ}
 use mathlib.Core.List.{List}
 use lib.ListN.{getD, length}
@@ -9,10 +9,6 @@ use Rattle.slot_lists.proofs.Laws.{list-on, list-some}
 use borrow.Author.Needs.{needs}
 use Rattle.slot_lists.proofs.first.Statement.{statement}
 use Rattle.slot_lists.proofs.first.Tie as tie
-use Rattle.slot_lists.proofs.first.Reads as reads
-use Rattle.slot_lists.proofs.first.Lts as lts
-use Rattle.rings.proofs.entry.Reads as entry-reads
-use Rattle.slot_lists.proofs.ring_number.Reads as ring-number-reads
 
 ring-number-requires : tie.Need-ring-number-requires
 ring-number-requires c κs = search needs

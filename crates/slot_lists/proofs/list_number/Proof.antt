@@ -1,5 +1,5 @@
 -- `list_number` meets its contract. Assumes nothing.
-use mathlib.Core.Path.{_≡_, sym, ap}
+use mathlib.Core.Path.{sym, ap}
 use Prim.Native.Nat.{ℕ, _%_, _^_}
 use native.Mathlib.Nat.{div-le-self}
 use native.Mathlib.Omega.{arith}
@@ -7,8 +7,6 @@ use Rattle.units.proofs.Whole.{slot-part}
 use borrow.Author.Needs.{needs}
 use Rattle.slot_lists.proofs.list_number.Statement.{statement}
 use Rattle.slot_lists.proofs.list_number.Tie as tie
-use Rattle.slot_lists.proofs.list_number.Reads as reads
-use Rattle.slot_lists.proofs.list_number.Lts as lts
 
 shr-result : tie.Need-shr-result
 shr-result c = search needs

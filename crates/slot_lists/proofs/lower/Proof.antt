@@ -1,7 +1,7 @@
 -- `lower` meets its contract. Assumes nothing.
 use mathlib.Core.Path.{_≡_, refl, sym, ap, subst, _∙_}
 use mathlib.Core.List.{List}
-use Prim.Native.Nat.{ℕ, _+_, _-_, _%_, _^_, _≤_, _<_}
+use Prim.Native.Nat.{ℕ, _+_, _-_, _%_, _^_, _≤_}
 use native.Mathlib.Omega.{arith}
 use lib.ListN.{length}
 use Rattle.words.specs.Words.{wordAt}
@@ -12,11 +12,6 @@ use Rattle.slot_lists.proofs.Lowered.{SoFar, none-yet, one-more, lowere
 use borrow.Author.Needs.{needs}
 use Rattle.slot_lists.proofs.lower.Statement.{statement}
 use Rattle.slot_lists.proofs.lower.Tie as tie
-use Rattle.slot_lists.proofs.lower.Reads as reads
-use Rattle.slot_lists.proofs.lower.Lts as lts
-use Rattle.slot_lists.proofs.earlier_by.Reads as earlier-by-reads
-use Rattle.words.proofs.set_word.Reads as set-word-reads
-use Rattle.words.proofs.word.Reads as word-reads
 
 abbrev Inv-loop : tie.InvT-loop
 Inv-loop t₀ d g₀ t g = SoFar t₀ t d g × (length t ≡ length t₀) × (16 ≤ g) × (g ≤ 32)

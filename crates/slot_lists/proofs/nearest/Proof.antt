@@ -3,8 +3,6 @@ use Rattle.slot_lists.proofs.Bits.{nearest-is}
 use borrow.Author.Needs.{needs}
 use Rattle.slot_lists.proofs.nearest.Statement.{statement}
 use Rattle.slot_lists.proofs.nearest.Tie as tie
-use Rattle.slot_lists.proofs.nearest.Reads as reads
-use Rattle.slot_lists.proofs.nearest.Lts as lts
 
 mul-twice : tie.Need-mul-twice
 mul-twice c = search needs

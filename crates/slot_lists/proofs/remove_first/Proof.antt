@@ -10,10 +10,6 @@ use Rattle.slot_lists.proofs.Laws.{list-some, ring-some, remove-more, r
 use borrow.Author.Needs.{needs}
 use Rattle.slot_lists.proofs.remove_first.Statement.{statement}
 use Rattle.slot_lists.proofs.remove_first.Tie as tie
-use Rattle.slot_lists.proofs.remove_first.Reads as reads
-use Rattle.slot_lists.proofs.remove_first.Lts as lts
-use Rattle.rings.proofs.pop.Reads as pop-reads
-use Rattle.slot_lists.proofs.ring_number.Reads as ring-number-reads
 
 ring-number-requires : tie.Need-ring-number-requires
 ring-number-requires c κs = search needs

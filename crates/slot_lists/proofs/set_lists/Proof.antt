@@ -4,14 +4,11 @@ use mathlib.Core.List.{List}
 use Prim.Native.Nat.{ℕ}
 use Rattle.words.specs.Words.{wordAt}
 use Rattle.slot_lists.specs.Lists.{startWord}
-use Rattle.slot_lists.specs.Changes.{Stored}
+use Rattle.slot_lists.specs.Changes.{GroupStored}
 use Rattle.slot_lists.proofs.Store.{stored-lists}
 use borrow.Author.Needs.{needs}
 use Rattle.slot_lists.proofs.set_lists.Statement.{statement}
 use Rattle.slot_lists.proofs.set_lists.Tie as tie
-use Rattle.slot_lists.proofs.set_lists.Reads as reads
-use Rattle.slot_lists.proofs.set_lists.Lts as lts
-use Rattle.words.proofs.set_word.Reads as set-word-reads
 
 add-set-word : tie.Need-add-set-word
 add-set-word c = search needs
@@ -25,7 +22,7 @@ same-length c = search needs
 returns : tie.Need-returns
 returns c =
     let s = c .before .before .before .before .before in
-    subst (λ (u : List ℕ). Stored (s .args .t .now) u (s .args .g) (s .args .map) (wordAt (s .args .t .now) (startWord (s .args .g)))) (sym (c .before .before .set-word .ensures))
+    subst (λ (u : List ℕ). GroupStored (s .args .t .now) u (s .args .g) (s .args .map) (wordAt (s .args .t .now) (startWord (s .args .g)))) (sym (c .before .before .set-word .ensures))
     (stored-lists (s .args .t .now) (s .args .g) (s .pre .0) (s .pre .1) (s .pre .2) (s .pre .3) (s .args .map) (s .pre .4) (s .fits .map .fits))
 
 pub set-lists-spec : {M : Type 1} → statement M

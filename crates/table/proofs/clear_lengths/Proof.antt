@@ -1,10 +1,9 @@
 use Rattle.table.proofs.Places.{cleared-none, cleared-more}
-use mathlib.Core.Path.{_≡_, refl, ap, subst, _∙_}
-use Prim.Native.Nat.{ℕ, _+_, _-_, _*_, _≤_, _<_}
+use mathlib.Core.Path.{_≡_, refl, subst, _∙_}
+use Prim.Native.Nat.{ℕ, _+_, _-_, _*_, _≤_}
 use native.Mathlib.Omega.{arith}
 use lib.ListN.{length}
 use Rattle.table.specs.Layout.{Now, cells, lengthsCell, lengthWords, clearCells}
-use Rattle.table.proofs.Stores.{behind-refl, behind-then}
 use borrow.Author.Needs.{needs}
 use Rattle.table.proofs.clear_lengths.Statement.{statement}
 use Rattle.table.proofs.clear_lengths.Tie as tie

@@ -1,6 +1,6 @@
 use Rattle.table.proofs.Places.{cleared-none, cleared-more, behind-stored}
 use mathlib.Core.Path.{_≡_, refl, subst, _∙_}
-use Prim.Native.Nat.{ℕ, _+_, _-_, _*_, _≤_, _<_}
+use Prim.Native.Nat.{ℕ, _+_, _-_, _*_, _≤_}
 use native.Mathlib.Omega.{arith}
 use lib.ListN.{length}
 use Rattle.table.specs.Layout.{Now, cells, trainsCell, clearCells}

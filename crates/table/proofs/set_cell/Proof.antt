@@ -4,7 +4,7 @@ use mathlib.Core.List.{List}
 use native.Mathlib.Omega.{arith}
 use lib.ListN.{set}
 use Rattle.words.specs.Words.{putWord}
-use Rattle.digits.specs.Digits.{Stored}
+use Rattle.digits.specs.Digits.{WordStored}
 use Rattle.digits.proofs.Bytes.{word-stored}
 use Rattle.table.specs.Layout.{Now, cells}
 use Rattle.table.proofs.Stores.{now-stored, word-before}
@@ -26,7 +26,7 @@ returns c =
     let v = s .args .v in
     subst (λ (u : List ℕ). Now t u (set (cells t) i v)) (sym (c .before .before .set-word .ensures))
     (now-stored t (putWord t i v) i v (omega (arith, s .pre .1))
-    (subst (λ (j : ℕ). Stored t (putWord t i v) j v) (sym (word-before i (s .pre .1))) (word-stored t i v (omega (arith, s .pre .0, s .pre .1)) (s .fits .v .fits))))
+    (subst (λ (j : ℕ). WordStored t (putWord t i v) j v) (sym (word-before i (s .pre .1))) (word-stored t i v (omega (arith, s .pre .0, s .pre .1)) (s .fits .v .fits))))
 
 pub set-cell-spec : {M : Type 1} → statement M
 set-cell-spec = tie.close (tie.spec set-word-requires same-length returns)

@@ -10,8 +10,6 @@ use Rattle.text.proofs.Stores.{sets-before}
 use Rattle.text.proofs.Widths.{left-next}
 use Rattle.text.proofs.put_digits.Statement.{statement}
 use Rattle.text.proofs.put_digits.Tie as tie
-use Rattle.text.proofs.put_digits.Reads as reads
-use Rattle.text.proofs.put_digits.Lts as lts
 
 abbrev Inv-loop : tie.InvT-loop
 Inv-loop a₀ at k n i₀ left₀ a i left = (i ≤ k) × (left ≡ n / 10 ^ (k - i)) × (a ≡ sets a₀ (at + i) (digits (k - i) n))

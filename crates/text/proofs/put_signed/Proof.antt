@@ -12,10 +12,6 @@ use Rattle.text.proofs.Signed.{signed-below, signed-not-below}
 use borrow.Author.Needs.{needs}
 use Rattle.text.proofs.put_signed.Statement.{statement}
 use Rattle.text.proofs.put_signed.Tie as tie
-use Rattle.text.proofs.put_signed.Reads as reads
-use Rattle.text.proofs.put_signed.Lts as lts
-use Rattle.text.proofs.magnitude.Reads as magnitude-reads
-use Rattle.text.proofs.put_number.Reads as put-number-reads
 
 magnitude-requires : tie.Need-magnitude-requires
 magnitude-requires c κs = search needs

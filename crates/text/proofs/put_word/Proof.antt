@@ -9,8 +9,6 @@ use lib.ListN.{length, drop, length-set}
 use lib.Seq.{sets, drop-cons, drop-length}
 use Rattle.text.proofs.put_word.Statement.{statement}
 use Rattle.text.proofs.put_word.Tie as tie
-use Rattle.text.proofs.put_word.Reads as reads
-use Rattle.text.proofs.put_word.Lts as lts
 
 abbrev Inv-loop : tie.InvT-loop
 Inv-loop a₀ at word i₀ a i = (i ≤ length word) × (length a ≡ length a₀) × (sets a (at + i) (drop i word) ≡ sets a₀ at word)

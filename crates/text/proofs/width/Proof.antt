@@ -6,8 +6,6 @@ use native.Mathlib.Omega.{arith}
 use Rattle.text.proofs.Widths.{left-next, left-some, left-none, ten-small, ten-mono}
 use Rattle.text.proofs.width.Statement.{statement}
 use Rattle.text.proofs.width.Tie as tie
-use Rattle.text.proofs.width.Reads as reads
-use Rattle.text.proofs.width.Lts as lts
 
 abbrev Inv-loop : tie.InvT-loop
 Inv-loop n k₀ left₀ k left = (left ≡ n / 10 ^ k) × (0 < k) × (k ≤ 20) × ((j : ℕ) → 0 < j → n < 10 ^ j → k ≤ j)

@@ -3,9 +3,6 @@ use Rattle.turns.proofs.HandingCode.{does-last, does-stay, does-go, wor
 use borrow.Author.Needs.{needs}
 use Rattle.turns.proofs.hand_out.Statement.{statement}
 use Rattle.turns.proofs.hand_out.Tie as tie
-use Rattle.turns.proofs.hand_out.Reads as reads
-use Rattle.turns.proofs.hand_out.Lts as lts
-use Rattle.turns.proofs.place_worth.Reads as place-worth-reads
 
 -- src/lib.rt:76:17
 add-head : tie.Need-add-head

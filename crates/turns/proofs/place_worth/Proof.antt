@@ -6,8 +6,6 @@ use Rattle.turns.proofs.Round.{four-bits}
 use borrow.Author.Needs.{needs}
 use Rattle.turns.proofs.place_worth.Statement.{statement}
 use Rattle.turns.proofs.place_worth.Tie as tie
-use Rattle.turns.proofs.place_worth.Reads as reads
-use Rattle.turns.proofs.place_worth.Lts as lts
 
 -- src/lib.rt:19:14
 mul-result : tie.Need-mul-result

@@ -3,9 +3,6 @@ use Rattle.turns.proofs.Putting.{puts-more, puts-first, puts-joins, wor
 use borrow.Author.Needs.{needs}
 use Rattle.turns.proofs.put.Statement.{statement}
 use Rattle.turns.proofs.put.Tie as tie
-use Rattle.turns.proofs.put.Reads as reads
-use Rattle.turns.proofs.put.Lts as lts
-use Rattle.turns.proofs.place_worth.Reads as place-worth-reads
 
 -- src/lib.rt:49:16
 add-more : tie.Need-add-more

@@ -4,8 +4,6 @@ use mathlib.Core.Path.{refl}
 use Rattle.waits.proofs.Bounds.{bytes-small, more-small, charge-small}
 use Rattle.waits.proofs.charge_of.Statement.{statement}
 use Rattle.waits.proofs.charge_of.Tie as tie
-use Rattle.waits.proofs.charge_of.Reads as reads
-use Rattle.waits.proofs.charge_of.Lts as lts
 
 mul-t5 : tie.Need-mul-t5
 mul-t5 c = record { fits = omega (arith, bytes-small (c .args .count) (c .args .times) (c .args .length) (c .args .c .0) (c .pre .0) (c .pre .1) (c .pre .2) (c .pre .3)) }

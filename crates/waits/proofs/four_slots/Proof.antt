@@ -6,11 +6,6 @@ use borrow.Author.Needs.{needs}
 use Rattle.waits.proofs.Laws.{product-small, index-small, slots-are}
 use Rattle.waits.proofs.four_slots.Statement.{statement}
 use Rattle.waits.proofs.four_slots.Tie as tie
-use Rattle.waits.proofs.four_slots.Reads as reads
-use Rattle.waits.proofs.four_slots.Lts as lts
-use Rattle.units.proofs.group_index.Reads as group-index-reads
-use Rattle.units.proofs.lane_charge.Reads as lane-charge-reads
-use Rattle.units.proofs.slot.Reads as slot-reads
 
 lane-charge-requires : tie.Need-lane-charge-requires
 lane-charge-requires c κs = search needs

@@ -7,12 +7,6 @@ use Rattle.waits.specs.Lane.{settingOfNumbers}
 use Rattle.waits.proofs.Laws.{room-plain, room-shared, plain-as, shared-as}
 use Rattle.waits.proofs.worst_wait.Statement.{statement}
 use Rattle.waits.proofs.worst_wait.Tie as tie
-use Rattle.waits.proofs.worst_wait.Reads as reads
-use Rattle.waits.proofs.worst_wait.Lts as lts
-use Rattle.units.proofs.lane_rate.Reads as lane-rate-reads
-use Rattle.waits.proofs.charge_of.Reads as charge-of-reads
-use Rattle.waits.proofs.four_slots.Reads as four-slots-reads
-use Rattle.waits.proofs.line_bytes.Reads as line-bytes-reads
 
 lane-rate-requires : tie.Need-lane-rate-requires
 lane-rate-requires c κs = search needs

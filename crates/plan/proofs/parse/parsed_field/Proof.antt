@@ -1,32 +1,11 @@
 -- `plan::parse::parsed_field` meets its contract. Assumes nothing.
 use Prim.Native.Nat.{_+_}
 use borrow.Author.Needs.{needs}
-use borrow.Author.Tests.{not-true, not-false, leb-true}
-use lib.Dec.{leb}
 use lib.ListN.{length}
-use mathlib.Core.Bool.{true}
-use mathlib.Core.Path.{_≡_, sym, _∙_}
 use native.Mathlib.Omega.{arith}
-use Rattle.fields.specs.Header.{headerAt}
-use Rattle.fields.specs.declared.Field.the-variants.{Header}
-use Rattle.fields.proofs.Item.{item-none, item-header-cut, item-unknown, item-wrong, item-cut, item-whole}
+use Rattle.fields.proofs.Tested.{passed, passed-within, tested-whole, tested}
 use Rattle.plan.proofs.parse.parsed_field.Statement.{statement}
 use Rattle.plan.proofs.parse.parsed_field.Tie as tie
-use Rattle.plan.specs.Fields.{setupTag, setupFits}
-
--- what each place of the code knows
-header-is : (c : tie.After-tag)
-    → headerAt (c .before .before .before .before .args .s .now) (c .before .before .before .before .args .at) ≡ Header (c .tag .given .0 .0) (c .tag .given .0 .1 .0) (c .tag .given .0 .1 .1 .0)
-header-is c = sym (c .before .before .field-at .ensures) ∙ c .tag .given .1
-
-known-is : (c : tie.Else1) → setupTag (c .before .before .before .tag .given .0 .0) ≡ true
-known-is c = sym (c .before .known .ensures) ∙ not-false (c .before .known .result) (c .if1 .left)
-
-fitting-is : (c : tie.Else2) → setupFits (c .before .before .before .before .before .tag .given .0 .0) (c .before .before .before .before .before .tag .given .0 .1 .1 .0) ≡ true
-fitting-is c = sym (c .before .fitting .ensures) ∙ not-false (c .before .fitting .result) (c .if2 .left)
-
-fits-is : (c : tie.Else3) → leb (c .before .before .before .before .before .before .before .tag .given .0 .1 .0 + c .before .before .before .before .before .before .before .tag .given .0 .1 .1 .0) (length (c .before .before .before .before .before .before .before .before .before .before .before .args .s .now)) ≡ true
-fits-is c = sym (c .before .fits2 .ensures) ∙ not-false (c .before .fits2 .result) (c .if3 .left)
 
 field-at-requires : tie.Need-field-at-requires
 field-at-requires c κs = search needs
@@ -44,34 +23,34 @@ known-requires : tie.Need-known-requires
 known-requires c κs = search needs
 
 returns : tie.Need-returns
-returns c = sym (item-unknown _ _ _ _ _ _ (header-is (c .before .before .before)) (sym (c .before .known .ensures) ∙ not-true (c .before .known .result) (c .if1 .taken)))
+returns c = search tested
 
 fitting-requires : tie.Need-fitting-requires
 fitting-requires c κs = search needs
 
 returns-2 : tie.Need-returns-2
-returns-2 c = sym (item-wrong _ _ _ _ _ _ (header-is (c .before .before .before .before .before)) (known-is (c .before .before)) (sym (c .before .fitting .ensures) ∙ not-true (c .before .fitting .result) (c .if2 .taken)))
+returns-2 c = search tested
 
 fits-requires : tie.Need-fits-requires
 fits-requires c κs = search needs
 
 returns-3 : tie.Need-returns-3
-returns-3 c = sym (item-cut _ _ _ _ _ _ (header-is (c .before .before .before .before .before .before .before)) (known-is (c .before .before .before .before)) (fitting-is (c .before .before)) (sym (c .before .fits2 .ensures) ∙ not-true (c .before .fits2 .result) (c .if3 .taken)))
+returns-3 c = search tested
 
 field-of-requires : tie.Need-field-of-requires
-field-of-requires c κs = (fitting-is (c .before .before), leb-true _ _ (fits-is c))
+field-of-requires c κs = (passed _ _ (c .before .before .before .fitting .ensures) (c .before .before .if2 .left), passed-within _ _ _ (c .before .fits2 .ensures) (c .if3 .left))
 
 add-t17 : tie.Need-add-t17
-add-t17 c = let g = c .before .before .before .before .before .before .before .before .tag .given .0 in omega (arith, leb-true (g .1 .0 + g .1 .1 .0) (length (c .before .before .before .before .before .before .before .before .before .before .before .before .args .s .now)) (fits-is (c .before)))
+add-t17 c = let g = c .before .before .before .before .before .before .before .before .tag .given .0 in omega (arith, passed-within _ (g .1 .0 + g .1 .1 .0) (length (c .before .before .before .before .before .before .before .before .before .before .before .before .args .s .now)) (c .before .before .fits2 .ensures) (c .before .if3 .left))
 
 returns-4 : tie.Need-returns-4
-returns-4 c = sym (item-none _ _ _ (sym (c .before .before .field-at .ensures) ∙ c .enum-told .given .1))
+returns-4 c = search tested
 
 returns-5 : tie.Need-returns-5
-returns-5 c = sym (item-header-cut _ _ _ (sym (c .before .before .field-at .ensures) ∙ c .enum-told2 .given .1))
+returns-5 c = search tested
 
 returns-6 : tie.Need-returns-6
-returns-6 c = rw (c .field-of .ensures) (sym (item-whole _ _ _ _ _ _ (header-is (c .before .before .before .before .before .before .before .before)) (known-is (c .before .before .before .before .before)) (fitting-is (c .before .before .before)) (fits-is (c .before))))
+returns-6 c = tested-whole _ _ _ _ _ _ _ _ _ _ (c .before .before .before .before .before .before .before .before .before .before .field-at .ensures) (c .before .before .before .before .before .before .before .before .tag .given .1) (c .before .before .before .before .before .before .known .ensures) (c .before .before .before .before .before .if1 .left) (c .before .before .before .before .fitting .ensures) (c .before .before .before .if2 .left) (c .before .before .fits2 .ensures) (c .before .if3 .left) _ (c .field-of .ensures)
 
 pub parsed-field-spec : {M : Type 1} → statement M
 parsed-field-spec =
