@@ -2,6 +2,8 @@
 //
 // The calls are `engine`'s. They rest on a table known to be good, and no test is made for each request: the run began with a fresh table, and its requests
 // keep it good (R6.14; proofs/Made.antt).
+#![tactic(auto)]
+
 ghost use Rattle.std.specs.Prelude.{◌≡◌, ◌+◌, ◌≤◌, ◌<◌, length};
 ghost use Rattle.rules.specs.State.{setting_at, setup_of};
 ghost use Rattle.rules.specs.Reads.{reads};

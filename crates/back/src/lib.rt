@@ -5,6 +5,8 @@
 // another list.
 //
 // Units: times are `Clock`. These are inner functions: a `requires` says what the crates above keep.
+#![tactic(auto)]
+
 ghost use Rattle.std.specs.Prelude.{ℕ, ◌<◌};
 ghost use Rattle.rules.specs.State.{lane_at};
 ghost use Rattle.rules.specs.Calls.{lowered};

@@ -2,6 +2,8 @@
 // file `stdout` has what is to be written, worked by hand.
 //
 // Each case changes the same table (crate `base_table`).
+#![tactic(auto)]
+
 mod lists;
 mod slots;
 mod unread;

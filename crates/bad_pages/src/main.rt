@@ -3,6 +3,8 @@
 //
 // Each case is the same table (crate `base_table`) with four words of the page's part: the edition last taken, that of the page that waits, and of its plan the
 // first word and that of lane 0.
+#![tactic(auto)]
+
 use base_table as base;
 use words::set_word;
 

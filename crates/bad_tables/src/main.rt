@@ -3,6 +3,8 @@
 //
 // Each case changes one condition of the same table (crate `base_table`). Where a lane's S or group changes, its slot list goes along, so that the lists
 // are not what fails.
+#![tactic(auto)]
+
 mod clock;
 mod lanes;
 mod sizes;

@@ -4,6 +4,8 @@
 //
 // It is written word by word and byte by byte (crate `poked`), and not by the library's own functions. Each case has a name, and is written with whether its
 // table is good.
+#![tactic(auto)]
+
 use libc::STDOUT_FILENO;
 use poked::{
     DEPTH, GROUPS, LANE_0, LANE_1, PRESENT, RING, ROOM, TIME, alone, byte, group, length, put,

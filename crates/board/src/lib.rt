@@ -4,6 +4,8 @@
 // encoding. `Shows` (specs/Layout.antt) says when bytes show a board, `board_of` is the board that they mean.
 //
 // `sound` is the test of 29 and takes any bytes. The others are inner functions: a `requires` says what the callers keep.
+#![tactic(auto)]
+
 ghost use Rattle.std.specs.Prelude.{◌≡◌, ◌+◌, ◌*◌, ◌/◌, ◌%◌, ◌^◌, ◌<◌, ◌≤◌, eqb};
 ghost use Rattle.desk.specs.Board.{line_at, is_of, is_free};
 ghost use Rattle.words.specs.Words.{word_at, put_word};

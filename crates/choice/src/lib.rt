@@ -5,6 +5,8 @@
 // plain choice.
 //
 // Units: starts and finishes are `Clock` or its number; bit i of a word stands for group i.
+#![tactic(auto)]
+
 ghost use Rattle.std.specs.Prelude.{◌≡◌, ◌≤◌, ◌<◌, ◌^◌};
 ghost use Rattle.table.specs.Means.{meant};
 ghost use Rattle.choice.specs.Known.{Known, ChoiceIs};

@@ -1,6 +1,8 @@
 // The unit's program (docs/RULES.md, R10.15). It reads standard input, runs it as a session with a limit of 1,000, and writes the lines.
 //
 // `answered` is the work, on slices, with its promise (specs/Prints.antt); `serve` adds standard input and output, of which no contract can speak.
+#![tactic(auto)]
+
 ghost use Rattle.std.specs.Prelude.{◌*◌, ◌≤◌, length};
 ghost use Rattle.table.specs.Layout.{table_size};
 ghost use Rattle.console.specs.Prints.{Prints};

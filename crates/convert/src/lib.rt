@@ -6,6 +6,8 @@
 // The bytes that both layouts have in the same places go over as they are: single words, rows and slot lists. Then the depth number is written, and of
 // each lane in the setup the ring word anew, with the records from place 0 on, lengths and marks apart. A table of that time has taken no settings page: its
 // last edition is 0, and none waits.
+#![tactic(auto)]
+
 ghost use Rattle.std.specs.Prelude.{◌≡◌, true, ◌≤◌, ◌<◌, length, drop};
 ghost use Rattle.rules.specs.Older.{old_depth};
 ghost use Rattle.rounds.specs.Good.{Lengths};

@@ -3,6 +3,8 @@
 //
 // `print` is the work, on slices, with its promise (specs/Prints.antt); `serve_setup` and `serve_sheet` add standard input and output, of which no contract
 // can speak.
+#![tactic(auto)]
+
 ghost use Rattle.std.specs.Prelude.{◌≤◌, ◌≡◌, length};
 ghost use Rattle.plan.specs.Read.{setup_reply};
 ghost use Rattle.plan_writer.specs.Write.{Within};

@@ -1,4 +1,6 @@
 // A line of the desk's board, changed in place: the named form, and one function above it with plain parameters. It knows nothing of boards and bytes.
+#![tactic(auto)]
+
 ghost use Rattle.std.specs.Prelude.{◌≡◌};
 ghost use Rattle.desk_line.specs.Follow.{follow};
 

@@ -4,6 +4,8 @@
 // The functions are written byte by byte, and compile to one load or one store of that width; what they do is said of the word, so that a part of a
 // table may be read by whole words in one place and by its digits in another. They are inner functions: a `requires` says that the word lies in the
 // bytes.
+#![tactic(auto)]
+
 ghost use Rattle.std.specs.Prelude.{◌≡◌, ℕ, ◌+◌, ◌*◌, ◌/◌, ◌%◌, ◌^◌, ◌<◌, ◌≤◌, length, get_or};
 ghost use Rattle.words.specs.Words.{word_at};
 ghost use Rattle.digits.specs.Digits.{digit, put_digit, WordStored};

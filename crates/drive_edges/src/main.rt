@@ -1,5 +1,7 @@
 // Drives the public calls where the clock is taken back, on tables that are not good, and in shared lanes, and prints what they answer. The file `stdout`
 // has what is to be written, as that of the program `drive`.
+#![tactic(auto)]
+
 mod damage;
 mod far;
 mod trains;

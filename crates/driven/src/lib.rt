@@ -2,6 +2,8 @@
 // worked out by expected.py.
 //
 // Each scene begins with a table of bytes 165, some of them past the fixed size, so that making has something to write over and something to leave.
+#![tactic(auto)]
+
 pub mod bytes;
 pub mod calls;
 pub mod tables;

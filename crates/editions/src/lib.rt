@@ -6,6 +6,8 @@
 // and what a table keeps are one form, with one test of the numbers (`plan_writer::within`).
 //
 // Inner functions: a `requires` says that the part is long enough. What their words mean is in specs/Part.antt.
+#![tactic(auto)]
+
 ghost use Rattle.std.specs.Prelude.{◌≡◌, true, ◌<◌};
 ghost use Rattle.std.proofs.Math.Option.{none, some};
 ghost use Rattle.rules.specs.Setup.{Setup};

@@ -5,6 +5,8 @@
 // what they cost does not grow with their number, but for a put that takes the clock back.
 //
 // Units: lengths are `Bytes`, times are `Clock`; only `lane_charge` and `line_charge` of `units` turn the first into the second.
+#![tactic(auto)]
+
 ghost use Rattle.std.specs.Prelude.{◌≡◌, ◌⊎◌, ℕ, ◌^◌, ◌<◌, ◌≤◌, eqb};
 ghost use Rattle.std.proofs.Math.Option.{some};
 ghost use Rattle.std.proofs.Math.IntN.{sub_ℕ};

@@ -6,6 +6,8 @@
 //
 // Units: a place is a number of bytes from the first byte of the slice; a length is a number of bytes. `field_at`, `fits` and `behind` take any slice
 // and any place. The numbers are inner functions: their `requires` says that the bytes are there.
+#![tactic(auto)]
+
 ghost use Rattle.std.specs.Prelude.{◌≡◌, ◌+◌, ◌^◌, ◌≤◌, ◌<◌, leb, length};
 ghost use Rattle.fields.specs.Bytes.{big};
 ghost use Rattle.fields.specs.Header.{header_at, behind_at};

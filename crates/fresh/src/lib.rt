@@ -3,6 +3,8 @@
 // A fresh table is begun with no lane in it and empty slot lists; then each lane of the setup is added. Words of lanes that are not in the setup, places
 // of a ring that hold no record, and the words and rings of a group that has no lanes are left as they stand: they mean nothing. So do c and group of an idle
 // lane: 0 stands there.
+#![tactic(auto)]
+
 ghost use Rattle.std.specs.Prelude.{◌≡◌, [], ℕ, ◌+◌, ◌*◌, ◌<◌, ◌≤◌, get_or};
 ghost use Rattle.rules.specs.State.{lane_at, setup_of};
 ghost use Rattle.rules.specs.Setup.{InNumbers, Setup};

@@ -4,6 +4,8 @@
 // One pass over the lanes that are in the setup and the records that they hold; lanes that are not in the setup cost nothing, for the word of
 // present lanes is walked by its set bits. Then the slot lists, against the lanes' own words and the word of the lanes that were found to hold records
 // (crate `lists_test`).
+#![tactic(auto)]
+
 ghost use Rattle.std.specs.Prelude.{◌≡◌, true, ◌+◌, ◌^◌, ◌<◌, ◌≤◌, get_or};
 ghost use Rattle.table.specs.Layout.{Room, cells, framing_word};
 ghost use Rattle.table.specs.Means.{lane_of};

@@ -1,6 +1,8 @@
 // One pass over the groups' stored starts, at most sixteen, whatever the lanes: which group is served next, and where the clock settles.
 //
 // The word of the groups that have lanes is walked by its lowest set bit. Units: starts and finishes are clock units.
+#![tactic(auto)]
+
 ghost use Rattle.std.specs.Prelude.{◌≡◌, ℕ, ◌+◌, ◌^◌, ◌<◌, ◌≤◌, min};
 ghost use Rattle.std.proofs.Math.Option.{some};
 ghost use Rattle.rings.specs.Rings.{Long};

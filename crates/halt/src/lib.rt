@@ -5,6 +5,8 @@
 // specs/Lists.antt has what follows for lists of these calls, with the figures of a busy lane's share.
 //
 // The four weights sum to 1,024, which is all that a setup may give (R1.2). So the first four lanes tell the whole setup, of a plan and of a table.
+#![tactic(auto)]
+
 ghost use Rattle.std.specs.Prelude.{◌<◌, ◌≡◌, map};
 ghost use Rattle.rules.specs.State.{lane_at};
 ghost use Rattle.rules.specs.Setup.{Setup};

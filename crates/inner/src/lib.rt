@@ -5,6 +5,8 @@
 // record of that train and length; from 64 on a record is taken.
 //
 // Like a session it rests on a table that its own calls led to from a fresh one (`answers/specs/Answers.antt`), here the restarted table.
+#![tactic(auto)]
+
 ghost use Rattle.std.specs.Prelude.{◌+◌, ◌≤◌, length};
 ghost use Rattle.table.specs.Means.{meant};
 ghost use Rattle.choice.specs.Known.{Known};

@@ -2,6 +2,8 @@
 //
 // None asks anything of its caller: each tests what it is given, the whole board too, and refuses by number. Nothing is written before the last test.
 // What each promises is in specs/Step.antt. The board is SIZE bytes of the lent slice; bytes past them are never touched.
+#![tactic(auto)]
+
 ghost use Rattle.std.specs.Prelude.{◌≡◌, ◌+◌, ◌^◌, ◌<◌, ◌≤◌, length, true};
 ghost use Rattle.desk.specs.Board.{is_of, InField};
 ghost use Rattle.desk.specs.Calls as Calls;

@@ -1,5 +1,7 @@
 // A lane gets its S, or a new one: it goes to the end of the list of its slot, and its group's start follows. Each in a time that does not grow with the
 // lanes. proofs/Rules.antt: what `add` and `refile` leave agrees with the rules' state after put and take.
+#![tactic(auto)]
+
 ghost use Rattle.std.specs.Prelude.{◌≡◌, ◌+◌, ◌%◌, ◌^◌, ◌<◌, ◌≤◌, length};
 ghost use Rattle.std.proofs.Math.Option.{some};
 ghost use Rattle.words.specs.Bits.{bit};

@@ -3,6 +3,8 @@
 // Each function answers true exactly if the statement in its contract holds (`Says`). c is tested by the two bounds that only it meets, the group by equality
 // with the least power, and R is found by shifting. An idle lane has no record to look at, and its c and group mean nothing: only where its F is further from V
 // than two slots of the lowest group, its own group is worked out, which divides.
+#![tactic(auto)]
+
 ghost use Rattle.std.specs.Prelude.{◌≡◌, ◌+◌, ◌*◌, ◌^◌, ◌<◌, ◌≤◌, true, length};
 ghost use Rattle.units.specs.Numbers.{per_byte};
 ghost use Rattle.rules.specs.State.{group, lane_depth};

@@ -2,6 +2,8 @@
 //
 // specs/Line.antt has each line as a definition, and proofs/Most.antt the law that none is longer than 64 bytes, from which 17's figure follows. Each
 // function writes its line at a place and answers the place behind it. These are inner functions: each requires 64 bytes there.
+#![tactic(auto)]
+
 ghost use Rattle.std.specs.Prelude.{◌≡◌, ◌+◌, ◌≤◌, ◌<◌, [], ◌∷◌, length};
 ghost use Rattle.text.specs.Decimal.{decimal};
 ghost use Rattle.rules.specs.Calls.{words};

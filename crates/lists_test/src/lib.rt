@@ -2,6 +2,8 @@
 //
 // It walks each group that has lanes, each of its lists that has, and each lane there, and asks of a lane: was it met before, is it of this group, does
 // its S lie in this list's slot. At the end the lanes met must be those that hold records. So it reads each place once, whatever the bytes hold.
+#![tactic(auto)]
+
 ghost use Rattle.std.specs.Prelude.{◌≡◌, ◌/◌, ◌^◌, ◌<◌, ◌≤◌};
 ghost use Rattle.rings.specs.Rings.{Long};
 ghost use Rattle.slot_lists.specs.Lists.{back_at};

@@ -4,6 +4,8 @@
 // 16, in the records, one word each, in that there is no depth number, and in that no lane is shared, so c has the top bit of the setting word too. All
 // else stands where it stands today, and is read and tested by the same functions. The test asks nothing of the bytes: for every slice it answers true
 // exactly if they are a good table of that time (`OldTable`, specs/Old.antt).
+#![tactic(auto)]
+
 ghost use Rattle.std.specs.Prelude.{◌≡◌, true, ◌^◌, ◌<◌, ◌≤◌, get_or};
 ghost use Rattle.rules.specs.Older.{old_depth};
 ghost use Rattle.rounds.specs.Good.{Lengths};

@@ -3,6 +3,8 @@
 //
 // The tables are written word by word and byte by byte from the layout of that time, and not by the library's own functions (bytes.rt). Of a refused
 // case the new bytes are looked at: none is changed. Of a converted one the bytes past the table are.
+#![tactic(auto)]
+
 mod bytes;
 mod good;
 mod over;

@@ -7,6 +7,8 @@
 // each as if nothing were skipped in it.
 //
 // Units: a place is a number of bytes from the page's first byte, a length a number of bytes.
+#![tactic(auto)]
+
 ghost use Rattle.std.specs.Prelude.{◌≡◌, true, ◌+◌, ◌^◌, ◌<◌};
 ghost use Rattle.rules.specs.Reads.{number, place_of};
 ghost use Rattle.plan.specs.Read.{settings};

@@ -2,6 +2,8 @@
 //
 // Where no page waits, this is one compare of the edition last taken. Where one does, its plan is tested by the test of the setup writer, the same that
 // refuses a host's plan by 55.
+#![tactic(auto)]
+
 ghost use Rattle.lane_test.specs.Says.{Says};
 ghost use Rattle.editions.specs.Part.{PartRoom, GoodPart};
 

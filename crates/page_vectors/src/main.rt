@@ -8,6 +8,8 @@
 // with `/shared` at the end of a lane that trains share.
 //
 // vectors.py writes the frames and what is expected of them.
+#![tactic(auto)]
+
 ghost use Rattle.std.specs.Prelude.{◌≤◌, ◌<◌, length};
 
 use page::{Outcome, Reading};

@@ -5,6 +5,8 @@
 //
 // The page's part is lent to the crates below as the end of the table, so that what they store there leaves the core, and what the core's calls store leaves
 // the part, by the promises that both have of bytes that are not theirs.
+#![tactic(auto)]
+
 ghost use Rattle.std.specs.Prelude.{◌≡◌, true, map, ◌<◌, ◌≤◌, length};
 ghost use Rattle.std.proofs.Math.Option.{some};
 ghost use Rattle.rules.specs.State.{any_holds};

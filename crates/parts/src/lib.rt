@@ -1,5 +1,7 @@
 // Where the parts of a table begin (docs/TABLE.md), once for every crate that reads or writes one: specs/Parts.antt. There is no code here but numbers.
 
+#![tactic(auto)]
+
 // Lanes are numbered 0 to 63.
 pub const LANES: usize = 64;
 

@@ -9,6 +9,8 @@
 // What they answer is `read_plan` and `read_setup` of specs/Read.antt, and specs/Promises.antt says that exactly the setups within the numbers are read.
 //
 // Units: a place is a number of bytes from the first byte of the input, a length, a longest and the framing bytes are numbers of bytes; weights are plain numbers.
+#![tactic(auto)]
+
 ghost use Rattle.std.specs.Prelude.{◌≡◌, map};
 ghost use Rattle.plan.specs.Judge.{given, Inside, Numbered};
 ghost use Rattle.plan.specs.Read.{no_lanes, placed, setting_of, setup_came, setup_reply, read_plan, read_setup};

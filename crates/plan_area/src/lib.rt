@@ -8,6 +8,8 @@
 //
 // Both take any bytes and areas of any length. What they answer and leave is `ReadStep` and `WriteStep` of specs/Step.antt; bytes past an area's 520 are
 // never touched. The other functions are inner ones: a `requires` says that the area is long enough.
+#![tactic(auto)]
+
 ghost use Rattle.std.specs.Prelude.{◌≡◌, ◌*◌, ◌≤◌, ◌<◌, length, drop};
 ghost use Rattle.rules.specs.Setup.{Setup};
 ghost use Rattle.plan.specs.Read.{setting_of, settings};

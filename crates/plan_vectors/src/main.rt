@@ -10,6 +10,8 @@
 // with `/shared` at the end of a lane that trains share.
 //
 // vectors.py writes the vectors and the expected lines.
+#![tactic(auto)]
+
 ghost use Rattle.std.specs.Prelude.{◌<◌, ◌≤◌, length};
 
 use plan::{Outcome, Reading};

@@ -1,5 +1,7 @@
 // A lent table's words and bytes, written behind the library's back: for tests. The places are those of docs/TABLE.md, and the library's own functions are not
 // used but for storing a word. What lies outside the table is not written, so that no test has to prove where it writes.
+#![tactic(auto)]
+
 ghost use Rattle.std.specs.Prelude.{◌<◌};
 
 use words::set_word;

@@ -1,6 +1,8 @@
 // Writes answers in the words of a session (R10.12), a line to each: for the programs that make calls and print what they answer.
 //
 // No line here knows whether a lane is shared. `answer` leaves the train out, `answer_with_train` writes it behind every record.
+#![tactic(auto)]
+
 use libc::STDOUT_FILENO;
 use lines::Place;
 use rules::{Answer, Record, Refusal, SetWords};

@@ -4,6 +4,8 @@
 //     .., LANE/WEIGHT/LONGEST/FRAMING ..
 //
 // with `/shared` at the end of a lane that trains share. A lane that is not in the plan is left out.
+#![tactic(auto)]
+
 use libc::STDOUT_FILENO;
 use lines::Place;
 use plan::{LANES, Lane, Plan};

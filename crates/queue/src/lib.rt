@@ -3,6 +3,8 @@
 // The records of a lane are a ring of 64 places. A shared lane's are eight rings of 8, one for each train, and whose turn it is follows from its trains'
 // numbers and its round's (crate `turns`). Each public function leaves one lane changed as `rules` says (`appended`, `woken`, `served`) and all else as it was.
 // These are inner functions: a `requires` says what a good state gives.
+#![tactic(auto)]
+
 ghost use Rattle.std.specs.Prelude.{◌≡◌, true, false, ◌+◌, ◌^◌, ◌<◌, ◌≤◌, max};
 ghost use Rattle.rounds.specs.Good.{GoodShared};
 ghost use Rattle.turns.specs.Turns.{named_of, Ordered};

@@ -5,6 +5,8 @@
 // `quick_at`, which reads the whole field at once.
 //
 // Units: a place is a number of bytes from the first byte of the input; a record's length is in `Bytes`.
+#![tactic(auto)]
+
 ghost use Rattle.std.specs.Prelude.{◌≡◌, ◌+◌, ◌<◌, ◌≤◌, length};
 ghost use Rattle.fields.specs.Bytes.{big};
 ghost use Rattle.requests.specs.Request.{request_size, size_is, head_at, head_is, call_is, call_by_number, Quickly};

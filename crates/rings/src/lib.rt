@@ -3,6 +3,8 @@
 //
 // Ring i has a byte for its first place, a byte for how many stand in it, and 64 places of its own, so that a change of one ring cannot touch another.
 // These are inner functions: a `requires` says that the bytes are long enough, and what the ring holds.
+#![tactic(auto)]
+
 ghost use Rattle.std.specs.Prelude.{◌≡◌, [], ◌∷◌, ◌++◌, ◌<◌, length, get_or, set, drop};
 ghost use Rattle.rings.specs.Rings.{Long, ring_at, Rung};
 

@@ -8,6 +8,8 @@
 //
 // The lengths are lent as a part of the bytes, from the lane's own on: the compiler then keeps their address, and a train takes two instructions less. The
 // counts are added up first, two at a time: each word is then loaded once for them and for the trains.
+#![tactic(auto)]
+
 ghost use Rattle.std.specs.Prelude.{◌≡◌, ◌+◌, ◌*◌, ◌/◌, ◌^◌, ◌<◌, ◌≤◌, length};
 ghost use Rattle.turns.specs.Turns.{head_of, count_of, deficit_of, place_in_train};
 ghost use Rattle.round_test.specs.Shared.{Says, numbers_at, lengths_at, LengthsFit, held_below, HoldsSome, Seen, Wanted, Tallied, SharedGood};

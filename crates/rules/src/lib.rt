@@ -5,6 +5,8 @@
 // accepted record handed out once and in order (proofs/Order.antt), and what the four sets mean (proofs/GroupRule.antt, proofs/BySets.antt).
 //
 // A lane is what the field calls a flow, the clock V is the system's virtual time, and a record is a packet.
+#![tactic(auto)]
+
 use units::Bytes;
 
 // A record that was taken or looked at: the lane that it waited in, its train (0 in a lane that is not shared), the host's mark, and its length.

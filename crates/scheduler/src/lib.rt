@@ -8,6 +8,8 @@
 //
 // The table is SIZE bytes of the lent slice; bytes past them are never touched. `look`, `sets` and `lag` take it by `&`. The engine's calls know the table's
 // core only and leave what is behind it; the page's part behind the core is crate `paged`'s.
+#![tactic(auto)]
+
 ghost use Rattle.rules.specs.Calls as Calls;
 ghost use Rattle.std.specs.Prelude.{◌≡◌, true};
 ghost use Rattle.rules.specs.Setup.{Setup};

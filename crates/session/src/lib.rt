@@ -3,6 +3,8 @@
 // `run` takes any bytes, any limit, any table and any answer area. What it answers and leaves is `run_of` of `walk/specs/Script.antt`, by the promise `Ran`
 // of specs/Ran.antt. specs/Requests.antt says that a run's requests are a list of the rules' calls from the fresh table of its setup; specs/One.antt that
 // nothing of a run's result is left open.
+#![tactic(auto)]
+
 ghost use Rattle.std.specs.Prelude.{◌≡◌};
 ghost use Rattle.session.specs.Ran.{Ran};
 

@@ -7,6 +7,8 @@
 //     = ANSWERED WRITTEN end|limit|no NUMBER [PLACE]
 //
 // and then the text that was written. vectors.py writes the frames and what is expected of them.
+#![tactic(auto)]
+
 ghost use Rattle.std.specs.Prelude.{◌+◌, ◌≤◌, ◌<◌, length};
 
 use libc::STDOUT_FILENO;

@@ -8,6 +8,8 @@
 // say of the sheets of the form. The plan is of format 2 and has no framing bytes and no shared lane.
 //
 // Units: a place is a number of bytes from the first byte of the sheet, a longest a number of bytes; weights are plain numbers.
+#![tactic(auto)]
+
 ghost use Rattle.std.specs.Prelude.{◌≡◌, map, ◌≤◌, ◌<◌, length, get_or};
 ghost use Rattle.plan.specs.Read.{setting_of, placed, setup_came, setup_reply};
 ghost use Rattle.plan.specs.declared.parse.SetupField.TheVariants as fields;

@@ -5,6 +5,8 @@
 //
 // Both take any bytes and areas of any length. What they answer and leave is `SheetReadStep` and `SheetWriteStep` of specs/Step.antt; what an area is, word by
 // word, is crate `plan_area`.
+#![tactic(auto)]
+
 ghost use Rattle.sheet_area.specs.Step.{SheetReadStep, SheetWriteStep};
 
 use plan::Outcome;

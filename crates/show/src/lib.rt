@@ -5,6 +5,8 @@
 // record that is not there; 13 or 71 for more records ahead than an accepted put finds. What each promises is `Shows` (specs/Shows.antt), whole.
 //
 // The setup in force is what `lane` tells of the lanes 0 to 63.
+#![tactic(auto)]
+
 ghost use Rattle.std.specs.Prelude.{◌≡◌, ◌+◌, ◌≤◌, ◌<◌, max};
 ghost use Rattle.rules.specs.State.{setup_of, room_of};
 ghost use Rattle.rules.specs.Setup.{longest_charge};

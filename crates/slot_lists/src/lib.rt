@@ -6,6 +6,8 @@
 //
 // A change goes in two steps, so that each word is read and written once: lists are changed with the group's word of lists at hand, then the group's
 // words are stored. These are inner functions: a `requires` says what the crates above keep.
+#![tactic(auto)]
+
 ghost use Rattle.std.specs.Prelude.{◌≡◌, [], ◌∷◌, ◌++◌, ◌+◌, ◌-◌, ◌/◌, ◌%◌, ◌^◌, ◌<◌, ◌≤◌, length, get_or, drop};
 ghost use Rattle.words.specs.Bits.{bit};
 ghost use Rattle.rings.specs.Rings.{Long};

@@ -2,6 +2,8 @@
 // is told on standard error. No contract can speak of what is read or written; a program's work is a function on slices, in the crate above.
 //
 // A program cannot give an exit status: it is 0 whatever happened.
+#![tactic(auto)]
+
 ghost use Rattle.std.specs.Prelude.{◌<◌, length};
 ghost use Rattle.io.specs.Counts.{IsPrefixLen};
 

@@ -7,6 +7,8 @@
 // the crates beside this one: `queue`, `fresh`, `good`.
 //
 // Units: lengths are `Bytes`, times are `Clock`, c is a `Rate`. These are inner functions: a `requires` says what the crates above keep.
+#![tactic(auto)]
+
 ghost use Rattle.std.specs.Prelude.{◌≡◌, ◌+◌, ◌*◌, ◌^◌, ◌<◌, ◌≤◌, get_or, set};
 ghost use Rattle.table.specs.Layout.{Room, Front, marks_cell, lengths_cell, length_words, trains_cell, Now, cells, row_at, put_row, put_pace, put_ring, entry_at, put_entry, place_in_lane, clear_cells, round_word, round_at, train_number, put_train};
 ghost use Rattle.rules.specs.State.{charge, lane_depth};

@@ -1,6 +1,8 @@
 // Text into lent bytes: words and decimal numbers, each at a place, answering the place behind it.
 //
 // Characters are ASCII bytes. These are inner functions: each requires that what it writes fits; specs/Decimal.antt says what that is.
+#![tactic(auto)]
+
 ghost use Rattle.std.specs.Prelude.{◌≡◌, [], ◌∷◌, ◌+◌, ◌/◌, ◌%◌, ◌<◌, ◌≤◌, nat_abs, length};
 ghost use Rattle.std.proofs.lemmas.List.Edits.{sets};
 ghost use Rattle.text.specs.Decimal.{digits, Width, decimal, signed};

@@ -5,6 +5,8 @@
 // stay in the lane's places. They are inner functions: a `requires` says what a good lane gives (proofs/Good.antt has the laws for it).
 //
 // Units: deficits and lengths count bare bytes, without framing.
+#![tactic(auto)]
+
 ghost use Rattle.std.specs.Prelude.{◌≡◌, ◌*◌, ◌^◌, ◌<◌, ◌≤◌};
 ghost use Rattle.rounds.specs.Round.{train_count, train_depth};
 ghost use Rattle.turns.specs.Turns.{count_of, deficit_of, named_of, Ordered, NamesTrains, Light, Puts, HandsOutTurn};

@@ -1,4 +1,6 @@
 // The unit's program: a session on standard input, its answer lines on standard output.
+#![tactic(auto)]
+
 fn main() {
     console::serve();
 }

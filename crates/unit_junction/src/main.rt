@@ -1,4 +1,6 @@
 // The unit's program on examples/junction.txt: a session in which trains share a lane.
+#![tactic(auto)]
+
 fn main() {
     console::serve();
 }

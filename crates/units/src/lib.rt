@@ -10,6 +10,8 @@
 //
 // These are inner functions: a `requires` says what the crates above keep. Ranges (R1.2, R1.11, R6.5): weight 1 to 1,024, so c is 1,024 to 1,048,576;
 // group index 16 to 31; the clock below 2^62 + 2^44.
+#![tactic(auto)]
+
 ghost use Rattle.std.specs.Prelude.{◌≡◌, ◌+◌, ◌*◌, ◌^◌, ◌<◌, ◌≤◌, max, min, eqb, leb, ltb};
 ghost use Rattle.units.specs.Numbers.{per_byte, line_rate, Least, round_down};
 

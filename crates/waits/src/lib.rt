@@ -4,6 +4,8 @@
 //
 // Units: the bound is worked out in clock units, as the fair share is; only `line_bytes` turns it into bytes of the line. c and the slot follow from the
 // setting here, so that a wait needs nothing else of a table.
+#![tactic(auto)]
+
 ghost use Rattle.std.specs.Prelude.{◌≡◌, ◌+◌, ◌*◌, ◌/◌, ◌^◌, ◌≤◌, ◌<◌};
 ghost use Rattle.units.specs.Numbers.{line_rate};
 ghost use Rattle.rules.specs.Waits.{worst_of};

@@ -5,6 +5,8 @@
 // its limit and what it was lent, is `session`.
 //
 // Units: places and lengths are numbers of bytes; places are counted from the first byte of the session.
+#![tactic(auto)]
+
 ghost use Rattle.std.specs.Prelude.{◌≡◌, [], ◌+◌, ◌*◌, ◌≤◌, ◌<◌, length};
 ghost use Rattle.table.specs.Layout.{table_size};
 ghost use Rattle.table.specs.Means.{meant};

@@ -2,6 +2,8 @@
 //
 // `word` and `set_word` are written byte by byte, and compile to one load and one store. They are inner functions: a `requires` says that the word lies
 // in the bytes. The laws (the same word, another word, the length and the bytes past a run of words) are in proofs/Laws.antt.
+#![tactic(auto)]
+
 ghost use Rattle.std.specs.Prelude.{◌≡◌, ◌+◌, ◌*◌, ◌^◌, ◌<◌, ◌≤◌, length, get_or};
 ghost use Rattle.words.specs.Runs.{elements_from};
 ghost use Rattle.words.specs.Words.{le_val, word_at, put_word};

@@ -6,6 +6,8 @@
 //
 // The contracts are of slices, as Rust lends them: no area that is written overlaps another one of the call. Safe Rust cannot lend otherwise; a host in C can,
 // and nothing here finds it out, so include/zenfrosta.h asks it of the host.
+#![tactic(auto)]
+
 ghost use Rattle.std.specs.Prelude.{◌≡◌, ◌≤◌, length};
 ghost use Rattle.std.specs.Int.{w64};
 ghost use Rattle.std.proofs.Common.{of_z};
