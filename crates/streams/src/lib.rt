@@ -1,7 +1,7 @@
 // Standard input, output and error of the programs (docs/RULES.md, R10.15): what comes in is read to its end, what goes out is written whole, and what fails
 // is told on standard error. No contract can speak of what is read or written; a program's work is a function on slices, in the crate above.
 //
-// A program cannot give an exit status: it is 0 whatever happened.
+// The exit status of a program is 0 whatever happened.
 #![tactic(auto)]
 
 ghost use Rattle.std.specs.Prelude.{◌≡◌, ◌<◌, ◌≤◌, length, take};
