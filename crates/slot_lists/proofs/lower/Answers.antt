@@ -22,7 +22,7 @@ loop-g-preserved c =
     let b = c.earlier_by in
     let long : Long l.t = omega (arith, l.invariant.1, s.requires.0) in
     let x : b.result ≡ word_at l.t (start_word l.g) - s.args.d = b.ensures ∙ ap (λ (y : ℕ). y - s.args.d) c.word-start.ensures in
-    (subst (λ (u : List ℕ). SoFar s.args.t.now u s.args.d (l.g + 1)) (sym c.set_word.ensures) (one_more s.args.t.now l.t s.args.d l.g b.result l.invariant.0 long l.invariant.2 c.loop-g-test.true (omega (arith, b.type-inv)) x), omega (arith, c.set_word.auto.t, l.invariant.1), omega (arith, l.invariant.2), omega (arith, c.loop-g-test.true))
+    (subst (λ (u : List ℕ). SoFar s.args.t.now u s.args.d (l.g + 1)) (sym c.set_word.ensures) (one_more s.args.t.now l.t s.args.d l.g b.result l.invariant.0 long l.invariant.2 c.loop-g-test.true (omega (arith, b.type_inv)) x), omega (arith, c.set_word.auto.t, l.invariant.1), omega (arith, l.invariant.2), omega (arith, c.loop-g-test.true))
 
 pub overflow_add-back : goal.overflow_add-back
 overflow_add-back c =
