@@ -3,6 +3,7 @@ use borrow.Author.Rules.{rules}
 use mathlib.Core.Logic.{⊎_elim}
 use Rattle.plan_writer.proofs.Writing.{Laying, lay-none, lay-numbers, lay-room, lay-more, lay-skip, lay-all}
 use Rattle.plan_writer.proofs.put_lanes.Goals as goal
+use Rattle.plan_writer.proofs.put_lanes.Goals.{then-l-ne0, else-l-ne0}
 
 pub loop-k-init : goal.loop-k-init
 loop-k-init c = lay-none _ _ _
@@ -21,10 +22,10 @@ loop-k-preserved c =
     let l = c.loop-k in
     let s = c in
     let lt = c.loop-k-test.true in
-    ⊎_elim
-    (λ w. rw (w.5, w.6, w.2.ensures.1) (lay-more s.args.a.now s.args.at s.args.lanes l.a l.p l.k l.invariant lt s.requires.0 w.0.taken _ w.2.kept.0 w.2.ensures.0))
-    (λ w. rw (w.1, w.2) (lay-skip s.args.a.now s.args.at s.args.lanes l.a l.p l.k l.invariant lt s.requires.0 w.0.left))
-    c.if-l-ne0.branch
+    elim c.if-l-ne0.branch [
+      | then-l-ne0 w ↦ rw (w.a-is, w.p-is, w.put_fields-p.ensures.1) (lay-more s.args.a.now s.args.at s.args.lanes l.a l.p l.k l.invariant lt s.requires.0 w.if-l-ne0.true _ w.put_fields-p.auto.a w.put_fields-p.ensures.0)
+      | else-l-ne0 w ↦ rw (w.a-is, w.p-is) (lay-skip s.args.a.now s.args.at s.args.lanes l.a l.p l.k l.invariant lt s.requires.0 w.if-l-ne0.false)
+    ]
 
 pub shape_of-a : goal.shape_of-a
 shape_of-a c = c.loop-k.invariant.size

@@ -14,6 +14,7 @@ use Rattle.plan_writer.proofs.Lane.{tells-no, is-there}
 use mathlib.Core.Path.{ap}
 use mathlib.Core.Bool.{not}
 use Rattle.plan_writer.proofs.within.Goals as goal
+use Rattle.plan_writer.proofs.within.Goals.{then-l-ne0, else-l-ne0}
 
 pub returns-then-not-known_format : goal.returns-then-not-known_format
 returns-then-not-known_format c =
@@ -53,10 +54,10 @@ loop-k-preserved c =
     let ok = c.lane_within.ensures.yes (not-false c.lane_within.result (ap not c.if-not-lane_within.false)) in
     let lanes = c.args.plan.lanes in
     let f = c.line_framing-h in
-    ⊎_elim
-    (λ w. rw (w.2, w.3) (so-more lanes f.result f.ensures l.k l.total l.there l.invariant lt ok w.0.taken))
-    (λ w. rw (w.1, w.2) (so-skip lanes f.result f.ensures l.k l.total l.there l.invariant lt ok w.0.left))
-    c.if-l-ne0.branch
+    elim c.if-l-ne0.branch [
+      | then-l-ne0 w ↦ rw (w.total-is, w.there-is) (so-more lanes f.result f.ensures l.k l.total l.there l.invariant lt ok w.if-l-ne0.true)
+      | else-l-ne0 w ↦ rw (w.total-is, w.there-is) (so-skip lanes f.result f.ensures l.k l.total l.there l.invariant lt ok w.if-l-ne0.false)
+    ]
 
 pub returns-then-total-eq0 : goal.returns-then-total-eq0
 returns-then-total-eq0 c =

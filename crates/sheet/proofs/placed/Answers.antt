@@ -6,4 +6,4 @@ use Rattle.sheet.proofs.placed.Goals as goal
 
 pub returns : goal.returns
 returns c =
-    let a = c.args in map-set setting_of a.t1 a.row.lane.value _
+    let a = c.args in map-set setting_of a.lanes a.row.lane.value _
