@@ -30,7 +30,7 @@ loop-i-preserved c =
     let s = c in
     let l = c.loop-i in
     let w = c.word-x in
-    (omega (arith, c.loop-i-test.true), gathered-more s.args.t.now s.args.from l.i s.args.bound l.tops w.result c.wrapping_add_u64.result s.requires.1 s.requires.2 w.ensures (omega (arith, w.type_inv)) c.wrapping_add_u64.ensures l.invariant.1)
+    (omega (arith, c.loop-i-test.true), gathered-more s.args.t.now s.args.from l.i s.args.bound l.tops w.result c.wrapping_add_u64.result s.requires.1 s.requires.2 w.ensures (omega (arith, w.type_inv)) c.wrapping_add_u64.ensures.value l.invariant.1)
 
 pub returns : goal.returns
 returns c =

@@ -100,7 +100,7 @@ returns-then-not-l c =
     subst (λ (l : LaneRow). RowAgrees l → RowPaced l → l.count ≤ lane_depth → TimeGood v l l.group → PlacesFit w k l → not l.shared ≡ true → LaneGood v w k) (sym s.requires.3) (lane_plain v w k s.requires.2)
     numbers paced three.if-l-gt-DEPTH.false
     (says-yes five.time_good-timed.result five.time_good-timed.ensures (ap not five.if-not-timed.false))
-    (says-yes six.places_good-places.result six.places_good-places.ensures (ap not six.if-not-places.false)) (ap not c.if-not-l.true)
+    (says-yes six.places_good-places.result six.places_good-places.ensures (ap not six.if-not-places.false)) c.if-not-l.true
 
 pub trains_good-requires : goal.trains_good-requires
 trains_good-requires c =
@@ -130,4 +130,4 @@ returns c =
     (λ a p r t f h u. lane-shared v w k s.requires.2 a p r t f h u b)
     numbers paced three.if-l-gt-DEPTH.false
     (says-yes five.time_good-timed.result five.time_good-timed.ensures (ap not five.if-not-timed.false))
-    (says-yes six.places_good-places.result six.places_good-places.ensures (ap not six.if-not-places.false)) some (ap not c.if-not-l.false) c.trains_good.ensures
+    (says-yes six.places_good-places.result six.places_good-places.ensures (ap not six.if-not-places.false)) some c.if-not-l.false c.trains_good.ensures

@@ -37,7 +37,6 @@ begin-requires c =
     let a = stored in let w = wakes-here a in (sound-here a, a.small, w.good, w.enters, w.weight, w.idle, w.start, paced-here a)
 
 pub returns : goal.returns
-unfolding stored
 returns c =
     let wakes : Wakes (meant c.args.t.now) c.args.k c.args.start.0 (waiting c.args.e) = let q = c.requires in record { good = q.2; enters = q.3; weight = q.4; idle = q.5; start = q.6 } in
     let stored : Paced c.args.t.now c.args.k c.args.start.0 (waiting c.args.e) c.set_pace.new.t = let s = c in
