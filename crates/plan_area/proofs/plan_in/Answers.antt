@@ -8,6 +8,7 @@ use Rattle.plan_area.specs.Area.{framing_in, setting_in, plan_in, narrowed, Give
 use Rattle.plan_area.proofs.Narrow.{narrow_gives}
 use Rattle.plan_area.proofs.Filled.{Filled, fill_none, fill_more, fill-skip, fill-all}
 use Rattle.plan_area.proofs.plan_in.Goals as goal
+use Rattle.plan_area.proofs.plan_in.Goals.{then-l-ne0, else-l-ne0}
 
 pub loop-k-init : goal.loop-k-init
 loop-k-init c = fill_none c.args.area.now c.no_lanes-lanes.result c.no_lanes-lanes.ensures
@@ -27,10 +28,10 @@ loop-k-preserved c =
     let lt = c.loop-k-test.true in
     let x = c.lane_in-l in
     let is = x.ensures ∙ ap (λ (i : ℕ). narrowed (setting_in (i / 65536) c.word.result)) c.word-h.ensures ∙ ap (λ (i : ℕ). narrowed (setting_in (framing_in s.args.area.now) i)) c.word.ensures in
-    ⊎_elim
-    (λ w. rw w.1 (fill_more s.args.area.now l.lanes l.count l.k l.invariant lt x.result is w.0.taken))
-    (λ w. rw w.1 (fill-skip s.args.area.now l.lanes l.count l.k l.invariant lt x.result is w.0.left))
-    c.if-l-ne0.branch
+    elim c.if-l-ne0.branch [
+      | then-l-ne0 w ↦ rw w.count-is (fill_more s.args.area.now l.lanes l.count l.k l.invariant lt x.result is w.if-l-ne0.true)
+      | else-l-ne0 w ↦ rw w.count-is (fill-skip s.args.area.now l.lanes l.count l.k l.invariant lt x.result is w.if-l-ne0.false)
+    ]
 
 pub returns : goal.returns
 returns c =
