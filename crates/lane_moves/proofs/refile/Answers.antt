@@ -39,8 +39,8 @@ append-map-requires c =
     let em = c.word-lists.ensures ∙ sym (map_on t g (start-some t g s.args.start s.requires.4).0) in
     let eb = c.list_number-b.ensures.0 ∙ ap (λ (x : ℕ). (s.args.start + x) / 2 ^ g % 32) c.word-back.ensures in
     let ec = c.list_number.ensures.0 ∙ ap (λ (x : ℕ). (s.args.s + x) / 2 ^ g % 32) c.word-back.ensures in
-    let v = c.before.before.before.before.before.remove-IsFirst.ensures in (
-      omega (arith, s.requires.0, c.before.before.before.before.before.remove-IsFirst.auto.0),
+    let v = c.remove_first-left.ensures in (
+      omega (arith, s.requires.0, c.remove_first-left.auto.t),
       s.requires.2,
       s.requires.3,
       c.list_number.ensures.1,
@@ -56,9 +56,9 @@ close-requires c =
     let g = s.args.g in
     let has = (start-some t g s.args.start s.requires.4).0 in
     let em = c.word-lists.ensures ∙ sym (map_on t g has) in
-    let v = c.before.before.before.before.before.before.before.before.before.remove-IsFirst.ensures in
+    let v = c.remove_first-left.ensures in
     let u = c.append-map.ensures in
-    (omega (arith, s.requires.0, c.before.before.before.before.before.before.before.before.before.remove-IsFirst.auto.0, c.append-map.auto.t), s.requires.2, s.requires.3, c.word-groups.ensures ∙ sym (same_word _ _ _ _ _ _ _ v groups_word (omega arith)) ∙ sym (same_word _ _ _ _ _ _ _ u groups_word (omega arith)), ap (bit g) c.word-groups.ensures ∙ has, (u.fills (v.fills (subst (Fills t g) (sym em) (s.requires.1.fills g s.requires.2 s.requires.3)))).narrow, s.requires.5, same_word _ _ _ _ _ _ _ u (start_word g) (omega (arith, s.requires.3)) ∙ same_word _ _ _ _ _ _ _ v (start_word g) (omega (arith, s.requires.3)) ∙ (start-some t g s.args.start s.requires.4).1, c.list_number-b.ensures.1)
+    (omega (arith, s.requires.0, c.remove_first-left.auto.t, c.append-map.auto.t), s.requires.2, s.requires.3, c.word-groups.ensures ∙ sym (same_word _ _ _ _ _ _ _ v groups_word (omega arith)) ∙ sym (same_word _ _ _ _ _ _ _ u groups_word (omega arith)), ap (bit g) c.word-groups.ensures ∙ has, (u.fills (v.fills (subst (Fills t g) (sym em) (s.requires.1.fills g s.requires.2 s.requires.3)))).narrow, s.requires.5, same_word _ _ _ _ _ _ _ u (start_word g) (omega (arith, s.requires.3)) ∙ same_word _ _ _ _ _ _ _ v (start_word g) (omega (arith, s.requires.3)) ∙ (start-some t g s.args.start s.requires.4).1, c.list_number-b.ensures.1)
 
 pub close-requires-else-more : goal.close-requires-else-more
 close-requires-else-more c =
@@ -67,8 +67,8 @@ close-requires-else-more c =
     let g = s.args.g in
     let has = (start-some t g s.args.start s.requires.4).0 in
     let em = c.word-lists.ensures ∙ sym (map_on t g has) in
-    let v = c.before.before.before.before.remove-IsFirst.ensures in
-    (omega (arith, s.requires.0, c.before.before.before.before.remove-IsFirst.auto.0), s.requires.2, s.requires.3, c.word-groups.ensures ∙ sym (same_word _ _ _ _ _ _ _ v groups_word (omega arith)), ap (bit g) c.word-groups.ensures ∙ has, (v.fills (subst (Fills t g) (sym em) (s.requires.1.fills g s.requires.2 s.requires.3))).narrow, s.requires.5, same_word _ _ _ _ _ _ _ v (start_word g) (omega (arith, s.requires.3)) ∙ (start-some t g s.args.start s.requires.4).1, c.list_number-b.ensures.1)
+    let v = c.remove_first-left.ensures in
+    (omega (arith, s.requires.0, c.remove_first-left.auto.t), s.requires.2, s.requires.3, c.word-groups.ensures ∙ sym (same_word _ _ _ _ _ _ _ v groups_word (omega arith)), ap (bit g) c.word-groups.ensures ∙ has, (v.fills (subst (Fills t g) (sym em) (s.requires.1.fills g s.requires.2 s.requires.3))).narrow, s.requires.5, same_word _ _ _ _ _ _ _ v (start_word g) (omega (arith, s.requires.3)) ∙ (start-some t g s.args.start s.requires.4).1, c.list_number-b.ensures.1)
 
 pub returns-then-more : goal.returns-then-more
 returns-then-more c =
@@ -79,7 +79,7 @@ returns-then-more c =
     let eb = c.list_number-b.ensures.0 ∙ ap (λ (x : ℕ). (s.args.start + x) / 2 ^ g % 32) c.word-back.ensures in
     let ec = c.list_number.ensures.0 ∙ ap (λ (x : ℕ). (s.args.s + x) / 2 ^ g % 32) c.word-back.ensures in
     rw c.if-more.true
-    (refile-more t g s.requires.1 s.requires.2 s.requires.3 _ em _ s.args.start s.args.s s.args.k _ _ _ eb c.before.before.before.before.before.before.before.before.before.before.before.before.remove-IsFirst.ensures _ _ _ _ ec c.append-map.ensures c.close.ensures)
+    (refile-more t g s.requires.1 s.requires.2 s.requires.3 _ em _ s.args.start s.args.s s.args.k _ _ _ eb c.remove_first-left.ensures _ _ _ _ ec c.append-map.ensures c.close.ensures)
 
 pub returns-else-more : goal.returns-else-more
 returns-else-more c =
@@ -89,4 +89,4 @@ returns-else-more c =
     let em = c.word-lists.ensures ∙ sym (map_on t g (start-some t g s.args.start s.requires.4).0) in
     let eb = c.list_number-b.ensures.0 ∙ ap (λ (x : ℕ). (s.args.start + x) / 2 ^ g % 32) c.word-back.ensures in
     rw c.if-more.false
-    (refile-last t g s.requires.1 s.requires.2 s.requires.3 _ em _ s.args.start s.args.s s.args.k _ _ _ eb c.before.before.before.before.before.before.before.remove-IsFirst.ensures _ c.close-else-more.ensures)
+    (refile-last t g s.requires.1 s.requires.2 s.requires.3 _ em _ s.args.start s.args.s s.args.k _ _ _ eb c.remove_first-left.ensures _ c.close-else-more.ensures)

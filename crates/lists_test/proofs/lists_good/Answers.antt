@@ -65,7 +65,7 @@ loop-g-preserved c =
     let high : groups_at s.args.t.now < 2 ^ 32 = omega (arith, c.if-groups-ge-END.false, c.word-groups.ensures) in
     let fine = subst (λ (r : Met). GroupSays s.args.t.now w.g w.met r) c.in-Lanes.is c.group_met-r.ensures in
     let n = next_word _ _ _ _ c.word-groups.ensures c.next_present-g-in-loop-g.ensures in
-    (pass-next _ _ _ _ (pass_step _ _ _ w.invariant.0 (omega (arith, bit-under 32 _ _ high has)) has _ fine.0 fine.1) n, n.present, omega (arith, c.known_told-1.given))
+    (pass-next _ _ _ _ (pass_step _ _ _ w.invariant.0 (omega (arith, bit-under 32 _ _ high has)) has _ fine.0 fine.1) n, n.present, omega (arith, c.in-Lanes.known_told-1-own.given))
 
 pub returns-then-met-lanes : goal.returns-then-met-lanes
 returns-then-met-lanes c =

@@ -11,7 +11,7 @@ use Rattle.page.proofs.end_at.Goals as goal
 pub returns-in_default : goal.returns-in_default
 returns-in_default c =
     let field_is : page_item_at c.args.s.now c.args.at ≡ whole_field c.in-Whole.field c.in-Whole.next = sym c.parsed_field.ensures ∙ ap page_item_of c.in-Whole.is in
-    c.refused-in_default.ensures ∙ sym (end-other _ _ _ _ _ field_is (not_end _ c.in_default.keys2))
+    c.refused-in_default.ensures ∙ sym (end-other _ _ _ _ _ field_is (not_end _ c.in_default.in_default-own.keys2))
 
 pub returns-then-next-s : goal.returns-then-next-s
 returns-then-next-s c =

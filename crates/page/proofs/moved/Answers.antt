@@ -74,4 +74,4 @@ pub returns-in-FramingOutside : goal.returns-in-FramingOutside
 returns-in-FramingOutside c = rw c.in-FramingOutside.is (refl, refl)
 
 pub returns-in_default : goal.returns-in_default
-returns-in_default c = other-refusal c.args.x c.in_default.keys11 c.requires.0
+returns-in_default c = other-refusal c.args.x c.in_default.in_default-own.keys11 c.requires.0

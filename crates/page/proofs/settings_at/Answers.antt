@@ -18,7 +18,7 @@ use Rattle.page.proofs.settings_at.Goals as goal
 pub returns-in_default : goal.returns-in_default
 returns-in_default c =
     let field_is : page_item_at c.args.s.now c.args.at ≡ whole_field c.in-Whole.field c.in-Whole.next = sym c.parsed_field.ensures ∙ ap page_item_of c.in-Whole.is in
-    c.refused-in_default.ensures ∙ sym (settings-other _ _ _ _ _ field_is (not-settings _ c.in_default.keys2))
+    c.refused-in_default.ensures ∙ sym (settings-other _ _ _ _ _ field_is (not-settings _ c.in_default.in_default-own.keys2))
 
 pub overflow_add-end : goal.overflow_add-end
 overflow_add-end c =
@@ -35,6 +35,7 @@ slice_bounds-read_setup-end c =
     let v = value_is in omega (arith, v.end, v.fits)
 
 pub moved-requires : goal.moved-requires
+unfolding value_at
 moved-requires c =
     let field_is : page_item_at c.args.s.now c.args.at ≡ whole_field c.in-Whole.field c.in-Whole.next = sym c.parsed_field.ensures ∙ ap page_item_of c.in-Whole.is in
     let settings-is : page_item_at c.args.s.now c.args.at ≡ whole_field (Settings c.in-Settings.value c.in-Settings.n) c.in-Whole.next = field_is ∙ ap (λ (g : PageField). whole_field g c.in-Whole.next) c.in-Settings.is in
@@ -50,6 +51,7 @@ pub returns-in-Refused : goal.returns-in-Refused
 returns-in-Refused c = c.refused.ensures ∙ sym (settings-bad _ _ _ _ _ (sym c.parsed_field.ensures ∙ ap page_item_of c.in-Refused.is))
 
 pub returns-in-Refused-outcome : goal.returns-in-Refused-outcome
+unfolding value_at
 returns-in-Refused-outcome c =
     let field_is : page_item_at c.args.s.now c.args.at ≡ whole_field c.in-Whole.field c.in-Whole.next = sym c.parsed_field.ensures ∙ ap page_item_of c.in-Whole.is in
     let settings-is : page_item_at c.args.s.now c.args.at ≡ whole_field (Settings c.in-Settings.value c.in-Settings.n) c.in-Whole.next = field_is ∙ ap (λ (g : PageField). whole_field g c.in-Whole.next) c.in-Settings.is in
@@ -63,6 +65,7 @@ returns-in-Refused-outcome c =
     ∙ sym (settings-refused _ _ _ _ _ _ settings-is _ _ refused-is)
 
 pub returns-in-Read : goal.returns-in-Read
+unfolding value_at
 returns-in-Read c =
     let field_is : page_item_at c.args.s.now c.args.at ≡ whole_field c.in-Whole.field c.in-Whole.next = sym c.parsed_field.ensures ∙ ap page_item_of c.in-Whole.is in
     let settings-is : page_item_at c.args.s.now c.args.at ≡ whole_field (Settings c.in-Settings.value c.in-Settings.n) c.in-Whole.next = field_is ∙ ap (λ (g : PageField). whole_field g c.in-Whole.next) c.in-Settings.is in
