@@ -14,6 +14,9 @@ use mathlib.Core.Path.{ap}
 use mathlib.Core.Bool.{not}
 use Rattle.good.proofs.lanes_good.Given as goal
 
+abbrev tested : (v : ℕ) (w : List ℕ) → Tested v w
+tested v w = record { kept = today w; Passes = LaneGood v w; fine = λ k g. g.fine }
+
 abbrev pub invariant-loop-rest : goal.invariant-loop-rest
 invariant-loop-rest l = Walked (tested l.v.0 (cells l.t)) l.rest l.found
 

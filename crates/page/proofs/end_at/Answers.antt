@@ -6,12 +6,13 @@ use Rattle.page.proofs.Answers.{not_end, end-bad, end-other, end_more, end-close
 use Rattle.page.specs.Fields.{page_item_at, page_item_of}
 use Rattle.page.specs.declared.parse.PageField.{PageField}
 use Rattle.page.specs.declared.parse.PageField.TheVariants.{End}
+use borrow.Enum.Refused.{opened}
 use Rattle.page.proofs.end_at.Goals as goal
 
 pub returns-in_default : goal.returns-in_default
 returns-in_default c =
     let field_is : page_item_at c.args.s.now c.args.at ≡ whole_field c.in-Whole.field c.in-Whole.next = sym c.parsed_field.ensures ∙ ap page_item_of c.in-Whole.is in
-    c.refused-in_default.ensures ∙ sym (end-other _ _ _ _ _ field_is (not_end _ c.in_default.in_default-own.keys2))
+    c.refused-in_default.ensures ∙ sym (end-other _ _ _ _ _ field_is (not_end _ (opened c.in_default.in_default-own.keys2)))
 
 pub returns-then-next-s : goal.returns-then-next-s
 returns-then-next-s c =

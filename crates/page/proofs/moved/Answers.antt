@@ -7,6 +7,7 @@ use Rattle.rules.specs.Reads.{place_of}
 use Rattle.rules.specs.declared.Refusal.{Refusal}
 use Rattle.page.specs.Read.{distance}
 use Rattle.page.proofs.Refusals.{other-refusal}
+use borrow.Enum.Refused.{opened}
 use Rattle.page.proofs.moved.Goals as goal
 
 -- the place of a refusal that was taken apart is near enough to be moved
@@ -74,4 +75,4 @@ pub returns-in-FramingOutside : goal.returns-in-FramingOutside
 returns-in-FramingOutside c = rw c.in-FramingOutside.is (refl, refl)
 
 pub returns-in_default : goal.returns-in_default
-returns-in_default c = other-refusal c.args.x c.in_default.in_default-own.keys11 c.requires.0
+returns-in_default c = other-refusal c.args.x (opened c.in_default.in_default-own.keys11) c.requires.0

@@ -13,12 +13,13 @@ use Rattle.page.specs.declared.parse.PageField.TheVariants.{Settings}
 use Rattle.page.specs.declared.parse.PageField.{PageField}
 use Rattle.plan.specs.Read.{read_setup, setup_reply, setup_refused, setup_came, setup_read, settings}
 use Rattle.rules.specs.Reads.{number, place_of}
+use borrow.Enum.Refused.{opened}
 use Rattle.page.proofs.settings_at.Goals as goal
 
 pub returns-in_default : goal.returns-in_default
 returns-in_default c =
     let field_is : page_item_at c.args.s.now c.args.at ≡ whole_field c.in-Whole.field c.in-Whole.next = sym c.parsed_field.ensures ∙ ap page_item_of c.in-Whole.is in
-    c.refused-in_default.ensures ∙ sym (settings-other _ _ _ _ _ field_is (not-settings _ c.in_default.in_default-own.keys2))
+    c.refused-in_default.ensures ∙ sym (settings-other _ _ _ _ _ field_is (not-settings _ (opened c.in_default.in_default-own.keys2)))
 
 pub overflow_add-end : goal.overflow_add-end
 overflow_add-end c =

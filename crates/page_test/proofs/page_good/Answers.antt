@@ -4,6 +4,8 @@ use mathlib.Core.Path.{sym, ◌∙◌}
 use native.Mathlib.Omega.{arith}
 use Rattle.plan_writer.specs.Write.{planned}
 use Rattle.page_test.proofs.Tested.{good_none, good-some, not-held, plan-tells}
+use mathlib.Core.Path.{ap}
+use mathlib.Core.Bool.{not}
 use Rattle.page_test.proofs.page_good.Goals as goal
 
 pub returns-then-waits-eq0 : goal.returns-then-waits-eq0
@@ -14,7 +16,7 @@ returns-then-waits-eq0 c =
 pub returns-then-not-held : goal.returns-then-not-held
 returns-then-not-held c =
     let s = c in
-    not-held s.args.held s.args.p.now (λ z. c.if-waits-eq0.false (c.new-waits.ensures ∙ z)) c.if-not-held.true
+    not-held s.args.held s.args.p.now (λ z. c.if-waits-eq0.false (c.new-waits.ensures ∙ z)) (ap not c.if-not-held.true)
 
 pub returns-then-waits-taken : goal.returns-then-waits-taken
 returns-then-waits-taken c = λ g.
@@ -35,7 +37,7 @@ returns c =
     let new = c.new-waits.ensures in
     plan-tells s.args.held s.args.p.now
     (λ z. c.if-waits-eq0.false (new ∙ z))
-    c.if-not-held.false
+    (ap not c.if-not-held.false)
     (omega (arith, last, c.if-taken-gt-MOST_EDITION.false))
     (omega (arith, new, c.if-waits-gt-MOST_EDITION.false))
     (omega (arith, last, new, c.if-waits-taken.false))
