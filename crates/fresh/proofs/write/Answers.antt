@@ -8,6 +8,7 @@ use Prim.Native.Nat.{◌-◌, ◌≤◌}
 use mathlib.Core.Path.{◌≡◌, refl, ◌∙◌}
 use native.Mathlib.Omega.{arith}
 use Rattle.fresh.proofs.write.Goals as goal
+use Rattle.fresh.proofs.write.Goals.{then-g-ne0, else-g-ne0}
 
 pub loop-k-init : goal.loop-k-init
 loop-k-init c = (write-none c.args.lanes _ _ c.begin.ensures.0, omega (arith, c.begin.auto.t, c.requires.0), refl, omega arith, c.begin.ensures.1)
@@ -33,22 +34,22 @@ loop-k-preserved c =
     let f = c.line_framing-h.ensures in
     let l = c.loop-k in
     let lt = c.loop-k-test.true in
-    ⊎_elim
-    (λ w. (
-      rw w.7 (framed-more s.args.lanes s.requires.1 _ f l.k w.0.taken _ _ lt l.invariant.0 _ w.4.ensures.0),
-      rw w.7 (omega (arith, w.4.kept.0, l.invariant.1)),
-      rw w.7 (w.4.kept.0 ∙ l.invariant.2),
-      omega (arith, lt),
-      rw w.7 (w.4.ensures.1 ∙ l.invariant.4),
-    ))
-    (λ w. (
-      rw w.1 (write_skip s.args.lanes _ _ l.k lt l.invariant.0 s.requires.1 w.0.left),
-      rw w.1 l.invariant.1,
-      rw w.1 l.invariant.2,
-      omega (arith, lt),
-      rw w.1 l.invariant.4,
-    ))
-    c.if-g-ne0.branch
+    elim c.if-g-ne0.branch [
+      | then-g-ne0 w ↦ (
+        rw w.t-is (framed-more s.args.lanes s.requires.1 _ f l.k w.if-g-ne0.true _ _ lt l.invariant.0 _ w.add_lane.ensures.0),
+        rw w.t-is (omega (arith, w.add_lane.auto.t, l.invariant.1)),
+        rw w.t-is (w.add_lane.auto.t ∙ l.invariant.2),
+        omega (arith, lt),
+        rw w.t-is (w.add_lane.ensures.1 ∙ l.invariant.4),
+      )
+      | else-g-ne0 w ↦ (
+        rw w.t-is (write_skip s.args.lanes _ _ l.k lt l.invariant.0 s.requires.1 w.if-g-ne0.false),
+        rw w.t-is l.invariant.1,
+        rw w.t-is l.invariant.2,
+        omega (arith, lt),
+        rw w.t-is l.invariant.4,
+      )
+    ]
 
 pub shape_of-t : goal.shape_of-t
 shape_of-t c = c.loop-k.invariant.2 ∙ c.begin.auto.t
