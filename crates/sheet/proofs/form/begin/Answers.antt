@@ -1,0 +1,6 @@
+-- `form::begin` meets its contract. Assumes nothing.
+use borrow.Author.Rules.{rules}
+use Rattle.sheet.proofs.form.begin.Goals as goal
+
+pub returns : goal.returns
+returns c = rw c.unread-none.ensures
