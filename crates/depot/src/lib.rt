@@ -23,7 +23,7 @@ pub const INPUT: usize = 32769;
 pub const ROOM: usize = 1024;
 
 // What a program writes; it reads the other.
-#[derive(Drop)]
+#[derive(Clone, Copy)]
 pub enum Form {
     Setup,
     Sheet,

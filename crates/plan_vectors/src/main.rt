@@ -25,7 +25,7 @@ const TEXT: usize = 131072;
 const LINE: usize = 4096;
 
 // A line as far as it is read: bytes found, a digit that waits for its second, whether a comment has begun, and where reading is to begin.
-#[derive(Drop)]
+#[derive(Clone, Copy)]
 struct Line {
     len: usize,
     half: bool,
@@ -34,7 +34,7 @@ struct Line {
     place: usize,
 }
 
-#[derive(Drop)]
+#[derive(Clone, Copy)]
 struct Vector {
     len: usize,
     place: usize,

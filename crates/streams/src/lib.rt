@@ -10,7 +10,7 @@ use std::env::{Env, FillError};
 use std::io::Read;
 
 // What came in: how many bytes, and whether these are all, with no read that failed.
-#[derive(Drop)]
+#[derive(Clone, Copy)]
 pub struct Came {
     pub count: usize,
     pub whole: bool,
