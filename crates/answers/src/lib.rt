@@ -22,7 +22,7 @@ use rules::Answer;
 use table::row;
 
 // How far the answers have come: the requests answered, and the place behind their lines.
-#[derive(Drop)]
+#[derive(Clone, Copy)]
 pub struct Tally {
     pub answered: u64,
     pub next: usize,

@@ -20,14 +20,14 @@ use units::{Clock, before, earlier, not_after, rounded_finish};
 use words::word;
 
 // The four words so far, and the least finish of the eligible groups met; `NEVER` where there is none.
-#[derive(Drop)]
+#[derive(Clone, Copy)]
 pub struct Sweep {
     pub words: SetWords,
     pub least: Clock,
 }
 
 // A lane that stands first in the slot list of its group's start.
-#[derive(Drop)]
+#[derive(Clone, Copy)]
 pub struct Place {
     pub lane: usize,
     pub group: u32,
@@ -35,7 +35,7 @@ pub struct Place {
 }
 
 // The lane to serve.
-#[derive(Drop)]
+#[derive(Clone, Copy)]
 pub enum Choice {
     Serve(Place),
     Idle,

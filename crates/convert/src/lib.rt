@@ -31,7 +31,7 @@ pub const OLD_SIZE: usize = old_table::SIZE;
 
 pub const NEW_SIZE: usize = table::TABLE_SIZE;
 
-#[derive(Drop)]
+#[derive(Clone, Copy)]
 pub enum Converting {
     // The new bytes are a table with the old one's queues, clock, lanes and tie order.
     Converted,

@@ -5,7 +5,7 @@ ghost use Rattle.std.specs.Prelude.{◌≡◌};
 ghost use Rattle.desk_line.specs.Follow.{follow};
 
 // A line by value. A free one is all 0; kind 1 is joined, 2 is left.
-#[derive(Drop)]
+#[derive(Clone, Copy)]
 pub struct Line {
     pub train: u32,
     pub cell: u16,

@@ -37,7 +37,7 @@ use units::{Bytes, Clock, lane_charge, later, line_charge, plus, rounded_start};
 use words::word;
 
 // Whether a put is allowed, and then how many records of its train the lane holds.
-#[derive(Drop)]
+#[derive(Clone, Copy)]
 pub enum Verdict {
     Allowed(u64),
     Refused(Refusal),

@@ -13,7 +13,7 @@ ghost use Rattle.fields.specs.Bytes.{big};
 ghost use Rattle.fields.specs.Header.{header_at, behind_at};
 
 // What stands at a place where a field is wanted.
-#[derive(Drop)]
+#[derive(Clone, Copy)]
 pub enum Field {
     // No byte is left.
     Nothing,

@@ -27,14 +27,14 @@ const CLOCK_END: u64 = 4611703610613432320;
 const MOST_FRAMING: u64 = 64;
 
 // The weights of the lanes seen, the word of those that hold records, and whether one of them is eligible.
-#[derive(Drop)]
+#[derive(Clone, Copy)]
 pub struct Found {
     pub weights: u64,
     pub held: u64,
     pub eligible: bool,
 }
 
-#[derive(Drop)]
+#[derive(Clone, Copy)]
 pub enum Pass {
     // A lane is not good.
     Bad,

@@ -13,7 +13,7 @@ use slot_lists::{GROUPS, STARTS};
 use words::word;
 
 // A group, and its finish: start + 2s. The finish is `NEVER` where no group was found.
-#[derive(Drop)]
+#[derive(Clone, Copy)]
 pub struct Front {
     pub group: u32,
     pub finish: u64,

@@ -27,7 +27,7 @@ use units::Bytes;
 // The longest record of each lane.
 const LONGEST: u64 = 256;
 
-#[derive(Drop)]
+#[derive(Clone, Copy)]
 pub enum Making {
     // A fresh table stands in the lent bytes; the number of its lanes.
     Made(usize),

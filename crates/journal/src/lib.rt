@@ -37,7 +37,7 @@ const RECORD_LENGTH: usize = 11;
 // A train's last sequence until it is cleared.
 const LAST: u32 = 4294967295;
 
-#[derive(Drop)]
+#[derive(Clone, Copy)]
 pub enum Refusal {
     // 1: the field is cut (R14.29, as 2 and 3).
     Cut(usize),
@@ -62,7 +62,7 @@ pub enum Refusal {
 }
 
 // What record and clear answer.
-#[derive(Drop)]
+#[derive(Clone, Copy)]
 pub enum Told {
     // The line that was changed.
     Line(u8),
@@ -70,7 +70,7 @@ pub enum Told {
 }
 
 // What line answers.
-#[derive(Drop)]
+#[derive(Clone, Copy)]
 pub enum Shown {
     Free,
     Holds(Line),
@@ -78,7 +78,7 @@ pub enum Shown {
 }
 
 // What begin answers.
-#[derive(Drop)]
+#[derive(Clone, Copy)]
 pub enum Begun {
     Begun,
     Refused(Refusal),
@@ -100,7 +100,7 @@ pub fn begin(t: &mut [u8]) -> Begun
 }
 
 // What a lent field says.
-#[derive(Drop)]
+#[derive(Clone, Copy)]
 enum Reading {
     Record(Line),
     Refused(Refusal),

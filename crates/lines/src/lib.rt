@@ -136,7 +136,7 @@ pub fn put_lag(a: &mut [u8], at: usize, z: i64) -> usize
 }
 
 // A refusal's place, where R14 has one.
-#[derive(Drop)]
+#[derive(Clone, Copy)]
 pub enum Place {
     At(usize),
     Nowhere,

@@ -16,7 +16,7 @@ use table::{LANES, next_present, row};
 use words::word;
 
 // The lanes met so far.
-#[derive(Drop)]
+#[derive(Clone, Copy)]
 pub enum Met {
     Bad,
     Lanes(u64),

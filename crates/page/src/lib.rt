@@ -21,7 +21,7 @@ use parse::{PageField, Parsed};
 use plan::Plan;
 use rules::Refusal;
 
-#[derive(Drop)]
+#[derive(Clone, Copy)]
 pub enum Outcome {
     // The page is read; its edition.
     Read(u16),
@@ -29,7 +29,7 @@ pub enum Outcome {
 }
 
 // The page's plan and what came of reading it. Beside a refusal the plan means nothing.
-#[derive(Drop)]
+#[derive(Clone, Copy)]
 pub struct Reading {
     pub plan: Plan,
     pub outcome: Outcome,

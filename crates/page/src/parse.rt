@@ -14,7 +14,7 @@ pub const END: u8 = 0x7F;
 // From here on a tag is one that a newer office may send: the field is skipped.
 pub const SKIPPED: u8 = 0x80;
 
-#[derive(Drop)]
+#[derive(Clone, Copy)]
 pub enum PageField {
     Edition(u16),
     // A whole setup: where its bytes begin, and how many they are.
@@ -23,7 +23,7 @@ pub enum PageField {
     End,
 }
 
-#[derive(Drop)]
+#[derive(Clone, Copy)]
 pub enum Parsed {
     // A whole field, and the place after it.
     Whole(PageField, usize),

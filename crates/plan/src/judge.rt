@@ -43,7 +43,7 @@ const LONGEST_AT: usize = 6;
 const FRAMING_AT: usize = 3;
 
 // What the fields so far fix for the next one.
-#[derive(Drop)]
+#[derive(Clone, Copy)]
 pub struct Seen {
     // The format was read.
     pub begun: bool,
@@ -64,7 +64,7 @@ pub struct Seen {
 }
 
 // What is wrong with the numbers of a field. specs/Judge.antt has a table of the number and the place of each.
-#[derive(Drop)]
+#[derive(Clone, Copy)]
 pub enum Fault {
     NoFault,
     BadFormat,

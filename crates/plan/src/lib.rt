@@ -29,7 +29,7 @@ pub const LANES: usize = 64;
 // What a setup gives a lane, the line's framing bytes among it, and whether trains share it. Weight 0: the lane is not in the setup, and has none.
 //
 // The numbers are as wide as in a setup's fields and no wider: a plan is passed by value, so its size is what a call of the library needs of the stack.
-#[derive(Drop)]
+#[derive(Clone, Copy)]
 pub struct Lane {
     pub weight: u16,
     pub longest: u16,
@@ -38,14 +38,14 @@ pub struct Lane {
 }
 
 // A setup by value: its format, a lane for each number, and how many of them are there.
-#[derive(Drop)]
+#[derive(Clone, Copy)]
 pub struct Plan {
     pub format: u16,
     pub lanes: [Lane; LANES],
     pub count: usize,
 }
 
-#[derive(Drop)]
+#[derive(Clone, Copy)]
 pub enum Outcome {
     // The plan is read; the place after its 0x7F.
     Read(usize),
@@ -53,7 +53,7 @@ pub enum Outcome {
 }
 
 // A plan and what came of reading it. Beside a refusal the plan means nothing.
-#[derive(Drop)]
+#[derive(Clone, Copy)]
 pub struct Reading {
     pub plan: Plan,
     pub outcome: Outcome,

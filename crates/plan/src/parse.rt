@@ -16,20 +16,20 @@ pub const SHARED: u8 = 0x12;
 pub const END: u8 = 0x7F;
 
 // The longest of a lane field: given, or left out in a field of length 3.
-#[derive(Drop)]
+#[derive(Clone, Copy)]
 pub enum Longest {
     Given(u16),
     Default,
 }
 
-#[derive(Drop)]
+#[derive(Clone, Copy)]
 pub struct LaneField {
     pub lane: u8,
     pub weight: u16,
     pub longest: Longest,
 }
 
-#[derive(Drop)]
+#[derive(Clone, Copy)]
 pub enum SetupField {
     Format(u16),
     Lane(LaneField),
@@ -40,7 +40,7 @@ pub enum SetupField {
     End,
 }
 
-#[derive(Drop)]
+#[derive(Clone, Copy)]
 pub enum Parsed {
     // A whole field, and the place after it.
     Whole(SetupField, usize),

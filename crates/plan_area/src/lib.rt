@@ -36,7 +36,7 @@ const MOST_LONGEST: u64 = 65535;
 const MOST_FRAMING: u64 = 255;
 
 // What came of reading a setup into an area.
-#[derive(Drop)]
+#[derive(Clone, Copy)]
 pub enum Got {
     // The plan is in the area; so many lanes are there.
     Lanes(usize),

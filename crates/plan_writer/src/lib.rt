@@ -38,7 +38,7 @@ const LANE_SIZE: usize = 8;
 const SHARED_SIZE: usize = 4;
 
 // Why nothing was written. These two have no place.
-#[derive(Drop)]
+#[derive(Clone, Copy)]
 pub enum Unwritten {
     // 55: the plan is outside the numbers.
     Outside,
@@ -46,7 +46,7 @@ pub enum Unwritten {
     Short,
 }
 
-#[derive(Drop)]
+#[derive(Clone, Copy)]
 pub enum Written {
     // The exact size: how many bytes were written.
     Size(usize),

@@ -24,7 +24,7 @@ use turns::{COUNT_UNIT, DEFICIT_UNIT, NAMED_UNIT, ORDER_UNIT, TRAIN_DEPTH};
 use units::{Bytes, Clock, lane_charge, plus};
 
 // A record that waits: its train (0 in a lane that is not shared), the host's mark, and its length.
-#[derive(Drop)]
+#[derive(Clone, Copy)]
 pub struct Item {
     pub train: u8,
     pub mark: u32,
@@ -32,7 +32,7 @@ pub struct Item {
 }
 
 // Where a lane's first record stands, and its train.
-#[derive(Drop)]
+#[derive(Clone, Copy)]
 pub struct FirstPlace {
     pub train: u8,
     pub place: u64,

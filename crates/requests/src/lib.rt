@@ -31,7 +31,7 @@ pub const PUT_TRAIN: u8 = 0x26;
 
 pub const END: u8 = 0x7F;
 
-#[derive(Drop)]
+#[derive(Clone, Copy)]
 pub enum Request {
     // A put of a train; without one it is train 0.
     Put {
@@ -48,13 +48,13 @@ pub enum Request {
 }
 
 // How long the value of a tag is.
-#[derive(Drop)]
+#[derive(Clone, Copy)]
 pub enum Size {
     Of(usize),
     Unknown,
 }
 
-#[derive(Drop)]
+#[derive(Clone, Copy)]
 pub enum Head {
     // A tag that is known, and the length of its value, which may be cut.
     Right(u8, usize),
@@ -62,7 +62,7 @@ pub enum Head {
 }
 
 // A request that was read at once, with the place behind it.
-#[derive(Drop)]
+#[derive(Clone, Copy)]
 pub enum Quick {
     Whole(Request, usize),
     Other,

@@ -56,7 +56,7 @@ begin-good L ts (j ∷ js) b =
     record {
       size = length-set ts j _ ∙ b.size;
       each = λ k. set_cases (GoodTrain L (eqb j k) (times k (j ∷ js))) ts j k (raised L (get_or ts j no_train)) no_train (held-inside ts j (named-holds (b.each j) one))
-          (λ e. rw (← e, eq-eqb j j refl) (subst (λ (n : ℕ). GoodTrain L true n (raised L (get_or ts j no_train))) (simp (eq-eqb j j refl)) (raised-good L _ (get_or ts j no_train) one (b.each j))))
+          (λ e. subst (λ (x : ℕ). GoodTrain L (eqb j x) (times x (j ∷ js)) (raised L (get_or ts j no_train))) e (subst (λ (b : Bool). GoodTrain L b (times j (j ∷ js)) (raised L (get_or ts j no_train))) (sym (eq-eqb j j refl)) (raised-good L _ (get_or ts j no_train) one (b.each j))))
           (λ n. rw (ne_eqb j k n) (subst (λ (x : ℕ). GoodTrain L false x (get_or ts k no_train)) (simp (ne_eqb j k n)) (b.each k)));
     }
 
@@ -95,7 +95,7 @@ module _ (L : ℕ) (ts : List Train) (k : ℕ) (ks : List ℕ) (good : GoodShare
   goes_on t g = record {
     size = length-set ts k t ∙ good.size;
     each = λ j. set_cases (GoodTrain L (eqb k j) (times j (k ∷ ks))) ts k j t no_train (held-inside ts k turn_holds)
-        (λ e. rw (← e, eq-eqb k k refl) (subst (λ (x : ℕ). GoodTrain L true x t) (omega (arith, turn-once)) g))
+        (λ e. subst (λ (x : ℕ). GoodTrain L (eqb k x) (times x (k ∷ ks)) t) e (subst (λ (b : Bool). GoodTrain L b (times k (k ∷ ks)) t) (sym (eq-eqb k k refl)) (subst (λ (x : ℕ). GoodTrain L true x t) (omega (arith, turn-once, named-k)) g)))
         (λ n. good.each j);
   }
 

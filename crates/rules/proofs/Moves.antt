@@ -95,6 +95,8 @@ module _ (M v : ℕ) (ls : List Lane) (inv : Inv M v ls) (j : ℕ) (r : Rec)
 
     both_true : (a b : Bool) → T (a && b) → (a ≡ true) × (b ≡ true)
     both_true true true t = (refl, refl)
+    both_true false b t = elim t [ ]
+    both_true true false t = elim t [ ]
 
     not-both : (a b : Bool) → T (not (a && b)) → a ≡ true → b ≡ true → ⊥
     not-both true true t p q = t

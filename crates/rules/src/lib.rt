@@ -10,7 +10,7 @@
 use units::Bytes;
 
 // A record that was taken or looked at: the lane that it waited in, its train (0 in a lane that is not shared), the host's mark, and its length.
-#[derive(Drop)]
+#[derive(Clone, Copy)]
 pub struct Record {
     pub lane: u8,
     pub train: u8,
@@ -19,7 +19,7 @@ pub struct Record {
 }
 
 // The four words of `sets`, by the QFQ report's letters: eligible or ineligible, ready or blocked. Bit i stands for group i.
-#[derive(Drop)]
+#[derive(Clone, Copy)]
 pub struct SetWords {
     pub er: u64,
     pub ir: u64,
@@ -28,7 +28,7 @@ pub struct SetWords {
 }
 
 // Why something is refused (docs/RULES.md, R14). A case holds its place where R14 has one that is not always 0.
-#[derive(Drop)]
+#[derive(Clone, Copy)]
 pub enum Refusal {
     // 1: a field is cut, or missing where one is wanted (R14.2).
     Cut(usize),
@@ -81,7 +81,7 @@ pub enum Refusal {
 }
 
 // R3.23: what a call answers. specs/Reads.antt gives the number and the values of each case.
-#[derive(Drop)]
+#[derive(Clone, Copy)]
 pub enum Answer {
     // How many records of its train the lane held before.
     Accepted(u64),

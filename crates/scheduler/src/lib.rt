@@ -30,14 +30,14 @@ use units::Bytes;
 // The fixed size of a table, in bytes.
 pub const SIZE: usize = table::TABLE_SIZE;
 
-#[derive(Drop)]
+#[derive(Clone, Copy)]
 pub enum Making {
     // A fresh table stands in the lent bytes; the number of its lanes.
     Made(usize),
     Refused(Refusal),
 }
 
-#[derive(Drop)]
+#[derive(Clone, Copy)]
 pub enum Offering {
     // The page is in force: a fresh table of its setup stands in the lent bytes.
     InForce,

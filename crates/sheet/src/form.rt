@@ -15,7 +15,7 @@ const LINE_FEED: u64 = b'\n' as u64;
 const FIVE_DIGITS: u64 = 10000;
 
 // Which of a line's numbers is being read.
-#[derive(Drop)]
+#[derive(Clone, Copy)]
 pub enum Part {
     Lane,
     Weight,
@@ -23,14 +23,14 @@ pub enum Part {
 }
 
 // A number, and the place of its first digit.
-#[derive(Drop)]
+#[derive(Clone, Copy)]
 pub struct Figure {
     pub value: u64,
     pub place: usize,
 }
 
 // A line so far: the numbers that are read, and the last one as far as it goes.
-#[derive(Drop)]
+#[derive(Clone, Copy)]
 pub struct Line {
     pub part: Part,
     pub lane: Figure,
@@ -41,7 +41,7 @@ pub struct Line {
 }
 
 // A whole line.
-#[derive(Drop)]
+#[derive(Clone, Copy)]
 pub struct Row {
     pub lane: Figure,
     pub weight: Figure,
@@ -49,7 +49,7 @@ pub struct Row {
 }
 
 // What a byte does to a line.
-#[derive(Drop)]
+#[derive(Clone, Copy)]
 pub enum Step {
     More(Line),
     Whole(Row),

@@ -30,7 +30,7 @@ const LINE_FEED: u8 = 10;
 const STOPS: usize = 3;
 
 // Why nothing was written. These have no place.
-#[derive(Drop)]
+#[derive(Clone, Copy)]
 pub enum Unwritten {
     // 55: the plan is outside the numbers.
     Outside,
@@ -40,7 +40,7 @@ pub enum Unwritten {
     Short,
 }
 
-#[derive(Drop)]
+#[derive(Clone, Copy)]
 pub enum Written {
     // The exact size: how many bytes were written.
     Size(usize),

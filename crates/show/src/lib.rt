@@ -26,7 +26,7 @@ use units::{Bytes, Clock, line_charge};
 use waits::{LaneNumbers, worst_wait};
 
 // What the setup gives a lane, with the line's framing bytes and the group that follows; whether several trains share it.
-#[derive(Drop)]
+#[derive(Clone, Copy)]
 pub struct Setting {
     pub weight: u64,
     pub longest: Bytes,
@@ -36,27 +36,27 @@ pub struct Setting {
 }
 
 // How many records wait in a lane, and its time: S while it holds records, F while it is idle.
-#[derive(Drop)]
+#[derive(Clone, Copy)]
 pub struct LaneQueue {
     pub count: u64,
     pub time: Clock,
 }
 
 // The edition last taken, 0 before any, and that of the page that waits, 0 where none does.
-#[derive(Drop)]
+#[derive(Clone, Copy)]
 pub struct Editions {
     pub last: u64,
     pub waiting: u64,
 }
 
 // The most bytes that all lanes together send before a record is out: as the fair share has it for every setup, and by this setup's costliest record.
-#[derive(Drop)]
+#[derive(Clone, Copy)]
 pub struct WorstWait {
     pub asked: u64,
     pub tight: u64,
 }
 
-#[derive(Drop)]
+#[derive(Clone, Copy)]
 pub enum Shown {
     Clock(Clock),
     Setting(Setting),
@@ -68,7 +68,7 @@ pub enum Shown {
 }
 
 // A lane's row, if the table is good and its setup has the lane.
-#[derive(Drop)]
+#[derive(Clone, Copy)]
 pub enum Found {
     NotGood,
     NoLane,
@@ -142,7 +142,7 @@ pub fn backlog(t: &[u8], lane: u8) -> Shown
 }
 
 // Where a record stands among the lane's places, if it is there.
-#[derive(Drop)]
+#[derive(Clone, Copy)]
 pub enum Spot {
     NoTrain,
     Nothing,

@@ -80,7 +80,7 @@ const RATES: u64 = 8388608;
 // A lane as the table keeps it: its setting, the line's framing bytes, its one clock word (S while it holds records, F while it is idle), and its ring. A
 // shared lane has a ring for each train instead: its count is that of all its records, and its head means nothing. While the lane is idle, c and the group
 // mean nothing.
-#[derive(Drop)]
+#[derive(Clone, Copy)]
 pub struct LaneRow {
     pub longest: Bytes,
     pub framing: Bytes,
@@ -94,14 +94,14 @@ pub struct LaneRow {
 }
 
 // c and the group of a lane.
-#[derive(Drop)]
+#[derive(Clone, Copy)]
 pub struct Pace {
     pub rate: Rate,
     pub group: u32,
 }
 
 // A record in a lane's ring.
-#[derive(Drop)]
+#[derive(Clone, Copy)]
 pub struct Entry {
     pub mark: u32,
     pub length: Bytes,

@@ -82,8 +82,8 @@ module _ (L r : ℕ) (at : ℕ → BareRec) (ts : ℕ → ℕ) (good : GoodShare
     pub turn-known : k < 8
     turn-known = good-known k (rw cons (simp (eq-eqb k k refl) (omega arith)))
 
-    in_turn : GoodTrain L true (times k (round_of r)) (train_of at k (ts k))
-    in_turn = subst (λ (b : Bool). GoodTrain L b (times k (round_of r)) (train_of at k (ts k))) (ap (in_turn k) cons ∙ eq-eqb k k refl) (good-each k turn-known)
+    in_turn_lem : GoodTrain L true (times k (round_of r)) (train_of at k (ts k))
+    in_turn_lem = subst (λ (b : Bool). GoodTrain L b (times k (round_of r)) (train_of at k (ts k))) (ap (in_turn k) cons ∙ eq-eqb k k refl) (good-each k turn-known)
 
     holds-k : queued? (train_of at k (ts k)).queue ≡ true
     holds-k =
@@ -102,7 +102,7 @@ module _ (L r : ℕ) (at : ℕ → BareRec) (ts : ℕ → ℕ) (good : GoodShare
 
     pub turn-covers : (at (place_in_train k h)).len ≤ deficit_of (ts k)
     unfolding train_of
-    turn-covers = (subst (Deficit L true (deficit_of (ts k))) queue-is in_turn.deficit).0
+    turn-covers = (subst (Deficit L true (deficit_of (ts k))) queue-is in_turn_lem.deficit).0
 
     pub chosen_is : shared_first (shared_of at ts r) ≡ some (record { train = k; item = at (place_in_train k h) })
     unfolding shared_first first_in_turn first_of_train train_of

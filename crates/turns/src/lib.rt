@@ -25,7 +25,7 @@ pub const NAMED_UNIT: u64 = 4294967296;
 pub const ORDER_UNIT: u64 = 16;
 
 // A train's number and the round's, and whether the turn of the train that the round now names first begins.
-#[derive(Drop)]
+#[derive(Clone, Copy)]
 pub struct Change {
     pub train: u64,
     pub round: u64,

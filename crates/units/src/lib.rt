@@ -15,13 +15,13 @@
 ghost use Rattle.std.specs.Prelude.{◌≡◌, ◌+◌, ◌*◌, ◌^◌, ◌<◌, ◌≤◌, max, min, eqb, leb, ltb};
 ghost use Rattle.units.specs.Numbers.{per_byte, line_rate, Least, round_down};
 
-#[derive(Drop)]
+#[derive(Clone, Copy)]
 pub struct Bytes(pub u64);
 
-#[derive(Drop)]
+#[derive(Clone, Copy)]
 pub struct Clock(pub u64);
 
-#[derive(Drop)]
+#[derive(Clone, Copy)]
 pub struct Rate(pub u64);
 
 // R1.9: the clock units that a byte costs the line, whatever its lane.

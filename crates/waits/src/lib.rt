@@ -14,7 +14,7 @@ ghost use Rattle.waits.specs.Lane.{setting_of_numbers, InRange, four_slots};
 use units::{Bytes, Clock, LINE_RATE, Rate, group_index, lane_charge, lane_rate, slot};
 
 // What the setup gives a lane, with the line's framing bytes; whether several trains share it.
-#[derive(Drop)]
+#[derive(Clone, Copy)]
 pub struct LaneNumbers {
     pub weight: u64,
     pub longest: Bytes,

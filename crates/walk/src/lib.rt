@@ -23,14 +23,14 @@ use rules::Refusal;
 use table::SIZE;
 
 // Why a run stopped.
-#[derive(Drop)]
+#[derive(Clone, Copy)]
 pub enum Stop {
     End,
     Limit,
     Refused(Refusal),
 }
 
-#[derive(Drop)]
+#[derive(Clone, Copy)]
 pub struct RunResult {
     // Requests answered.
     pub answered: u64,
@@ -40,7 +40,7 @@ pub struct RunResult {
 }
 
 // The requests walked: how many were answered, the place behind their lines, and why the walk stopped.
-#[derive(Drop)]
+#[derive(Clone, Copy)]
 pub struct Walked {
     pub answered: u64,
     pub next: usize,

@@ -33,7 +33,7 @@ use units::Bytes;
 use words::set_word;
 
 // The four words of an answer.
-#[derive(Drop)]
+#[derive(Clone, Copy)]
 pub struct Four {
     pub a: u64,
     pub b: u64,

@@ -1,0 +1,7 @@
+use mathlib.Core.Path.{sym, ◌∙◌}
+use borrow.Author.Rules.{rules}
+use Rattle.rings.proofs.Laws.{length-ring}
+use Rattle.rings.proofs.held.Goals as goal
+
+pub returns : goal.returns
+returns c = (c.byte.ensures.0 ∙ sym (length-ring _ _), c.byte.ensures.1)

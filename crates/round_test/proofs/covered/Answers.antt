@@ -1,0 +1,6 @@
+use Rattle.round_test.proofs.Reading.{cover-says}
+use borrow.Author.Rules.{rules}
+use Rattle.round_test.proofs.covered.Goals as goal
+
+pub returns : goal.returns
+returns c = cover-says _ _ _ _ _ c.quarter-length.ensures.0

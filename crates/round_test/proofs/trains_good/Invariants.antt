@@ -1,0 +1,16 @@
+use Prim.Native.Nat.{ℕ, ◌+◌, ◌-◌, ◌*◌}
+use native.Mathlib.Omega.{arith}
+use mathlib.Core.Logic.{⊎_elim}
+use mathlib.Core.Path.{◌≡◌, sym, ap, subst, ◌∙◌}
+use borrow.Author.Rules.{rules}
+use Rattle.words.proofs.Bits.{shift_one}
+use Rattle.round_test.specs.Shared.{numbers_at, lengths_at}
+use Rattle.round_test.proofs.Answers.{says-true, says-false}
+use Rattle.round_test.proofs.Tally.{Tallying, tallying-none, one-small, small, head-only, waits, covers, not-head, too_much, tally-says}
+use Rattle.round_test.proofs.trains_good.Given as goal
+
+abbrev pub invariant-loop-k : goal.invariant-loop-k
+invariant-loop-k l = Tallying l.longest (numbers_at l.t l.trains) (lengths_at l.lens l.lengths) l.tally l.k
+
+abbrev pub decreases-loop-k : goal.decreases-loop-k
+decreases-loop-k l = 8 - l.k
