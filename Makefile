@@ -7,7 +7,7 @@
 # LIBRARY and TOOL name files that are there already; they are installed as they are.
 PREFIX ?= /usr/local
 DESTDIR ?=
-LIBRARY ?= target/staticlib/libzenfrosta.a
+LIBRARY ?= crates/zenfrosta/out/libzenfrosta.a
 TOOL ?= tool/target/release/zenfrosta
 VERSION := $(shell cat VERSION)
 
@@ -18,8 +18,8 @@ mandir = $(DESTDIR)$(PREFIX)/share/man
 
 all: $(LIBRARY) $(TOOL)
 
-target/staticlib/libzenfrosta.a:
-	rt staticlib zenfrosta
+crates/zenfrosta/out/libzenfrosta.a:
+	cd crates/zenfrosta && rt lib
 
 tool/target/release/zenfrosta: $(LIBRARY)
 	cargo build --release --offline --locked --manifest-path tool/Cargo.toml

@@ -1,5 +1,5 @@
 //! Links the unit's static library when the feature `unit` is on, and the one of its inner calls when `inner` is: from the folder ZENFROSTA_LIB_DIR, or
-//! from this repository's target/staticlib. With `linux` also Linux's schedulers, from where linux/build leaves them. Says which library the unit's is, and
+//! from this repository's crates/zenfrosta/out and crates/inner/out. With `linux` also Linux's schedulers, from where linux/build leaves them. Says which library the unit's is, and
 //! by which sources cases are drawn, for the states of runs.
 
 #[path = "src/run/sha256.rs"]
@@ -10,13 +10,17 @@ use std::path::{Path, PathBuf};
 
 fn main() {
     println!("cargo:rerun-if-env-changed=ZENFROSTA_LIB_DIR");
-    let folder = std::env::var_os("ZENFROSTA_LIB_DIR")
-        .map_or_else(|| PathBuf::from(env!("CARGO_MANIFEST_DIR")).join("../target/staticlib"), PathBuf::from);
+    let folder = |name: &str| {
+        std::env::var_os("ZENFROSTA_LIB_DIR").map_or_else(
+            || PathBuf::from(env!("CARGO_MANIFEST_DIR")).join("../crates").join(name).join("out"),
+            PathBuf::from,
+        )
+    };
     let linux = PathBuf::from(env!("CARGO_MANIFEST_DIR")).join("target/linux");
     let libraries = [
-        ("UNIT", &folder, "zenfrosta", "rt staticlib zenfrosta"),
-        ("INNER", &folder, "inner", "rt staticlib inner"),
-        ("LINUX", &linux, "sched", "linux/build"),
+        ("UNIT", folder("zenfrosta"), "zenfrosta", "'rt lib' in crates/zenfrosta"),
+        ("INNER", folder("inner"), "inner", "'rt lib' in crates/inner"),
+        ("LINUX", linux, "sched", "linux/build"),
     ];
     let mut linked = "none".to_string();
     for (feature, folder, name, command) in libraries {
@@ -26,7 +30,7 @@ fn main() {
         let library = folder.join(format!("lib{name}.a"));
         // A library that was built anew is linked anew: else a run would compare the old one.
         println!("cargo:rerun-if-changed={}", library.display());
-        assert!(library.exists(), "{} is not there: run '{command}' first", library.display());
+        assert!(library.exists(), "{} is not there: run {command} first", library.display());
         println!("cargo:rustc-link-search=native={}", folder.display());
         println!("cargo:rustc-link-lib=static={name}");
         if feature == "UNIT" {

@@ -54,7 +54,7 @@ class File:
         close()
 
     def take_import(self, line):
-        found = re.match(r"(?:pub )?use Rattle·(\w+?)(?:·specs)?\.specs\.([\w.]+)(?: as (\S+)|\.\{(.*)\})?$", line.strip())
+        found = re.match(r"(?:pub )?use Rattle\.(\w+)\.specs\.([\w.]+)(?: as (\S+)|\.\{(.*)\})?$", line.strip())
         if not found:
             return
         crate, module, name, names = found.groups()
@@ -100,7 +100,7 @@ def reach(roots):
             # a field's own label leads to no other record that has a field of that name
             text = "\n".join(LABEL.sub("", line, 1) if LABEL.match(line) else line for line in block)
             for word in set(WORD.findall(text)):
-                for part in {word} | ({p for p in word.split("_") if p} if "_" in word else set()):
+                for part in {word} | ({p for p in word.split("◌") if p} if "◌" in word else set()):
                     if part in file.blocks:
                         todo.append((where, part))
                     elif part in file.imports:

@@ -77,14 +77,14 @@ def functions(crate):
     """The public functions of a crate that ask nothing: name, file, what they ensure, body."""
     for path in sorted((CRATES / crate / "src").glob("*.rt")):
         for found in FUNCTION.finditer(path.read_text()):
-            ensures = re.search(r"ensures \{(.*)\}", found[3])
-            if "requires {" not in found[3] and ensures and (found[1] or crate != "zenfrosta"):
+            ensures = re.search(r"\bensures(?: \w+)? \{(.*)\}", found[3])
+            if not re.search(r"\brequires\b", found[3]) and ensures and (found[1] or crate != "zenfrosta"):
                 yield found[2], f"{crate}/{path.name}", ensures[1], found[4]
 
 
 def contract(ensures, crate):
     """The record, or where there is none the definition, by which a function's promise is said."""
-    words = [w.rstrip(".").split(".")[-1] for w in re.findall(r"[A-Za-z][\w.′-]*", ensures.replace("λ r.", "").replace("λ p.", ""))]
+    words = [w.rstrip(".").split(".")[-1] for w in re.findall(r"[A-Za-z][\w.'-]*", ensures)]
     upper = [w for w in words if w[0].isupper() and w not in ("Says", "Tells", "Unit") and defined_in(w, crate)]
     right = re.search(r"≡ (\w+)", ensures)
     return upper[0] if upper else right[1] if right and not right[1].isdigit() else None

@@ -1,4 +1,4 @@
-/* Zenfrosta for hosts in C: the public calls and the session run, in the static library libzenfrosta.a (rt staticlib zenfrosta).
+/* Zenfrosta for hosts in C: the public calls and the session run, in the static library libzenfrosta.a (rt lib in crates/zenfrosta).
  *
  * One rule for every answer:
  *

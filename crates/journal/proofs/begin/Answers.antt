@@ -1,8 +1,7 @@
 -- `begin` meets its contract. Assumes nothing.
 use mathlib.Core.Path.{◌≡◌, sym, subst}
-use Prim.Native.Nat.{◌+◌, ◌-◌}
+use Prim.Native.Nat.{◌+◌}
 use native.Mathlib.Omega.{arith}
-use Rattle.board.specs.Layout.{BoardRoom}
 use Rattle.journal.proofs.Steps.{Wiped, wiped-none, wiped-more, begin-short, begin-done}
 use Rattle.journal.proofs.begin.Goals as goal
 

@@ -5,7 +5,6 @@ use Rattle.desk.specs.Calls.{clear}
 use Rattle.journal.specs.Step.{BoardStep}
 use Rattle.journal.specs.declared.Told.TheVariants.{Line}
 use Rattle.journal.proofs.Steps.{found-board, found_none, bad-step, clear-absent, clear-joined, clear-done}
-use borrow.Author.Rules.{rules}
 use mathlib.Core.Path.{ap}
 use mathlib.Core.Bool.{not}
 use Rattle.journal.proofs.clear.Goals as goal

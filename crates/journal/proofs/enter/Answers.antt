@@ -6,7 +6,6 @@ use Rattle.journal.proofs.Entered.{unknown-kind, found-64}
 use borrow.Author.Tests.{not-true, not-false}
 use Rattle.desk.specs.Board.{is_of}
 use Rattle.board.specs.Layout.{board_of}
-use borrow.Author.Rules.{rules}
 use mathlib.Core.Path.{ap}
 use mathlib.Core.Bool.{not}
 use Rattle.journal.proofs.enter.Goals as goal

@@ -6,7 +6,6 @@ use Rattle.journal.specs.Step.{BoardStep}
 use Rattle.journal.specs.declared.Told.TheVariants.{Line}
 use Rattle.journal.specs.Record.{rec_line}
 use Rattle.journal.proofs.Entered.{no-free-line, first-leave, first-join}
-use borrow.Author.Rules.{rules}
 use Rattle.journal.proofs.enter_first.Goals as goal
 
 pub returns-then-k-eq-LINES : goal.returns-then-k-eq-LINES

@@ -9,7 +9,6 @@ use borrow.Author.Tests.{not-true, not-false}
 use mathlib.Core.Path.{ap}
 use mathlib.Core.Option.{some}
 use Rattle.board.specs.Layout.{put_line}
-use borrow.Author.Rules.{rules}
 use mathlib.Core.Bool.{not}
 use Rattle.journal.proofs.enter_later.Goals as goal
 

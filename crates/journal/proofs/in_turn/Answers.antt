@@ -1,7 +1,6 @@
 -- `in_turn` meets its contract. Assumes nothing.
 use Rattle.journal.proofs.Fields.{turn-spent, turn-next}
 use Rattle.journal.specs.Record.{rec_line}
-use borrow.Author.Rules.{rules}
 use Rattle.journal.proofs.in_turn.Goals as goal
 
 pub returns-then-old-ge-LAST : goal.returns-then-old-ge-LAST

@@ -1,7 +1,6 @@
 -- `line` meets its contract. Assumes nothing.
 use native.Mathlib.Omega.{arith}
 use Rattle.journal.proofs.Steps.{found-board, found_none, line-bad, line-beyond, line-free, line-holds}
-use borrow.Author.Rules.{rules}
 use mathlib.Core.Path.{ap}
 use mathlib.Core.Bool.{not}
 use Rattle.journal.proofs.line.Goals as goal

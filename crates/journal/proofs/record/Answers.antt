@@ -3,7 +3,6 @@ use mathlib.Core.Path.{refl}
 use Rattle.journal.specs.Record.{read_record}
 use Rattle.journal.proofs.Steps.{found-board, found_none}
 use Rattle.journal.proofs.Entered.{record-bad, record-faulty, record-said, reading-known}
-use borrow.Author.Rules.{rules}
 use mathlib.Core.Path.{ap}
 use mathlib.Core.Bool.{not}
 use Rattle.journal.proofs.record.Goals as goal

@@ -1,7 +1,6 @@
 -- `u32_at` meets its contract. Assumes nothing.
 use native.Mathlib.Omega.{arith}
 use Rattle.journal.proofs.Fields.{big-four}
-use borrow.Author.Rules.{rules}
 use Rattle.journal.proofs.u32_at.Goals as goal
 
 pub returns : goal.returns

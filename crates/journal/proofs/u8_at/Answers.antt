@@ -1,7 +1,6 @@
 -- `u8_at` meets its contract. Assumes nothing.
 use native.Mathlib.Omega.{arith}
 use Rattle.journal.proofs.Fields.{big-one}
-use borrow.Author.Rules.{rules}
 use Rattle.journal.proofs.u8_at.Goals as goal
 
 pub returns : goal.returns

@@ -1,5 +1,4 @@
 -- `values` meets its contract. Assumes nothing.
-use borrow.Author.Rules.{rules}
 use Rattle.journal.proofs.values.Goals as goal
 
 pub returns : goal.returns

@@ -11,7 +11,6 @@ use Rattle.good.proofs.Whole.{says-iff}
 use Rattle.old_table.specs.Old.{old_lane}
 use Rattle.old_table.specs.Tested.{OldLaneGood}
 use Rattle.old_table.proofs.Whole.{whole-old, old-found, old-lanes, old-framed, old-clock}
-use borrow.Author.Rules.{rules}
 use Rattle.old_table.proofs.good.Goals as goal
 
 pub returns-then-t-lt-SIZE : goal.returns-then-t-lt-SIZE

@@ -11,7 +11,6 @@ use Rattle.lane_test.specs.Says.{TimeGood}
 use Rattle.lane_test.proofs.Setting.{says-yes, says-no}
 use Rattle.old_table.specs.Old.{old_ring}
 use Rattle.old_table.proofs.Whole.{lane_made, lane-lengths, lane-time}
-use borrow.Author.Rules.{rules}
 use mathlib.Core.Path.{ap}
 use mathlib.Core.Bool.{not}
 use Rattle.old_table.proofs.lane_good.Goals as goal

@@ -4,9 +4,8 @@ use Prim.Native.Nat.{ℕ}
 use mathlib.Core.List.{List}
 use native.Mathlib.Omega.{arith}
 use lib.Count.{trailing_le}
-use Rattle.table.specs.Layout.{cells}
 use Rattle.good.specs.Pass.{PassSays}
-use Rattle.good.proofs.Walk.{Tested, Walked, walked_none, walked_all, walked_on, rest-less, lane-small, lane_here, lane-stops, note-takes, row-framed}
+use Rattle.good.proofs.Walk.{Tested, walked_none, walked_all, walked_on, rest-less, lane-small, lane_here, lane-stops, note-takes, row-framed}
 use Rattle.old_table.specs.Tested.{OldLaneGood}
 use Rattle.old_table.proofs.Reading.{old}
 use borrow.Author.Rules.{rules}

@@ -1,14 +1,12 @@
 -- `lengths_good` meets its contract. The loop's invariant: the records before the next one have lengths within the lane's numbers. Assumes nothing.
-use Prim.Native.Nat.{ℕ, ◌+◌, ◌-◌, ◌≤◌, ◌<◌}
+use Prim.Native.Nat.{◌+◌}
 use mathlib.Core.Path.{ap}
 use native.Mathlib.Omega.{arith}
 use borrow.Author.Count.{below_none, below_more}
-use Rattle.rules.specs.Older.{old_depth}
 use Rattle.table.specs.Layout.{cells}
 use Rattle.table.specs.declared.Entry.{Entry}
 use Rattle.old_table.specs.Old.{old_entry_at}
 use Rattle.old_table.proofs.Lengths.{InLength, ring-length, ring-lengths}
-use borrow.Author.Rules.{rules}
 use Rattle.old_table.proofs.lengths_good.Goals as goal
 
 pub loop-i-init : goal.loop-i-init

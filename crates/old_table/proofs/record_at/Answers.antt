@@ -1,5 +1,4 @@
 use Rattle.old_table.proofs.Reading.{entry_read}
-use borrow.Author.Rules.{rules}
 use Rattle.old_table.proofs.record_at.Goals as goal
 
 pub returns : goal.returns

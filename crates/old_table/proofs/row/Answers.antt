@@ -1,6 +1,5 @@
 use native.Mathlib.Omega.{arith}
 use Rattle.old_table.proofs.Reading.{row_read}
-use borrow.Author.Rules.{rules}
 use Rattle.old_table.proofs.row.Goals as goal
 
 pub returns : goal.returns

@@ -2,7 +2,6 @@
 use mathlib.Core.Path.{sym, ap, ◌∙◌}
 use Rattle.requests.specs.Request.{size_is}
 use Rattle.requests.proofs.Heads.{head-none, head-cut, head-unknown, head-wrong, head-right}
-use borrow.Author.Rules.{rules}
 use Rattle.requests.proofs.head_at.Goals as goal
 
 pub returns-in-Nothing : goal.returns-in-Nothing

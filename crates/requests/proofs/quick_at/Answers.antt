@@ -6,7 +6,6 @@ use native.Mathlib.Omega.{arith}
 use Rattle.rules.specs.Calls.{take}
 use Rattle.requests.specs.Request.{call_of, request}
 use Rattle.requests.proofs.Heads.{item-quick}
-use borrow.Author.Rules.{rules}
 use Rattle.requests.proofs.quick_at.Goals as goal
 
 pub returns-then-tag-eq-TAKE : goal.returns-then-tag-eq-TAKE

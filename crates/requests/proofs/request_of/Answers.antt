@@ -1,7 +1,6 @@
 -- `request_of` meets its contract. Assumes nothing.
 use borrow.Author.Tests.{ne_eqb}
 use Rattle.requests.specs.Request.{call_by_number}
-use borrow.Author.Rules.{rules}
 use Rattle.requests.proofs.request_of.Goals as goal
 
 -- src/lib.rt:94:1

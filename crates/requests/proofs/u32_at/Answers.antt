@@ -3,7 +3,6 @@ use Prim.Native.Nat.{◌+◌}
 use mathlib.Core.Path.{◌≡◌, ap}
 use native.Mathlib.Omega.{arith}
 use Rattle.fields.specs.Bytes.{byte_at, big}
-use borrow.Author.Rules.{rules}
 use Rattle.requests.proofs.u32_at.Goals as goal
 
 pub returns : goal.returns

@@ -1,7 +1,6 @@
 -- `placed` meets its contract. Assumes nothing.
 use Rattle.plan.proofs.Lists.{map-set}
 use Rattle.plan.specs.Read.{setting_of}
-use borrow.Author.Rules.{rules}
 use Rattle.sheet.proofs.placed.Goals as goal
 
 pub returns : goal.returns

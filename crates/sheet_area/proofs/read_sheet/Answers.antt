@@ -1,7 +1,6 @@
 -- `read_sheet` meets its contract. Assumes nothing.
 use Rattle.plan_area.proofs.Steps.{read_short, read-refused, read-stored}
 use Rattle.sheet_area.proofs.Steps.{sheet-good, sheet-low}
-use borrow.Author.Rules.{rules}
 use Rattle.sheet_area.proofs.read_sheet.Goals as goal
 
 pub returns-then-area-lt-SIZE : goal.returns-then-area-lt-SIZE

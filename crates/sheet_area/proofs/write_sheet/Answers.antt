@@ -1,6 +1,5 @@
 -- `write_sheet` meets its contract. Assumes nothing.
 use Rattle.sheet_area.proofs.Steps.{write-short, write-plan}
-use borrow.Author.Rules.{rules}
 use Rattle.sheet_area.proofs.write_sheet.Goals as goal
 
 pub returns-then-area-lt-SIZE : goal.returns-then-area-lt-SIZE

@@ -7,7 +7,6 @@ use lib.ListN.{set}
 use lib.Seq.{sets}
 use Rattle.text.specs.Decimal.{decimal}
 use Rattle.text.proofs.Stores.{sets-append}
-use borrow.Author.Rules.{rules}
 use Rattle.sheet_writer.proofs.put_figure.Goals as goal
 
 pub returns : goal.returns

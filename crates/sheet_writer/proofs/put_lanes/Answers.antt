@@ -1,15 +1,10 @@
 -- `put_lanes` meets its contract. Assumes nothing.
-use Prim.Native.Nat.{◌-◌}
 use mathlib.Core.Path.{ap, ◌∙◌}
-use mathlib.Core.List.{map}
 use native.Mathlib.Omega.{arith}
-use borrow.Author.Rules.{rules}
 use lib.ListN.{length}
 use lib.Seq.{length-sets}
-use Rattle.plan.specs.Read.{setting_of}
-use Rattle.plan_writer.specs.Write.{numbered}
 use Rattle.plan_writer.proofs.Numbered.{lane-at}
-use Rattle.sheet_writer.proofs.Writing.{Writing, writing-first, writing-done, skip_read, fits_read, line_read}
+use Rattle.sheet_writer.proofs.Writing.{writing-first, writing-done, skip_read, fits_read, line_read}
 use Rattle.sheet_writer.proofs.put_lanes.Goals as goal
 
 pub loop-k-init : goal.loop-k-init

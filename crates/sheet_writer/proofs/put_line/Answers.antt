@@ -2,7 +2,6 @@
 use mathlib.Core.Path.{◌∙◌}
 use native.Mathlib.Omega.{arith}
 use Rattle.sheet_writer.proofs.Writing.{line-length, line-stores}
-use borrow.Author.Rules.{rules}
 use Rattle.sheet_writer.proofs.put_line.Goals as goal
 
 pub put_figure-p-requires : goal.put_figure-p-requires

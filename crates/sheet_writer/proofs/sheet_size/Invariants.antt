@@ -1,12 +1,9 @@
 -- `sheet_size` meets its contract. Assumes nothing.
 use Prim.Native.Nat.{◌-◌}
 use mathlib.Core.List.{map}
-use native.Mathlib.Omega.{arith}
-use borrow.Author.Rules.{rules}
 use Rattle.plan.specs.Read.{setting_of}
 use Rattle.plan_writer.specs.Write.{numbered}
-use Rattle.plan_writer.proofs.Numbered.{lane-at}
-use Rattle.sheet_writer.proofs.Writing.{Sizing, sizing-first, sizing-done, sized-skip, sized-small, sized-line}
+use Rattle.sheet_writer.proofs.Writing.{Sizing}
 use Rattle.sheet_writer.proofs.sheet_size.Given as goal
 
 abbrev pub invariant-loop-k : goal.invariant-loop-k

@@ -1,7 +1,6 @@
 -- `write_sheet` meets its contract. Assumes nothing.
 use mathlib.Core.Path.{sym, ◌∙◌}
 use native.Mathlib.Omega.{arith}
-use borrow.Author.Rules.{rules}
 use borrow.Author.Tests.{not-true, not-false}
 use Rattle.sheet_writer.proofs.Calls.{says-outside, says-no-sheet, says-short, says-size}
 use mathlib.Core.Path.{ap}

@@ -1,5 +1,4 @@
 -- `form::begin` meets its contract. Assumes nothing.
-use borrow.Author.Rules.{rules}
 use Rattle.sheet.proofs.form.begin.Goals as goal
 
 pub returns : goal.returns

@@ -1,5 +1,4 @@
 -- `form::closed` meets its contract. Assumes nothing.
-use borrow.Author.Rules.{rules}
 use Rattle.sheet.proofs.form.closed.Goals as goal
 
 pub returns-in-Lane : goal.returns-in-Lane

@@ -1,6 +1,5 @@
 -- `form::extends` meets its contract. Assumes nothing.
 use borrow.Author.Tests.{lt-ltb, le-ltb}
-use borrow.Author.Rules.{rules}
 use Rattle.sheet.proofs.form.extends.Goals as goal
 
 pub returns-then-value-gt0 : goal.returns-then-value-gt0

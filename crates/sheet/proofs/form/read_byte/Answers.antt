@@ -2,7 +2,6 @@
 use mathlib.Core.Path.{sym, ap, ◌∙◌}
 use Rattle.sheet.specs.declared.form.Step.TheVariants.{More}
 use Rattle.sheet.proofs.Answers.{step-digit, step-many, step-stop, step_other, step-none, digit-is, extends-low}
-use borrow.Author.Rules.{rules}
 use Rattle.sheet.proofs.form.read_byte.Goals as goal
 
 pub grown-requires : goal.grown-requires

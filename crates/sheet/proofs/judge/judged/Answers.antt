@@ -1,6 +1,5 @@
 -- `judge::judged` meets its contract. Assumes nothing.
 use mathlib.Core.Path.{refl, sym, ◌∙◌}
-use borrow.Author.Rules.{rules}
 use borrow.Author.Tests.{lt-ltb, le-ltb, lt-leb, le-leb, not-false, not-true}
 use Rattle.sheet.proofs.Rows.{verdict-by}
 use mathlib.Core.Path.{ap}
