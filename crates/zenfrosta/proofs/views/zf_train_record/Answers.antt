@@ -1,0 +1,14 @@
+-- `zf_train_record` meets its contract. Assumes nothing.
+use native.Mathlib.Omega.{arith}
+use Rattle.zenfrosta.proofs.Crossed.{not_made_lem, crossed}
+use borrow.Author.Rules.{rules}
+use Rattle.zenfrosta.proofs.views.zf_train_record.Goals as goal
+
+pub returns-then-out-lt32 : goal.returns-then-out-lt32
+returns-then-out-lt32 c = not_made_lem (omega (arith, c.if-out-lt32.true)) tt
+
+pub returns : goal.returns
+returns c =
+    let m = c.record in
+    let w = c.tell_view.ensures in
+    crossed (omega (arith, c.if-out-lt32.false)) m.result m.ensures w
