@@ -8,22 +8,23 @@ mod lists;
 mod slots;
 mod unread;
 
-fn main() {
-    lists::twice();
-    lists::elsewhere();
-    lists::no_lane();
-    lists::left_out();
-    lists::starts();
-    lists::marks();
-    lists::groups();
-    lists::numbers();
-    slots::turns();
-    slots::places();
-    slots::carried();
-    slots::taken_back();
-    slots::taken_back_far();
-    unread::words();
-    unread::marks();
-    unread::kept();
-    unread::lists();
+fn main(rt: HostRuntime) {
+    let out = rt.stdout();
+    lists::twice(out);
+    lists::elsewhere(out);
+    lists::no_lane(out);
+    lists::left_out(out);
+    lists::starts(out);
+    lists::marks(out);
+    lists::groups(out);
+    lists::numbers(out);
+    slots::turns(out);
+    slots::places(out);
+    slots::carried(out);
+    slots::taken_back(out);
+    slots::taken_back_far(out);
+    unread::words(out);
+    unread::marks(out);
+    unread::kept(out);
+    unread::lists(out);
 }

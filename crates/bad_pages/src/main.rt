@@ -6,6 +6,7 @@
 #![tactic(auto)]
 
 use base_table as base;
+use std::io::Stdout;
 use words::set_word;
 
 // The page's part begins at byte 63,488.
@@ -30,69 +31,71 @@ fn page(t: &mut [u8], last: u64, new: u64, plan: u64, lane: u64) {
 }
 
 // A lane holds records.
-fn held(name: &[u8], last: u64, new: u64, plan: u64, lane: u64) {
+fn held(out: Stdout, name: &[u8], last: u64, new: u64, plan: u64, lane: u64) {
     let mut t = [0u8; base::SIZE];
     base::base(&mut t);
     page(&mut t, last, new, plan, lane);
-    base::say(name, &t);
+    base::say(out, name, &t);
 }
 
 // No lane holds one.
-fn free(name: &[u8], last: u64, new: u64, plan: u64, lane: u64) {
+fn free(out: Stdout, name: &[u8], last: u64, new: u64, plan: u64, lane: u64) {
     let mut t = [0u8; base::SIZE];
     base::idle(&mut t);
     page(&mut t, last, new, plan, lane);
-    base::say(name, &t);
+    base::say(out, name, &t);
 }
 
-fn editions() {
-    held(b"nothing waits", 0, 0, 0, 0);
-    held(b"edition 65535 taken", 65535, 0, 0, 0);
-    held(b"edition 65536 taken", 65536, 0, 0, 0);
+fn editions(out: Stdout) {
+    held(out, b"nothing waits", 0, 0, 0, 0);
+    held(out, b"edition 65535 taken", 65535, 0, 0, 0);
+    held(out, b"edition 65536 taken", 65536, 0, 0, 0);
     held(
+        out,
         b"a plan that does not wait",
         3,
         0,
         18446744073709551615,
         18446744073709551615,
     );
-    held(b"a page waits", 3, 4, 2, LANE);
-    held(b"of the edition last taken", 4, 4, 2, LANE);
-    held(b"of one before", 5, 4, 2, LANE);
-    held(b"edition 65535 waits", 65534, 65535, 2, LANE);
-    held(b"edition 65536 waits", 3, 65536, 2, LANE);
+    held(out, b"a page waits", 3, 4, 2, LANE);
+    held(out, b"of the edition last taken", 4, 4, 2, LANE);
+    held(out, b"of one before", 5, 4, 2, LANE);
+    held(out, b"edition 65535 waits", 65534, 65535, 2, LANE);
+    held(out, b"edition 65536 waits", 3, 65536, 2, LANE);
 }
 
-fn plans() {
-    held(b"format 0", 3, 4, 0, LANE);
-    held(b"format 1", 3, 4, 1, LANE);
-    held(b"format 3", 3, 4, 3, LANE);
+fn plans(out: Stdout) {
+    held(out, b"format 0", 3, 4, 0, LANE);
+    held(out, b"format 1", 3, 4, 1, LANE);
+    held(out, b"format 3", 3, 4, 3, LANE);
     // 2 and 64, 65 times 2^16
-    held(b"framing 64", 3, 4, 4194306, LANE);
-    held(b"framing 65", 3, 4, 4259842, LANE);
-    held(b"no lane", 3, 4, 2, 0);
+    held(out, b"framing 64", 3, 4, 4194306, LANE);
+    held(out, b"framing 65", 3, 4, 4259842, LANE);
+    held(out, b"no lane", 3, 4, 2, 0);
 }
 
-fn lanes() {
-    held(b"weight 0", 3, 4, 2, 98304000);
-    held(b"weight 1024", 3, 4, 2, 98305024);
-    held(b"weight 1025", 3, 4, 2, 98305025);
-    held(b"longest 63", 3, 4, 2, 4128784);
-    held(b"longest 64", 3, 4, 2, 4194320);
-    held(b"longest 1501", 3, 4, 2, 98369552);
+fn lanes(out: Stdout) {
+    held(out, b"weight 0", 3, 4, 2, 98304000);
+    held(out, b"weight 1024", 3, 4, 2, 98305024);
+    held(out, b"weight 1025", 3, 4, 2, 98305025);
+    held(out, b"longest 63", 3, 4, 2, 4128784);
+    held(out, b"longest 64", 3, 4, 2, 4194320);
+    held(out, b"longest 1501", 3, 4, 2, 98369552);
     // bit 32 makes a lane shared
-    held(b"shared", 3, 4, 2, 4393271312);
-    held(b"a bit above", 3, 4, 2, 8688238608);
+    held(out, b"shared", 3, 4, 2, 4393271312);
+    held(out, b"a bit above", 3, 4, 2, 8688238608);
 }
 
-fn nothing_held() {
-    free(b"nothing waits, nothing held", 3, 0, 0, 0);
-    free(b"a page waits, nothing held", 3, 4, 2, LANE);
+fn nothing_held(out: Stdout) {
+    free(out, b"nothing waits, nothing held", 3, 0, 0, 0);
+    free(out, b"a page waits, nothing held", 3, 4, 2, LANE);
 }
 
-fn main() {
-    editions();
-    plans();
-    lanes();
-    nothing_held();
+fn main(rt: HostRuntime) {
+    let out = rt.stdout();
+    editions(out);
+    plans(out);
+    lanes(out);
+    nothing_held(out);
 }

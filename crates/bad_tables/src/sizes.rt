@@ -1,23 +1,24 @@
 // Bytes that are too short, or longer than a table.
 use base_table as base;
+use std::io::Stdout;
 
-pub fn sizes() {
+pub fn sizes(out: Stdout) {
     let mut t = [0u8; base::SIZE + 1];
-    base::say(b"all zeros", &t);
+    base::say(out, b"all zeros", &t);
     base::base(&mut t);
-    base::say(b"one byte long", &t);
-    base::part(b"exact size", &t, base::SIZE);
-    base::part(b"one byte short", &t, base::SIZE - 1);
-    shorter(&t);
+    base::say(out, b"one byte long", &t);
+    base::part(out, b"exact size", &t, base::SIZE);
+    base::part(out, b"one byte short", &t, base::SIZE - 1);
+    shorter(out, &t);
     let ones = [255u8; base::SIZE];
-    base::say(b"all ones", &ones);
+    base::say(out, b"all ones", &ones);
 }
 
 // No part may be left out, the kept bytes neither.
-fn shorter(t: &[u8]) {
-    base::part(b"without the kept bytes", t, poked::KEPT);
-    base::part(b"without the trains", t, poked::TRAINS);
-    base::part(b"without the marks", t, poked::MARKS);
-    base::part(b"without the lists", t, poked::LISTS);
-    base::part(b"empty", t, 0);
+fn shorter(out: Stdout, t: &[u8]) {
+    base::part(out, b"without the kept bytes", t, poked::KEPT);
+    base::part(out, b"without the trains", t, poked::TRAINS);
+    base::part(out, b"without the marks", t, poked::MARKS);
+    base::part(out, b"without the lists", t, poked::LISTS);
+    base::part(out, b"empty", t, 0);
 }

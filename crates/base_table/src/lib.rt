@@ -6,11 +6,11 @@
 // table is good.
 #![tactic(auto)]
 
-use libc::STDOUT_FILENO;
 use poked::{
     DEPTH, GROUPS, LANE_0, LANE_1, PRESENT, RING, ROOM, TIME, alone, byte, group, length, put,
     record, setting,
 };
+use std::io::Stdout;
 
 // The fixed size of a table, in bytes.
 pub const SIZE: usize = 65536;
@@ -55,19 +55,19 @@ pub fn later(t: &mut [u8], s: u64, start: u64, b: usize, map: u64) {
 }
 
 // Writes a case's name, and whether its table is good.
-pub fn say(name: &[u8], t: &[u8]) {
-    io::write_all(STDOUT_FILENO, name);
+pub fn say(out: Stdout, name: &[u8], t: &[u8]) {
+    let _ = out.write_all(name);
     if paged::good_unit(t) {
-        io::write_all(STDOUT_FILENO, b" good\n");
+        let _ = out.write_all(b" good\n");
     } else {
-        io::write_all(STDOUT_FILENO, b" bad\n");
+        let _ = out.write_all(b" bad\n");
     }
 }
 
 // The first `n` bytes of a table.
-pub fn part(name: &[u8], t: &[u8], n: usize) {
+pub fn part(out: Stdout, name: &[u8], t: &[u8], n: usize) {
     if n <= t.len() {
-        say(name, &t[..n]);
+        say(out, name, &t[..n]);
     }
 }
 
@@ -80,55 +80,55 @@ fn begin(t: &mut [u8], held: bool) {
 }
 
 // With two words changed.
-fn changed(name: &[u8], held: bool, i: usize, v: u64, j: usize, w: u64) {
+fn changed(out: Stdout, name: &[u8], held: bool, i: usize, v: u64, j: usize, w: u64) {
     let mut t = [0u8; SIZE];
     begin(&mut t, held);
     put(&mut t, i, v);
     put(&mut t, j, w);
-    say(name, &t);
+    say(out, name, &t);
 }
 
 // The base with word `i` changed.
-pub fn one(name: &[u8], i: usize, v: u64) {
-    changed(name, true, i, v, i, v);
+pub fn one(out: Stdout, name: &[u8], i: usize, v: u64) {
+    changed(out, name, true, i, v, i, v);
 }
 
 // The base with two words changed.
-pub fn two(name: &[u8], i: usize, v: u64, j: usize, w: u64) {
-    changed(name, true, i, v, j, w);
+pub fn two(out: Stdout, name: &[u8], i: usize, v: u64, j: usize, w: u64) {
+    changed(out, name, true, i, v, j, w);
 }
 
 // The idle table with word `i` changed.
-pub fn rest(name: &[u8], i: usize, v: u64) {
-    changed(name, false, i, v, i, v);
+pub fn rest(out: Stdout, name: &[u8], i: usize, v: u64) {
+    changed(out, name, false, i, v, i, v);
 }
 
 // The idle table with two words changed.
-pub fn rest_two(name: &[u8], i: usize, v: u64, j: usize, w: u64) {
-    changed(name, false, i, v, j, w);
+pub fn rest_two(out: Stdout, name: &[u8], i: usize, v: u64, j: usize, w: u64) {
+    changed(out, name, false, i, v, j, w);
 }
 
 // The base with the byte at `a` changed.
-pub fn spot(name: &[u8], a: usize, v: u8) {
+pub fn spot(out: Stdout, name: &[u8], a: usize, v: u8) {
     let mut t = [0u8; SIZE];
     base(&mut t);
     byte(&mut t, a, v);
-    say(name, &t);
+    say(out, name, &t);
 }
 
 // The base with word `i` changed, and lane `k` alone in list `b` of group `g`.
-pub fn filed(name: &[u8], i: usize, v: u64, g: usize, b: usize, k: u8) {
+pub fn filed(out: Stdout, name: &[u8], i: usize, v: u64, g: usize, b: usize, k: u8) {
     let mut t = [0u8; SIZE];
     base(&mut t);
     put(&mut t, i, v);
     alone(&mut t, g, b, k);
-    say(name, &t);
+    say(out, name, &t);
 }
 
 // The base with the length of lane `k`'s place `i` changed.
-pub fn sized(name: &[u8], k: usize, i: usize, n: u64) {
+pub fn sized(out: Stdout, name: &[u8], k: usize, i: usize, n: u64) {
     let mut t = [0u8; SIZE];
     base(&mut t);
     length(&mut t, k, i, n);
-    say(name, &t);
+    say(out, name, &t);
 }

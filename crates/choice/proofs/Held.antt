@@ -12,7 +12,7 @@ use Rattle.rules.specs.Sets.{in_group, group_start}
 use Rattle.rules.proofs.Queues.{held-inside}
 use Rattle.rules.proofs.Figures.{slot_at}
 use Rattle.rules.proofs.Lowest.{LowOf}
-use Rattle.rules.proofs.GroupRule.{in_group, group-low}
+use Rattle.rules.proofs.GroupRule.{in_group_lem, group-low}
 use Rattle.rules.proofs.Moves.{busy-first}
 use Rattle.table.specs.Means.{meant}
 use Rattle.table.proofs.Footprint.{lanes-many}
@@ -39,4 +39,4 @@ start-early s g i r e = go (group_start s.lanes i) (group-low s.lanes i) e
   where
     go : (o : Option ℕ) → LowOf (in_group i) s.lanes o → o ≡ some r → r < 2 ^ 63
     go none h q = let z : ◌≡◌ {A = ℕ} 0 1 = cc in absurd (omega arith)
-    go (some x) h q = let same : x ≡ r = cc in omega (arith, h.start, held-early s g h.at (in_group i (lane_at s h.at) h.is).0)
+    go (some x) h q = let same : x ≡ r = cc in omega (arith, h.start, held-early s g h.at (in_group_lem i (lane_at s h.at) h.is).0)

@@ -16,7 +16,7 @@ use Rattle.rules.specs.Sets.{in_group, group_start}
 use Rattle.rules.specs.Good.{Good}
 use Rattle.rules.specs.BySets.{candidate_lane}
 use Rattle.rules.proofs.Lowest.{LowOf, LowestOf}
-use Rattle.rules.proofs.GroupRule.{in_group, group-low}
+use Rattle.rules.proofs.GroupRule.{in_group_lem, group-low}
 use Rattle.choice.proofs.Held.{start-early}
 use Rattle.slot_lists.specs.Lists.{back_at, list_at, start_at, slot_of, list_of}
 use Rattle.filing.specs.Filing.{front_of, Whole, slot_at, Agrees, LeastGroup, never}
@@ -36,7 +36,7 @@ module _ (t : List ℕ) (s : State) (good : Good s) (whole : Whole (back_at t)) 
   front-some g r lo hi e =
       let start : group_start s.lanes g ≡ some r = sym (ag.started g lo hi) ∙ e in
       let lead : LowestOf (in_group g) s.lanes r = subst (LowOf (in_group g) s.lanes) start (group-low s.lanes g) in
-      let i = in_group g (lane_at s lead.at) lead.is in
+      let i = in_group_lem g (lane_at s lead.at) lead.is in
       let own : slot_at (back_at t) (lane_at s lead.at) ≡ slot_of t g r = sym (shl-shr (slot_at (back_at t) (lane_at s lead.at)) g) ∙ ap (λ (x : ℕ). x / 2 ^ g) (sym (start-slot (back_at t) g (lane_at s lead.at) whole hi i.1) ∙ ap (λ (x : ℕ). x + back_at t) lead.start) in
       let n : times lead.at (list_at t g (list_of t g r)) ≡ 1 = ap (λ (x : ℕ). times lead.at (list_at t g (x % 32))) (sym own) ∙ in_list_lem (back_at t) whole s (list_at t) g ag.filed good.order lo hi lead.at lead.is in
       times-length lead.at (list_at t g (list_of t g r)) (omega (arith, n))

@@ -18,7 +18,7 @@ use Rattle.rules.specs.State.{Lane, lane_at}
 use Rattle.rules.specs.Sets.{groups, in_group, group_start, held_start, group_holds}
 use Rattle.rules.proofs.Word.{word_lt, word-bit}
 use Rattle.rules.proofs.Lowest.{LowOf, LowestOf}
-use Rattle.rules.proofs.GroupRule.{in_group, group-low}
+use Rattle.rules.proofs.GroupRule.{in_group_lem, group-low}
 use Rattle.slot_lists.specs.Lists.{groups_at, start_word}
 use Rattle.slot_lists.proofs.Bits.{bit-two}
 use Rattle.slot_lists.proofs.Laws.{start-on, start-some}
@@ -34,7 +34,7 @@ module _ (t : List ℕ) (known : Known t) where
   bounds : (i r : ℕ) → group_start ls i ≡ some r → (16 ≤ i) × (i ≤ 31)
   bounds i r e =
       let lead : LowestOf (in_group i) ls r = subst (LowOf (in_group i) ls) e (group-low ls i) in
-      let b = in_group i (lane_at (meant t) lead.at) lead.is in
+      let b = in_group_lem i (lane_at (meant t) lead.at) lead.is in
       let g = group-held (meant t) known.good lead.at b.0 in
       (omega (arith, g.0, b.1), omega (arith, g.1, b.1))
 

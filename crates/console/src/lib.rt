@@ -31,14 +31,15 @@ pub fn answered(input: &[u8], table: &mut [u8], area: &mut [u8]) -> usize
 }
 
 // Answers standard input's text on standard output, if no read of it failed; crate streams tells what fails on standard error.
-pub fn serve() {
+pub fn serve(rt: HostRuntime) {
     if !streams::alone(
+        rt,
         b"unit: no arguments are taken: a session's bytes on standard input, its answer lines on standard output\n",
     ) {
         return;
     }
     let mut input = [0u8; INPUT];
-    let came = streams::read_input(&mut input);
+    let came = streams::read_input(rt, &mut input);
     if !came.whole {
         return;
     }
@@ -46,5 +47,5 @@ pub fn serve() {
     let mut table = [0u8; table::TABLE_SIZE];
     let mut area = [0u8; AREA];
     let m = answered(&input[..n], &mut table, &mut area);
-    streams::write_output(&area[..m]);
+    streams::write_output(rt, &area[..m]);
 }

@@ -23,7 +23,7 @@ pub const INPUT: usize = 32769;
 pub const ROOM: usize = 1024;
 
 // What a program writes; it reads the other.
-#[derive(Drop)]
+#[derive(Clone, Copy)]
 pub enum Form {
     Setup,
     Sheet,
@@ -77,32 +77,34 @@ pub fn print(input: &[u8], out: &mut [u8], form: Form) -> usize
 }
 
 // A program: standard input printed on standard output, unless there are arguments.
-fn serve(help: &[u8], form: Form) {
-    if !streams::alone(help) {
+fn serve(rt: HostRuntime, help: &[u8], form: Form) {
+    if !streams::alone(rt, help) {
         return;
     }
     let mut input = [0u8; INPUT];
-    let came = streams::read_input(&mut input);
+    let came = streams::read_input(rt, &mut input);
     if !came.whole {
         return;
     }
     let n = came.count;
     let mut out = [0u8; ROOM];
     let m = print(&input[..n], &mut out, form);
-    streams::write_output(&out[..m]);
+    streams::write_output(rt, &out[..m]);
 }
 
 // A sheet on standard input, its setup on standard output.
-pub fn serve_setup() {
+pub fn serve_setup(rt: HostRuntime) {
     serve(
+        rt,
         b"sheet_setup: no arguments are taken: a text sheet on standard input, its setup's bytes on standard output\n",
         Form::Setup,
     );
 }
 
 // A setup on standard input, its sheet on standard output.
-pub fn serve_sheet() {
+pub fn serve_sheet(rt: HostRuntime) {
     serve(
+        rt,
         b"setup_sheet: no arguments are taken: a setup's bytes on standard input, its text sheet on standard output\n",
         Form::Sheet,
     );

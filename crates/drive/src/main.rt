@@ -6,13 +6,14 @@
 mod refusals;
 mod session;
 
-fn main() {
-    session::session();
-    session::one_lane();
-    session::four_groups();
-    session::blocked_groups();
-    refusals::making();
-    refusals::calls();
-    refusals::full();
-    refusals::sizes();
+fn main(rt: HostRuntime) {
+    let out = rt.stdout();
+    session::session(out);
+    session::one_lane(out);
+    session::four_groups(out);
+    session::blocked_groups(out);
+    refusals::making(out);
+    refusals::calls(out);
+    refusals::full(out);
+    refusals::sizes(out);
 }

@@ -6,14 +6,15 @@ mod damage;
 mod far;
 mod trains;
 
-fn main() {
-    far::at_last();
-    far::taken_back();
-    far::groups();
-    damage::damaged();
-    damage::idle_places();
-    trains::turns();
-    trains::refused();
-    trains::full();
-    trains::damaged();
+fn main(rt: HostRuntime) {
+    let out = rt.stdout();
+    far::at_last(out);
+    far::taken_back(out);
+    far::groups(out);
+    damage::damaged(out);
+    damage::idle_places(out);
+    trains::turns(out);
+    trains::refused(out);
+    trains::full(out);
+    trains::damaged(out);
 }

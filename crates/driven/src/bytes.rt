@@ -1,4 +1,5 @@
 // A table's own words (docs/TABLE.md). A lane's clock word is S while it holds records and F while it is idle.
+use std::io::Stdout;
 use words::word;
 
 // What a table is filled with before it is made.
@@ -43,31 +44,31 @@ fn cell(t: &[u8], i: usize) -> u64 {
 }
 
 // Prints the clock, and lane 0's clock word.
-pub fn time(t: &[u8]) {
-    printed::number(b"V ", cell(t, CLOCK));
-    printed::number(b", lane 0 at ", cell(t, TIME_0));
-    printed::line(b"");
+pub fn time(out: Stdout, t: &[u8]) {
+    printed::number(out, b"V ", cell(t, CLOCK));
+    printed::number(out, b", lane 0 at ", cell(t, TIME_0));
+    printed::line(out, b"");
 }
 
 // And lane 1's.
-pub fn times(t: &[u8]) {
-    time(t);
-    printed::number(b"lane 1 at ", cell(t, TIME_1));
-    printed::line(b"");
+pub fn times(out: Stdout, t: &[u8]) {
+    time(out, t);
+    printed::number(out, b"lane 1 at ", cell(t, TIME_1));
+    printed::line(out, b"");
 }
 
-fn kept(same: bool) {
+fn kept(out: Stdout, same: bool) {
     if same {
-        printed::line(b" kept");
+        printed::line(out, b" kept");
     } else {
-        printed::line(b" changed");
+        printed::line(out, b" changed");
     }
 }
 
 // Whether two tables have the same bytes.
-pub fn compare(before: &[u8], t: &[u8]) {
-    printed::word(b"table");
-    kept(check::same(before, t));
+pub fn compare(out: Stdout, before: &[u8], t: &[u8]) {
+    printed::word(out, b"table");
+    kept(out, before == t);
 }
 
 fn tail_is(t: &[u8]) -> bool {
@@ -82,7 +83,7 @@ fn tail_is(t: &[u8]) -> bool {
 }
 
 // Whether the bytes past the fixed size are those that were there before making.
-pub fn tail(t: &[u8]) {
-    printed::word(b"rest");
-    kept(tail_is(t));
+pub fn tail(out: Stdout, t: &[u8]) {
+    printed::word(out, b"rest");
+    kept(out, tail_is(t));
 }

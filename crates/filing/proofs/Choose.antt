@@ -13,7 +13,7 @@ use Rattle.rules.specs.Choice.{Candidate, choose}
 use Rattle.rules.specs.Sets.{in_group, group_start, first_group}
 use Rattle.rules.specs.Good.{Good}
 use Rattle.rules.proofs.Lowest.{LowOf, LowestOf}
-use Rattle.rules.proofs.GroupRule.{in_group, group-low}
+use Rattle.rules.proofs.GroupRule.{in_group_lem, group-low}
 use Rattle.rules.proofs.Keep.{eligible-is, is-eligible}
 use Rattle.rules.proofs.Chosen.{Choice, chosen}
 use Rattle.rules.specs.BySets.{stands_at, lane_of_group, choose_by_sets, candidate_lane}
@@ -46,7 +46,7 @@ module _ (B : ℕ) (wh : Whole B) (s : State) (good : Good s) (lists : Lists) (s
     same_test k = go (in_group g (lane_at s k)) refl
       where
         go : (b : Bool) → in_group g (lane_at s k) ≡ b → (b && eqb (start_r (lane_at s k)) r) ≡ (b && eqb (slot_at B (lane_at s k) % 32) (a % 32))
-        go true h = let w = (window s good B g r wh e).0 in same_place (lane_at s k) (in_group g (lane_at s k) h).1 (w.from k h) (w.to k h)
+        go true h = let w = (window s good B g r wh e).0 in same_place (lane_at s k) (in_group_lem g (lane_at s k) h).1 (w.from k h) (w.to k h)
         go false h = refl
 
     pub first-of-list : 16 ≤ g → lane_of_group s g (some r) ≡ front_of (lists g (a % 32))
@@ -65,7 +65,7 @@ module _ (B : ℕ) (wh : Whole B) (s : State) (good : Good s) (lists : Lists) (s
     lead = subst (LowOf (in_group g) s.lanes) start (group-low s.lanes g)
 
     lead-in : (holds (lane_at s lead.at) ≡ true) × (group (lane_at s lead.at).given ≡ g)
-    lead-in = in_group g (lane_at s lead.at) lead.is
+    lead-in = in_group_lem g (lane_at s lead.at) lead.is
 
     lead-eligible : eligible s.clock (lane_at s lead.at) ≡ true
     lead-eligible = is-eligible s.clock (lane_at s lead.at) lead-in.0 (omega (arith, lead.start, n.reached))

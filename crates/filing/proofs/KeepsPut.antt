@@ -13,16 +13,16 @@ use Rattle.rules.specs.Choice.{least}
 use Rattle.rules.specs.Calls.{woken, accept}
 use Rattle.rules.specs.Sets.{in_group, group_start}
 use Rattle.rules.proofs.Moves.{Sound, MayEnter, woken-holds}
-use Rattle.rules.proofs.GroupRule.{in_group, is-in-group}
+use Rattle.rules.proofs.GroupRule.{in_group_lem, is-in-group}
 use Rattle.filing.specs.Filing.{slot_at, in_list, Lists, Agrees}
 use Rattle.filing.proofs.Moves.{is-standing, Changed, insert-filed}
 use Rattle.filing.proofs.Starts.{Named, start-other, start-insert}
 
 pub idle-out : (i : ℕ) (l : Lane) → holds l ≡ false → in_group i l ≡ false
-idle-out i l h = not-passed (in_group i l) (λ e. false≢true (sym h ∙ (in_group i l e).0))
+idle-out i l h = not-passed (in_group i l) (λ e. false≢true (sym h ∙ (in_group_lem i l e).0))
 
 pub other-out : (i : ℕ) (l : Lane) → (i ≡ group l.given → ⊥) → in_group i l ≡ false
-other-out i l ne = not-passed (in_group i l) (λ e. ne (sym (in_group i l e).1))
+other-out i l ne = not-passed (in_group i l) (λ e. ne (sym (in_group_lem i l e).1))
 
 module _ (B : ℕ) (s : State) (lists lists' : Lists) (starts starts' : ℕ → Option ℕ) (ag : Agrees B lists starts s) (named : Named s)
     (k : ℕ) (inside : k < length s.lanes) (idle : holds (lane_at s k) ≡ false) (r : Rec) (sound : Sound (lane_at s k)) (may : MayEnter (lane_at s k) r) where

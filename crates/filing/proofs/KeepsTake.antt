@@ -19,7 +19,7 @@ use Rattle.rules.specs.Good.{Times, Good}
 use Rattle.rules.proofs.Lane.{charge-slot, slot-pos}
 use Rattle.rules.proofs.Serve.{served-ind}
 use Rattle.rules.proofs.Queues.{held-inside, served-given}
-use Rattle.rules.proofs.GroupRule.{in_group, is-in-group}
+use Rattle.rules.proofs.GroupRule.{in_group_lem, is-in-group}
 use Rattle.rules.proofs.Ties.{times-same}
 use Rattle.filing.specs.Filing.{sift, front_of, Whole, slot_at, in_list, Lists, Filing, Agrees, Window}
 use Rattle.filing.proofs.Moves.{Stands, stands, is-standing, Changed, insert-filed, remove-filed}
@@ -152,7 +152,7 @@ module _ (B : ℕ) (w : Whole B) (s : State) (good : Good s) (lists : Lists) (st
     where
       fine : in_group g new ≡ true → (from-slot ≤ slot_at B new) × (slot_at B new < from-slot + 32)
       fine h =
-          let e = new-slot (in_group g new h).0 in
+          let e = new-slot (in_group_lem g new h).0 in
           (omega (arith, e, finish-near.0, old-slot), omega (arith, e, finish-near.1, old-slot))
 
       both : (j : ℕ) → in_group g (lane_at after j) ≡ true → (from-slot ≤ slot_at B (lane_at after j)) × (slot_at B (lane_at after j) < from-slot + 32)

@@ -9,7 +9,7 @@ use Rattle.rules.specs.State.{State, group, start_r, holds, lane_at}
 use Rattle.rules.specs.Choice.{least_of}
 use Rattle.rules.specs.Sets.{in_group, group_start}
 use Rattle.rules.proofs.Lowest.{LowOf, LowestOf, lowest}
-use Rattle.rules.proofs.GroupRule.{in_group, is-in-group, group-low}
+use Rattle.rules.proofs.GroupRule.{in_group_lem, is-in-group, group-low}
 use Rattle.filing.specs.Filing.{Starting}
 use Rattle.filing.proofs.Slots.{low-unique}
 
@@ -42,7 +42,7 @@ module _ (s : State) (starts : ℕ → Option ℕ) (st : Starting starts s) (gro
           let same : x ≡ r = cc in
           record {
             at = low.at;
-            is = (in_group n.at (lane_at s low.at) low.is).0;
+            is = (in_group_lem n.at (lane_at s low.at) low.is).0;
             start = low.start ∙ same;
             bound = λ k h. let q = group_of k h in omega (arith, q.2, n.bound (group (lane_at s k).given) q.0 (grouped k h).0 (grouped k h).1 q.1);
           }

@@ -13,7 +13,7 @@ use Rattle.units.proofs.Bools.{and_parts, and-made, not-passed}
 use Rattle.units.proofs.Lists.{set_cases}
 use Rattle.rules.specs.State.{Lane, State, no_lane, group, holds, lane_at}
 use Rattle.rules.specs.Sets.{in_group}
-use Rattle.rules.proofs.GroupRule.{in_group, is-in-group}
+use Rattle.rules.proofs.GroupRule.{in_group_lem, is-in-group}
 use Rattle.rules.proofs.Ties.{times-same}
 use Rattle.filing.specs.Filing.{sift, slot_at, in_list, Lists, Filing}
 use Rattle.filing.proofs.Sift.{sift-append, sift-ext, sift-without, without-none, without-first, times-sift}
@@ -29,7 +29,7 @@ pub stands : (B g b : ℕ) (l : Lane) → in_list B g b l ≡ true → Stands B 
 unfolding in_list
 stands B g b l e =
     let p = and_parts (in_group g l) (eqb (slot_at B l % 32) b) e in
-    let q = in_group g l p.0 in
+    let q = in_group_lem g l p.0 in
     record { held = q.0; grp = q.1; at = eqb-true (slot_at B l % 32) b p.1 }
 
 pub is-standing : (B g b : ℕ) (l : Lane) → Stands B g b l → in_list B g b l ≡ true

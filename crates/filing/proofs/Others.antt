@@ -14,7 +14,7 @@ use Rattle.rules.specs.Sets.{in_group, group_start}
 use Rattle.rules.proofs.Lowest.{LowOf}
 use Rattle.rules.proofs.Moves.{Sound, MayEnter, appended-holds}
 use Rattle.rules.proofs.Bounds.{fresh-free}
-use Rattle.rules.proofs.GroupRule.{in_group, group-low}
+use Rattle.rules.proofs.GroupRule.{in_group_lem, group-low}
 use Rattle.filing.specs.Filing.{sift, slot_at, in_list, Lists, Agrees}
 use Rattle.filing.proofs.Sift.{sift-ext}
 use Rattle.filing.proofs.Slots.{low-unique}
@@ -62,7 +62,7 @@ unfolding fresh idle sift
 fresh-agrees B gs lists starts empty nothing =
     record {
       filed = λ g b lo hi hb. empty g b lo hi hb;
-      started = λ g lo hi. nothing g lo hi ∙ low-unique (in_group g) (map idle gs) none (group_start (map idle gs) g) (λ j. not-passed (in_group g (get_or (map idle gs) j no_lane)) (λ h. false≢true (sym (none_held j) ∙ (in_group g (get_or (map idle gs) j no_lane) h).0))) (group-low (map idle gs) g);
+      started = λ g lo hi. nothing g lo hi ∙ low-unique (in_group g) (map idle gs) none (group_start (map idle gs) g) (λ j. not-passed (in_group g (get_or (map idle gs) j no_lane)) (λ h. false≢true (sym (none_held j) ∙ (in_group_lem g (get_or (map idle gs) j no_lane) h).0))) (group-low (map idle gs) g);
     }
   where
     none_held : (j : ℕ) → holds (get_or (map idle gs) j no_lane) ≡ false

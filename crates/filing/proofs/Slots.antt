@@ -20,7 +20,7 @@ use Rattle.rules.specs.Sets.{in_group, group_start}
 use Rattle.rules.proofs.Lane.{group-least}
 use Rattle.rules.proofs.Figures.{framing-at, group_at}
 use Rattle.rules.proofs.Lowest.{LowOf}
-use Rattle.rules.proofs.GroupRule.{in_group, group-low}
+use Rattle.rules.proofs.GroupRule.{in_group_lem, group-low}
 use Rattle.rules.proofs.SameSetup.{setting-lane}
 use Rattle.rules.proofs.Moves.{busy-first}
 use Rattle.filing.specs.Filing.{Whole, slot_at, Window}
@@ -110,17 +110,17 @@ module _ (s : State) (good : Good s) where
       go (some x) q low =
           let same : x ≡ r = cc in
           let l = lane_at s low.at in
-          let i = in_group g l low.is in
+          let i = in_group_lem g l low.is in
           let hi : g ≤ 31 = omega (arith, (group-held low.at i.0).1, i.1) in
           let r-is : r + B ≡ slot_at B l * 2 ^ g = omega (arith, same, low.start, start-slot B g l w hi i.1) in
           let a-is : (r + B) / 2 ^ g ≡ slot_at B l = ap (λ (y : ℕ). y / 2 ^ g) r-is ∙ shl-shr (slot_at B l) g in (
             record {
               from = λ k h.
-                  let j = in_group g (lane_at s k) h in
+                  let j = in_group_lem g (lane_at s k) h in
                   let le : slot_at B l * 2 ^ g ≤ slot_at B (lane_at s k) * 2 ^ g = omega (arith, low.bound k h, same, r-is, start-slot B g (lane_at s k) w hi j.1) in
                   rw a-is (no_less g (slot_at B l) (slot_at B (lane_at s k)) le);
               to = λ k h.
-                  let j = in_group g (lane_at s k) h in
+                  let j = in_group_lem g (lane_at s k) h in
                   rw a-is (omega (arith, close B k low.at w j.0 i.0 (j.1 ∙ sym i.1)));
             },
             r-is ∙ ap (λ (y : ℕ). y * 2 ^ g) (sym a-is),

@@ -17,7 +17,7 @@ use Rattle.rules.specs.State.{Lane, State, no_lane, group, start_r, holds, lane_
 use Rattle.rules.specs.Choice.{least}
 use Rattle.rules.specs.Sets.{in_group, group_start}
 use Rattle.rules.proofs.Lowest.{LowOf, LowestOf}
-use Rattle.rules.proofs.GroupRule.{in_group, is-in-group, group-low}
+use Rattle.rules.proofs.GroupRule.{in_group_lem, is-in-group, group-low}
 use Rattle.filing.specs.Filing.{sift, Whole, slot_at, in_list, Lists, Filing, Window}
 use Rattle.filing.proofs.Sift.{times-sift}
 use Rattle.filing.proofs.Moves.{Stands, stands, is-standing}
@@ -50,7 +50,7 @@ module _ (B : ℕ) (w : Whole B) (s : State) (lists : Lists) (g : ℕ) (filed : 
   -- a lane of the group stands in the list of its slot
   pub in_list_lem : (k : ℕ) → in_group g (lane_at s k) ≡ true → times k (lists g (slot_at B (lane_at s k) % 32)) ≡ 1
   in_list_lem k h =
-      let i = in_group g (lane_at s k) h in
+      let i = in_group_lem g (lane_at s k) h in
       let b = slot_at B (lane_at s k) % 32 in
       let is = is-standing B g b (lane_at s k) (record { held = i.0; grp = i.1; at = refl }) in
       ap (times k) (filed g b lo hi (omega arith)) ∙ times-sift (λ k. in_list B g b (lane_at s k)) k s.order ∙ simp is (named k ∙ simp i.0)
@@ -71,7 +71,7 @@ module _ (B : ℕ) (w : Whole B) (s : State) (lists : Lists) (g : ℕ) (filed : 
             let at : slot_at B l ≡ a + d = omega (arith, st.at, v.from j of-j, v.to j of-j, n.near) in
             omega (arith, e, start-slot B g l w hi st.grp, ap (λ (x : ℕ). x * 2 ^ g) at);
         bound = λ k h.
-            let i = in_group g (lane_at s k) h in
+            let i = in_group_lem g (lane_at s k) h in
             let le : a + d ≤ slot_at B (lane_at s k) = later k h in
             omega (arith, e, mul-le-mul_right (2 ^ g) le, start-slot B g (lane_at s k) w hi i.1);
       })

@@ -31,7 +31,6 @@ use Rattle.journal.specs.declared.Reading as Answered
 use Rattle.journal.specs.declared.Refusal.{Refusal}
 use Rattle.journal.specs.declared.Refusal.TheVariants.{NotABoard, KindUnknown, NoFreeLine, OutOfTurn, DoesNotFollow}
 use Rattle.journal.specs.declared.Told.{Told}
-use Rattle.journal.specs.declared.Told.TheVariants as Told
 use Rattle.journal.proofs.Steps.{kept_same, bad-step, does-step}
 
 -- ---- a record that is refused, and one that is accepted

@@ -24,11 +24,8 @@ use Rattle.journal.specs.Reads.{Plain, stands, plain_refused, from_rules, plain_
 use Rattle.journal.specs.Step.{stored, Stays, Kept, BoardStep, LineStep, BeginStep}
 use Rattle.journal.specs.declared.Refusal.TheVariants.{BoardShort, NotABoard, NotCleared}
 use Rattle.journal.specs.declared.Told.{Told}
-use Rattle.journal.specs.declared.Told.TheVariants as Told
 use Rattle.journal.specs.declared.Shown.{Shown}
-use Rattle.journal.specs.declared.Shown.TheVariants as Shown
 use Rattle.journal.specs.declared.Begun.{Begun}
-use Rattle.journal.specs.declared.Begun.TheVariants as Begun
 
 -- ---- what the test of 29 found
 

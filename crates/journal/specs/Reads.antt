@@ -10,15 +10,11 @@ use Rattle.std.proofs.Math.Option.{Option, none, some}
 use Rattle.desk.specs.Board.{Handover}
 use Rattle.desk.specs.Calls as Calls
 use Rattle.desk.specs.Calls.{BoardReply}
-use Rattle.desk_line.specs.declared.Line.{Line}
 use Rattle.journal.specs.declared.Refusal.{Refusal}
 use Rattle.journal.specs.declared.Refusal.TheVariants.{Cut, UnknownTag, WrongLength, BoardShort, NotABoard, KindUnknown, NoFreeLine, OutOfTurn, DoesNotFollow, NotCleared}
 use Rattle.journal.specs.declared.Told.{Told}
-use Rattle.journal.specs.declared.Told.TheVariants as Told
 use Rattle.journal.specs.declared.Shown.{Shown}
-use Rattle.journal.specs.declared.Shown.TheVariants as Shown
 use Rattle.journal.specs.declared.Begun.{Begun}
-use Rattle.journal.specs.declared.Begun.TheVariants as Begun
 
 abbrev pub board_listed : Refusal → ℕ × Option ℕ
 board_listed (Cut p) = (1, some p)

@@ -19,7 +19,7 @@ use Rattle.rules.specs.State.{State, group, slot, holds, lane_at}
 use Rattle.rules.specs.Sets.{in_group, group_start}
 use Rattle.rules.specs.Good.{Good}
 use Rattle.rules.proofs.Lowest.{LowOf, LowestOf}
-use Rattle.rules.proofs.GroupRule.{in_group, is-in-group, group-low}
+use Rattle.rules.proofs.GroupRule.{in_group_lem, is-in-group, group-low}
 use Rattle.filing.specs.Filing.{sift, slot_at, in_list, in_aRow, Agrees, Window}
 use Rattle.filing.proofs.Sift.{times-sift}
 use Rattle.filing.proofs.Moves.{stands}
@@ -69,7 +69,7 @@ module _ (t : List ℕ) (s : State) (lanes : ℕ) (rows : (k : ℕ) → holds (l
 
       lead-slot : slot_at B (lane_at s lead.at) ≡ start_slot t g
       lead-slot =
-          let i = in_group g (lane_at s lead.at) lead.is in
+          let i = in_group_lem g (lane_at s lead.at) lead.is in
           let same : slot_at B (lane_at s lead.at) * 2 ^ g ≡ start_slot t g * 2 ^ g = omega (arith, start-slot B g (lane_at s lead.at) solid.back_whole hi i.1, lead.start, whole) in
           sym (shl-shr (slot_at B (lane_at s lead.at)) g) ∙ ap (λ (x : ℕ). x / 2 ^ g) same ∙ shl-shr (start_slot t g) g
 

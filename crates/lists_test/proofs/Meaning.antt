@@ -18,7 +18,7 @@ use Rattle.slot_lists.specs.Lists.{groups_at, back_at, start_word, map_word, map
 use Rattle.slot_lists.proofs.Laws.{map_on, map-off, map-held, some-bit, start-on, start-off, list_on, list-some}
 use Rattle.rules.specs.State.{State, group, slot, holds, lane_at}
 use Rattle.rules.specs.Sets.{in_group, group_start}
-use Rattle.rules.proofs.GroupRule.{in_group, is-in-group, group-low}
+use Rattle.rules.proofs.GroupRule.{in_group_lem, is-in-group, group-low}
 use Rattle.filing.specs.Filing.{slot_at, flat, in_aRow, Filing, Starting, Agrees}
 use Rattle.filing.proofs.Moves.{is-standing}
 use Rattle.filing.proofs.Slots.{low-unique, start-slot}
@@ -136,7 +136,7 @@ module _ (t : List ℕ) (s : State) (lanes : ℕ) (rows : (k : ℕ) → holds (l
           is = subst (λ (i : ℕ). in_group i (lane_at s k) ≡ true) x.grp (is-in-group (lane_at s k) x.held);
           start = omega (arith, start-slot B g (lane_at s k) st.back_whole hi x.grp, ap (λ (y : ℕ). y * 2 ^ g) own, (fine g e).whole, whole-slots B g st.back_whole hi);
           bound = λ j h.
-              let i = in_group g (lane_at s j) h in
+              let i = in_group_lem g (lane_at s j) h in
               let y = there j i.0 in
               let same : y.0 ≡ g = sym y.5.grp ∙ i.1 in
               let later : start_slot t g ≤ slot_at B (lane_at s j) = subst (λ (z : ℕ). slot_at B (lane_at s j) ≡ list_slot t z y.1 → start_slot t g ≤ slot_at B (lane_at s j)) (sym same) (λ q. omega (arith, q)) y.5.at in
@@ -147,7 +147,7 @@ module _ (t : List ℕ) (s : State) (lanes : ℕ) (rows : (k : ℕ) → holds (l
         start-off t g ne
         ∙ low-unique (in_group g) s.lanes none (group_start s.lanes g)
         (λ j. not-passed (in_group g (lane_at s j)) (λ h.
-        let i = in_group g (lane_at s j) h in
+        let i = in_group_lem g (lane_at s j) h in
         let y = there j i.0 in
         let same : y.0 ≡ g = sym y.5.grp ∙ i.1 in
         ne (subst (λ (z : ℕ). bit z groups ≡ 1) same y.5.has)))

@@ -10,22 +10,23 @@ mod good;
 mod over;
 mod refused;
 
-fn main() {
-    good::session();
-    good::sixteen();
-    good::wrapped();
-    good::tie();
-    good::finishes();
-    good::framed();
-    good::spare();
-    good::longer();
-    good::clock();
-    refused::room();
-    refused::cut();
-    refused::records();
-    refused::rows();
-    refused::groups();
-    refused::times();
-    refused::lists();
-    refused::lanes();
+fn main(rt: HostRuntime) {
+    let out = rt.stdout();
+    good::session(out);
+    good::sixteen(out);
+    good::wrapped(out);
+    good::tie(out);
+    good::finishes(out);
+    good::framed(out);
+    good::spare(out);
+    good::longer(out);
+    good::clock(out);
+    refused::room(out);
+    refused::cut(out);
+    refused::records(out);
+    refused::rows(out);
+    refused::groups(out);
+    refused::times(out);
+    refused::lists(out);
+    refused::lanes(out);
 }

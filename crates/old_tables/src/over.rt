@@ -1,5 +1,6 @@
 // Converting a case.
 use convert::{Converting, NEW_SIZE, convert};
+use std::io::Stdout;
 
 // Room for a table and eight bytes behind it.
 pub const ROOM: usize = 65544;
@@ -19,34 +20,34 @@ fn stays(new: &[u8], from: usize) -> bool {
     true
 }
 
-fn kept(new: &[u8], from: usize) {
+fn kept(out: Stdout, new: &[u8], from: usize) {
     if stays(new, from) {
-        printed::line(b" stays");
+        printed::line(out, b" stays");
     } else {
-        printed::line(b" CHANGED");
+        printed::line(out, b" CHANGED");
     }
 }
 
 // Converts, and says what was answered and whether the bytes stay that have to.
-pub fn over(name: &[u8], old: &[u8], new: &mut [u8]) {
-    printed::word(name);
-    printed::word(b": ");
+pub fn over(out: Stdout, name: &[u8], old: &[u8], new: &mut [u8]) {
+    printed::word(out, name);
+    printed::word(out, b": ");
     let r = convert(old, new);
     match r {
         Converting::Converted => {
-            printed::word(b"converted, the rest");
-            kept(new, NEW_SIZE);
+            printed::word(out, b"converted, the rest");
+            kept(out, new, NEW_SIZE);
         }
         Converting::Refused(x) => {
-            printed::refusal(x);
-            printed::word(b", all");
-            kept(new, 0);
+            printed::refusal(out, x);
+            printed::word(out, b", all");
+            kept(out, new, 0);
         }
     }
 }
 
 // A case that is not looked at further.
-pub fn only(name: &[u8], old: &[u8]) {
+pub fn only(out: Stdout, name: &[u8], old: &[u8]) {
     let mut new = [MARK; ROOM];
-    over(name, old, &mut new);
+    over(out, name, old, &mut new);
 }

@@ -14,27 +14,31 @@ ghost use Rattle.std.specs.Prelude.{◌≤◌, ◌<◌, length};
 
 use page::{Outcome, Reading};
 use printed_plan::{number, word};
+use std::io::Stdout;
 
 // The number of a page's bytes stands before it.
 const FRAME: usize = 2;
 
-fn print_reading(r: Reading) {
+// Room for all frames.
+const FRAMES: usize = 65536;
+
+fn print_reading(out: Stdout, r: Reading) {
     let outcome = r.outcome;
     match outcome {
         Outcome::Read(edition) => {
             let p = r.plan;
-            number(b"edition ", edition as u64);
-            number(b", format ", p.format as u64);
-            number(b", lanes ", p.count as u64);
-            printed_plan::lanes(p)
+            number(out, b"edition ", edition as u64);
+            number(out, b", format ", p.format as u64);
+            number(out, b", lanes ", p.count as u64);
+            printed_plan::lanes(out, p)
         }
-        Outcome::Refused(x) => printed_plan::refusal(x),
+        Outcome::Refused(x) => printed_plan::refusal(out, x),
     }
-    word(b"\n");
+    word(out, b"\n");
 }
 
 // The frame at a place. Answers where the next one begins.
-fn run_frame(frames: &[u8], at: usize) -> usize
+fn run_frame(out: Stdout, frames: &[u8], at: usize) -> usize
     requires { at < length frames.now }
     ensures { (at < result) × (result ≤ length frames.now) }
 {
@@ -47,19 +51,19 @@ fn run_frame(frames: &[u8], at: usize) -> usize
         return frames.len();
     }
     let to = from + n;
-    print_reading(page::read_page(&frames[from..to]));
+    print_reading(out, page::read_page(&frames[from..to]));
     to
 }
 
-fn run(frames: &[u8]) {
+fn run(out: Stdout, frames: &[u8]) {
     let mut at = 0;
     while at < frames.len() {
-        at = run_frame(frames, at);
+        at = run_frame(out, frames, at);
     }
 }
 
-fn main() {
-    let mut frames = io::large_buffer();
-    let n = io::read_full(libc::STDIN_FILENO, &mut frames);
-    run(&frames[..n]);
+fn main(rt: HostRuntime) {
+    let mut frames = [0u8; FRAMES];
+    let n = streams::read_input(rt, &mut frames).count;
+    run(rt.stdout(), &frames[..n]);
 }

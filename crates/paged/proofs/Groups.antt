@@ -15,7 +15,7 @@ use Rattle.words.specs.Words.{word_at}
 use Rattle.words.proofs.Bits.{low-set, bit-above}
 use Rattle.rules.specs.State.{lane_at, any_holds}
 use Rattle.rules.specs.Sets.{in_group, group_start}
-use Rattle.rules.proofs.GroupRule.{in_group, group-low}
+use Rattle.rules.proofs.GroupRule.{in_group_lem, group-low}
 use Rattle.rules.proofs.Live.{some_holds, holds-some}
 use Rattle.rules.proofs.Lowest.{LowOf, LowestOf}
 use Rattle.slot_lists.specs.Lists.{groups_at, start_word, start_at}
@@ -40,7 +40,7 @@ module _ (t : List ℕ) (f : Filed t) where
       let bounds = f.listed.solid.groups g one in
       let start : group_start (meant t).lanes g ≡ some (word_at t (start_word g)) = sym (f.listed.agrees.started g bounds.0 bounds.1) ∙ start-on t g one in
       let lead : LowestOf (in_group g) (meant t).lanes (word_at t (start_word g)) = subst (LowOf (in_group g) (meant t).lanes) start (group-low (meant t).lanes g) in
-      holds-some (meant t).lanes lead.at (in_group g (lane_at (meant t) lead.at) lead.is).0
+      holds-some (meant t).lanes lead.at (in_group_lem g (lane_at (meant t) lead.at) lead.is).0
 
   pub held-is : (w : ℕ) → w ≡ groups_at t → not (eqb w 0) ≡ any_holds (meant t).lanes
   held-is w e = go (eqb w 0) refl

@@ -15,6 +15,7 @@ use Rattle.rules.proofs.Live.{Live, some_holds, holds-some, nothing-held}
 use Rattle.rules.proofs.NotTen.{NotTen, step-not-ten}
 use Rattle.rules.proofs.Keep.{PickIs, pick_is}
 use Rattle.rules.proofs.AlwaysGood.{Reached, reached-good}
+use Rattle.units.specs.Plain.{if◌then◌else◌}
 use Rattle.pages.specs.Device.{Page, Device, start_page, fresh_device, DeviceReply, in_force_of, DeviceCall, ruled, offer, unread, answered, DeviceOutcome, settled_device, newest_edition, do_offer, device_step, device_step_by}
 use Rattle.pages.specs.Offers.{device_after, DeviceEvent, event_of, device_trace, Read, AllRead, of_rule, of_rules, any_held, accepted_page, newest, free_from, page_in, device_after_by, device_trace_by}
 use Rattle.pages.specs.Claims.{GoodDevice, RefusedKeeps}
@@ -166,7 +167,7 @@ unfolding free_from NoPage
 free-none best past [] b n h = b
 free-none best past (e ∷ a) b n h =
     let m = none-one past e n h.0 in
-    free-none _ (past ++ (e ∷ [])) a (if-ind NoPage (any_held (past ++ (e ∷ []))) best (past ++ (e ∷ [])) (λ t. b) (λ t. m)) m h.1
+    free-none (if any_held (past ++ (e ∷ [])) then best else (past ++ (e ∷ []))) (past ++ (e ∷ [])) a (if-ind NoPage (any_held (past ++ (e ∷ []))) best (past ++ (e ∷ [])) (λ t. b) (λ t. m)) m h.1
 
 pub without-offers : WithoutOffers
 unfolding WithoutOffers in_force_of page_in NoPage

@@ -9,7 +9,7 @@ use Rattle.rules.specs.Runs.{trace}
 use Rattle.rules.specs.Fair.{Fair, Demand3, Compared, TwoLanes, ComparedTight}
 use Rattle.rules.specs.Even.{HoldingTrain, OthersTight}
 use Rattle.rules.proofs.EvenTrains.{others_tight}
-use Rattle.rules.proofs.Fair.{demand3, fair_tight, two_lanes, compared_tight}
+use Rattle.rules.proofs.Fair.{demand3, fair_tight, two_lanes_lem, compared_tight}
 use Rattle.pages.specs.Device.{fresh_device, DeviceCall}
 use Rattle.pages.specs.Offers.{DeviceEvent, device_trace, AllRead, of_rules, in_force}
 use Rattle.pages.specs.Claims.{HeldThroughout, FairPages, Demand3Pages, FairTightPages, InOnePart, ComparedPages, TwoLanesPages, ComparedTightPages, OthersPages, EvenTrainsPages}
@@ -40,7 +40,7 @@ compared-pages M two gs s cs a past stretch rest e i j hi hj =
 
 pub two-lanes-pages : TwoLanesPages
 unfolding TwoLanesPages TwoLanes
-two-lanes-pages = compared-pages (λ (gs : List Setting). margin (framing_of gs)) two_lanes
+two-lanes-pages = compared-pages (λ (gs : List Setting). margin (framing_of gs)) two_lanes_lem
 
 pub compared-tight-pages : ComparedTightPages
 unfolding ComparedTightPages ComparedTight

@@ -1,6 +1,4 @@
 pub mod Lists
-pub mod Held
-pub mod AtPlace
 pub mod Tags
 pub mod Judged
 pub mod Taken

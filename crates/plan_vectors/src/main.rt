@@ -16,12 +16,16 @@ ghost use Rattle.std.specs.Prelude.{◌<◌, ◌≤◌, length};
 
 use plan::{Outcome, Reading};
 use printed_plan::{number, word};
+use std::io::Stdout;
 
 // Room for all vectors.
 const TEXT: usize = 131072;
 
+// Room for the bytes of a line.
+const LINE: usize = 4096;
+
 // A line as far as it is read: bytes found, a digit that waits for its second, whether a comment has begun, and where reading is to begin.
-#[derive(Drop)]
+#[derive(Clone, Copy)]
 struct Line {
     len: usize,
     half: bool,
@@ -30,7 +34,7 @@ struct Line {
     place: usize,
 }
 
-#[derive(Drop)]
+#[derive(Clone, Copy)]
 struct Vector {
     len: usize,
     place: usize,
@@ -142,51 +146,51 @@ fn read_line(text: &[u8], from: usize, bytes: &mut [u8]) -> Vector
     }
 }
 
-fn print_reading(r: Reading) {
+fn print_reading(out: Stdout, r: Reading) {
     let outcome = r.outcome;
     match outcome {
         Outcome::Read(next) => {
             let p = r.plan;
-            number(b"format ", p.format as u64);
-            number(b", lanes ", p.count as u64);
-            number(b" to ", next as u64);
-            printed_plan::lanes(p)
+            number(out, b"format ", p.format as u64);
+            number(out, b", lanes ", p.count as u64);
+            number(out, b" to ", next as u64);
+            printed_plan::lanes(out, p)
         }
-        Outcome::Refused(x) => printed_plan::refusal(x),
+        Outcome::Refused(x) => printed_plan::refusal(out, x),
     }
 }
 
 // The first `n` bytes, read both ways.
-fn print_both(bytes: &[u8], n: usize, place: usize) {
+fn print_both(out: Stdout, bytes: &[u8], n: usize, place: usize) {
     if n <= bytes.len() {
         let s = &bytes[..n];
-        print_reading(plan::read_setup(s));
-        word(b"; ");
-        print_reading(plan::read_plan(s, place));
-        word(b"\n");
+        print_reading(out, plan::read_setup(s));
+        word(out, b"; ");
+        print_reading(out, plan::read_plan(s, place));
+        word(out, b"\n");
     }
 }
 
 // One line of the text. Answers where the next line begins.
-fn run_line(text: &[u8], from: usize) -> usize
+fn run_line(out: Stdout, text: &[u8], from: usize) -> usize
     requires { from < length text.now }
     ensures { (from < result) × (result ≤ length text.now) }
 {
-    let mut bytes = io::buffer();
+    let mut bytes = [0u8; LINE];
     let v = read_line(text, from, &mut bytes);
-    print_both(&bytes, v.len, v.place);
+    print_both(out, &bytes, v.len, v.place);
     v.next
 }
 
-fn run(text: &[u8]) {
+fn run(out: Stdout, text: &[u8]) {
     let mut at = 0;
     while at < text.len() {
-        at = run_line(text, at);
+        at = run_line(out, text, at);
     }
 }
 
-fn main() {
+fn main(rt: HostRuntime) {
     let mut text = [0u8; TEXT];
-    let n = io::read_full(libc::STDIN_FILENO, &mut text);
-    run(&text[..n]);
+    let n = streams::read_input(rt, &mut text).count;
+    run(rt.stdout(), &text[..n]);
 }

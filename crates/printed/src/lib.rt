@@ -3,114 +3,114 @@
 // No line here knows whether a lane is shared. `answer` leaves the train out, `answer_with_train` writes it behind every record.
 #![tactic(auto)]
 
-use libc::STDOUT_FILENO;
 use lines::Place;
 use rules::{Answer, Record, Refusal, SetWords};
 use scheduler::Making;
+use std::io::Stdout;
 
-pub fn word(w: &[u8]) {
-    io::write_all(STDOUT_FILENO, w);
+pub fn word(out: Stdout, w: &[u8]) {
+    let _ = out.write_all(w);
 }
 
-pub fn line(w: &[u8]) {
-    word(w);
-    word(b"\n");
+pub fn line(out: Stdout, w: &[u8]) {
+    word(out, w);
+    word(out, b"\n");
 }
 
-pub fn number(before: &[u8], n: u64) {
-    word(before);
-    io::print_decimal(STDOUT_FILENO, n);
+pub fn number(out: Stdout, before: &[u8], n: u64) {
+    word(out, before);
+    let _ = out.print(n);
 }
 
 // A number with its sign.
-fn signed(z: i64) {
+fn signed(out: Stdout, z: i64) {
     let mut a = [0u8; 20];
     let n = text::put_signed(&mut a, 0, z);
-    io::write_all(STDOUT_FILENO, &a[..n]);
+    let _ = out.write_all(&a[..n]);
 }
 
-fn place(p: Place) {
+fn place(out: Stdout, p: Place) {
     match p {
-        Place::At(at) => number(b" ", at as u64),
+        Place::At(at) => number(out, b" ", at as u64),
         Place::Nowhere => {}
     }
 }
 
 // A refusal of making, with its place; one of the calls, which has none.
-pub fn refusal(x: Refusal) {
-    number(b"no ", lines::number(x));
-    place(lines::place_of(x));
+pub fn refusal(out: Stdout, x: Refusal) {
+    number(out, b"no ", lines::number(x));
+    place(out, lines::place_of(x));
 }
 
-fn record(before: &[u8], r: Record) {
-    number(before, r.lane as u64);
-    number(b" ", r.mark as u64);
-    number(b" ", r.length.0);
+fn record(out: Stdout, before: &[u8], r: Record) {
+    number(out, before, r.lane as u64);
+    number(out, b" ", r.mark as u64);
+    number(out, b" ", r.length.0);
 }
 
-fn words(w: SetWords) {
-    number(b"sets ", w.er);
-    number(b" ", w.ir);
-    number(b" ", w.eb);
-    number(b" ", w.ib);
+fn words(out: Stdout, w: SetWords) {
+    number(out, b"sets ", w.er);
+    number(out, b" ", w.ir);
+    number(out, b" ", w.eb);
+    number(out, b" ", w.ib);
 }
 
-fn lag(z: i64) {
-    word(b"lag ");
-    signed(z);
+fn lag(out: Stdout, z: i64) {
+    word(out, b"lag ");
+    signed(out, z);
 }
 
-fn put_ok(n: u64) {
-    number(b"put ok ", n);
+fn put_ok(out: Stdout, n: u64) {
+    number(out, b"put ok ", n);
 }
 
-fn said(a: Answer) {
+fn said(out: Stdout, a: Answer) {
     match a {
-        Answer::Accepted(n) => put_ok(n),
-        Answer::Taken(r) => record(b"take ", r),
-        Answer::Seen(r) => record(b"look ", r),
-        Answer::Sets(w) => words(w),
-        Answer::Lag(z) => lag(z),
-        Answer::Restarted => word(b"restart ok"),
-        Answer::Refused(x) => refusal(x),
+        Answer::Accepted(n) => put_ok(out, n),
+        Answer::Taken(r) => record(out, b"take ", r),
+        Answer::Seen(r) => record(out, b"look ", r),
+        Answer::Sets(w) => words(out, w),
+        Answer::Lag(z) => lag(out, z),
+        Answer::Restarted => word(out, b"restart ok"),
+        Answer::Refused(x) => refusal(out, x),
     }
 }
 
 // What a call answered.
-pub fn answer(a: Answer) {
-    said(a);
-    word(b"\n");
+pub fn answer(out: Stdout, a: Answer) {
+    said(out, a);
+    word(out, b"\n");
 }
 
-fn train(r: Record) {
-    number(b" ", r.train as u64);
+fn train(out: Stdout, r: Record) {
+    number(out, b" ", r.train as u64);
 }
 
 // The train of a record, where the answer is one.
-fn of_train(a: Answer) {
+fn of_train(out: Stdout, a: Answer) {
     match a {
-        Answer::Taken(r) => train(r),
-        Answer::Seen(r) => train(r),
+        Answer::Taken(r) => train(out, r),
+        Answer::Seen(r) => train(out, r),
         _ => {}
     }
 }
 
 // What a call answered, a record with its train behind it.
-pub fn answer_with_train(a: Answer) {
-    said(a);
-    of_train(a);
-    word(b"\n");
+pub fn answer_with_train(out: Stdout, a: Answer) {
+    said(out, a);
+    of_train(out, a);
+    word(out, b"\n");
 }
 
-fn made(m: Making) {
+fn made(out: Stdout, m: Making) {
     match m {
-        Making::Made(n) => number(b"lanes ", n as u64),
-        Making::Refused(x) => refusal(x),
+        Making::Made(n) => number(out, b"lanes ", n as u64),
+        Making::Refused(x) => refusal(out, x),
     }
 }
 
 // What making answered.
-pub fn making(m: Making) {
-    made(m);
-    word(b"\n");
+pub fn making(out: Stdout, m: Making) {
+    made(out, m);
+    word(out, b"\n");
 }

@@ -6,50 +6,50 @@
 // with `/shared` at the end of a lane that trains share. A lane that is not in the plan is left out.
 #![tactic(auto)]
 
-use libc::STDOUT_FILENO;
 use lines::Place;
 use plan::{LANES, Lane, Plan};
 use rules::Refusal;
+use std::io::Stdout;
 
-pub fn word(w: &[u8]) {
-    io::write_all(STDOUT_FILENO, w);
+pub fn word(out: Stdout, w: &[u8]) {
+    let _ = out.write_all(w);
 }
 
-pub fn number(before: &[u8], n: u64) {
-    word(before);
-    io::print_decimal(STDOUT_FILENO, n);
+pub fn number(out: Stdout, before: &[u8], n: u64) {
+    word(out, before);
+    let _ = out.print(n);
 }
 
-fn place(p: Place) {
+fn place(out: Stdout, p: Place) {
     match p {
-        Place::At(at) => number(b" ", at as u64),
+        Place::At(at) => number(out, b" ", at as u64),
         Place::Nowhere => {}
     }
 }
 
-pub fn refusal(x: Refusal) {
-    number(b"no ", lines::number(x));
-    place(lines::place_of(x));
+pub fn refusal(out: Stdout, x: Refusal) {
+    number(out, b"no ", lines::number(x));
+    place(out, lines::place_of(x));
 }
 
-fn lane(k: usize, l: Lane) {
+fn lane(out: Stdout, k: usize, l: Lane) {
     if l.weight != 0 {
-        number(b" ", k as u64);
-        number(b"/", l.weight as u64);
-        number(b"/", l.longest as u64);
-        number(b"/", l.framing as u64);
+        number(out, b" ", k as u64);
+        number(out, b"/", l.weight as u64);
+        number(out, b"/", l.longest as u64);
+        number(out, b"/", l.framing as u64);
         if l.shared {
-            word(b"/shared");
+            word(out, b"/shared");
         }
     }
 }
 
-pub fn lanes(p: Plan) {
-    word(b",");
+pub fn lanes(out: Stdout, p: Plan) {
+    word(out, b",");
     let lanes = p.lanes;
     let mut k: usize = 0;
     while k < LANES {
-        lane(k, lanes[k]);
+        lane(out, k, lanes[k]);
         k += 1;
     }
 }

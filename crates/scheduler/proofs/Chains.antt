@@ -8,7 +8,7 @@ use Rattle.rules.specs.Setup.{Setup}
 use Rattle.rules.specs.Calls.{Call}
 use Rattle.rules.proofs.AlwaysGood.{reached-good}
 use Rattle.pages.specs.Device.{Device, fresh_device, DeviceCall, ruled, DeviceReply, device_step}
-use Rattle.pages.specs.Offers.{DeviceEvent, device_after, device_after_by, device_trace, device_trace_by, Read, AllRead}
+use Rattle.pages.specs.Offers.{DeviceEvent, event_of, device_after, device_after_by, device_trace, device_trace_by, Read, AllRead}
 use Rattle.pages.specs.Claims.{GoodDevice}
 use Rattle.pages.proofs.Run.{Run, step_run, run-all}
 use Rattle.page.specs.Read.{read_page, PageReply, page_read, page_refused}
@@ -61,11 +61,11 @@ module _ (gs : List Setting) where
   ran past d r e done = record { read = tt; events = refl; encodes = e }
   ran past d {t} r e (then {u = u} {v = v} {c = c} {es = rest} st ch) =
       first-ran past d (ruled c) _ t u v rest r e tt st
-      (ran _ (device_step d (ruled c)).device (step_run gs past d r (ruled c) tt) (st.device (encoded-good t d e (run-good gs past d r)) d e) ch)
+      (ran (past ++ (event_of d (ruled c) ∷ [])) (device_step d (ruled c)).device (step_run gs past d r (ruled c) tt) (st.device (encoded-good t d e (run-good gs past d r)) d e) ch)
   ran past d {t} r e (offers {u = u} {v = v} {es = rest} bytes st ch) =
       let c = offered bytes in
       first-ran past d c _ t u v rest r e (page-read bytes) st
-      (ran _ (device_step d c).device (step_run gs past d r c (page-read bytes)) (st.device (encoded-good t d e (run-good gs past d r)) d e) ch)
+      (ran (past ++ (event_of d c ∷ [])) (device_step d c).device (step_run gs past d r c (page-read bytes)) (st.device (encoded-good t d e (run-good gs past d r)) d e) ch)
 
 -- ---- lists of calls
 

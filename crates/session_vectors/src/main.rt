@@ -11,61 +11,65 @@
 
 ghost use Rattle.std.specs.Prelude.{◌+◌, ◌≤◌, ◌<◌, length};
 
-use libc::STDOUT_FILENO;
 use lines::Place;
+use std::io::Stdout;
 use walk::Stop;
 
 // Bytes of a frame before its session.
 const FRAME: usize = 10;
+
+// Room for all frames.
+const FRAMES: usize = 65536;
 
 // The most bytes of table, a few past the fixed size, and of answer area.
 const TABLE: usize = table::TABLE_SIZE + 20;
 
 const AREA: usize = 65000;
 
-fn print_place(p: Place) {
+fn print_place(out: Stdout, p: Place) {
     match p {
         Place::At(n) => {
-            io::write_all(STDOUT_FILENO, b" ");
-            io::print_decimal(STDOUT_FILENO, n as u64);
+            let _ = out.write_all(b" ");
+            let _ = out.print(n as u64);
         }
         Place::Nowhere => {}
     }
 }
 
-fn print_stop(why: Stop) {
+fn print_stop(out: Stdout, why: Stop) {
     match why {
         Stop::End => {
-            io::write_all(STDOUT_FILENO, b" end\n");
+            let _ = out.write_all(b" end\n");
         }
         Stop::Limit => {
-            io::write_all(STDOUT_FILENO, b" limit\n");
+            let _ = out.write_all(b" limit\n");
         }
         Stop::Refused(x) => {
-            io::write_all(STDOUT_FILENO, b" no ");
-            io::print_decimal(STDOUT_FILENO, lines::number(x));
-            print_place(lines::place_of(x));
-            io::write_all(STDOUT_FILENO, b"\n");
+            let _ = out.write_all(b" no ");
+            let _ = out.print(lines::number(x));
+            print_place(out, lines::place_of(x));
+            let _ = out.write_all(b"\n");
         }
     }
 }
 
-fn run_one(bytes: &[u8], limit: u64, table: &mut [u8], area: &mut [u8]) {
+fn run_one(out: Stdout, bytes: &[u8], limit: u64, table: &mut [u8], area: &mut [u8]) {
     let r = session::run(bytes, limit, table, area);
     let n = r.written;
     let why = r.why;
-    io::write_all(STDOUT_FILENO, b"= ");
-    io::print_decimal(STDOUT_FILENO, r.answered);
-    io::write_all(STDOUT_FILENO, b" ");
-    io::print_decimal(STDOUT_FILENO, n as u64);
-    print_stop(why);
+    let _ = out.write_all(b"= ");
+    let _ = out.print(r.answered);
+    let _ = out.write_all(b" ");
+    let _ = out.print(n as u64);
+    print_stop(out, why);
     if n <= area.len() {
-        io::write_all(STDOUT_FILENO, &area[..n]);
+        let _ = out.write_all(&area[..n]);
     }
 }
 
 // Lends a table and an answer area of these lengths, where there are as many bytes.
 fn run_lent(
+    out: Stdout,
     bytes: &[u8],
     limit: u64,
     table: &mut [u8],
@@ -75,13 +79,13 @@ fn run_lent(
 ) {
     if tables <= table.len() {
         if areas <= area.len() {
-            run_one(bytes, limit, &mut table[..tables], &mut area[..areas]);
+            run_one(out, bytes, limit, &mut table[..tables], &mut area[..areas]);
         }
     }
 }
 
 // The frame at a place. Answers where the next one begins.
-fn run_frame(frames: &[u8], at: usize, table: &mut [u8], area: &mut [u8]) -> usize
+fn run_frame(out: Stdout, frames: &[u8], at: usize, table: &mut [u8], area: &mut [u8]) -> usize
     requires { at < length frames.now }
     ensures { (at < result) × (result ≤ length frames.now) }
 {
@@ -99,21 +103,21 @@ fn run_frame(frames: &[u8], at: usize, table: &mut [u8], area: &mut [u8]) -> usi
         return frames.len();
     }
     let to = from + n;
-    run_lent(&frames[from..to], limit, table, tables, area, areas);
+    run_lent(out, &frames[from..to], limit, table, tables, area, areas);
     to
 }
 
-fn run(frames: &[u8], table: &mut [u8], area: &mut [u8]) {
+fn run(out: Stdout, frames: &[u8], table: &mut [u8], area: &mut [u8]) {
     let mut at = 0;
     while at < frames.len() {
-        at = run_frame(frames, at, table, area);
+        at = run_frame(out, frames, at, table, area);
     }
 }
 
-fn main() {
-    let mut frames = io::large_buffer();
-    let n = io::read_full(libc::STDIN_FILENO, &mut frames);
+fn main(rt: HostRuntime) {
+    let mut frames = [0u8; FRAMES];
+    let n = streams::read_input(rt, &mut frames).count;
     let mut table = [7u8; TABLE];
     let mut area = [7u8; AREA];
-    run(&frames[..n], &mut table, &mut area);
+    run(rt.stdout(), &frames[..n], &mut table, &mut area);
 }

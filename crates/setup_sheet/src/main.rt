@@ -1,6 +1,6 @@
 // The depot's program from a setup, on standard input, to a text sheet, on standard output.
 #![tactic(auto)]
 
-fn main() {
-    depot::serve_sheet();
+fn main(rt: HostRuntime) {
+    depot::serve_sheet(rt);
 }

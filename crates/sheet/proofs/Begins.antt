@@ -4,12 +4,11 @@
 --   begins-behind   a whole line before them
 --
 -- Assumes nothing.
-use Prim.Native.Nat.{ℕ, ◌+◌, ◌<◌}
+use Prim.Native.Nat.{ℕ, ◌<◌}
 use native.Mathlib.Omega.{arith}
 use mathlib.Core.Path.{◌≡◌, refl, sym, ap, ◌∙◌}
 use mathlib.Core.Bool.{Bool, true, false}
 use mathlib.Core.List.{List, [], ◌∷◌, ◌++◌, append_assoc, append-nil}
-use Rattle.plan.specs.declared.parse.SetupField.TheVariants.{Lane}
 use Rattle.text.specs.Decimal.{decimal}
 use Rattle.sheet.specs.Text.{Entry, entry_bytes, ShortNumbers, lines_bytes, AllShort, BeginsSheet}
 use Rattle.sheet.specs.declared.form.Part as part

@@ -15,7 +15,6 @@ use Rattle.plan.specs.declared.Reading.{Reading}
 use Rattle.plan.specs.declared.Outcome.TheVariants.{Read}
 use Rattle.plan_writer.specs.Write.{Planned}
 use Rattle.plan_area.specs.Area.{area_size, AreaRoom, plan_in, Gives, AreaWithin}
-use Rattle.plan_area.specs.declared.Got.TheVariants.{Refused}
 use Rattle.sheet.specs.Read.{read_sheet}
 use Rattle.sheet.proofs.Back.{accepted-sheet}
 use Rattle.sheet_writer.specs.Write.{WritesSheet}

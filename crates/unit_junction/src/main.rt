@@ -1,6 +1,6 @@
 // The unit's program on examples/junction.txt: a session in which trains share a lane.
 #![tactic(auto)]
 
-fn main() {
-    console::serve();
+fn main(rt: HostRuntime) {
+    console::serve(rt);
 }

@@ -1,6 +1,6 @@
 // The unit's program on 32,769 bytes, one more than it reads.
 #![tactic(auto)]
 
-fn main() {
-    console::serve();
+fn main(rt: HostRuntime) {
+    console::serve(rt);
 }

@@ -1,10 +1,7 @@
 -- `find` meets its contract. Assumes nothing.
-use mathlib.Core.Path.{◌≡◌, sym, ◌∙◌}
-use mathlib.Core.Bool.{false}
-use Prim.Native.Nat.{ℕ, ◌-◌, ◌≤◌, ◌<◌}
+use mathlib.Core.Path.{sym, ◌∙◌}
 use native.Mathlib.Omega.{arith}
-use borrow.Author.Rules.{rules}
-use Rattle.desk.specs.Board.{line_at, is_of}
+use Rattle.desk.specs.Board.{is_of}
 use Rattle.board.specs.Layout.{board_of}
 use Rattle.board.proofs.Tested.{missed_more, found_at, found_none}
 use Rattle.board.proofs.find.Goals as goal

@@ -1,6 +1,5 @@
 -- `formed_at` meets its contract. Assumes nothing.
 use native.Mathlib.Omega.{arith}
-use borrow.Author.Rules.{rules}
 use Rattle.board.proofs.formed_at.Goals as goal
 
 pub returns : goal.returns

@@ -1,6 +1,5 @@
 -- `is_free` meets its contract. Assumes nothing.
 use Rattle.board.proofs.Tested.{free-kind}
-use borrow.Author.Rules.{rules}
 use Rattle.board.proofs.is_free.Goals as goal
 
 pub returns : goal.returns

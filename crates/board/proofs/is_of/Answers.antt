@@ -1,6 +1,5 @@
 -- `is_of` meets its contract. Assumes nothing.
 use Rattle.board.proofs.Tested.{of-free, of_other, of-same}
-use borrow.Author.Rules.{rules}
 use Rattle.board.proofs.is_of.Goals as goal
 
 pub returns-then-l-train : goal.returns-then-l-train

@@ -1,6 +1,5 @@
 -- `line_at` meets its contract. Assumes nothing.
 use Rattle.board.proofs.Means.{board-line}
-use borrow.Author.Rules.{rules}
 use Rattle.board.proofs.line_at.Goals as goal
 
 pub returns : goal.returns

@@ -1,10 +1,7 @@
 -- `lowest` meets its contract. Assumes nothing.
-use mathlib.Core.Path.{◌≡◌, sym, ◌∙◌}
-use mathlib.Core.Bool.{false}
-use Prim.Native.Nat.{ℕ, ◌-◌, ◌≤◌, ◌<◌}
+use mathlib.Core.Path.{sym, ◌∙◌}
 use native.Mathlib.Omega.{arith}
-use borrow.Author.Rules.{rules}
-use Rattle.desk.specs.Board.{line_at, is_free}
+use Rattle.desk.specs.Board.{is_free}
 use Rattle.board.specs.Layout.{board_of}
 use Rattle.board.proofs.Tested.{missed_more, found_at, found_none}
 use Rattle.board.proofs.lowest.Goals as goal

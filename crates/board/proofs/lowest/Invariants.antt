@@ -1,12 +1,9 @@
 -- `lowest` meets its contract. Assumes nothing.
-use mathlib.Core.Path.{◌≡◌, sym, ◌∙◌}
+use mathlib.Core.Path.{◌≡◌}
 use mathlib.Core.Bool.{false}
 use Prim.Native.Nat.{ℕ, ◌-◌, ◌≤◌, ◌<◌}
-use native.Mathlib.Omega.{arith}
-use borrow.Author.Rules.{rules}
 use Rattle.desk.specs.Board.{line_at, is_free}
 use Rattle.board.specs.Layout.{board_of}
-use Rattle.board.proofs.Tested.{missed_more, found_at, found_none}
 use Rattle.board.proofs.lowest.Given as goal
 
 abbrev pub invariant-loop-k : goal.invariant-loop-k

@@ -6,7 +6,6 @@ use borrow.Author.Tests.{eqb-true}
 use Rattle.words.specs.Bits.{bit}
 use Rattle.words.proofs.Bits.{shift_one, add-below}
 use Rattle.board.proofs.Tested.{mark_set, mark-add, bit-unset}
-use borrow.Author.Rules.{rules}
 use Rattle.board.proofs.mark.Goals as goal
 
 pub returns-then-marked : goal.returns-then-marked

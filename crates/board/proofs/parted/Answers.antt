@@ -3,7 +3,6 @@ use mathlib.Core.Path.{sym, ◌∙◌}
 use borrow.Author.Tests.{not-true}
 use Rattle.board.specs.Layout.{board_of}
 use Rattle.board.proofs.Tested.{of-free, of-train, parted-free, parted-by, parted-unmarked}
-use borrow.Author.Rules.{rules}
 use mathlib.Core.Path.{ap}
 use mathlib.Core.Bool.{not}
 use Rattle.board.proofs.parted.Goals as goal

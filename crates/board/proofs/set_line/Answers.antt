@@ -2,7 +2,6 @@
 use Prim.Native.Nat.{◌+◌, ◌*◌}
 use mathlib.Core.Path.{ap, ◌∙◌}
 use Rattle.words.specs.Words.{put_word}
-use borrow.Author.Rules.{rules}
 use Rattle.board.proofs.set_line.Goals as goal
 
 pub returns : goal.returns

@@ -1,11 +1,10 @@
 -- `sound` meets its contract. Assumes nothing.
 use mathlib.Core.Path.{◌≡◌, refl, sym, ◌∙◌}
-use Prim.Native.Nat.{◌-◌}
 use native.Mathlib.Omega.{arith}
 use borrow.Author.Tests.{not-true, not-false}
-use lib.ListN.{length, get_or, replicate, length-set}
-use Rattle.board.specs.Layout.{BoardRoom, board_of, SeenBelow}
-use Rattle.board.proofs.Means.{Passed, passed_none, passed-more, passed-all, fails-room, fails-formed, fails-parted}
+use lib.ListN.{get_or, replicate, length-set}
+use Rattle.board.specs.Layout.{board_of}
+use Rattle.board.proofs.Means.{passed_none, passed-more, passed-all, fails-room, fails-formed, fails-parted}
 use Rattle.board.proofs.Tested.{parted-known, seen_none, seen_here, seen_more}
 use mathlib.Core.Path.{ap}
 use mathlib.Core.Bool.{not}

@@ -1,14 +1,9 @@
 -- `sound` meets its contract. Assumes nothing.
-use mathlib.Core.Path.{◌≡◌, refl, sym, ◌∙◌}
+use mathlib.Core.Path.{◌≡◌}
 use Prim.Native.Nat.{◌-◌}
-use native.Mathlib.Omega.{arith}
-use borrow.Author.Tests.{not-true, not-false}
-use lib.ListN.{length, get_or, replicate, length-set}
+use lib.ListN.{length}
 use Rattle.board.specs.Layout.{BoardRoom, board_of, SeenBelow}
-use Rattle.board.proofs.Means.{Passed, passed_none, passed-more, passed-all, fails-room, fails-formed, fails-parted}
-use Rattle.board.proofs.Tested.{parted-known, seen_none, seen_here, seen_more}
-use mathlib.Core.Path.{ap}
-use mathlib.Core.Bool.{not}
+use Rattle.board.proofs.Means.{Passed}
 use Rattle.board.proofs.sound.Given as goal
 
 abbrev pub invariant-loop-k : goal.invariant-loop-k

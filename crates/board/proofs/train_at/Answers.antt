@@ -1,6 +1,5 @@
 -- `train_at` meets its contract. Assumes nothing.
 use Rattle.board.proofs.Tested.{train-of}
-use borrow.Author.Rules.{rules}
 use Rattle.board.proofs.train_at.Goals as goal
 
 pub returns : goal.returns

@@ -9,28 +9,34 @@ use Rattle.lines.proofs.Writing.{Left, left_word, left-number, number_fits, left
 use borrow.Author.Rules.{rules}
 use Rattle.lines.proofs.put_accepted.Goals as goal
 
-room : (d : tie.After-put-word) → d.before.before.before.before.args.at + length (text_line put_ok (d.before.before.before.before.args.n ∷ [])) ≤ length d.before.before.before.before.args.a.now
-room d = let s = d.before.before.before.before in omega (arith, s.requires, one-most put_ok s.args.n (omega arith) s.ranges.n.fits)
-
--- what is left behind the word, and behind the number
-left-1 : (d : tie.After-put-word) → Left d.before.before.before.before.args.a.now d.put_word.new.0 d.before.before.before.before.args.at (text_line put_ok (d.before.before.before.before.args.n ∷ [])) d.put_word.result (text_line [] (d.before.before.before.before.args.n ∷ []))
-left-1 d = left_word put_ok (d.before.before.before.before.args.n ∷ []) (record { is = d.put_word.ensures.0; past = d.put_word.ensures.1 })
-
-left-2 : (d : tie.After-put-spaced) → Left d.before.before.before.before.before.before.before.before.args.a.now d.put-spaced.new.0 d.before.before.before.before.before.before.before.before.args.at (text_line put_ok (d.before.before.before.before.before.before.before.before.args.n ∷ [])) d.put-spaced.result (text_line [] [])
-left-2 d = left-number d.before.before.before.before.before.before.before.before.args.n [] (left-1 d.before.before.before.before) d.put-spaced.ensures
-
 pub put_spaced-q-requires : goal.put_spaced-q-requires
-put_spaced-q-requires c = number_fits c.args.n [] (left-1 c) (room c)
+put_spaced-q-requires c =
+    let room : c.args.at + length (text_line put_ok (c.args.n ∷ [])) ≤ length c.args.a.now = let s = c in omega (arith, s.requires, one-most put_ok s.args.n (omega arith) s.ranges.n.fits) in
+    let left-1 : Left c.args.a.now c.put_word-p.new.a c.args.at (text_line put_ok (c.args.n ∷ [])) c.put_word-p.result (text_line [] (c.args.n ∷ [])) = left_word put_ok (c.args.n ∷ []) (record { is = c.put_word-p.ensures.0; past = c.put_word-p.ensures.1 }) in
+    number_fits c.args.n [] left-1 room
 
 pub bounds-a-q : goal.bounds-a-q
-bounds-a-q c = feed-fits (left-2 c) (room c)
+bounds-a-q c =
+    let room : c.args.at + length (text_line put_ok (c.args.n ∷ [])) ≤ length c.args.a.now = let s = c in omega (arith, s.requires, one-most put_ok s.args.n (omega arith) s.ranges.n.fits) in
+    let left-1 : Left c.args.a.now c.put_word-p.new.a c.args.at (text_line put_ok (c.args.n ∷ [])) c.put_word-p.result (text_line [] (c.args.n ∷ [])) = left_word put_ok (c.args.n ∷ []) (record { is = c.put_word-p.ensures.0; past = c.put_word-p.ensures.1 }) in
+    let left-2 : Left c.args.a.now c.put_spaced-q.new.a c.args.at (text_line put_ok (c.args.n ∷ [])) c.put_spaced-q.result (text_line [] []) = left-number c.args.n [] left-1 c.put_spaced-q.ensures in
+    feed-fits left-2 room
 
 pub overflow_add-result : goal.overflow_add-result
-overflow_add-result c = omega (arith, feed-fits (left-2 c) (room c))
+overflow_add-result c =
+    let room : c.args.at + length (text_line put_ok (c.args.n ∷ [])) ≤ length c.args.a.now = let s = c in omega (arith, s.requires, one-most put_ok s.args.n (omega arith) s.ranges.n.fits) in
+    let left-1 : Left c.args.a.now c.put_word-p.new.a c.args.at (text_line put_ok (c.args.n ∷ [])) c.put_word-p.result (text_line [] (c.args.n ∷ [])) = left_word put_ok (c.args.n ∷ []) (record { is = c.put_word-p.ensures.0; past = c.put_word-p.ensures.1 }) in
+    let left-2 : Left c.args.a.now c.put_spaced-q.new.a c.args.at (text_line put_ok (c.args.n ∷ [])) c.put_spaced-q.result (text_line [] []) = left-number c.args.n [] left-1 c.put_spaced-q.ensures in
+    omega (arith, feed-fits left-2 room)
 
 pub shape_of-a : goal.shape_of-a
-shape_of-a c = simp length-set (left-2 c).same
+shape_of-a c =
+    let left-1 : Left c.args.a.now c.put_word-p.new.a c.args.at (text_line put_ok (c.args.n ∷ [])) c.put_word-p.result (text_line [] (c.args.n ∷ [])) = left_word put_ok (c.args.n ∷ []) (record { is = c.put_word-p.ensures.0; past = c.put_word-p.ensures.1 }) in
+    let left-2 : Left c.args.a.now c.put_spaced-q.new.a c.args.at (text_line put_ok (c.args.n ∷ [])) c.put_spaced-q.result (text_line [] []) = left-number c.args.n [] left-1 c.put_spaced-q.ensures in
+    simp length-set left-2.same
 
 pub returns : goal.returns
 returns c =
-    let s = c in record { wrote = left-feed (left-2 c); most = one-most put_ok s.args.n (omega arith) s.ranges.n.fits }
+    let left-1 : Left c.args.a.now c.put_word-p.new.a c.args.at (text_line put_ok (c.args.n ∷ [])) c.put_word-p.result (text_line [] (c.args.n ∷ [])) = left_word put_ok (c.args.n ∷ []) (record { is = c.put_word-p.ensures.0; past = c.put_word-p.ensures.1 }) in
+    let left-2 : Left c.args.a.now c.put_spaced-q.new.a c.args.at (text_line put_ok (c.args.n ∷ [])) c.put_spaced-q.result (text_line [] []) = left-number c.args.n [] left-1 c.put_spaced-q.ensures in
+    let s = c in record { wrote = left-feed left-2; most = one-most put_ok s.args.n (omega arith) s.ranges.n.fits }

@@ -20,7 +20,7 @@ pub put_signed-p-requires : goal.put_signed-p-requires
 put_signed-p-requires c =
     let s = c in
     let w = c.put_word-p in
-    rw (to_z-of_z w64 s.args.z s.ranges.z) (omega (arith, s.requires, w.ensures.1, w.auto.0, signed-most s.args.z s.ranges.z))
+    rw (to_z-of_z w64 s.args.z s.ranges.z) (omega (arith, s.requires, w.ensures.1, w.auto.a, signed-most s.args.z s.ranges.z))
 
 pub bounds-a-p : goal.bounds-a-p
 bounds-a-p c =

@@ -23,11 +23,11 @@ bounds-lanes-k-in-Shared-2 c = omega (arith, subst Numbered c.in-Shared.is c.req
 
 pub returns-in-Lane : goal.returns-in-Lane
 returns-in-Lane c =
-    let a = c.args in map-set setting_of a.t1 c.in-Lane.l.lane c.lane_of.result ∙ ap (set (map setting_of a.t1) c.in-Lane.l.lane) c.lane_of.ensures ∙ sym (ap (placed a.format a.framing (map setting_of a.t1)) c.in-Lane.is)
+    let a = c.args in map-set setting_of a.lanes c.in-Lane.l.lane c.lane_of.result ∙ ap (set (map setting_of a.lanes) c.in-Lane.l.lane) c.lane_of.ensures ∙ sym (ap (placed a.format a.framing (map setting_of a.lanes)) c.in-Lane.is)
 
 pub returns-in-Shared : goal.returns-in-Shared
 returns-in-Shared c =
     let a = c.args in
-    map-set setting_of a.t1 c.in-Shared.l _
-    ∙ ap (λ (x : Setting). set (map setting_of a.t1) c.in-Shared.l (as_shared x)) (sym (get_or-map setting_of a.t1 c.in-Shared.l (record { weight = 0; longest = 0; framing = 0; shared = false })))
-    ∙ sym (ap (placed a.format a.framing (map setting_of a.t1)) c.in-Shared.is)
+    map-set setting_of a.lanes c.in-Shared.l _
+    ∙ ap (λ (x : Setting). set (map setting_of a.lanes) c.in-Shared.l (as_shared x)) (sym (get_or-map setting_of a.lanes c.in-Shared.l (record { weight = 0; longest = 0; framing = 0; shared = false })))
+    ∙ sym (ap (placed a.format a.framing (map setting_of a.lanes)) c.in-Shared.is)

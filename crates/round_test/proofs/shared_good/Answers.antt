@@ -13,12 +13,12 @@ use borrow.Author.Rules.{rules}
 use Rattle.round_test.proofs.shared_good.Goals as goal
 
 pub returns-then-order-end : goal.returns-then-order-end
-returns-then-order-end c =
+returns-then-order-end c g =
     let few = c.if-named-gt8.false in
     omega (arith, c.if-order-end.true, g.ordered.fits, end_is (c.args.round / 4294967296) few)
 
 pub returns-then-held-count : goal.returns-then-held-count
-returns-then-held-count c =
+returns-then-held-count c g =
     let s = c in
     let o = ordered-is s.args.round c.if-named-gt8.false c.if-order-end.false in
     c.if-held-count.true (c.held.ensures ∙ good-count s.args.longest s.args.round s.args.count (numbers_at s.args.t.now s.args.trains) (lengths_at s.args.t.now s.args.lengths) o (λ p. omega arith) s.requires.4 g)

@@ -8,6 +8,7 @@ use Rattle.round_test.specs.Shared.{numbers_at, lengths_at}
 use Rattle.round_test.proofs.Answers.{says-true, says-false}
 use Rattle.round_test.proofs.Tally.{Tallying, tallying-none, one-small, small, head-only, waits, covers, not-head, too_much, tally-says}
 use Rattle.round_test.proofs.trains_good.Goals as goal
+use Rattle.round_test.proofs.trains_good.Goals.{then-holds+then-covered+else-train-longest, then-holds+else-covered, else-holds+else-train-ge-COUNT_UNIT}
 
 pub loop-k-init : goal.loop-k-init
 loop-k-init c = tallying-none _ _ _
@@ -77,14 +78,16 @@ loop-k-preserved c =
     let one = shift_one l.k (omega (arith, lt)) in
     let to : (x y : ℕ) → x ≡ y → Tallying a.longest (numbers_at a.t.now a.trains) (lengths_at a.lens.now a.lengths) y (l.k + 1) → Tallying a.longest (numbers_at a.t.now a.trains) (lengths_at a.lens.now a.lengths) x (l.k + 1) =
     λ x y e i. subst (λ (z : ℕ). Tallying a.longest (numbers_at a.t.now a.trains) (lengths_at a.lens.now a.lengths) z (l.k + 1)) (sym e) i in
-    ⊎_elim
-    (λ w. to _ _ (w.4 ∙ ap (λ (x : ℕ). l.tally + (x + 256) + 4096 * x) one)
-    (covers _ _ _ _ _ l.invariant lt _ is (says-true s.holds.result s.holds.ensures w.0.taken) (says-true w.1.result w.1.ensures w.2.taken) w.3.left))
-    (⊎_elim
-    (λ w. to _ _ (w.3 ∙ ap (λ (x : ℕ). l.tally + (x + 256)) one)
-    (waits _ _ _ _ _ l.invariant lt _ is (says-true s.holds.result s.holds.ensures w.0.taken) (says-false w.1.result w.1.ensures w.2.left)))
-    (λ w. to _ _ w.2 (head-only _ _ _ _ _ l.invariant lt _ is w.1.left (omega arith))))
-    c.if-holds.branch
+    elim c.if-holds.branch [
+      | then-holds+then-covered+else-train-longest w ↦
+          to _ _ (w.tally-is ∙ ap (λ (x : ℕ). l.tally + (x + 256) + 4096 * x) one)
+          (covers _ _ _ _ _ l.invariant lt _ is (says-true s.holds.result s.holds.ensures w.if-holds.true) (says-true w.covered.result w.covered.ensures w.if-covered.true) w.if-train-longest.false)
+      | then-holds+else-covered w ↦
+          to _ _ (w.tally-is ∙ ap (λ (x : ℕ). l.tally + (x + 256)) one)
+          (waits _ _ _ _ _ l.invariant lt _ is (says-true s.holds.result s.holds.ensures w.if-holds.true) (says-false w.covered.result w.covered.ensures w.if-covered.false))
+      | else-holds+else-train-ge-COUNT_UNIT w ↦
+          to _ _ w.tally-is (head-only _ _ _ _ _ l.invariant lt _ is w.if-train-ge-COUNT_UNIT.false (omega arith))
+    ]
 
 pub wanted-requires : goal.wanted-requires
 wanted-requires c = c.requires.2

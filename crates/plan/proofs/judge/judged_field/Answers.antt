@@ -26,23 +26,26 @@ returns-then-misplaced c =
 
 pub faulted-weighed-requires : goal.faulted-weighed-requires
 faulted-weighed-requires c =
+    let item-is : setup_item_at c.args.s.now c.args.at ≡ whole_field c.in-Whole.field c.in-Whole.next = sym c.field_at-parsed.ensures ∙ ap setup_item_of c.in-Whole.is in
     let k = c in
     let a = k.args in
     fits a.at k.in-Whole.next c.over.result (over a.seen k.in-Whole.field) c.over.ensures
-    (over-in a.s.now a.at k.in-Whole.field k.in-Whole.next (stands (item-is k)) a.seen)
+    (over-in a.s.now a.at k.in-Whole.field k.in-Whole.next (stands item-is) a.seen)
 
 pub faulted-requires : goal.faulted-requires
 faulted-requires c =
+    let item-is : setup_item_at c.args.s.now c.args.at ≡ whole_field c.in-Whole.field c.in-Whole.next = sym c.field_at-parsed.ensures ∙ ap setup_item_of c.in-Whole.is in
     let k = c in
     let a = k.args in
     fits a.at k.in-Whole.next c.outside.result (outside k.in-Whole.field) c.outside.ensures
-    (outside-in a.s.now a.at k.in-Whole.field k.in-Whole.next (stands (item-is k)))
+    (outside-in a.s.now a.at k.in-Whole.field k.in-Whole.next (stands item-is))
 
 pub returns : goal.returns
 returns c =
+    let item-is : setup_item_at c.args.s.now c.args.at ≡ whole_field c.in-Whole.field c.in-Whole.next = sym c.field_at-parsed.ensures ∙ ap setup_item_of c.in-Whole.is in
     let o = c in
     let k = o in
     let a = k.args in
     both a.at c.outside.result c.over.result (outside k.in-Whole.field) (over a.seen k.in-Whole.field) (setup_item_of c.faulted.result) (setup_item_of c.faulted-weighed.result)
     (whole_field k.in-Whole.field k.in-Whole.next) c.faulted.ensures c.outside.ensures c.faulted-weighed.ensures c.over.ensures
-    ∙ sym (judged-faults _ _ _ _ _ (item-is k) (sym o.misplaced.ensures ∙ o.if-misplaced.false))
+    ∙ sym (judged-faults _ _ _ _ _ item-is (sym o.misplaced.ensures ∙ o.if-misplaced.false))

@@ -39,4 +39,4 @@ returns-in-18 c =
 
 pub returns-in_default : goal.returns-in_default
 returns-in_default c =
-    let a = c.args in sym (field_end a.s.now a.tag a.at a.n c.in_default.rest.0.0.0.1 c.in_default.rest.0.0.1 c.in_default.rest.0.1 c.in_default.rest.1)
+    let a = c.args in sym (field_end a.s.now a.tag a.at a.n c.in_default.in_default-own.rest.0.0.0.1 c.in_default.in_default-own.rest.0.0.1 c.in_default.in_default-own.rest.0.1 c.in_default.in_default-own.rest.1)

@@ -1,0 +1,18 @@
+-- `lanes_good` meets its contract. The loop's invariant: the lanes below some number are passed, and what is left of the word are its bits from there on.
+-- Assumes nothing.
+use Prim.Native.Nat.{ℕ}
+use mathlib.Core.List.{List}
+use Rattle.table.specs.Layout.{cells}
+use Rattle.good.proofs.Walk.{Tested, Walked}
+use Rattle.old_table.specs.Tested.{OldLaneGood}
+use Rattle.old_table.proofs.Reading.{old}
+use Rattle.old_table.proofs.lanes_good.Given as goal
+
+abbrev tested : (v : ℕ) (w : List ℕ) → Tested v w
+tested v w = record { kept = old w; Passes = OldLaneGood v w; fine = λ k g. g.fine }
+
+abbrev pub invariant-loop-rest : goal.invariant-loop-rest
+invariant-loop-rest l = Walked (tested l.v.0 (cells l.t)) l.rest l.found
+
+abbrev pub decreases-loop-rest : goal.decreases-loop-rest
+decreases-loop-rest l = l.rest

@@ -1,0 +1,33 @@
+-- `page::parse::parsed_field` meets its contract. Assumes nothing.
+use Prim.Native.Nat.{◌+◌}
+use borrow.Author.Rules.{rules}
+use lib.ListN.{length}
+use native.Mathlib.Omega.{arith}
+use Rattle.fields.proofs.Tested.{passed, passed-within, tested-whole, tested}
+use mathlib.Core.Path.{ap}
+use mathlib.Core.Bool.{not}
+use Rattle.page.proofs.parse.parsed_field.Goals as goal
+
+pub returns-then-not-known : goal.returns-then-not-known
+returns-then-not-known c = search tested
+
+pub returns-then-not-fitting : goal.returns-then-not-fitting
+returns-then-not-fitting c = search tested
+
+pub returns-then-not-fits : goal.returns-then-not-fits
+returns-then-not-fits c = search tested
+
+pub field_of-requires : goal.field_of-requires
+field_of-requires c = (passed _ _ c.fitting.ensures (ap not c.if-not-fitting.false), passed-within _ _ _ c.fits.ensures (ap not c.if-not-fits.false))
+
+pub overflow_add-result : goal.overflow_add-result
+overflow_add-result c = omega (arith, passed-within _ (c.in-Header.value + c.in-Header.length) (length c.args.s.now) c.fits.ensures (ap not c.if-not-fits.false))
+
+pub returns-in-Nothing : goal.returns-in-Nothing
+returns-in-Nothing c = search tested
+
+pub returns-in-Cut : goal.returns-in-Cut
+returns-in-Cut c = search tested
+
+pub returns-else-not-fits : goal.returns-else-not-fits
+returns-else-not-fits c = tested-whole _ _ _ _ _ _ _ _ _ _ c.field_at.ensures c.in-Header.is c.known.ensures (ap not c.if-not-known.false) c.fitting.ensures (ap not c.if-not-fitting.false) c.fits.ensures (ap not c.if-not-fits.false) _ c.field_of.ensures

@@ -1,0 +1,7 @@
+use Rattle.table.specs.Means.{state_of}
+use borrow.Author.Rules.{rules}
+use Rattle.table.proofs.clock.Goals as goal
+
+pub returns : goal.returns
+unfolding state_of
+returns c = c.cell.ensures
