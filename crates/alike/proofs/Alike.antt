@@ -6,7 +6,8 @@ use mathlib.Core.Bool.{Bool, true, false}
 use mathlib.Core.List.{List, [], ◌∷◌}
 use lib.Dec.{leb}
 use lib.ListN.{get_or}
-use Rattle.units.specs.Plain.{if◌then◌else◌, times}
+use Rattle.std.specs.Prelude.{if◌then◌else◌}
+use Rattle.units.specs.Plain.{times}
 use Rattle.rules.specs.State.{clock_far, clock_step, Rec, Lane, no_lane, State, group, holds, lane_at}
 use Rattle.rules.specs.Calls.{Call, Reply, accept, fresh, step, taken_off, lower_all, shifted}
 use Rattle.rules.specs.Runs.{after, Event, trace}

@@ -4,7 +4,7 @@ use mathlib.Core.Path.{refl, ap, subst}
 use mathlib.Core.Bool.{Bool, true, false}
 use mathlib.Core.Option.{Option, none, some}
 use lib.Dec.{leb}
-use Rattle.units.specs.Plain.{if◌then◌else◌}
+use Rattle.std.specs.Prelude.{if◌then◌else◌}
 use Rattle.rules.specs.State.{State, any_holds}
 use Rattle.rules.specs.Calls.{refused, step}
 use Rattle.pages.specs.Device.{Page, in_force_of, DeviceCall, ruled, offer, unread, answered, in_force_now, waits_now, settled_device, newest_edition, do_offer, device_step_by, device_step}

@@ -8,7 +8,8 @@ use mathlib.Core.List.{List, [], ◌∷◌, ◌++◌}
 use lib.Dec.{ltb, eqb, leb-suc-suc}
 use lib.ListN.{length}
 use borrow.Author.Tests.{eqb-true, eqb-false, eq-eqb, ne_eqb, lt-ltb, le-ltb}
-use Rattle.units.specs.Plain.{if◌then◌else◌, place, times, without}
+use Rattle.std.specs.Prelude.{if◌then◌else◌}
+use Rattle.units.specs.Plain.{place, times, without}
 
 -- a number that stands in a list has its place there, whatever follows
 pub place-append : (j : ℕ) (xs ys : List ℕ) → 0 < times j xs → place j (xs ++ ys) ≡ place j xs

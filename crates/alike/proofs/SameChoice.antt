@@ -10,7 +10,8 @@ use mathlib.Core.List.{List, [], ◌∷◌, ◌++◌}
 use lib.Dec.{ltb}
 use lib.ListN.{length, get_or, set}
 use borrow.Author.Tests.{ltb-true, ltb-false}
-use Rattle.units.specs.Plain.{if◌then◌else◌, place, times}
+use Rattle.std.specs.Prelude.{if◌then◌else◌}
+use Rattle.units.specs.Plain.{place, times}
 use Rattle.units.proofs.Lists.{set_cases}
 use Rattle.rules.specs.State.{first_of, Lane, no_lane, State, group, slot, finish_r, holds}
 use Rattle.rules.specs.Choice.{Candidate, choose}

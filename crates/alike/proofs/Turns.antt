@@ -7,7 +7,8 @@ use mathlib.Core.Option.{Option, none, some}
 use mathlib.Core.List.{List, [], ◌∷◌, ◌++◌, append-nil}
 use lib.Dec.{ltb}
 use lib.ListN.{length, get_or, set}
-use Rattle.units.specs.Plain.{if◌then◌else◌, place, without}
+use Rattle.std.specs.Prelude.{if◌then◌else◌}
+use Rattle.units.specs.Plain.{place, without}
 use Rattle.units.proofs.Lists.{set_cases}
 use Rattle.rules.specs.State.{Rec, Lane, no_lane, State, group, start_r, holds, setup_of, any_holds, lane_at}
 use Rattle.rules.specs.Calls.{Call, put, take, look, sets, lag, restart, Outcome, no, put_refusal, appended, woken, accept, put_of, do_put, served, serve, Pick, picked, take_of, do_take, look_of, do_look, do_sets, lag_of, lagged, do_lag, fresh, restarted, do_restart, step, shifted}

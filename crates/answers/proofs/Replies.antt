@@ -6,7 +6,7 @@ use mathlib.Core.Bool.{Bool, true, false}
 use mathlib.Core.List.{List}
 use mathlib.Core.Option.{Option, none, some}
 use lib.Dec.{ltb}
-use Rattle.units.specs.Plain.{if◌then◌else◌}
+use Rattle.std.specs.Prelude.{if◌then◌else◌}
 use Rattle.rules.specs.State.{Rec, Setting, State, some?, first_of, lane_at, any_holds, setup_of, setting_at}
 use Rattle.rules.specs.Sets.{groups, ready, ineligible_ready, eligible_blocked, ineligible_blocked}
 use Rattle.rules.specs.Calls.{Call, put, take, look, sets, lag, restart, Reply, lagged, restarted, Outcome, Pick, no, put_refusal, put_of, do_put, picked, take_of, do_take, look_of, do_look, do_sets, lag_of, do_lag, fresh, do_restart, step}

@@ -17,9 +17,8 @@
 --   SeenBelow, SeenHere       the bits of the trains that the test has passed: of all, and of one line's train
 --
 -- Assumes nothing.
-use Rattle.std.specs.Prelude.{ℕ, ◌+◌, ◌*◌, ◌/◌, ◌%◌, ◌≤◌, ◌<◌, ◌≡◌, Bool, true, false, ◌⊎◌, List, eqb, ltb, leb, length, get_or}
+use Rattle.std.specs.Prelude.{ℕ, ◌+◌, ◌*◌, ◌/◌, ◌%◌, ◌≤◌, ◌<◌, ◌≡◌, Bool, true, false, ◌⊎◌, List, eqb, ltb, leb, length, get_or, if◌then◌else◌}
 use Rattle.std.proofs.Math.Option.{Option, none, some}
-use Rattle.units.specs.Plain.{if◌then◌else◌}
 use Rattle.words.specs.Runs.{tab}
 use Rattle.words.specs.Bits.{bit}
 use Rattle.words.specs.Words.{word_at, put_word}

@@ -11,7 +11,8 @@ use mathlib.Core.List.{List}
 use mathlib.Core.Option.{none, some}
 use lib.Dec.{leb, ltb}
 use borrow.Author.Tests.{ltb-true, ltb-false, lt-ltb}
-use Rattle.units.specs.Plain.{if◌then◌else◌, any_below, word_of}
+use Rattle.std.specs.Prelude.{if◌then◌else◌}
+use Rattle.units.specs.Plain.{any_below, word_of}
 use Rattle.rules.specs.State.{Lane, State}
 use Rattle.rules.specs.Sets.{groups, group_start, held_start, reached, finish_from, group_holds, group_eligible, group_finish, blocks, blocked, ready, ineligible_ready, eligible_blocked, ineligible_blocked}
 use Rattle.units.specs.declared.Clock.{Clock}

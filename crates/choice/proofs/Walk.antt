@@ -8,7 +8,8 @@ use mathlib.Core.Bool.{Bool, true, false}
 use mathlib.Core.Logic.{◌⊎◌, ⊎_elim}
 use lib.Count.{count_leading_zeros, leading_top}
 use lib.Pow.{pow_mono}
-use Rattle.units.specs.Plain.{if◌then◌else◌, word_of}
+use Rattle.std.specs.Prelude.{if◌then◌else◌}
+use Rattle.units.specs.Plain.{word_of}
 use Rattle.units.proofs.Bools.{not-passed}
 use Rattle.rules.proofs.Word.{word_lt}
 

@@ -6,8 +6,7 @@
 --   AreWords     the words are those of a state
 --
 -- Assumes nothing.
-use Rattle.std.specs.Prelude.{ℕ, ◌+◌, ◌*◌, ◌^◌, ◌<◌, min, ◌≡◌, Bool, not, ◌&&◌, leb, ltb}
-use Rattle.units.specs.Plain.{if◌then◌else◌}
+use Rattle.std.specs.Prelude.{ℕ, ◌+◌, ◌*◌, ◌^◌, ◌<◌, min, ◌≡◌, Bool, not, ◌&&◌, leb, ltb, if◌then◌else◌}
 use Rattle.rules.specs.State.{State}
 use Rattle.rules.specs.Sets.{set_word, ready, ineligible_ready, eligible_blocked, ineligible_blocked}
 use Rattle.rules.specs.declared.SetWords.{SetWords}

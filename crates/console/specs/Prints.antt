@@ -4,9 +4,8 @@
 --   Prints    the text stands at the front of the answer area
 --
 -- Assumes nothing.
-use Rattle.std.specs.Prelude.{ℕ, ◌≤◌, ◌≡◌, List, ◌++◌, ltb, length, drop}
+use Rattle.std.specs.Prelude.{ℕ, ◌≤◌, ◌≡◌, List, ◌++◌, ltb, length, drop, if◌then◌else◌}
 use Rattle.std.proofs.Math.Option.{none}
-use Rattle.units.specs.Plain.{if◌then◌else◌}
 use Rattle.lines.specs.Line.{no_line}
 use Rattle.walk.specs.Script.{script}
 

@@ -7,9 +7,8 @@
 --   PrintsText      a text stands at the front of the lent bytes, and the bytes past it stay
 --
 -- Assumes nothing.
-use Rattle.std.specs.Prelude.{ℕ, ◌+◌, ◌≤◌, ◌≡◌, List, ◌++◌, ltb, eqb, length, drop}
+use Rattle.std.specs.Prelude.{ℕ, ◌+◌, ◌≤◌, ◌≡◌, List, ◌++◌, ltb, eqb, length, drop, if◌then◌else◌}
 use Rattle.std.proofs.Math.Option.{none}
-use Rattle.units.specs.Plain.{if◌then◌else◌}
 use Rattle.rules.specs.Setup.{framing_of}
 use Rattle.lines.specs.Line.{no_line}
 use Rattle.plan.specs.Read.{SetupReply, setup_read, setup_refused, read_setup, settings}

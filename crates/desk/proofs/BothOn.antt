@@ -7,7 +7,7 @@ use lib.Dec.{ltb}
 use lib.ListN.{length, length-set}
 use lib.Seq.{set_comm}
 use borrow.Author.Tests.{ne_eqb}
-use Rattle.units.specs.Plain.{if◌then◌else◌}
+use Rattle.std.specs.Prelude.{if◌then◌else◌}
 use Rattle.desk.specs.Board.{Handover, Board, line_at, train_line, lowest}
 use Rattle.desk.specs.Calls.{enter_record, known_kind, record_judged, record_refusal, record_entered, board_step}
 use Rattle.desk.specs.Claims.{InEitherOrder}

@@ -8,7 +8,7 @@ use mathlib.Core.Option.{Option, none, some}
 use lib.Dec.{ltb}
 use lib.ListN.{length, set, length-set}
 use borrow.Author.Tests.{ne_eqb}
-use Rattle.units.specs.Plain.{if◌then◌else◌}
+use Rattle.std.specs.Prelude.{if◌then◌else◌}
 use Rattle.desk.specs.Board.{Handover, Board, line_at, is_of, is_free, train_line, lowest}
 use Rattle.desk.specs.Calls.{enter_record, told, known_kind, record_judged, record_refusal, target, record_entered, board_step}
 use Rattle.desk.specs.Claims.{InEitherOrder, Commutes}

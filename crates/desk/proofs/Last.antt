@@ -9,7 +9,7 @@ use mathlib.Core.Option.{Option, none, some}
 use lib.Dec.{eqb, ltb}
 use lib.ListN.{length}
 use borrow.Author.Tests.{eq-eqb, ne_eqb, le-ltb}
-use Rattle.units.specs.Plain.{if◌then◌else◌}
+use Rattle.std.specs.Prelude.{if◌then◌else◌}
 use Rattle.units.proofs.Bools.{if-same}
 use Rattle.words.proofs.Runs.{eq-or-ne}
 use Rattle.desk.specs.Board.{Handover, Board, line_at, train_line, lowest, train_shown, Makeable}

@@ -9,7 +9,7 @@ use lib.Dec.{eqb, ltb}
 use lib.ListN.{length, set, get_or-eq_default}
 use lib.Seq.{get_or-set_same, get_or-set_other}
 use borrow.Author.Tests.{eqb-true, eq-eqb, ne_eqb, ltb-true, lt-ltb, le-ltb}
-use Rattle.units.specs.Plain.{if◌then◌else◌}
+use Rattle.std.specs.Prelude.{if◌then◌else◌}
 use Rattle.words.proofs.Runs.{le-or-lt}
 use Rattle.desk.specs.Board.{Handover, Board, line_at, is_of, is_free, train_line, lowest, train_shown, Makeable}
 use Rattle.desk.specs.Calls.{known_kind, in_sequence, follows, record_judged, record_refusal, target}

@@ -8,7 +8,7 @@ use mathlib.Core.List.{List, [], ◌∷◌}
 use mathlib.Core.Option.{Option, none, some}
 use lib.ListN.{length, set, length-set}
 use borrow.Author.Tests.{eq-eqb, ne_eqb}
-use Rattle.units.specs.Plain.{if◌then◌else◌}
+use Rattle.std.specs.Prelude.{if◌then◌else◌}
 use Rattle.words.proofs.Runs.{eq-or-ne}
 use Rattle.desk.specs.Board.{Handover, Board, empty_board, line_at, is_of, is_free, train_line, lowest, train_shown, Makeable}
 use Rattle.desk.specs.Calls.{BoardCall, enter_record, clear, told, record_refusal, target, record_entered, left, record_cleared, board_step, board_after, board_trace, AllSayable, is_told, noted, last_of}

@@ -9,9 +9,8 @@
 --   last_of                                a train's last accepted record since its last clear, from the calls and their replies alone
 --
 -- 29 and 1 to 3 are of bytes and fields, which these rules know nothing of. Assumes nothing.
-use Rattle.std.specs.Prelude.{ℕ, ◌+◌, ◌<◌, ◌≡◌, Bool, true, false, ◌&&◌, ◌||◌, not, List, [], ◌∷◌, eqb, ltb, length, set}
+use Rattle.std.specs.Prelude.{ℕ, ◌+◌, ◌<◌, ◌≡◌, Bool, true, false, ◌&&◌, ◌||◌, not, List, [], ◌∷◌, eqb, ltb, length, set, if◌then◌else◌}
 use Rattle.std.proofs.Math.Option.{Option, none, some}
-use Rattle.units.specs.Plain.{if◌then◌else◌}
 use Rattle.desk.specs.Board.{Handover, Board, empty_board, line_at, train_line, lowest, InField}
 
 pub data BoardCall : Type 0 where

@@ -8,9 +8,8 @@
 --   EndsAtLast      R11.17: after sequence 4,294,967,295 nothing of that train is accepted until it is cleared
 --
 -- Assumes nothing.
-use Rattle.std.specs.Prelude.{ℕ, ◌<◌, ◌≡◌, true, false, ◌⊎◌, List, [], ◌∷◌, length}
+use Rattle.std.specs.Prelude.{ℕ, ◌<◌, ◌≡◌, true, false, ◌⊎◌, List, [], ◌∷◌, length, if◌then◌else◌}
 use Rattle.std.proofs.Math.Option.{none, some}
-use Rattle.units.specs.Plain.{if◌then◌else◌}
 use Rattle.desk.specs.Board.{Handover, Board, empty_board, line_at, is_of, is_free, train_line, train_shown, Makeable}
 use Rattle.desk.specs.Calls.{BoardCall, enter_record, clear, told, board_refused, known_kind, board_step, board_after, board_trace, Sayable, AllSayable, MadeBoard, last_of}
 

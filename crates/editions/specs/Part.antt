@@ -9,9 +9,8 @@
 --   Stores               what a store leaves
 --
 -- Assumes nothing.
-use Rattle.std.specs.Prelude.{ℕ, ◌+◌, ◌*◌, ◌≤◌, ◌<◌, ◌≡◌, Bool, true, List, eqb, length, drop}
+use Rattle.std.specs.Prelude.{ℕ, ◌+◌, ◌*◌, ◌≤◌, ◌<◌, ◌≡◌, Bool, true, List, eqb, length, drop, if◌then◌else◌}
 use Rattle.std.proofs.Math.Option.{Option, none, some}
-use Rattle.units.specs.Plain.{if◌then◌else◌}
 use Rattle.words.specs.Words.{word_at}
 use Rattle.rules.specs.Setup.{Setup}
 use Rattle.pages.specs.Device.{Page}

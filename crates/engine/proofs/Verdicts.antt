@@ -6,7 +6,7 @@ use mathlib.Core.Bool.{Bool, true, false, or-true}
 use mathlib.Core.Option.{none, some}
 use lib.Dec.{ltb}
 use borrow.Author.Tests.{lt-ltb, le-ltb}
-use Rattle.units.specs.Plain.{if◌then◌else◌}
+use Rattle.std.specs.Prelude.{if◌then◌else◌}
 use Rattle.waiting.specs.Waiting.{full, known}
 use Rattle.rules.specs.State.{Rec, State, Lane, lane_at}
 use Rattle.rules.specs.Calls.{put_refusal}

@@ -8,7 +8,7 @@ use lib.Dec.{ltb}
 use lib.ListN.{set}
 use borrow.Author.Tests.{ltb-true, ltb-false}
 use Rattle.units.specs.Numbers.{round_down}
-use Rattle.units.specs.Plain.{if◌then◌else◌}
+use Rattle.std.specs.Prelude.{if◌then◌else◌}
 use Rattle.units.proofs.Bools.{if-ind}
 use Rattle.rules.specs.State.{Rec, Lane, State, group, slot, start_r, holds, lane_at, any_holds}
 use Rattle.rules.specs.Calls.{appended, woken, accept}

@@ -7,9 +7,8 @@
 --   Serves      a record is handed out
 --
 -- Assumes nothing.
-use Rattle.std.specs.Prelude.{ℕ, ◌≡◌, List, Bool, false, eqb, drop}
+use Rattle.std.specs.Prelude.{ℕ, ◌≡◌, List, Bool, false, eqb, drop, if◌then◌else◌}
 use Rattle.std.proofs.Math.Option.{Option, none, some}
-use Rattle.units.specs.Plain.{if◌then◌else◌}
 use Rattle.rounds.specs.Round.{train_count, train_depth}
 use Rattle.turns.specs.Turns.{count_of}
 use Rattle.rules.specs.State.{State, lane_depth, holds, lane_at}

@@ -7,7 +7,8 @@ use mathlib.Core.Bool.{Bool, true, false}
 use mathlib.Core.List.{List, []}
 use lib.Dec.{ltb}
 use lib.ListN.{get_or}
-use Rattle.units.specs.Plain.{if◌then◌else◌, place, times}
+use Rattle.std.specs.Prelude.{if◌then◌else◌}
+use Rattle.units.specs.Plain.{place, times}
 use Rattle.rules.specs.State.{Lane, State, no_lane, group, start_r, holds, lane_at}
 use Rattle.alike.specs.Alike.{Alike}
 use Rattle.filing.specs.Filing.{sift, Whole, slot_at, in_list, Lists, Filing, flat, in_aRow}

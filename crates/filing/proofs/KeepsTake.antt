@@ -8,7 +8,8 @@ use mathlib.Core.List.{List, [], ◌∷◌, ◌++◌, append-nil}
 use mathlib.Core.Option.{Option, none, some}
 use lib.ListN.{length, set, drop, length-set}
 use lib.Seq.{set-set}
-use Rattle.units.specs.Plain.{if◌then◌else◌, without}
+use Rattle.std.specs.Prelude.{if◌then◌else◌}
+use Rattle.units.specs.Plain.{without}
 use Rattle.units.proofs.Round.{lt-round-slot, round-div}
 use Rattle.units.proofs.Lists.{set_cases, same_or}
 use Rattle.waiting.proofs.Laws.{first_fits}

@@ -8,7 +8,8 @@ use mathlib.Core.List.{List, [], ◌∷◌, ◌++◌}
 use lib.Dec.{ltb, eqb, leb-suc-suc}
 use lib.ListN.{length}
 use borrow.Author.Tests.{eqb-true, eq-eqb, ne_eqb}
-use Rattle.units.specs.Plain.{if◌then◌else◌, place, times, without}
+use Rattle.std.specs.Prelude.{if◌then◌else◌}
+use Rattle.units.specs.Plain.{place, times, without}
 use Rattle.rules.specs.BySets.{first_in}
 use Rattle.alike.proofs.Places.{place-cons}
 use Rattle.filing.specs.Filing.{sift, front_of}

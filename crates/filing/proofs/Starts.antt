@@ -10,7 +10,8 @@ use mathlib.Core.Option.{Option, none, some}
 use lib.Dec.{leb}
 use lib.ListN.{length, get_or, set}
 use borrow.Author.Tests.{leb-true, leb-false}
-use Rattle.units.specs.Plain.{if◌then◌else◌, times}
+use Rattle.std.specs.Prelude.{if◌then◌else◌}
+use Rattle.units.specs.Plain.{times}
 use Rattle.units.proofs.Bools.{if-ind, not-passed}
 use Rattle.units.proofs.Lists.{set_cases}
 use Rattle.rules.specs.State.{Lane, State, no_lane, group, start_r, holds, lane_at}

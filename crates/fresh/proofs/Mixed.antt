@@ -10,7 +10,7 @@ use lib.ListN.{length, get_or, set}
 use lib.Seq.{ext_get_or}
 use Rattle.words.specs.Runs.{tab, tab_from}
 use Rattle.words.proofs.Runs.{tab-ext, tab-set, get_d-tab, length-tab, le-or-lt, eq-or-ne}
-use Rattle.units.specs.Plain.{if◌then◌else◌}
+use Rattle.std.specs.Prelude.{if◌then◌else◌}
 use Rattle.fresh.specs.Makes.{mixed}
 
 module _ {A : Type 0} (f g : ℕ → A) where

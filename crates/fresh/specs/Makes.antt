@@ -9,9 +9,8 @@
 --   SettingWord    a setting word that agrees with its setting
 --
 -- Assumes nothing.
-use Rattle.std.specs.Prelude.{◌≡◌, ℕ, ◌<◌, List, map, ltb, drop}
+use Rattle.std.specs.Prelude.{◌≡◌, ℕ, ◌<◌, List, map, ltb, drop, if◌then◌else◌}
 use Rattle.words.specs.Runs.{tab}
-use Rattle.units.specs.Plain.{if◌then◌else◌}
 use Rattle.rules.specs.State.{Setting, State, no_setting, setting_at, lane_at}
 use Rattle.rules.specs.Calls.{idle, fresh}
 use Rattle.slot_lists.specs.Lists.{Empty}

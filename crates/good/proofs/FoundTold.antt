@@ -9,7 +9,8 @@ use native.Mathlib.Omega.{arith}
 use native.Mathlib.Decide.{dec_lt}
 use lib.ListN.{get_or}
 use Rattle.words.specs.Bits.{bit}
-use Rattle.units.specs.Plain.{if◌then◌else◌, any_below}
+use Rattle.std.specs.Prelude.{if◌then◌else◌}
+use Rattle.units.specs.Plain.{any_below}
 use Rattle.units.proofs.Lists.{any_at}
 use Rattle.waiting.specs.Waiting.{GoodWaiting, first, held, is_shared}
 use Rattle.waiting.proofs.Laws.{good-nothing, held-hand}

@@ -7,7 +7,8 @@ use native.Mathlib.Numerals.{add-one}
 use native.Mathlib.Omega.{arith}
 use Rattle.words.specs.Runs.{tab, tab_from}
 use Rattle.words.proofs.Runs.{tab-snoc}
-use Rattle.units.specs.Plain.{if◌then◌else◌, sum, any_below, word_of}
+use Rattle.std.specs.Prelude.{if◌then◌else◌}
+use Rattle.units.specs.Plain.{sum, any_below, word_of}
 use Rattle.units.proofs.Lists.{sum-append}
 use Rattle.good.specs.Pass.{sum_to}
 

@@ -11,7 +11,8 @@ use Rattle.words.specs.Bits.{bit}
 use Rattle.words.specs.Runs.{tab}
 use Rattle.words.proofs.Bits.{bit-above}
 use Rattle.words.proofs.Runs.{length-tab, get_d-tab}
-use Rattle.units.specs.Plain.{if◌then◌else◌, word_of, count}
+use Rattle.std.specs.Prelude.{if◌then◌else◌}
+use Rattle.units.specs.Plain.{word_of, count}
 use Rattle.waiting.specs.Waiting.{GoodWaiting, held}
 use Rattle.rules.specs.State.{Setting, Lane, State, lane_at, first_of, holds, no_lane, setup_of}
 use Rattle.rules.specs.Setup.{weights}

@@ -6,9 +6,9 @@
 --
 -- The lanes and what each must pass are parameters: a table of an older layout keeps its lanes in another way, and is walked by the same pass.
 -- Assumes nothing.
-use Rattle.std.specs.Prelude.{◌≡◌, Bool, true, ◌&&◌, ◌||◌, ℕ, zero, suc, ◌+◌, ◌^◌, ◌<◌, List, leb, ltb}
+use Rattle.std.specs.Prelude.{◌≡◌, Bool, true, ◌&&◌, ◌||◌, ℕ, zero, suc, ◌+◌, ◌^◌, ◌<◌, List, leb, ltb, if◌then◌else◌}
 use Rattle.units.specs.Numbers.{round_down}
-use Rattle.units.specs.Plain.{if◌then◌else◌, any_below, word_of}
+use Rattle.units.specs.Plain.{any_below, word_of}
 use Rattle.rules.specs.State.{Lane, holds, eligible}
 use Rattle.table.specs.Means.{present_at}
 use Rattle.table.specs.declared.LaneRow.{LaneRow}

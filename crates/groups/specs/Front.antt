@@ -6,11 +6,10 @@
 --   Settles     the clock where no start is at most v, and else v
 --
 -- Assumes nothing.
-use Rattle.std.specs.Prelude.{◌≡◌, ◌⊎◌, ℕ, ◌+◌, ◌*◌, ◌^◌, ◌≤◌, ◌<◌, ltb}
+use Rattle.std.specs.Prelude.{◌≡◌, ◌⊎◌, ℕ, ◌+◌, ◌*◌, ◌^◌, ◌≤◌, ◌<◌, ltb, if◌then◌else◌}
 use Rattle.std.proofs.Math.Option.{Option, none, some}
 use Rattle.filing.specs.Filing.{never}
 use Rattle.filing.proofs.LeastStart.{LeastStart}
-use Rattle.units.specs.Plain.{if◌then◌else◌}
 use Rattle.groups.specs.declared.Front.{Front}
 
 abbrev pub front : ℕ → ℕ → Front

@@ -10,7 +10,7 @@ use types.Run.{OneOf}
 use denote.Enum.Declared.{tag_of}
 use Rattle.fields.specs.Bytes.{byte_at, big}
 use Rattle.rules.specs.contracts.Answer.{the_type}
-use Rattle.units.specs.Plain.{if◌then◌else◌}
+use Rattle.std.specs.Prelude.{if◌then◌else◌}
 use Rattle.rules.specs.State.{State, any_holds, setup_of}
 use Rattle.rules.specs.Calls.{Call, take, restart, Reply, restarted, Outcome, no, fresh, do_restart, step}
 use Rattle.rules.specs.declared.Answer.{Answer}

@@ -9,9 +9,8 @@
 --   Works        the promise of the exported call
 --
 -- Assumes nothing.
-use Rattle.std.specs.Prelude.{ℕ, zero, suc, ◌+◌, ◌*◌, ◌/◌, ◌%◌, ◌≡◌, true, false, List, ltb, length, drop}
+use Rattle.std.specs.Prelude.{ℕ, zero, suc, ◌+◌, ◌*◌, ◌/◌, ◌%◌, ◌≡◌, true, false, List, ltb, length, drop, if◌then◌else◌}
 use Rattle.fields.specs.Bytes.{byte_at, big}
-use Rattle.units.specs.Plain.{if◌then◌else◌}
 use Rattle.rules.specs.State.{State, setup_of, any_holds}
 use Rattle.rules.specs.Calls.{Call, put, take, fresh, step}
 use Rattle.table.specs.Layout.{SIZE}

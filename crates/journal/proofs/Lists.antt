@@ -6,7 +6,7 @@ use mathlib.Core.Logic.{⊎_elim}
 use mathlib.Core.List.{List}
 use mathlib.Core.Option.{Option, none, some}
 use lib.ListN.{length}
-use Rattle.units.specs.Plain.{if◌then◌else◌}
+use Rattle.std.specs.Prelude.{if◌then◌else◌}
 use Rattle.words.proofs.Runs.{le-or-lt}
 use Rattle.desk.specs.Board.{Handover, Board, empty_board, line_at, train_line}
 use Rattle.desk.specs.Board as Board

@@ -9,9 +9,8 @@
 --   JournalEndsAtLast     .. and R11.17: after sequence 4,294,967,295 nothing of that train is accepted until it is cleared
 --
 -- Assumes nothing.
-use Rattle.std.specs.Prelude.{ℕ, ◌<◌, ◌≡◌, Bool, true, false, List, [], ◌∷◌}
+use Rattle.std.specs.Prelude.{ℕ, ◌<◌, ◌≡◌, Bool, true, false, List, [], ◌∷◌, if◌then◌else◌}
 use Rattle.std.proofs.Math.Option.{Option, none, some}
-use Rattle.units.specs.Plain.{if◌then◌else◌}
 use Rattle.desk.specs.Board.{Handover}
 use Rattle.desk.specs.Calls.{enter_record, clear, known_kind, noted}
 use Rattle.journal.specs.Reads.{Plain, line, stands, begun, plain_refused, plain_told, shown}

@@ -6,9 +6,8 @@
 --   read_record   R11.6: a field at the start of lent bytes
 --
 -- Assumes nothing.
-use Rattle.std.specs.Prelude.{ℕ, ◌≡◌, not, List, eqb, leb, length}
+use Rattle.std.specs.Prelude.{ℕ, ◌≡◌, not, List, eqb, leb, length, if◌then◌else◌}
 use Rattle.std.proofs.Math.Option.{Option, some}
-use Rattle.units.specs.Plain.{if◌then◌else◌}
 use Rattle.fields.specs.Bytes.{big}
 use Rattle.fields.specs.Header.{header_at}
 use Rattle.fields.specs.declared.Field.{Field}

@@ -11,9 +11,8 @@
 --
 -- Clock, present lanes, framing, settings, clock words and slot lists stand where they stand today, so today's names read them. Words that mean nothing
 -- then, today's depth number among them, are not looked at. Assumes nothing.
-use Rattle.std.specs.Prelude.{◌≡◌, true, false, ℕ, ◌+◌, ◌*◌, ◌/◌, ◌%◌, ◌^◌, ◌≤◌, ◌<◌, List, length, get_or}
+use Rattle.std.specs.Prelude.{◌≡◌, true, false, ℕ, ◌+◌, ◌*◌, ◌/◌, ◌%◌, ◌^◌, ◌≤◌, ◌<◌, List, length, get_or, if◌then◌else◌}
 use Rattle.words.specs.Runs.{tab}
-use Rattle.units.specs.Plain.{if◌then◌else◌}
 use Rattle.rounds.specs.Round.{BareRec}
 use Rattle.waiting.specs.Waiting.{plain}
 use Rattle.rules.specs.State.{Lane, State, no_lane}

@@ -6,21 +6,21 @@
 #![tactic(auto)]
 
 mod bytes;
-mod good;
 mod over;
 mod refused;
+mod taken_over;
 
 fn main(rt: HostRuntime) {
     let out = rt.stdout();
-    good::session(out);
-    good::sixteen(out);
-    good::wrapped(out);
-    good::tie(out);
-    good::finishes(out);
-    good::framed(out);
-    good::spare(out);
-    good::longer(out);
-    good::clock(out);
+    taken_over::session(out);
+    taken_over::sixteen(out);
+    taken_over::wrapped(out);
+    taken_over::tie(out);
+    taken_over::finishes(out);
+    taken_over::framed(out);
+    taken_over::spare(out);
+    taken_over::longer(out);
+    taken_over::clock(out);
     refused::room(out);
     refused::cut(out);
     refused::records(out);

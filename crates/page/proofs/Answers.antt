@@ -20,7 +20,7 @@ use lib.Seq.{length-take-le}
 use Rattle.fields.specs.Bytes.{byte_at, big}
 use Rattle.fields.specs.Item.{whole_field, bad_field}
 use Rattle.fields.proofs.Item.{stands}
-use Rattle.units.specs.Plain.{if◌then◌else◌}
+use Rattle.std.specs.Prelude.{if◌then◌else◌}
 use Rattle.rules.specs.State.{Setting}
 use Rattle.plan.specs.Read.{read_setup, setup_refused, setup_read}
 use Rattle.page.specs.Fields.{page_field_of, page_item_at}

@@ -17,7 +17,7 @@ use Rattle.fields.specs.Bytes.{byte_at, big, two, as_field, Bytes}
 use Rattle.fields.proofs.Numbers.{big-two}
 use Rattle.fields.specs.Item.{whole_field, bad_field}
 use Rattle.fields.proofs.Item.{Stands, stands}
-use Rattle.units.specs.Plain.{if◌then◌else◌}
+use Rattle.std.specs.Prelude.{if◌then◌else◌}
 use Rattle.units.proofs.Bools.{true-false}
 use Rattle.units.proofs.Lists.{cons}
 use Rattle.page.specs.Fields.{page_kinds, PageItem, page_field_of, page_item_at}

@@ -14,7 +14,7 @@ use borrow.Author.Tests.{ltb-false}
 use lib.Dec.{ltb}
 use lib.ListN.{length}
 use Rattle.fields.specs.Item.{whole_field, bad_field}
-use Rattle.units.specs.Plain.{if◌then◌else◌}
+use Rattle.std.specs.Prelude.{if◌then◌else◌}
 use Rattle.rules.specs.State.{Setting}
 use Rattle.plan.specs.Read.{read_setup, setup_read, SetupReply, setup_refused}
 use Rattle.page.specs.Fields.{PageItem, page_item_at}

@@ -14,7 +14,7 @@ use lib.Dec.{ltb}
 use lib.ListN.{length}
 use Rattle.fields.specs.Item.{whole_field, bad_field}
 use Rattle.fields.proofs.Item.{Broken, none_left, cut, unknown, wrong, broken, stands}
-use Rattle.units.specs.Plain.{if◌then◌else◌}
+use Rattle.std.specs.Prelude.{if◌then◌else◌}
 use Rattle.rules.specs.State.{Setting}
 use Rattle.plan.specs.Read.{read_setup, setup_refused, SetupReply, setup_read}
 use Rattle.plan.specs.Accepted.{setup_refusals, among}

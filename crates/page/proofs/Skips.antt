@@ -11,7 +11,7 @@ use native.Mathlib.Omega.{arith}
 use lib.ListN.{length}
 use Rattle.fields.specs.Item.{whole_field, bad_field}
 use Rattle.fields.proofs.Item.{stands}
-use Rattle.units.specs.Plain.{if◌then◌else◌}
+use Rattle.std.specs.Prelude.{if◌then◌else◌}
 use Rattle.page.specs.Fields.{PageItem, page_item_at}
 use Rattle.page.specs.Read.{is_skipped, skip_walk, past_skipped}
 use Rattle.page.specs.declared.parse.PageField.TheVariants.{Skipped}

@@ -8,10 +8,9 @@
 --   page_item_of    the code's answer as a `PageItem`
 --
 -- Assumes nothing.
-use Rattle.std.specs.Prelude.{ℕ, Bool, true, ◌||◌, List, leb, eqb}
+use Rattle.std.specs.Prelude.{ℕ, Bool, true, ◌||◌, List, leb, eqb, if◌then◌else◌}
 use Rattle.fields.specs.Bytes.{big}
 use Rattle.fields.specs.Item.{Item, whole_field, bad_field, FieldKinds, item_at}
-use Rattle.units.specs.Plain.{if◌then◌else◌}
 use Rattle.rules.specs.Reads.{number, place_of}
 use Rattle.page.specs.declared.parse.PageField.{PageField}
 use Rattle.page.specs.declared.parse.PageField.TheVariants.{Edition, Settings, Skipped, End}

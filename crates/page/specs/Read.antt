@@ -11,10 +11,9 @@
 -- The setup inside is what `read_setup` (crate `plan`, specs/Read.antt) says of the bytes of its value.
 --
 -- Assumes nothing.
-use Rattle.std.specs.Prelude.{ℕ, zero, suc, ◌+◌, ◌-◌, Bool, true, false, List, ltb, length, take, drop}
+use Rattle.std.specs.Prelude.{ℕ, zero, suc, ◌+◌, ◌-◌, Bool, true, false, List, ltb, length, take, drop, if◌then◌else◌}
 use Rattle.std.proofs.Math.Option.{Option, some, none}
 use Rattle.fields.specs.Item.{whole_field, bad_field}
-use Rattle.units.specs.Plain.{if◌then◌else◌}
 use Rattle.rules.specs.State.{Setting}
 use Rattle.rules.specs.Reads.{number, place_of}
 use Rattle.plan.specs.Read.{read_setup, settings, SetupReply, setup_refused, setup_read}

@@ -5,7 +5,7 @@ use mathlib.Core.Path.{◌≡◌, sym, ap, subst, ◌∙◌}
 use mathlib.Core.Bool.{Bool}
 use mathlib.Core.List.{List, [], ◌∷◌, append_assoc}
 use lib.ListN.{length, length-append}
-use Rattle.units.specs.Plain.{if◌then◌else◌}
+use Rattle.std.specs.Prelude.{if◌then◌else◌}
 use Rattle.rounds.specs.Round.{train_depth}
 use Rattle.waiting.specs.Waiting.{lane_depth}
 use Rattle.rules.specs.State.{Rec, Setting, setting_at, lane_at}

@@ -7,7 +7,7 @@ use mathlib.Core.Bool.{Bool, true, false, false≢true}
 use mathlib.Core.List.{List, [], ◌∷◌, ◌++◌, append_assoc}
 use mathlib.Core.Option.{Option, none, some}
 use lib.Dec.{leb}
-use Rattle.units.specs.Plain.{if◌then◌else◌}
+use Rattle.std.specs.Prelude.{if◌then◌else◌}
 use Rattle.units.proofs.Bools.{if-ind}
 use Rattle.rules.specs.State.{Rec, State, any_holds}
 use Rattle.rules.specs.Calls.{Call, put, take, look, sets, lag, restart, refused, Outcome, put_refusal, put_of, do_put, Pick, picked, take_of, do_take, do_look, do_sets, do_restart, step}
@@ -20,7 +20,7 @@ use Rattle.pages.specs.Claims.{GoodPage, AlwaysGoodDevice, InForceCounted, InOrd
 use Rattle.pages.proofs.Parts.{part-order}
 use Rattle.pages.proofs.PartHeld.{held-holds}
 use Rattle.pages.proofs.Stretch.{held-page, stretch-of}
-use Rattle.pages.proofs.Run.{newest_of, Run, held-is, step_run, run, run-all}
+use Rattle.pages.proofs.Run.{newest_of, Run, held-is, step_run, run-all}
 
 -- ---- good, the page in force, order
 

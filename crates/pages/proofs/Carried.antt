@@ -15,7 +15,7 @@ use Rattle.rules.proofs.Live.{Live, some_holds, holds-some, nothing-held}
 use Rattle.rules.proofs.NotTen.{NotTen, step-not-ten}
 use Rattle.rules.proofs.Keep.{PickIs, pick_is}
 use Rattle.rules.proofs.AlwaysGood.{Reached, reached-good}
-use Rattle.units.specs.Plain.{if◌then◌else◌}
+use Rattle.std.specs.Prelude.{if◌then◌else◌}
 use Rattle.pages.specs.Device.{Page, Device, start_page, fresh_device, DeviceReply, in_force_of, DeviceCall, ruled, offer, unread, answered, DeviceOutcome, settled_device, newest_edition, do_offer, device_step, device_step_by}
 use Rattle.pages.specs.Offers.{device_after, DeviceEvent, event_of, device_trace, Read, AllRead, of_rule, of_rules, any_held, accepted_page, newest, free_from, page_in, device_after_by, device_trace_by}
 use Rattle.pages.specs.Claims.{GoodDevice, RefusedKeeps}

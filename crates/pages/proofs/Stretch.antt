@@ -5,7 +5,7 @@ use mathlib.Core.Bool.{Bool, true, false, false≢true}
 use mathlib.Core.List.{List, [], ◌∷◌, ◌++◌, append_assoc, append-nil}
 use mathlib.Core.Option.{Option, none, some}
 use lib.Dec.{leb}
-use Rattle.units.specs.Plain.{if◌then◌else◌}
+use Rattle.std.specs.Prelude.{if◌then◌else◌}
 use Rattle.units.proofs.Bools.{if-ind}
 use Rattle.rules.specs.State.{Setting, State, holds, lane_at, any_holds}
 use Rattle.rules.specs.Setup.{Setup}
@@ -22,7 +22,7 @@ use Rattle.pages.specs.Claims.{HeldThroughout, OnePart, InOnePart, SameSetupThro
 use Rattle.pages.proofs.Parts.{part-setup}
 use Rattle.pages.proofs.PartHeld.{held-holds, cancel, cancel-train}
 use Rattle.pages.proofs.Events.{plain-append, page-one, device-split, cut}
-use Rattle.pages.proofs.Run.{Run, fresh-none, held-is, step_run, run, run-all}
+use Rattle.pages.proofs.Run.{Run, fresh-none, held-is, step_run, run-all}
 
 -- ---- a call after which a lane holds a record
 

@@ -15,10 +15,9 @@
 --   FreeAtChange                   a page comes into force only where no lane holds a record
 --
 -- Assumes nothing.
-use Rattle.std.specs.Prelude.{ℕ, ◌+◌, ◌*◌, ◌≤◌, ◌<◌, ◌≡◌, true, List, [], ◌∷◌, ◌++◌, leb, length}
+use Rattle.std.specs.Prelude.{ℕ, ◌+◌, ◌*◌, ◌≤◌, ◌<◌, ◌≡◌, true, List, [], ◌∷◌, ◌++◌, leb, length, if◌then◌else◌}
 use Rattle.std.proofs.Math.Option.{Option, none, some}
 use Rattle.units.specs.Numbers.{line_rate}
-use Rattle.units.specs.Plain.{if◌then◌else◌}
 use Rattle.rules.specs.State.{Setting, setting_at, lane_at, setup_of, rate, slot, any_holds}
 use Rattle.rules.specs.Setup.{Setup, framing_of, longest_charge, margin}
 use Rattle.rules.specs.Calls.{Call, put, accepted, refused, fresh}

@@ -10,9 +10,8 @@
 --   device_step     any call; device_step_by: with other rules for the calls of the rules
 --
 -- Assumes nothing.
-use Rattle.std.specs.Prelude.{ℕ, max, List, leb}
+use Rattle.std.specs.Prelude.{ℕ, max, List, leb, if◌then◌else◌}
 use Rattle.std.proofs.Math.Option.{Option, none, some}
-use Rattle.units.specs.Plain.{if◌then◌else◌}
 use Rattle.rules.specs.State.{Setting, State, any_holds}
 use Rattle.rules.specs.Calls.{Call, Reply, refused, fresh, step}
 use Rattle.rules.specs.Endless.{Rules}

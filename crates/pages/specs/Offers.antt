@@ -9,8 +9,8 @@
 --   page_in                     the page in force after these events; in_force: its settings, the setup in force
 --
 -- Assumes nothing.
-use Rattle.std.specs.Prelude.{ℕ, ◌≡◌, Bool, List, [], ◌∷◌, ◌++◌, ltb, length}
-use Rattle.units.specs.Plain.{if◌then◌else◌, any_below}
+use Rattle.std.specs.Prelude.{ℕ, ◌≡◌, Bool, List, [], ◌∷◌, ◌++◌, ltb, length, if◌then◌else◌}
+use Rattle.units.specs.Plain.{any_below}
 use Rattle.rules.specs.State.{Setting}
 use Rattle.rules.specs.Setup.{Setup}
 use Rattle.rules.specs.Calls.{step}

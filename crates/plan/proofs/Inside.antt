@@ -7,7 +7,7 @@ use mathlib.Core.Bool.{Bool, true, false, not, ◌||◌}
 use native.Mathlib.Omega.{arith}
 use borrow.Author.Tests.{leb-true, ltb-false, eqb-true}
 use lib.Dec.{leb, ltb, eqb}
-use Rattle.units.specs.Plain.{if◌then◌else◌}
+use Rattle.std.specs.Prelude.{if◌then◌else◌}
 use Rattle.units.proofs.Bools.{and_parts, or_parts, true-false}
 use Rattle.rules.specs.Setup.{InNumbers}
 use Rattle.plan.specs.Judge.{known_format, longest_of, longest_right, given, last_lane, most_framing, within, misplaced, lane_outside, Inside, over, faults}

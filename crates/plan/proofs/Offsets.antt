@@ -15,7 +15,7 @@ use borrow.Author.Tests.{eqb-true}
 use lib.Dec.{leb, ltb, eqb}
 use Rattle.fields.specs.Bytes.{byte_at, big}
 use Rattle.fields.proofs.Item.{Stands}
-use Rattle.units.specs.Plain.{if◌then◌else◌}
+use Rattle.std.specs.Prelude.{if◌then◌else◌}
 use Rattle.units.proofs.Bools.{true-false}
 use Rattle.plan.specs.Fields.{setup_kinds, lane_field_at, longest_at, setup_field_of}
 use Rattle.plan.specs.Judge.{known_format, longest_right, last_lane, most_framing, within, lane_outside, outside, over, offset}

@@ -15,7 +15,7 @@ use lib.Seq.{get_or-take}
 use Rattle.fields.specs.Bytes.{byte_at, big}
 use Rattle.fields.proofs.Numbers.{big-same}
 use Rattle.fields.proofs.Item.{Stands, item_by}
-use Rattle.units.specs.Plain.{if◌then◌else◌}
+use Rattle.std.specs.Prelude.{if◌then◌else◌}
 use Rattle.rules.specs.State.{Setting}
 use Rattle.fields.specs.Item.{whole_field, bad_field}
 use Rattle.plan.specs.Fields.{SetupItem, ends, setup_tag, setup_fits, setup_kinds, longest_at, lane_field_at, setup_field_of, setup_item_at}

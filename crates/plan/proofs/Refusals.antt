@@ -12,7 +12,7 @@ use native.Mathlib.Omega.{arith}
 use lib.ListN.{length}
 use Rattle.fields.specs.Item.{whole_field, bad_field}
 use Rattle.fields.proofs.Item.{Broken, none_left, cut, unknown, wrong, broken, Stands, stands}
-use Rattle.units.specs.Plain.{if◌then◌else◌}
+use Rattle.std.specs.Prelude.{if◌then◌else◌}
 use Rattle.rules.specs.State.{Setting}
 use Rattle.plan.specs.Fields.{SetupItem, setup_kinds, ends, setup_item_at}
 use Rattle.plan.specs.Judge.{misplaced, outside, over, offset, faulted, judged, judged_at, seen_after}

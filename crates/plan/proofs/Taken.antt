@@ -11,7 +11,7 @@ use mathlib.Core.Option.{Option, none, some}
 use native.Mathlib.Omega.{arith}
 use Rattle.fields.specs.Item.{whole_field, bad_field}
 use Rattle.fields.proofs.Item.{bad-whole, Stands, stands}
-use Rattle.units.specs.Plain.{if◌then◌else◌}
+use Rattle.std.specs.Prelude.{if◌then◌else◌}
 use Rattle.plan.specs.Fields.{SetupItem, setup_kinds, setup_item_at}
 use Rattle.plan.specs.Judge.{misplaced, outside, Inside, over, faults, tabled, faulted, judged, judged_at}
 use Rattle.plan.specs.declared.judge.Fault.{Fault}

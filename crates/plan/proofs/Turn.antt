@@ -1,7 +1,7 @@
 -- One turn of `setup_walk`, as a function of what stands at its place, so that a proof can go by cases of it. Assumes nothing.
 use Prim.Native.Nat.{ℕ}
 use mathlib.Core.List.{List}
-use Rattle.units.specs.Plain.{if◌then◌else◌}
+use Rattle.std.specs.Prelude.{if◌then◌else◌}
 use Rattle.rules.specs.State.{Setting}
 use Rattle.fields.specs.Item.{whole_field, bad_field}
 use Rattle.plan.specs.Fields.{SetupItem, ends}

@@ -9,10 +9,9 @@
 --   setup_item_of    the code's answer as a `SetupItem`
 --
 -- Assumes nothing.
-use Rattle.std.specs.Prelude.{ℕ, ◌+◌, Bool, true, false, ◌||◌, List, eqb}
+use Rattle.std.specs.Prelude.{ℕ, ◌+◌, Bool, true, false, ◌||◌, List, eqb, if◌then◌else◌}
 use Rattle.fields.specs.Bytes.{byte_at, big}
 use Rattle.fields.specs.Item.{Item, whole_field, bad_field, FieldKinds, item_at}
-use Rattle.units.specs.Plain.{if◌then◌else◌}
 use Rattle.rules.specs.Reads.{number, place_of}
 use Rattle.plan.specs.declared.parse.Longest.{Longest}
 use Rattle.plan.specs.declared.parse.Longest.TheVariants.{Given, Default}

@@ -14,9 +14,8 @@
 --   seen_after   what the fields so far fix for the next one, after one more
 --
 -- Assumes nothing.
-use Rattle.std.specs.Prelude.{ℕ, ◌+◌, ◌≤◌, Bool, true, false, not, ◌||◌, ◌&&◌, List, ◌≡◌, ltb, leb, eqb}
+use Rattle.std.specs.Prelude.{ℕ, ◌+◌, ◌≤◌, Bool, true, false, not, ◌||◌, ◌&&◌, List, ◌≡◌, ltb, leb, eqb, if◌then◌else◌}
 use Rattle.std.proofs.Math.Option.{Option, none, some}
-use Rattle.units.specs.Plain.{if◌then◌else◌}
 use Rattle.rules.specs.State.{Setting}
 use Rattle.fields.specs.Item.{whole_field, bad_field}
 use Rattle.plan.specs.Fields.{SetupItem, setup_item_at}

@@ -7,9 +7,8 @@
 --   setup_reply  the code's answer as a `SetupReply`
 --
 -- Assumes nothing.
-use Rattle.std.specs.Prelude.{ℕ, zero, suc, ◌-◌, false, true, List, map, ltb, length, set, replicate}
+use Rattle.std.specs.Prelude.{ℕ, zero, suc, ◌-◌, false, true, List, map, ltb, length, set, replicate, if◌then◌else◌}
 use Rattle.std.proofs.Math.Option.{Option, some}
-use Rattle.units.specs.Plain.{if◌then◌else◌}
 use Rattle.rules.specs.State.{Setting, no_setting, setting_at}
 use Rattle.rules.specs.Reads.{number, place_of}
 use Rattle.fields.specs.Item.{whole_field, bad_field}

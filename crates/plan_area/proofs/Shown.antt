@@ -15,7 +15,7 @@ use borrow.Author.Tests.{ne_eqb, eq-eqb, eqb-true}
 use lib.Dec.{eqb}
 use lib.ListN.{get_or-eq_default}
 use lib.Seq.{ext_get_or}
-use Rattle.units.specs.Plain.{if◌then◌else◌}
+use Rattle.std.specs.Prelude.{if◌then◌else◌}
 use Rattle.words.specs.Words.{word_at}
 use Rattle.words.proofs.Runs.{length-tab, get_d-tab}
 use Rattle.rules.specs.State.{Setting, no_setting, setting_at}

@@ -9,8 +9,7 @@
 --   AreaWithin                    an area that is a plan within the numbers
 --
 -- Assumes nothing.
-use Rattle.std.specs.Prelude.{ℕ, ◌+◌, ◌-◌, ◌*◌, ◌/◌, ◌%◌, ◌≤◌, ◌<◌, ◌≡◌, Bool, List, eqb, ltb, length}
-use Rattle.units.specs.Plain.{if◌then◌else◌}
+use Rattle.std.specs.Prelude.{ℕ, ◌+◌, ◌-◌, ◌*◌, ◌/◌, ◌%◌, ◌≤◌, ◌<◌, ◌≡◌, Bool, List, eqb, ltb, length, if◌then◌else◌}
 use Rattle.rules.specs.State.{Setting, setting_at}
 use Rattle.rules.specs.Setup.{framing_of}
 use Rattle.words.specs.Runs.{tab}

@@ -14,7 +14,7 @@ use native.Mathlib.Omega.{arith}
 use borrow.Author.Tests.{lt-ltb}
 use lib.Dec.{ltb}
 use lib.ListN.{length}
-use Rattle.units.specs.Plain.{if◌then◌else◌}
+use Rattle.std.specs.Prelude.{if◌then◌else◌}
 use Rattle.rules.specs.State.{Setting, no_setting, setting_at}
 use Rattle.rules.specs.Setup.{InNumbers, weights}
 use Rattle.plan.specs.Accepted.{LaneFields, Rising, LanesWithin, weighed, shared_behind, fields_of, there, present}

@@ -13,7 +13,7 @@ use native.Mathlib.Omega.{arith}
 use lib.Dec.{ltb}
 use lib.ListN.{length, set, replicate, length-append, length-replicate}
 use lib.Seq.{set-append_seam, append_snoc}
-use Rattle.units.specs.Plain.{if◌then◌else◌}
+use Rattle.std.specs.Prelude.{if◌then◌else◌}
 use Rattle.units.proofs.Bools.{and_parts, true-false}
 use Rattle.rules.specs.State.{Setting, no_setting, setting_at}
 use Rattle.plan.specs.Judge.{longest_of}

@@ -17,7 +17,7 @@ use lib.Dec.{ltb}
 use lib.ListN.{length, drop, take, replicate, length-append}
 use lib.Seq.{drop-length, take_at, take_all}
 use Rattle.fields.specs.Bytes.{Bytes}
-use Rattle.units.specs.Plain.{if◌then◌else◌}
+use Rattle.std.specs.Prelude.{if◌then◌else◌}
 use Rattle.rules.specs.State.{Setting, no_setting, setting_at}
 use Rattle.rules.specs.Setup.{framing_of}
 use Rattle.plan.specs.Read.{setup_read, no_lanes, read_plan, setup_closed, read_setup, SetupReply, setup_refused}

@@ -15,7 +15,7 @@ use native.Mathlib.Omega.{arith}
 use lib.ListN.{length, drop, get_or, length-append, drop_of_length-le}
 use lib.Seq.{sets, sets-eq}
 use Rattle.text.proofs.Stores.{sets-append}
-use Rattle.units.specs.Plain.{if◌then◌else◌}
+use Rattle.std.specs.Prelude.{if◌then◌else◌}
 use Rattle.rules.specs.State.{Setting, no_setting, setting_at}
 use Rattle.rules.specs.Setup.{InNumbers, framing_of}
 use Rattle.plan.specs.Read.{setting_of}

@@ -7,9 +7,9 @@
 --   Writes       the promise: what is answered, and the buffer after it, for every plan and every buffer
 --
 -- Assumes nothing.
-use Rattle.std.specs.Prelude.{ℕ, zero, suc, ◌+◌, ◌*◌, ◌≤◌, ◌<◌, ◌≡◌, Bool, true, false, ◌⊎◌, List, [], ◌∷◌, ◌++◌, ltb, eqb, length, drop}
+use Rattle.std.specs.Prelude.{ℕ, zero, suc, ◌+◌, ◌*◌, ◌≤◌, ◌<◌, ◌≡◌, Bool, true, false, ◌⊎◌, List, [], ◌∷◌, ◌++◌, ltb, eqb, length, drop, if◌then◌else◌}
 use Rattle.std.proofs.Math.Option.{Option, some, none}
-use Rattle.units.specs.Plain.{if◌then◌else◌, sum}
+use Rattle.units.specs.Plain.{sum}
 use Rattle.rules.specs.State.{Setting, no_setting, setting_at}
 use Rattle.rules.specs.Setup.{InNumbers, Setup, framing_of}
 use Rattle.plan.specs.Judge.{known_format}

@@ -20,7 +20,7 @@ use Rattle.fields.specs.Bytes.{byte_at, big}
 use Rattle.fields.specs.Header.{header_at}
 use Rattle.fields.specs.declared.Field.TheVariants.{Nothing, Cut, Header}
 use Rattle.fields.proofs.Header.{header-whole, header-cut, header-none}
-use Rattle.units.specs.Plain.{if◌then◌else◌}
+use Rattle.std.specs.Prelude.{if◌then◌else◌}
 use Rattle.requests.specs.Request.{request_size, Heading, right, wrong, sized, headed, head_at, request, last, bad_request, call_of, valued, request_item_at}
 
 module _ (s : List ℕ) (at : ℕ) where

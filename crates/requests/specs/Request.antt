@@ -7,13 +7,12 @@
 --   call_by_number    the request of a tag, from its value as one number
 --
 -- Assumes nothing.
-use Rattle.std.specs.Prelude.{ℕ, ◌+◌, ◌/◌, ◌%◌, ◌^◌, ◌≡◌, ◌||◌, List, leb, eqb, length}
+use Rattle.std.specs.Prelude.{ℕ, ◌+◌, ◌/◌, ◌%◌, ◌^◌, ◌≡◌, ◌||◌, List, leb, eqb, length, if◌then◌else◌}
 use Rattle.std.proofs.Math.Option.{Option, none, some}
 use Rattle.fields.specs.Bytes.{byte_at, big}
 use Rattle.fields.specs.Header.{header_at}
 use Rattle.fields.specs.declared.Field.{Field}
 use Rattle.fields.specs.declared.Field.TheVariants.{Nothing, Cut, Header}
-use Rattle.units.specs.Plain.{if◌then◌else◌}
 use Rattle.rules.specs.Calls.{Call, put, take, look, sets, lag, restart}
 use Rattle.rules.specs.Reads.{number, place_of}
 use Rattle.requests.specs.declared.Size as Size

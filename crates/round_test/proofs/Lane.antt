@@ -8,7 +8,8 @@ use mathlib.Core.Bool.{Bool, true, false}
 use mathlib.Core.List.{List, [], ◌∷◌}
 use lib.Dec.{eqb}
 use lib.ListN.{get_or, get_or-eq_default}
-use Rattle.units.specs.Plain.{if◌then◌else◌, times, sum}
+use Rattle.std.specs.Prelude.{if◌then◌else◌}
+use Rattle.units.specs.Plain.{times, sum}
 use Rattle.units.proofs.Lists.{sum-append}
 use Rattle.words.specs.Runs.{tab, tab_from}
 use Rattle.words.proofs.Runs.{tab-snoc}

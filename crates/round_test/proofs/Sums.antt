@@ -9,7 +9,8 @@ use lib.Dec.{eqb}
 use lib.ListN.{length}
 use lib.Pow.{pow_pos, field, mod-mod-pow}
 use borrow.Author.Tests.{eq-eqb, ne_eqb}
-use Rattle.units.specs.Plain.{if◌then◌else◌, times}
+use Rattle.std.specs.Prelude.{if◌then◌else◌}
+use Rattle.units.specs.Plain.{times}
 use Rattle.units.proofs.Bools.{if-most}
 use Rattle.words.specs.Bits.{bit}
 use Rattle.words.proofs.Bits.{bit-add-same, bit-add-other, bit-above}

@@ -8,7 +8,8 @@ use mathlib.Core.List.{List, [], ◌∷◌, ◌++◌}
 use lib.Dec.{eqb}
 use lib.ListN.{length, get_or}
 use borrow.Author.Tests.{eq-eqb, ne_eqb}
-use Rattle.units.specs.Plain.{if◌then◌else◌, times}
+use Rattle.std.specs.Prelude.{if◌then◌else◌}
+use Rattle.units.specs.Plain.{times}
 use Rattle.units.proofs.Bools.{if-ind}
 use Rattle.units.proofs.Lists.{same_or, set_cases}
 use Rattle.rounds.specs.Round.{BareRec, Train, Shared, no_train, queued?, in_turn, raised, begin}

@@ -1,5 +1,5 @@
 -- How many records wait, and that none does where no record is chosen. Assumes nothing.
-use Prim.Native.Nat.{ℕ, zero, suc, ◌+◌, ◌-◌, ◌*◌, ◌≤◌, ◌<◌}
+use Prim.Native.Nat.{ℕ, zero, suc, ◌-◌, ◌*◌, ◌≤◌, ◌<◌}
 use native.Mathlib.Omega.{arith}
 use mathlib.Core.Path.{◌≡◌, refl, sym, ap, subst, ◌∙◌}
 use mathlib.Core.Bool.{Bool, true, false, false≢true}
@@ -9,7 +9,8 @@ use lib.Dec.{leb}
 use lib.ListN.{length, get_or, set, replicate, length-append}
 use lib.Seq.{get_or-set_same}
 use borrow.Author.Tests.{eq-eqb}
-use Rattle.units.specs.Plain.{if◌then◌else◌, sum, times}
+use Rattle.std.specs.Prelude.{if◌then◌else◌}
+use Rattle.units.specs.Plain.{sum, times}
 use Rattle.units.proofs.Bools.{if-ind}
 use Rattle.units.proofs.Lists.{sum-set, sum_bound, sum-zero}
 use Rattle.rounds.specs.Round.{BareRec, Train, Shared, train_count, train_depth, no_train, queued?, train_at, train_holds, empty_shared, train_held, shared_held, TrainItem, first_of_train, first_in_turn, shared_first, raised, begin, added, join, shared_put, hand_of, hand_in, shared_hand_out}

@@ -8,7 +8,8 @@ use mathlib.Core.List.{List, [], ◌∷◌, ◌++◌}
 use lib.Dec.{leb, eqb}
 use lib.ListN.{length, get_or, set, length-set}
 use borrow.Author.Tests.{eq-eqb, ne_eqb, leb-true, leb-false}
-use Rattle.units.specs.Plain.{if◌then◌else◌, times}
+use Rattle.std.specs.Prelude.{if◌then◌else◌}
+use Rattle.units.specs.Plain.{times}
 use Rattle.units.proofs.Bools.{if-ind}
 use Rattle.units.proofs.Lists.{set_cases, times-append}
 use Rattle.rounds.specs.Round.{BareRec, Train, Shared, train_count, train_depth, no_train, queued?, raised, begin, hand_of, hand_in, shared_hand_out}

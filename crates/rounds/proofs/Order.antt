@@ -8,7 +8,7 @@ use mathlib.Core.List.{List, [], ◌∷◌, ◌++◌, append-nil}
 use lib.Dec.{leb, eqb}
 use lib.ListN.{length, get_or, set}
 use borrow.Author.Tests.{eq-eqb, ne_eqb}
-use Rattle.units.specs.Plain.{if◌then◌else◌}
+use Rattle.std.specs.Prelude.{if◌then◌else◌}
 use Rattle.units.proofs.Bools.{if-ind}
 use Rattle.units.proofs.Lists.{set_cases, set_keeps}
 use Rattle.rounds.specs.Round.{BareRec, Train, Shared, no_train, train_at, train_holds, TrainItem, first_of_train, first_in_turn, shared_first, raised, begin, added, join, shared_put, hand_of, hand_in, shared_hand_out}

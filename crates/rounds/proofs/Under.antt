@@ -8,7 +8,8 @@ use mathlib.Core.List.{List, [], ◌∷◌, ◌++◌}
 use lib.Dec.{leb, eqb}
 use lib.ListN.{length, get_or, set, length-set}
 use borrow.Author.Tests.{eq-eqb, ne_eqb}
-use Rattle.units.specs.Plain.{if◌then◌else◌, times}
+use Rattle.std.specs.Prelude.{if◌then◌else◌}
+use Rattle.units.specs.Plain.{times}
 use Rattle.units.proofs.Bools.{if-ind}
 use Rattle.units.proofs.Lists.{same_or, set_cases, times-append, set_keeps}
 use Rattle.rounds.specs.Round.{BareRec, Train, Shared, no_train, queued?, train_at, first_of_train, hand_of, train_holds, first_in_turn, shared_first, added, join, shared_put, hand_in, shared_hand_out}

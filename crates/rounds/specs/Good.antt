@@ -1,6 +1,6 @@
 -- A good shared lane, and the same as a test. proofs/Keep.antt: every operation keeps it. proofs/Test.antt: the two agree. Assumes nothing.
-use Rattle.std.specs.Prelude.{ℕ, zero, suc, ◌*◌, ◌≤◌, ◌<◌, ◌≡◌, Bool, true, false, ◌&&◌, List, [], ◌∷◌, leb, ltb, eqb, length}
-use Rattle.units.specs.Plain.{if◌then◌else◌, times}
+use Rattle.std.specs.Prelude.{ℕ, zero, suc, ◌*◌, ◌≤◌, ◌<◌, ◌≡◌, Bool, true, false, ◌&&◌, List, [], ◌∷◌, leb, ltb, eqb, length, if◌then◌else◌}
+use Rattle.units.specs.Plain.{times}
 use Rattle.rounds.specs.Round.{BareRec, Train, Shared, train_count, train_depth, queued?, train_at, in_turn}
 
 -- R1.5: each length 1 to the lane's longest

@@ -8,9 +8,9 @@
 --   Others                    while one holds records, no other is sent much more than it
 --
 -- Assumes nothing.
-use Rattle.std.specs.Prelude.{ℕ, ◌+◌, ◌*◌, ◌≤◌, ◌≡◌, Bool, true, ◌&&◌, List, [], ◌∷◌, ◌++◌, leb, ltb, eqb, length}
+use Rattle.std.specs.Prelude.{ℕ, ◌+◌, ◌*◌, ◌≤◌, ◌≡◌, Bool, true, ◌&&◌, List, [], ◌∷◌, ◌++◌, leb, ltb, eqb, length, if◌then◌else◌}
 use Rattle.std.proofs.Math.Option.{Option, none, some}
-use Rattle.units.specs.Plain.{if◌then◌else◌, sum}
+use Rattle.units.specs.Plain.{sum}
 use Rattle.rounds.specs.Round.{BareRec, Shared, TrainItem, train_count, train_depth, train_at, train_holds, shared_first, shared_put, shared_hand_out}
 use Rattle.rounds.specs.Good.{GoodShared}
 

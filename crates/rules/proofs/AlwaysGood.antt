@@ -6,7 +6,7 @@ use mathlib.Core.Path.{◌≡◌, refl, sym, ap, subst, ◌∙◌}
 use mathlib.Core.Bool.{Bool, true, false}
 use mathlib.Core.List.{List, [], ◌∷◌, map}
 use mathlib.Core.Option.{Option, none, some}
-use Rattle.units.specs.Plain.{if◌then◌else◌}
+use Rattle.std.specs.Prelude.{if◌then◌else◌}
 use Rattle.rules.specs.State.{clock_step, Rec, Setting, setting_at, Lane, State, slot, finish_r, some?, first_of, holds, lane_at, setup_of}
 use Rattle.rules.specs.Setup.{Setup, margin, framing_of}
 use Rattle.rules.specs.Calls.{Call, fresh, step, idle, shifted}

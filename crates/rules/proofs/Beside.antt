@@ -10,7 +10,8 @@ use lib.Dec.{ltb}
 use lib.ListN.{length, get_or, set, length-set}
 use borrow.Author.Tests.{ltb-true}
 use Rattle.units.specs.Numbers.{line_rate}
-use Rattle.units.specs.Plain.{if◌then◌else◌, without}
+use Rattle.std.specs.Prelude.{if◌then◌else◌}
+use Rattle.units.specs.Plain.{without}
 use Rattle.units.proofs.Bools.{if-ind, and_parts}
 use Rattle.waiting.specs.Waiting.{Waiting, first}
 use Rattle.rules.specs.State.{clock_step, Rec, Setting, Lane, no_lane, State, charge, group, start_r, some?, holds, lane_at, any_holds}

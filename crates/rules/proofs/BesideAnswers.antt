@@ -6,7 +6,7 @@ use mathlib.Core.List.{List}
 use lib.Dec.{ltb}
 use lib.IntN.{sub_ℕ}
 use lib.ListN.{length, get_or}
-use Rattle.units.specs.Plain.{if◌then◌else◌}
+use Rattle.std.specs.Prelude.{if◌then◌else◌}
 use Rattle.rules.specs.State.{clock_step, Lane, no_lane, State, holds, lane_at, setup_of, any_holds}
 use Rattle.rules.specs.Sets.{ready, ineligible_ready, eligible_blocked, ineligible_blocked, groups}
 use Rattle.rules.specs.Calls.{lagged, restarted, no, do_sets, lag_of, do_lag, fresh, do_restart}

@@ -7,7 +7,7 @@ use mathlib.Core.Option.{Option, none, some}
 use lib.Dec.{leb}
 use lib.ListN.{length, length-map}
 use borrow.Author.Tests.{leb-true}
-use Rattle.units.specs.Plain.{if◌then◌else◌}
+use Rattle.std.specs.Prelude.{if◌then◌else◌}
 use Rattle.waiting.specs.Waiting.{Waiting, queue_of}
 use Rattle.rules.specs.State.{clock_far, clock_step, clock_kept, Rec, State, holds, lane_at}
 use Rattle.rules.specs.Calls.{Call, put, take, look, sets, lag, restart, accepted, put_refusal, taken_off, lowered, lower_all, shifted, accept, put_of, do_put, do_take, do_look, do_sets, do_lag, do_restart, step}

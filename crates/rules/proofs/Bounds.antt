@@ -8,7 +8,8 @@ use mathlib.Core.List.{List, [], ◌∷◌, map}
 use mathlib.Core.Option.{some}
 use lib.ListN.{get_or}
 use Rattle.units.proofs.Round.{lt-round-slot}
-use Rattle.units.specs.Plain.{if◌then◌else◌, sum}
+use Rattle.std.specs.Prelude.{if◌then◌else◌}
+use Rattle.units.specs.Plain.{sum}
 use Rattle.rules.specs.State.{Setting, no_setting, Lane, charge, slot, finish_r, some?, first_of, holds, no_lane}
 use Rattle.waiting.proofs.Laws.{first-nothing, good-nothing}
 use Rattle.rules.specs.Calls.{idle}

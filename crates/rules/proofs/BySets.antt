@@ -9,7 +9,8 @@ use mathlib.Core.Option.{Option, none, some}
 use mathlib.Core.List.{List, [], ◌∷◌}
 use lib.Dec.{eqb}
 use borrow.Author.Tests.{eqb-true, eq-eqb, ne_eqb}
-use Rattle.units.specs.Plain.{if◌then◌else◌, place, times}
+use Rattle.std.specs.Prelude.{if◌then◌else◌}
+use Rattle.units.specs.Plain.{place, times}
 use Rattle.units.proofs.Bools.{and_parts, and-made}
 use Rattle.rules.specs.State.{Setting, Lane, State, group, slot, start_r, finish_r, holds, eligible, lane_at, setup_of}
 use Rattle.rules.specs.Choice.{Candidate, choose}

@@ -12,7 +12,7 @@ use borrow.Author.Tests.{ltb-true, ltb-false, eqb-true, eqb-false}
 use Rattle.rules.specs.State.{Lane, group, finish_r, eligible, no_lane}
 use Rattle.units.specs.Plain.{place}
 use Rattle.units.proofs.Bools.{if-ind}
-use Rattle.rules.specs.Choice.{Candidate, before, best, choose_from, choose, least}
+use Rattle.rules.specs.Choice.{Candidate, before, best, choose_from, choose}
 pub use Rattle.rules.specs.Chosen.{Ahead, Chosen, Choice}
 use Rattle.rules.specs.Chosen.{AheadOf, ChoiceRule}
 

@@ -11,7 +11,8 @@ use mathlib.Core.Option.{Option, none, some}
 use lib.Dec.{leb}
 use lib.ListN.{length, get_or, set}
 use borrow.Author.Tests.{leb-true, le-leb}
-use Rattle.units.specs.Plain.{if◌then◌else◌, sum}
+use Rattle.std.specs.Prelude.{if◌then◌else◌}
+use Rattle.units.specs.Plain.{sum}
 use Rattle.units.proofs.Bools.{if-ind}
 use Rattle.units.proofs.Lists.{sum-set}
 use Rattle.waiting.specs.Waiting.{GoodWaiting}

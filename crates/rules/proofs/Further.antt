@@ -12,7 +12,8 @@ use lib.ListN.{length, get_or}
 use lib.Pow.{pow-add, pow_pos}
 use borrow.Author.Tests.{leb-true, leb-false, le-leb, lt-leb, ltb-true, ltb-false, lt-ltb, le-ltb, eqb-true, eqb-false, eq-eqb, ne_eqb}
 use Rattle.units.specs.Numbers.{round_down}
-use Rattle.units.specs.Plain.{if◌then◌else◌, place}
+use Rattle.std.specs.Prelude.{if◌then◌else◌}
+use Rattle.units.specs.Plain.{place}
 use Rattle.units.proofs.Round.{round-div}
 use Rattle.waiting.specs.Waiting.{Waiting, first}
 use Rattle.rules.specs.State.{clock_step, Setting, Lane, no_lane, group, slot, start_r, finish_r, some?, holds, eligible, any_holds}

@@ -7,7 +7,8 @@ use mathlib.Core.Option.{Option, none, some}
 use lib.ListN.{length-map}
 use borrow.Author.Tests.{le-leb}
 use Rattle.units.proofs.Round.{round-le}
-use Rattle.units.specs.Plain.{if◌then◌else◌, times}
+use Rattle.std.specs.Prelude.{if◌then◌else◌}
+use Rattle.units.specs.Plain.{times}
 use Rattle.waiting.specs.Waiting.{Waiting, first}
 use Rattle.rules.specs.State.{clock_far, clock_step, clock_kept, clock_edge, Rec, Setting, Lane, State, charge, rate, group, slot, some?, first_of, holds, eligible, lane_at, setup_of}
 use Rattle.rules.specs.Setup.{Setup}

@@ -11,7 +11,8 @@ use Rattle.waiting.specs.Waiting.{is_shared, waiting_test}
 use lib.Dec.{leb, ltb, eqb}
 use lib.ListN.{length, get_or}
 use borrow.Author.Tests.{leb-true, le-leb, ltb-true, lt-ltb, eqb-true, eqb-false, eq-eqb, ne_eqb, not-true}
-use Rattle.units.specs.Plain.{if◌then◌else◌, times}
+use Rattle.std.specs.Prelude.{if◌then◌else◌}
+use Rattle.units.specs.Plain.{times}
 use Rattle.units.proofs.Bools.{and_parts, and-made}
 use Rattle.rules.specs.State.{clock_edge, Rec, Setting, no_setting, setting_at, Lane, State, charge, rate, slot, start_r, first_of, holds, eligible, lane_at, setup_of, any_holds}
 use Rattle.rules.specs.Setup.{InNumbers, weights, Setup, margin, framing_of}

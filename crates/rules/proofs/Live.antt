@@ -10,7 +10,7 @@ use mathlib.Core.List.{List, [], ◌∷◌}
 use lib.Dec.{ltb}
 use lib.ListN.{length, get_or, set}
 use borrow.Author.Tests.{ltb-false}
-use Rattle.units.specs.Plain.{if◌then◌else◌}
+use Rattle.std.specs.Prelude.{if◌then◌else◌}
 use Rattle.units.proofs.Bools.{if-ind, or_right}
 use Rattle.units.proofs.Lists.{set_cases}
 use Rattle.rules.specs.State.{Setting, setup_of, Lane, Rec, State, charge, start_r, holds, no_lane, lane_at, eligible, any_holds}

@@ -10,11 +10,12 @@ use mathlib.Core.Option.{Option, none, some}
 use lib.Dec.{T, leb}
 use lib.ListN.{get_or, set}
 use borrow.Author.Tests.{leb-true, le-leb}
-use Rattle.units.specs.Plain.{if◌then◌else◌, sum}
+use Rattle.std.specs.Prelude.{if◌then◌else◌}
+use Rattle.units.specs.Plain.{sum}
 use Rattle.waiting.specs.Waiting.{GoodWaiting}
 use Rattle.waiting.proofs.Laws.{Enters, first-enter, first-stays, good-enter}
 use Rattle.rules.specs.State.{Lane, Rec, slot, finish_r, first_of, holds, some?, no_lane}
-use Rattle.rules.specs.Calls.{woken, appended, idle}
+use Rattle.rules.specs.Calls.{woken, appended}
 use Rattle.units.proofs.Round.{lt-round-slot}
 use Rattle.units.proofs.Bools.{if-ind}
 use Rattle.units.proofs.Lists.{sum-set}

@@ -9,7 +9,8 @@ use mathlib.Core.List.{List, [], ◌∷◌, ◌++◌, map}
 use lib.Dec.{ltb, leb}
 use lib.ListN.{length, get_or, set, length-set, length-map}
 use borrow.Author.Tests.{leb-false}
-use Rattle.units.specs.Plain.{if◌then◌else◌, sum}
+use Rattle.std.specs.Prelude.{if◌then◌else◌}
+use Rattle.units.specs.Plain.{sum}
 use Rattle.waiting.specs.Waiting.{held}
 use Rattle.waiting.proofs.Laws.{held-nothing, held-enter, held_none, held-most, good-enter}
 use Rattle.rules.specs.State.{clock_far, lane_depth, Setting, no_setting, setup_of, Lane, Rec, State, slot, start_r, first_of, holds, no_lane, lane_at, any_holds}

@@ -8,7 +8,8 @@ use mathlib.Core.Option.{Option, none, some}
 use mathlib.Core.List.{List}
 use lib.Dec.{ltb}
 use lib.ListN.{length, get_or, set, length-set}
-use Rattle.units.specs.Plain.{if◌then◌else◌, sum}
+use Rattle.std.specs.Prelude.{if◌then◌else◌}
+use Rattle.units.specs.Plain.{sum}
 use Rattle.waiting.specs.Waiting.{Waiting, held}
 use Rattle.waiting.proofs.Laws.{held-hand}
 use Rattle.rules.specs.State.{clock_far, lane_depth, Lane, State, charge, slot, start_r, holds, no_lane, lane_at}

@@ -9,7 +9,8 @@ use mathlib.Core.Option.{Option, none, some}
 use mathlib.Core.List.{List, [], ◌∷◌, ◌++◌, append_assoc}
 use lib.Dec.{eqb}
 use lib.ListN.{length}
-use Rattle.units.specs.Plain.{if◌then◌else◌, sum}
+use Rattle.std.specs.Prelude.{if◌then◌else◌}
+use Rattle.units.specs.Plain.{sum}
 use Rattle.units.proofs.Lists.{same_or}
 use Rattle.units.proofs.Below.{sum_below, below-add, below-own}
 use Rattle.rounds.specs.Round.{train_count}

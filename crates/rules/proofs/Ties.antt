@@ -1,6 +1,6 @@
 -- The tie order names each lane that holds records once, and no other.
 -- Assumes nothing.
-use Prim.Native.Nat.{ℕ, ◌+◌}
+use Prim.Native.Nat.{ℕ}
 use native.Mathlib.Omega.{arith}
 use mathlib.Core.Path.{◌≡◌, refl, sym, ap, subst, ◌∙◌}
 use mathlib.Core.Bool.{Bool, true, false, false≢true}
@@ -8,7 +8,8 @@ use mathlib.Core.Option.{Option, none, some}
 use mathlib.Core.List.{List, [], ◌∷◌, ◌++◌}
 use lib.Dec.{eqb}
 use borrow.Author.Tests.{eqb-true, eq-eqb, ne_eqb}
-use Rattle.units.specs.Plain.{if◌then◌else◌, times, without}
+use Rattle.std.specs.Prelude.{if◌then◌else◌}
+use Rattle.units.specs.Plain.{times, without}
 use Rattle.units.proofs.Bools.{if-ind}
 use Rattle.units.proofs.Lists.{set_cases, times-append}
 use Rattle.waiting.specs.Waiting.{Waiting, first}

@@ -9,7 +9,7 @@ use mathlib.Core.List.{List}
 use lib.Dec.{ltb, eqb}
 use lib.ListN.{set}
 use borrow.Author.Tests.{ltb-true, eq-eqb, ne_eqb}
-use Rattle.units.specs.Plain.{if◌then◌else◌}
+use Rattle.std.specs.Prelude.{if◌then◌else◌}
 use Rattle.units.proofs.Bools.{if-ind, and_parts}
 use Rattle.units.proofs.Lists.{set_cases}
 use Rattle.rules.specs.State.{Rec, Lane, no_lane, State, charge, rate, start_r, some?, holds, lane_at, setup_of, any_holds}

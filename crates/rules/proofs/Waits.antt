@@ -1,6 +1,6 @@
 -- How long one record waits, proved: a record that was accepted and is not yet handed out keeps its lane holding, so demand 3 speaks of the stretch; and of a lane
 -- that is not shared only the records that were before it are sent meanwhile. Assumes nothing.
-use Prim.Native.Nat.{ℕ, ◌+◌, ◌*◌, ◌≤◌, ◌<◌}
+use Prim.Native.Nat.{ℕ, ◌*◌, ◌≤◌, ◌<◌}
 use native.Mathlib.Omega.{arith}
 use native.Mathlib.Nat.{mul-le-mul_left, mul-le-mul_right}
 use native.Mathlib.Decide.{dec_le}

@@ -7,7 +7,8 @@ use mathlib.Core.Bool.{Bool, true, false}
 use lib.Count.{count_trailing_zeros}
 use lib.Pow.{pow-add, pow_pos, high}
 use mathlib.Core.Logic.{◌⊎◌, inl, inr}
-use Rattle.units.specs.Plain.{if◌then◌else◌, word_of, count}
+use Rattle.std.specs.Prelude.{if◌then◌else◌}
+use Rattle.units.specs.Plain.{word_of, count}
 use Rattle.units.proofs.Bools.{if-ind}
 
 none-set : (p : ℕ → Bool) (m : ℕ) → ((i : ℕ) → i < m → p i ≡ false) → word_of p m ≡ 0

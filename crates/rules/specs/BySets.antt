@@ -8,9 +8,8 @@
 --   SameChoice      R4.7: on every good state both choose the same lane
 --
 -- Assumes nothing.
-use Rattle.std.specs.Prelude.{ℕ, ◌≡◌, Bool, ◌&&◌, List, [], ◌∷◌, eqb}
+use Rattle.std.specs.Prelude.{ℕ, ◌≡◌, Bool, ◌&&◌, List, [], ◌∷◌, eqb, if◌then◌else◌}
 use Rattle.std.proofs.Math.Option.{Option, none, some}
-use Rattle.units.specs.Plain.{if◌then◌else◌}
 use Rattle.rules.specs.State.{Lane, State, start_r, lane_at}
 use Rattle.rules.specs.Choice.{Candidate, choose}
 use Rattle.rules.specs.Sets.{in_group, group_start, first_group}

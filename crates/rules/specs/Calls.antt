@@ -6,11 +6,11 @@
 --   step                   any call
 --
 -- A refused call leaves the state as it is. Assumes nothing.
-use Rattle.std.specs.Prelude.{ℕ, ◌+◌, ◌-◌, ◌*◌, max, not, ◌&&◌, ◌||◌, List, [], ◌∷◌, ◌++◌, map, leb, ltb, ℤ, length, set}
+use Rattle.std.specs.Prelude.{ℕ, ◌+◌, ◌-◌, ◌*◌, max, not, ◌&&◌, ◌||◌, List, [], ◌∷◌, ◌++◌, map, leb, ltb, ℤ, length, set, if◌then◌else◌}
 use Rattle.std.proofs.Math.Option.{Option, none, some}
 use Rattle.std.proofs.Math.IntN.{sub_ℕ}
 use Rattle.units.specs.Numbers.{line_rate, round_down}
-use Rattle.units.specs.Plain.{if◌then◌else◌, without}
+use Rattle.units.specs.Plain.{without}
 use Rattle.waiting.specs.Waiting.{Waiting, none_waiting, first, enter, hand_out, queue_of, full, known}
 use Rattle.rules.specs.State.{clock_far, clock_step, clock_kept, Rec, Setting, Lane, State, charge, rate, start_r, first_of, holds, lane_at, setup_of, any_holds}
 use Rattle.rules.specs.Choice.{Candidate, choose, least_of}

@@ -4,9 +4,9 @@
 --   least_of    the least R of the lanes that pass a test
 --
 -- Assumes nothing.
-use Rattle.std.specs.Prelude.{ℕ, suc, Bool, ◌&&◌, ◌||◌, List, [], ◌∷◌, leb, ltb, eqb}
+use Rattle.std.specs.Prelude.{ℕ, suc, Bool, ◌&&◌, ◌||◌, List, [], ◌∷◌, leb, ltb, eqb, if◌then◌else◌}
 use Rattle.std.proofs.Math.Option.{Option, none, some}
-use Rattle.units.specs.Plain.{if◌then◌else◌, place}
+use Rattle.units.specs.Plain.{place}
 use Rattle.rules.specs.State.{Lane, State, group, start_r, finish_r, eligible}
 
 -- what the choice goes by: the rounded finish, the group, and the place in the tie order

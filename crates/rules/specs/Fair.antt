@@ -8,10 +8,10 @@
 --   TwoLanes, ComparedTight  the claim as asked; with the setup's own greatest charge
 --
 -- Assumes nothing.
-use Rattle.std.specs.Prelude.{ℕ, ◌+◌, ◌*◌, ◌<◌, ◌≡◌, List, ◌++◌, length, eqb}
+use Rattle.std.specs.Prelude.{ℕ, ◌+◌, ◌*◌, ◌<◌, ◌≡◌, List, ◌++◌, length, eqb, if◌then◌else◌}
 use Rattle.std.proofs.Math.Option.{Option, none, some}
 use Rattle.units.specs.Numbers.{line_rate}
-use Rattle.units.specs.Plain.{if◌then◌else◌, sum}
+use Rattle.units.specs.Plain.{sum}
 use Rattle.rules.specs.State.{Setting, setting_at, charge, rate, slot}
 use Rattle.rules.specs.Setup.{Setup, framing_of, longest_charge, margin}
 use Rattle.rules.specs.Calls.{Call, fresh}

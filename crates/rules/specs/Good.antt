@@ -1,9 +1,9 @@
 -- A good state: what a good table (docs/RULES.md, R6) asks of the state that it encodes, field by field.
 --
 -- proofs/GoodTest.antt computes it, and shows that the two agree. Assumes nothing.
-use Rattle.std.specs.Prelude.{ℕ, ◌+◌, ◌*◌, ◌<◌, ◌≡◌, true}
+use Rattle.std.specs.Prelude.{ℕ, ◌+◌, ◌*◌, ◌<◌, ◌≡◌, true, if◌then◌else◌}
 use Rattle.std.proofs.Math.Option.{Option, none, some}
-use Rattle.units.specs.Plain.{if◌then◌else◌, times}
+use Rattle.units.specs.Plain.{times}
 use Rattle.waiting.specs.Waiting.{is_shared, GoodWaiting}
 use Rattle.rules.specs.State.{Rec, Lane, State, clock_edge, charge, rate, slot, start_r, first_of, holds, eligible, lane_at, setup_of}
 use Rattle.rules.specs.Setup.{Setup, margin}

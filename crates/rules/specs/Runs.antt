@@ -7,9 +7,8 @@
 --   SaysAhead            the number that an accepted put answers
 --
 -- Assumes nothing.
-use Rattle.std.specs.Prelude.{ℕ, ◌+◌, ◌<◌, ◌≡◌, Bool, true, false, List, [], ◌∷◌, ◌++◌, eqb, length}
+use Rattle.std.specs.Prelude.{ℕ, ◌+◌, ◌<◌, ◌≡◌, Bool, true, false, List, [], ◌∷◌, ◌++◌, eqb, length, if◌then◌else◌}
 use Rattle.std.proofs.Math.Option.{Option, none, some}
-use Rattle.units.specs.Plain.{if◌then◌else◌}
 use Rattle.waiting.specs.Waiting.{queue_of, bare}
 use Rattle.rules.specs.State.{Rec, Setting, setting_at, State, lane_depth, lane_at}
 use Rattle.rounds.specs.Round as round

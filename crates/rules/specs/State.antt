@@ -13,10 +13,9 @@
 --   holds        the lane holds a record; eligible: and its R is at most V
 --
 -- Assumes nothing.
-use Rattle.std.specs.Prelude.{ℕ, ◌+◌, ◌*◌, ◌^◌, Bool, true, false, ◌&&◌, ◌||◌, List, [], ◌∷◌, map, leb, get_or}
+use Rattle.std.specs.Prelude.{ℕ, ◌+◌, ◌*◌, ◌^◌, Bool, true, false, ◌&&◌, ◌||◌, List, [], ◌∷◌, map, leb, get_or, if◌then◌else◌}
 use Rattle.std.proofs.Math.Option.{Option, none, some}
 use Rattle.units.specs.Numbers.{per_byte, least_power, round_down}
-use Rattle.units.specs.Plain.{if◌then◌else◌}
 use Rattle.rounds.specs.Round.{train_depth}
 pub use Rattle.waiting.specs.Waiting.{Rec, lane_depth}
 use Rattle.waiting.specs.Waiting.{Waiting, none_waiting, first}

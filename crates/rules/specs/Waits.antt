@@ -14,10 +14,10 @@
 --   OutByTakes         as many takes as the worst wait has bytes are enough: no record waits for ever
 --
 -- All of it is counted from the list's arguments and answers alone; c, the slot and the longest come from the setup. Assumes nothing.
-use Rattle.std.specs.Prelude.{ℕ, ◌+◌, ◌*◌, ◌/◌, ◌≤◌, ◌<◌, ◌≡◌, false, List, ◌∷◌, ◌++◌, length, drop}
+use Rattle.std.specs.Prelude.{ℕ, ◌+◌, ◌*◌, ◌/◌, ◌≤◌, ◌<◌, ◌≡◌, false, List, ◌∷◌, ◌++◌, length, drop, if◌then◌else◌}
 use Rattle.std.proofs.Math.IntN.{sub_ℕ}
 use Rattle.units.specs.Numbers.{line_rate}
-use Rattle.units.specs.Plain.{if◌then◌else◌, sum}
+use Rattle.units.specs.Plain.{sum}
 use Rattle.rounds.specs.Round as round
 use Rattle.waiting.specs.Waiting.{bare}
 use Rattle.rules.specs.State.{Rec, Setting, setting_at, charge, rate, slot}

@@ -3,7 +3,7 @@ use Prim.Native.Nat.{ℕ, ◌<◌}
 use mathlib.Core.Path.{sym, subst, ◌∙◌}
 use mathlib.Core.Bool.{Bool}
 use mathlib.Core.List.{List}
-use Rattle.units.specs.Plain.{if◌then◌else◌}
+use Rattle.std.specs.Prelude.{if◌then◌else◌}
 use Rattle.rounds.specs.Round.{train_depth}
 use Rattle.rules.specs.State.{Rec, Setting, lane_depth}
 use Rattle.rules.specs.Calls.{put, put_refusal, do_put, step}

@@ -7,7 +7,7 @@ use mathlib.Core.List.{List, [], ◌∷◌, ◌++◌, map}
 use mathlib.Core.Option.{none}
 use lib.Dec.{leb}
 use lib.ListN.{get_or}
-use Rattle.units.specs.Plain.{if◌then◌else◌}
+use Rattle.std.specs.Prelude.{if◌then◌else◌}
 use Rattle.waiting.specs.Waiting.{queue_of}
 use Rattle.rules.specs.State.{Setting, Lane, no_lane, lane_at}
 use Rattle.rules.specs.Calls.{take, refused}

@@ -10,7 +10,7 @@ use lib.ListN.{length}
 use mir.Val.{has_key}
 use types.Run.{OneOf, miss}
 use denote.Enum.Declared.{tag_of}
-use Rattle.units.specs.Plain.{if◌then◌else◌}
+use Rattle.std.specs.Prelude.{if◌then◌else◌}
 use Rattle.rules.specs.State.{Lane, State, any_holds}
 use Rattle.rules.specs.Setup.{Setup}
 use Rattle.rules.specs.Calls.{take, Reply, accepted, taken, seen, words, lagged, restarted, refused, Pick, picked, take_of, do_take, step}

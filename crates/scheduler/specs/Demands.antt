@@ -18,10 +18,9 @@
 --   AsRuled        R15.2 alone, after `make`
 --
 -- Assumes nothing.
-use Rattle.std.specs.Prelude.{ℕ, ◌+◌, ◌*◌, ◌<◌, ◌≡◌, ◌⊎◌, List, [], ◌∷◌, ◌++◌, leb, eqb}
+use Rattle.std.specs.Prelude.{ℕ, ◌+◌, ◌*◌, ◌<◌, ◌≡◌, ◌⊎◌, List, [], ◌∷◌, ◌++◌, leb, eqb, if◌then◌else◌}
 use Rattle.std.proofs.Math.Option.{Option, none}
 use Rattle.units.specs.Numbers.{line_rate}
-use Rattle.units.specs.Plain.{if◌then◌else◌}
 use Rattle.waiting.specs.Waiting.{queue_of}
 use Rattle.rules.specs.State.{Setting, setting_at, rate, slot, lane_at, setup_of}
 use Rattle.rules.specs.Setup.{framing_of, margin}

@@ -13,7 +13,7 @@ use mathlib.Core.Option.{some}
 use lib.Dec.{ltb}
 use lib.ListN.{length}
 use borrow.Author.Tests.{ltb-true, ltb-false}
-use Rattle.units.specs.Plain.{if◌then◌else◌}
+use Rattle.std.specs.Prelude.{if◌then◌else◌}
 use Rattle.units.proofs.Bools.{true-false}
 use Rattle.rules.specs.State.{Setting, no_setting}
 use Rattle.rules.specs.Setup.{Setup, framing_of}

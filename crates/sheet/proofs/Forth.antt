@@ -14,7 +14,7 @@ use lib.Dec.{ltb}
 use lib.ListN.{length, get_or, set, replicate, length-append}
 use lib.Seq.{set_at}
 use borrow.Author.Tests.{lt-ltb, ltb-false}
-use Rattle.units.specs.Plain.{if◌then◌else◌}
+use Rattle.std.specs.Prelude.{if◌then◌else◌}
 use Rattle.rules.specs.State.{Setting, no_setting, setting_at}
 use Rattle.rules.specs.Setup.{Setup, InNumbers, weights, framing_of}
 use Rattle.plan.specs.Judge.{given, seen_after}

@@ -10,8 +10,7 @@
 -- specs/Text.antt says what the sheets of the form are without the machine, and specs/Promises.antt that the two agree.
 --
 -- Assumes nothing.
-use Rattle.std.specs.Prelude.{ℕ, ◌+◌, ◌-◌, ◌*◌, Bool, true, false, not, ◌&&◌, ◌||◌, leb, ltb, eqb}
-use Rattle.units.specs.Plain.{if◌then◌else◌}
+use Rattle.std.specs.Prelude.{ℕ, ◌+◌, ◌-◌, ◌*◌, Bool, true, false, not, ◌&&◌, ◌||◌, leb, ltb, eqb, if◌then◌else◌}
 use Rattle.sheet.specs.declared.form.Part.{Part}
 use Rattle.sheet.specs.declared.form.Part.TheVariants.{Lane, Weight, Longest}
 use Rattle.sheet.specs.declared.form.Figure.{Figure}

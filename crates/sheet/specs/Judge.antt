@@ -5,8 +5,7 @@
 --   verdict      the first refusal of a line, or none
 --
 -- Assumes nothing.
-use Rattle.std.specs.Prelude.{ltb}
-use Rattle.units.specs.Plain.{if◌then◌else◌}
+use Rattle.std.specs.Prelude.{ltb, if◌then◌else◌}
 use Rattle.rules.specs.declared.Refusal.TheVariants.{OutOfOrder, WeightsOver, LaneOutside, WeightOutside, LongestOutside}
 use Rattle.plan.specs.Judge.{lane_outside, over}
 use Rattle.plan.specs.declared.judge.Fault.{Fault}

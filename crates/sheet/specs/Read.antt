@@ -5,9 +5,8 @@
 --   read_sheet   R12.2, R12.6: the reply for a whole sheet: a plan of that format with no framing bytes and no shared lane, or a refusal
 --
 -- Assumes nothing.
-use Rattle.std.specs.Prelude.{ℕ, ◌+◌, Bool, true, false, not, ◌&&◌, List, [], ◌∷◌, ltb}
+use Rattle.std.specs.Prelude.{ℕ, ◌+◌, Bool, true, false, not, ◌&&◌, List, [], ◌∷◌, ltb, if◌then◌else◌}
 use Rattle.std.proofs.Math.Option.{some}
-use Rattle.units.specs.Plain.{if◌then◌else◌}
 use Rattle.rules.specs.State.{Setting}
 use Rattle.rules.specs.Reads.{number, place_of}
 use Rattle.plan.specs.Judge.{seen_after}

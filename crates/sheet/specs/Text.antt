@@ -8,8 +8,7 @@
 --   sheet_bytes    R12.7: the sheet of a plan: a line for each of its lanes, by number
 --
 -- Assumes nothing.
-use Rattle.std.specs.Prelude.{ℕ, suc, ◌<◌, ◌≡◌, List, [], ◌∷◌, ◌++◌, ltb}
-use Rattle.units.specs.Plain.{if◌then◌else◌}
+use Rattle.std.specs.Prelude.{ℕ, suc, ◌<◌, ◌≡◌, List, [], ◌∷◌, ◌++◌, ltb, if◌then◌else◌}
 use Rattle.rules.specs.State.{Setting}
 use Rattle.text.specs.Decimal.{decimal}
 

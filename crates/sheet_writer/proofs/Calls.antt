@@ -14,7 +14,7 @@ use native.Mathlib.Decide.{dec_le}
 use native.Mathlib.Omega.{arith}
 use lib.ListN.{length, drop, take}
 use lib.Seq.{sets, take_at}
-use Rattle.units.specs.Plain.{if◌then◌else◌}
+use Rattle.std.specs.Prelude.{if◌then◌else◌}
 use Rattle.rules.specs.State.{Setting, setting_at}
 use Rattle.rules.specs.Setup.{framing_of}
 use Rattle.plan.specs.Judge.{known_format}

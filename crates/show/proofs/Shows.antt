@@ -6,7 +6,7 @@ use mathlib.Core.List.{List}
 use mathlib.Core.Option.{none, some}
 use lib.Dec.{ltb, eqb}
 use borrow.Author.Tests.{le-ltb, eqb-true}
-use Rattle.units.specs.Plain.{if◌then◌else◌}
+use Rattle.std.specs.Prelude.{if◌then◌else◌}
 use Rattle.waiting.specs.Waiting.{held}
 use Rattle.rules.specs.State.{Lane, group, holds, lane_at, no_lane}
 use Rattle.table.specs.Means.{given_of, meant, RowAgrees}

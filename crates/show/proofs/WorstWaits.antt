@@ -8,7 +8,7 @@ use mathlib.Core.Logic.{◌⊎◌, inl, inr}
 use mathlib.Core.Option.{none}
 use lib.ListN.{length, drop}
 use borrow.Author.Tests.{lt-ltb, le-ltb}
-use Rattle.units.specs.Plain.{if◌then◌else◌}
+use Rattle.std.specs.Prelude.{if◌then◌else◌}
 use Rattle.rules.specs.State.{Setting, Lane, no_setting, setting_at, setup_of, charge, room_of}
 use Rattle.rules.specs.Setup.{Setup, InNumbers, framing_of, longest_charge, margin}
 use Rattle.rules.specs.Waits.{worst_of}

@@ -12,10 +12,9 @@
 --            no accepted put reports
 --
 -- Assumes nothing.
-use Rattle.std.specs.Prelude.{ℕ, ◌*◌, not, List, ltb, length, get_or}
+use Rattle.std.specs.Prelude.{ℕ, ◌*◌, not, List, ltb, length, get_or, if◌then◌else◌}
 use Rattle.std.proofs.Math.Option.{Option, none, some}
 use Rattle.units.specs.Numbers.{line_rate}
-use Rattle.units.specs.Plain.{if◌then◌else◌}
 use Rattle.rounds.specs.Round as round
 use Rattle.waiting.specs.Waiting.{held, queue_of, known, with_train}
 use Rattle.rules.specs.State.{Rec, Setting, Lane, group, room_of, holds, lane_at, setup_of}

@@ -6,9 +6,8 @@
 --   BothWorst    the worst wait of a lane of these numbers: as asked, and tight
 --
 -- Assumes nothing.
-use Rattle.std.specs.Prelude.{ℕ, ◌*◌, ◌≡◌, Bool, List}
+use Rattle.std.specs.Prelude.{ℕ, ◌*◌, ◌≡◌, Bool, List, if◌then◌else◌}
 use Rattle.units.specs.Numbers.{line_rate}
-use Rattle.units.specs.Plain.{if◌then◌else◌}
 use Rattle.rules.specs.State.{setting_at, setup_of, charge}
 use Rattle.rules.specs.Setup.{longest_charge, margin}
 use Rattle.rules.specs.Waits.{worst_of}

@@ -10,7 +10,7 @@ use lib.Count.{count_trailing_zeros}
 use Rattle.words.specs.Bits.{bit}
 use Rattle.words.proofs.Bits.{bit-suc, bit-shift, bit-above, bit-add-same, bit-add-other, add-below, low-set, bits-same}
 use Rattle.words.proofs.Runs.{le-or-lt}
-use Rattle.units.specs.Plain.{if◌then◌else◌}
+use Rattle.std.specs.Prelude.{if◌then◌else◌}
 use Rattle.slot_lists.specs.Changes.{WithBit, Nearest}
 
 -- ---- one bit set, or not

@@ -9,7 +9,8 @@ use borrow.Author.Tests.{eq-eqb, ne_eqb}
 use lib.Dec.{eqb}
 use lib.ListN.{length}
 use Rattle.words.proofs.Runs.{eq-or-ne}
-use Rattle.units.specs.Plain.{if◌then◌else◌, times, without}
+use Rattle.std.specs.Prelude.{if◌then◌else◌}
+use Rattle.units.specs.Plain.{times, without}
 use Rattle.units.proofs.Bools.{if-most}
 use Rattle.units.proofs.Below.{length-times, below-most, below_less}
 use Rattle.rules.specs.State.{State, lane_at, holds}

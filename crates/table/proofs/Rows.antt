@@ -6,7 +6,7 @@ use mathlib.Core.List.{List, []}
 use native.Mathlib.Omega.{arith}
 use lib.ListN.{length, get_or, set, length-set}
 use lib.Seq.{get_or-set_same, get_or-set_other}
-use Rattle.units.specs.Plain.{if◌then◌else◌}
+use Rattle.std.specs.Prelude.{if◌then◌else◌}
 use Rattle.words.specs.Runs.{tab, tab_from}
 use Rattle.table.specs.Layout.{CELLS, present_word, framing_word, lane_word, round_word, round_at, place_in_lane, lengths_cell, row_at, put_row, entry_at}
 use Rattle.table.specs.Means.{present_at, lane_ring, given_of, shared_at, shared_if, waiting_of, timed_by_word, row_lane, lane_of, state_of, Housed}

@@ -26,8 +26,7 @@
 --   clear_cells                                    the cells with n cells of 0 from a cell on
 --
 -- Assumes nothing.
-use Rattle.std.specs.Prelude.{◌≡◌, ℕ, zero, suc, ◌+◌, ◌-◌, ◌*◌, ◌/◌, ◌%◌, ◌^◌, ◌≤◌, ◌<◌, List, ltb, eqb, length, drop, get_or, set}
-use Rattle.units.specs.Plain.{if◌then◌else◌}
+use Rattle.std.specs.Prelude.{◌≡◌, ℕ, zero, suc, ◌+◌, ◌-◌, ◌*◌, ◌/◌, ◌%◌, ◌^◌, ◌≤◌, ◌<◌, List, ltb, eqb, length, drop, get_or, set, if◌then◌else◌}
 use Rattle.words.specs.Runs.{tab}
 use Rattle.words.specs.Words.{word_at}
 use Rattle.digits.specs.Digits.{digit, put_digit}

@@ -18,10 +18,9 @@
 --   Leaves        what a function that stores in the first part leaves: a state, what is stored beside it, and every byte behind that part
 --
 -- Assumes nothing.
-use Rattle.std.specs.Prelude.{◌≡◌, Bool, true, ℕ, zero, suc, ◌+◌, ◌≤◌, ◌<◌, List, eqb, get_or, set}
+use Rattle.std.specs.Prelude.{◌≡◌, Bool, true, ℕ, zero, suc, ◌+◌, ◌≤◌, ◌<◌, List, eqb, get_or, set, if◌then◌else◌}
 use Rattle.words.specs.Bits.{bit}
 use Rattle.words.specs.Runs.{tab}
-use Rattle.units.specs.Plain.{if◌then◌else◌}
 use Rattle.rounds.specs.Round.{BareRec, Shared, empty_shared, shared_held}
 use Rattle.turns.specs.Turns.{shared_of, Ordered}
 use Rattle.waiting.specs.Waiting.{Waiting, plain, shared, first}

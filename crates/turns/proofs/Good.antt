@@ -6,7 +6,8 @@ use mathlib.Core.Bool.{Bool, true, false, false≢true}
 use mathlib.Core.List.{List, [], ◌∷◌}
 use mathlib.Core.Option.{some}
 use borrow.Author.Tests.{eq-eqb}
-use Rattle.units.specs.Plain.{if◌then◌else◌, times}
+use Rattle.std.specs.Prelude.{if◌then◌else◌}
+use Rattle.units.specs.Plain.{times}
 use Rattle.units.proofs.Below.{length-times, below_less}
 use Rattle.rounds.specs.Round.{BareRec, Train, queued?, train_at, in_turn, first_of_train, first_in_turn, shared_first}
 use Rattle.rounds.specs.Good.{Lengths, Deficit, GoodTrain, GoodShared}

@@ -4,7 +4,6 @@ use native.Mathlib.Omega.{arith}
 use mathlib.Core.Path.{◌≡◌, refl, sym, subst}
 use mathlib.Core.Bool.{true, false, not}
 use lib.Dec.{eqb}
-use lib.ListN.{length}
 use borrow.Author.Tests.{eq-eqb, ne_eqb}
 use Rattle.turns.specs.Turns.{head_of, count_of, deficit_of, named_of, order_of, turn_of, Ordered, NamesTrains, Light, HandsOutTurn}
 use Rattle.turns.proofs.Round.{turned-small}

@@ -6,7 +6,7 @@ use mathlib.Core.Bool.{Bool, true, false}
 use mathlib.Core.List.{List, [], ◌∷◌, ◌++◌}
 use lib.ListN.{get_or, set}
 use lib.Seq.{set-set, get_or-set_same}
-use Rattle.units.specs.Plain.{if◌then◌else◌}
+use Rattle.std.specs.Prelude.{if◌then◌else◌}
 use Rattle.rounds.specs.Round.{BareRec, Train, Shared, no_train, queued?, train_holds, train_at, raised, added, join, shared_put, begin}
 use Rattle.turns.specs.Turns.{head_of, count_of, place_in_train, train_ring, train_of, trains_of, shared_of, fours, named_of, order_of, round_of, Ordered, Light, with, Puts}
 use Rattle.turns.proofs.Round.{round-made, ordered-made, ordered-joined, round-joined, joined_small}

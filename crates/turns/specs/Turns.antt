@@ -13,8 +13,8 @@
 --   Puts, HandsOutTurn           what the two functions leave
 --
 -- L is the lane's longest record, in bytes. Assumes nothing.
-use Rattle.std.specs.Prelude.{ℕ, zero, suc, ◌+◌, ◌*◌, ◌/◌, ◌%◌, ◌^◌, ◌≤◌, ◌<◌, ◌≡◌, Bool, true, List, [], ◌∷◌, eqb}
-use Rattle.units.specs.Plain.{if◌then◌else◌, times}
+use Rattle.std.specs.Prelude.{ℕ, zero, suc, ◌+◌, ◌*◌, ◌/◌, ◌%◌, ◌^◌, ◌≤◌, ◌<◌, ◌≡◌, Bool, true, List, [], ◌∷◌, eqb, if◌then◌else◌}
+use Rattle.units.specs.Plain.{times}
 use Rattle.words.specs.Runs.{tab}
 use Rattle.rounds.specs.Round.{BareRec, Train, Shared, train_count, train_depth, shared_put, shared_hand_out}
 use Rattle.turns.specs.declared.Change.{Change}

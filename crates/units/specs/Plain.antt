@@ -1,6 +1,5 @@
 -- What the rules' definitions are written with. No rule is stated here.
 --
---   if_then_else_   a choice by a test
 --   count           1 where a test passes, else 0
 --   sum             the sum of a figure over a list
 --   place, times    where a number first stands in a list; how often it does
@@ -9,12 +8,7 @@
 --   word_of          the word of the numbers below n at which a test passes
 --
 -- Assumes nothing.
-use Rattle.std.specs.Prelude.{ℕ, zero, suc, ◌+◌, ◌^◌, Bool, true, false, ◌||◌, List, [], ◌∷◌, eqb}
-
-infix 20 if◌then◌else◌
-abbrev pub if◌then◌else◌ {ℓ} : {A : Type ℓ} → Bool → A → A → A
-if true then a else b = a
-if false then a else b = b
+use Rattle.std.specs.Prelude.{ℕ, zero, suc, ◌+◌, ◌^◌, Bool, true, false, ◌||◌, List, [], ◌∷◌, eqb, if◌then◌else◌}
 
 abbrev pub count : Bool → ℕ
 count true = 1

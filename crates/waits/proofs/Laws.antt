@@ -5,7 +5,7 @@ use native.Mathlib.Nat.{mul-le-mul}
 use mathlib.Core.Path.{◌≡◌, sym, ap, subst, ◌∙◌}
 use mathlib.Core.Bool.{Bool, true, false}
 use Rattle.units.specs.Numbers.{line_rate, least_power, Least}
-use Rattle.units.specs.Plain.{if◌then◌else◌}
+use Rattle.std.specs.Prelude.{if◌then◌else◌}
 use Rattle.units.proofs.Group.{least-unique}
 use Rattle.rounds.specs.Round.{train_depth}
 use Rattle.rules.specs.State.{Setting, lane_depth, charge, rate, group, slot}

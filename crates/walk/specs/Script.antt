@@ -8,9 +8,8 @@
 --   run_of         any run
 --
 -- Assumes nothing.
-use Rattle.std.specs.Prelude.{ℕ, zero, suc, ◌+◌, ◌*◌, ◌||◌, List, [], ◌++◌, ltb, length}
+use Rattle.std.specs.Prelude.{ℕ, zero, suc, ◌+◌, ◌*◌, ◌||◌, List, [], ◌++◌, ltb, length, if◌then◌else◌}
 use Rattle.std.proofs.Math.Option.{Option, none, some}
-use Rattle.units.specs.Plain.{if◌then◌else◌}
 use Rattle.rules.specs.State.{State, setup_of}
 use Rattle.rules.specs.Calls.{fresh, step}
 use Rattle.plan.specs.Read.{SetupReply, setup_refused, setup_read, read_plan}

@@ -9,7 +9,7 @@ use lib.IntN.{ℤ, pos, negsuc}
 use mir.Syntax.{w64}
 use mir.Val.{SFits}
 use mir.ValLaws.{to_z-of_z}
-use Rattle.units.specs.Plain.{if◌then◌else◌}
+use Rattle.std.specs.Prelude.{if◌then◌else◌}
 use Rattle.waiting.specs.Waiting.{full, known}
 use Rattle.rules.specs.State.{Rec, State, lane_at, setup_of, any_holds}
 use Rattle.rules.specs.Setup.{margin}

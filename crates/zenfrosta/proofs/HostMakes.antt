@@ -9,7 +9,7 @@ use Rattle.words.proofs.Runs.{le-or-lt}
 use mathlib.Core.Option.{Option, none, some}
 use lib.Dec.{eqb}
 use borrow.Author.Tests.{ne_eqb}
-use Rattle.units.specs.Plain.{if◌then◌else◌}
+use Rattle.std.specs.Prelude.{if◌then◌else◌}
 use Rattle.rules.specs.Calls.{refused}
 use Rattle.rules.specs.Reads.{number, place_of}
 use Rattle.pages.specs.Device.{answered}

@@ -7,11 +7,10 @@
 --
 -- So what R15.6 and R15.7 count, and a train's bytes, is counted from what crossed to the host: a take that gave 0 sent a record of the lane in word 0, of the
 -- length in word 2 and of the train in word 3; a put that gave 0 was accepted; a result of 10 never comes. Assumes nothing.
-use Rattle.std.specs.Prelude.{ℕ, ◌≤◌, ◌<◌, ◌≡◌, List, [], ◌∷◌, ◌++◌, eqb, length}
+use Rattle.std.specs.Prelude.{ℕ, ◌≤◌, ◌<◌, ◌≡◌, List, [], ◌∷◌, ◌++◌, eqb, length, if◌then◌else◌}
 use Rattle.std.proofs.Math.Option.{none, some}
 use Rattle.std.specs.Int.{w64}
 use Rattle.std.proofs.Common.{to_z}
-use Rattle.units.specs.Plain.{if◌then◌else◌}
 use Rattle.rules.specs.State.{Setting}
 use Rattle.rules.specs.Calls.{Call, put, take, look, sets, lag, restart, Reply, accepted, taken, seen, words, lagged, restarted, refused}
 use Rattle.pages.specs.Device.{ruled, DeviceReply, answered, in_force_now, waits_now}

@@ -16,7 +16,7 @@ ghost use Rattle.rules.specs.Reads as Reads;
 ghost use Rattle.table.specs.Layout.{table_size};
 ghost use Rattle.zenfrosta.specs.Crossing.{four, code, values, refusal_words, Spoken, CrossesCall, CrossesMaking};
 
-pub mod board;
+pub mod boards;
 pub mod halts;
 pub mod offers;
 pub mod old;

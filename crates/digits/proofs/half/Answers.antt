@@ -1,6 +1,5 @@
 use native.Mathlib.Omega.{arith}
 use Rattle.digits.proofs.Widths.{half-read}
-use borrow.Author.Rules.{rules}
 use Rattle.digits.proofs.half.Goals as goal
 
 pub returns : goal.returns

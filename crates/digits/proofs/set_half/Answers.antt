@@ -1,7 +1,6 @@
 use native.Mathlib.Omega.{arith}
 use lib.ListN.{length-set}
 use Rattle.digits.proofs.Widths.{half-stored}
-use borrow.Author.Rules.{rules}
 use Rattle.digits.proofs.set_half.Goals as goal
 
 pub bounds-t-a-2 : goal.bounds-t-a-2

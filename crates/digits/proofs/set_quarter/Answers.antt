@@ -1,7 +1,6 @@
 use native.Mathlib.Omega.{arith}
 use lib.ListN.{length-set}
 use Rattle.digits.proofs.Widths.{quarter-stored}
-use borrow.Author.Rules.{rules}
 use Rattle.digits.proofs.set_quarter.Goals as goal
 
 pub bounds-t-a-2 : goal.bounds-t-a-2

@@ -9,7 +9,7 @@ use native.Mathlib.Nat.{pos_of_ne-zero}
 use native.Mathlib.Omega.{arith}
 use borrow.Author.Tests.{not-true, lt-ltb, le-ltb, le-leb, lt-leb}
 use Rattle.waiting.specs.Waiting.{queue_of, full, known}
-use Rattle.units.specs.Plain.{if◌then◌else◌}
+use Rattle.std.specs.Prelude.{if◌then◌else◌}
 use Rattle.rules.specs.State.{Setting, Lane, lane_at}
 use Rattle.rules.specs.Calls.{put_refusal}
 use Rattle.table.specs.Means.{meant}

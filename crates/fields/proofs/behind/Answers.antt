@@ -1,5 +1,4 @@
 -- `fields::behind` meets its contract. Assumes nothing.
-use borrow.Author.Rules.{rules}
 use borrow.Author.Tests.{leb-true}
 use Prim.Native.Nat.{◌+◌}
 use lib.ListN.{length}

@@ -1,5 +1,4 @@
 -- `fields::field_at` meets its contract. Assumes nothing.
-use borrow.Author.Rules.{rules}
 use mathlib.Core.Path.{sym}
 use native.Mathlib.Omega.{arith}
 use Rattle.fields.proofs.Header.{header-none, header-cut, header-whole}

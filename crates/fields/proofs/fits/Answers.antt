@@ -1,6 +1,5 @@
 -- `fields::fits` meets its contract. Assumes nothing.
 use Prim.Native.Nat.{◌+◌}
-use borrow.Author.Rules.{rules}
 use borrow.Author.Tests.{lt-leb}
 use lib.ListN.{length}
 use mathlib.Core.Path.{sym}

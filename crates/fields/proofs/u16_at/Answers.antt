@@ -1,5 +1,4 @@
 -- `fields::u16_at` meets its contract. Assumes nothing.
-use borrow.Author.Rules.{rules}
 use native.Mathlib.Omega.{arith}
 use Rattle.fields.proofs.Numbers.{big-two}
 use Rattle.fields.proofs.u16_at.Goals as goal

@@ -1,5 +1,4 @@
 -- `lane_of` meets its contract. Assumes nothing.
-use borrow.Author.Rules.{rules}
 use Rattle.plan.proofs.lane_of.Goals as goal
 
 pub returns : goal.returns

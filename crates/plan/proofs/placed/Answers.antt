@@ -1,5 +1,4 @@
 -- `plan::placed` meets its contract. Assumes nothing.
-use borrow.Author.Rules.{rules}
 use lib.ListN.{set, get_or-map}
 use mathlib.Core.List.{map}
 use mathlib.Core.Path.{sym, ap, subst, ◌∙◌}

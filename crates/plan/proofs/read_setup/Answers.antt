@@ -1,5 +1,4 @@
 -- `plan::read_setup` meets its contract. Assumes nothing.
-use borrow.Author.Rules.{rules}
 use mathlib.Core.Path.{◌≡◌, sym, ap, ◌∙◌}
 use Rattle.plan.proofs.Closed.{setup-refused, setup-more, setup-whole}
 use Rattle.plan.specs.Read.{setup_read, settings, setup_came, read_plan}

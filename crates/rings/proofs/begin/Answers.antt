@@ -1,5 +1,4 @@
 use Rattle.rings.proofs.Laws.{begin-leaves}
-use borrow.Author.Rules.{rules}
 use Rattle.rings.proofs.begin.Goals as goal
 
 pub returns : goal.returns

@@ -4,7 +4,6 @@ use lib.ListN.{get_or}
 use native.Mathlib.Omega.{arith}
 use Rattle.rings.proofs.Laws.{entry-ring, length-ring}
 use Rattle.rings.specs.Rings.{place_byte}
-use borrow.Author.Rules.{rules}
 use Rattle.rings.proofs.entry.Goals as goal
 
 pub returns : goal.returns

@@ -1,5 +1,4 @@
 use mathlib.Core.Path.{sym, ◌∙◌}
-use borrow.Author.Rules.{rules}
 use Rattle.rings.proofs.Laws.{length-ring}
 use Rattle.rings.proofs.held.Goals as goal
 

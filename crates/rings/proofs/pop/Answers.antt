@@ -2,7 +2,6 @@
 use native.Mathlib.Omega.{arith}
 use lib.ListN.{length-drop}
 use Rattle.rings.proofs.Laws.{pop-leaves, length-ring}
-use borrow.Author.Rules.{rules}
 use Rattle.rings.proofs.pop.Goals as goal
 
 pub overflow_sub-left : goal.overflow_sub-left

@@ -1,6 +1,5 @@
 use native.Mathlib.Omega.{arith}
 use Rattle.rings.proofs.Laws.{push-leaves, length-ring}
-use borrow.Author.Rules.{rules}
 use Rattle.rings.proofs.push.Goals as goal
 
 pub overflow_cast-n : goal.overflow_cast-n

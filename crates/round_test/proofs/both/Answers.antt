@@ -4,7 +4,6 @@ use mathlib.Core.Path.{◌≡◌, ap, subst, ◌∙◌}
 use Rattle.words.specs.Words.{word_at}
 use Rattle.digits.specs.Digits.{digit}
 use Rattle.round_test.specs.Shared.{numbers_at}
-use borrow.Author.Rules.{rules}
 use Rattle.round_test.proofs.both.Goals as goal
 
 pub returns : goal.returns

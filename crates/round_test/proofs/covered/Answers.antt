@@ -1,5 +1,4 @@
 use Rattle.round_test.proofs.Reading.{cover-says}
-use borrow.Author.Rules.{rules}
 use Rattle.round_test.proofs.covered.Goals as goal
 
 pub returns : goal.returns

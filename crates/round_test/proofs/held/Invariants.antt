@@ -1,8 +1,6 @@
 use Prim.Native.Nat.{◌-◌}
-use native.Mathlib.Omega.{arith}
-use borrow.Author.Rules.{rules}
 use Rattle.round_test.specs.Shared.{numbers_at}
-use Rattle.round_test.proofs.Counts.{Counted, counted_none, counted-more, held_fits, counted-all}
+use Rattle.round_test.proofs.Counts.{Counted}
 use Rattle.round_test.proofs.held.Given as goal
 
 abbrev pub invariant-loop-k : goal.invariant-loop-k

@@ -1,5 +1,4 @@
 use Rattle.round_test.proofs.Reading.{hold-says}
-use borrow.Author.Rules.{rules}
 use Rattle.round_test.proofs.holds.Goals as goal
 
 pub returns : goal.returns

@@ -1,8 +1,7 @@
-use Prim.Native.Nat.{◌-◌, ◌%◌}
+use Prim.Native.Nat.{◌%◌}
 use native.Mathlib.Omega.{arith}
-use borrow.Author.Rules.{rules}
 use Rattle.words.proofs.Bits.{shift_one}
-use Rattle.round_test.proofs.Walk.{Met, met-none, met-more, met_all}
+use Rattle.round_test.proofs.Walk.{met-none, met-more, met_all}
 use Rattle.round_test.proofs.seen.Goals as goal
 
 pub loop-i-init : goal.loop-i-init

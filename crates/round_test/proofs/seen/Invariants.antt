@@ -1,8 +1,5 @@
-use Prim.Native.Nat.{◌-◌, ◌%◌}
-use native.Mathlib.Omega.{arith}
-use borrow.Author.Rules.{rules}
-use Rattle.words.proofs.Bits.{shift_one}
-use Rattle.round_test.proofs.Walk.{Met, met-none, met-more, met_all}
+use Prim.Native.Nat.{◌-◌}
+use Rattle.round_test.proofs.Walk.{Met}
 use Rattle.round_test.proofs.seen.Given as goal
 
 abbrev pub invariant-loop-i : goal.invariant-loop-i

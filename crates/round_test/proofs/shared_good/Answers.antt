@@ -9,7 +9,6 @@ use Rattle.round_test.specs.Shared.{numbers_at, lengths_at}
 use Rattle.round_test.proofs.Fill.{end_is, ordered-is}
 use Rattle.round_test.proofs.Testing.{good-count}
 use Rattle.round_test.proofs.Part.{lane-says}
-use borrow.Author.Rules.{rules}
 use Rattle.round_test.proofs.shared_good.Goals as goal
 
 pub returns-then-order-end : goal.returns-then-order-end

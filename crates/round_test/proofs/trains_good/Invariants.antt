@@ -1,12 +1,6 @@
-use Prim.Native.Nat.{ℕ, ◌+◌, ◌-◌, ◌*◌}
-use native.Mathlib.Omega.{arith}
-use mathlib.Core.Logic.{⊎_elim}
-use mathlib.Core.Path.{◌≡◌, sym, ap, subst, ◌∙◌}
-use borrow.Author.Rules.{rules}
-use Rattle.words.proofs.Bits.{shift_one}
+use Prim.Native.Nat.{◌-◌}
 use Rattle.round_test.specs.Shared.{numbers_at, lengths_at}
-use Rattle.round_test.proofs.Answers.{says-true, says-false}
-use Rattle.round_test.proofs.Tally.{Tallying, tallying-none, one-small, small, head-only, waits, covers, not-head, too_much, tally-says}
+use Rattle.round_test.proofs.Tally.{Tallying}
 use Rattle.round_test.proofs.trains_good.Given as goal
 
 abbrev pub invariant-loop-k : goal.invariant-loop-k

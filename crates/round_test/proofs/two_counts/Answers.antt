@@ -2,7 +2,6 @@ use Prim.Native.Nat.{ℕ, ◌/◌}
 use mathlib.Core.Path.{ap, ◌∙◌}
 use lib.Bits.{bit_and}
 use Rattle.round_test.proofs.Counts.{two-masked}
-use borrow.Author.Rules.{rules}
 use Rattle.round_test.proofs.two_counts.Goals as goal
 
 pub returns : goal.returns

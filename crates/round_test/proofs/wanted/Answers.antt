@@ -2,7 +2,6 @@ use Prim.Native.Nat.{ℕ, ◌+◌, ◌*◌, ◌%◌}
 use native.Mathlib.Omega.{arith}
 use mathlib.Core.Path.{ap}
 use Rattle.words.proofs.Bits.{shift_one}
-use borrow.Author.Rules.{rules}
 use Rattle.round_test.proofs.wanted.Goals as goal
 
 pub returns : goal.returns

@@ -1,6 +1,6 @@
 -- `put_digits` meets its contract. The loop's invariant: the digits behind place i are stored, and `left` is the number without them. Assumes nothing.
 use mathlib.Core.Path.{◌≡◌, refl, ap, ◌∙◌}
-use Prim.Native.Nat.{ℕ, suc, ◌+◌, ◌-◌, ◌/◌, ◌%◌, ◌^◌, ◌≤◌}
+use Prim.Native.Nat.{ℕ, suc, ◌+◌, ◌-◌, ◌/◌, ◌%◌, ◌^◌}
 use native.Mathlib.Nat.{sub_self, add-zero, sub-zero}
 use native.Mathlib.Omega.{arith}
 use lib.ListN.{length}

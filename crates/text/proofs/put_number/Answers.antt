@@ -8,7 +8,6 @@ use lib.ListN.{length, length-set}
 use lib.Seq.{sets}
 use Rattle.text.proofs.Stores.{sets-append}
 use Rattle.text.proofs.Widths.{written-width, written-digits, decimal-one, decimal-two, decimal-three, decimal-four}
-use borrow.Author.Rules.{rules}
 use Rattle.text.proofs.put_number.Goals as goal
 
 pub bounds-a-at : goal.bounds-a-at

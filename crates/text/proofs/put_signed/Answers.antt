@@ -9,7 +9,6 @@ use native.Mathlib.Omega.{arith}
 use lib.ListN.{length, length-set}
 use Rattle.text.specs.Decimal.{decimal}
 use Rattle.text.proofs.Signed.{signed_below, signed-not-below}
-use borrow.Author.Rules.{rules}
 use Rattle.text.proofs.put_signed.Goals as goal
 
 pub bounds-a-at : goal.bounds-a-at

@@ -2,7 +2,6 @@
 use native.Mathlib.Numerals.{add-one}
 use native.Mathlib.Omega.{arith}
 use lib.ListN.{length-set}
-use borrow.Author.Rules.{rules}
 use Rattle.text.proofs.put_two.Goals as goal
 
 pub bounds-a-at-2 : goal.bounds-a-at-2

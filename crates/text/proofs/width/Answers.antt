@@ -1,6 +1,6 @@
 -- `width` meets its contract. The loop's invariant: `left` is n without its k lowest digits, and no smaller k is enough. Assumes nothing.
-use mathlib.Core.Path.{◌≡◌, refl, ap, ◌∙◌}
-use Prim.Native.Nat.{ℕ, ◌/◌, ◌^◌, ◌≤◌, ◌<◌}
+use mathlib.Core.Path.{refl, ap, ◌∙◌}
+use Prim.Native.Nat.{ℕ, ◌/◌, ◌^◌, ◌≤◌}
 use native.Mathlib.Numerals.{add-one}
 use native.Mathlib.Omega.{arith}
 use Rattle.text.proofs.Widths.{left-next, left-some, left-none, ten-small, ten-mono}

@@ -1,6 +1,5 @@
 use native.Mathlib.Omega.{arith}
 use Rattle.turns.proofs.HandingCode.{does-last, does-stay, does-go, worth-small}
-use borrow.Author.Rules.{rules}
 use Rattle.turns.proofs.hand_out.Goals as goal
 
 -- src/lib.rt:82:9

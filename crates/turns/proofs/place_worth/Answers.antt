@@ -3,7 +3,6 @@ use native.Mathlib.Nat.{one-mul, mod-eq_of_lt}
 use native.Mathlib.Omega.{arith}
 use lib.Pow.{pow-lt, pow_mono}
 use Rattle.turns.proofs.Round.{four-bits}
-use borrow.Author.Rules.{rules}
 use Rattle.turns.proofs.place_worth.Goals as goal
 
 -- src/lib.rt:15:1

@@ -1,6 +1,5 @@
 use native.Mathlib.Omega.{arith}
 use Rattle.turns.proofs.Putting.{puts-more, puts_first, puts-joins, worth-small}
-use borrow.Author.Rules.{rules}
 use Rattle.turns.proofs.put.Goals as goal
 
 -- src/lib.rt:51:9

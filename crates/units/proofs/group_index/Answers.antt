@@ -1,6 +1,5 @@
 -- `group_index` meets its contract: the digits of span - 1 are the least exponent. Assumes nothing.
 use native.Mathlib.Omega.{arith}
-use borrow.Author.Rules.{rules}
 use lib.Count.{leading_le}
 use Rattle.units.proofs.Group.{least-leading}
 use Rattle.units.proofs.group_index.Goals as goal

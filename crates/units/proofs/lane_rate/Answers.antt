@@ -1,7 +1,6 @@
 use mathlib.Core.Path.{refl}
 use Rattle.units.specs.Numbers.{per_byte}
 use Rattle.units.proofs.PerByte.{rate-ge, rate-le}
-use borrow.Author.Rules.{rules}
 use Rattle.units.proofs.lane_rate.Goals as goal
 
 pub returns : goal.returns

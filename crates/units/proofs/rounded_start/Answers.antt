@@ -3,7 +3,6 @@ use Prim.Native.Nat.{◌*◌, ◌/◌, ◌^◌, ◌<◌}
 use native.Mathlib.Nat.{mod-eq_of_lt, div-mul-le_self}
 use native.Mathlib.Omega.{arith}
 use Rattle.units.proofs.Round.{round-div}
-use borrow.Author.Rules.{rules}
 use Rattle.units.proofs.rounded_start.Goals as goal
 
 pub returns : goal.returns

@@ -2,7 +2,6 @@ use mathlib.Core.Path.{refl}
 use native.Mathlib.Nat.{one-mul, mod-eq_of_lt}
 use native.Mathlib.Omega.{arith}
 use lib.Pow.{pow-lt, pow_pos, pow_mono}
-use borrow.Author.Rules.{rules}
 use Rattle.units.proofs.slot.Goals as goal
 
 pub returns : goal.returns

@@ -2,7 +2,6 @@
 use native.Mathlib.Omega.{arith}
 use mathlib.Core.Path.{ap, ◌∙◌}
 use Prim.Native.Nat.{ℕ, ◌*◌}
-use borrow.Author.Rules.{rules}
 use Rattle.waits.proofs.Laws.{product_small, index-small, slots-are}
 use Rattle.waits.proofs.four_slots.Goals as goal
 

@@ -3,7 +3,6 @@ use lib.ListN.{length-set}
 use native.Mathlib.Omega.{arith}
 use Rattle.words.specs.Words.{put_word}
 use Rattle.words.proofs.Laws.{word-stores}
-use borrow.Author.Rules.{rules}
 use Rattle.words.proofs.set_word.Goals as goal
 
 pub bounds-t-a-2 : goal.bounds-t-a-2

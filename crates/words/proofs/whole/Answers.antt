@@ -1,5 +1,4 @@
 use Rattle.words.proofs.Laws.{word_sum}
-use borrow.Author.Rules.{rules}
 use Rattle.words.proofs.whole.Goals as goal
 
 pub returns : goal.returns

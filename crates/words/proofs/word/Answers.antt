@@ -1,5 +1,4 @@
 use Rattle.words.specs.Words.{word_at}
-use borrow.Author.Rules.{rules}
 use Rattle.words.proofs.word.Goals as goal
 
 pub returns : goal.returns

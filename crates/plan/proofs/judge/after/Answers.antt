@@ -1,7 +1,6 @@
 -- `after` meets its contract. Assumes nothing.
 use mathlib.Core.Path.{sym, ap}
 use Rattle.plan.specs.Judge.{seen_after}
-use borrow.Author.Rules.{rules}
 use Rattle.plan.proofs.judge.after.Goals as goal
 
 pub returns-in-Format : goal.returns-in-Format

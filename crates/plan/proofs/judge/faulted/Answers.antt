@@ -6,7 +6,6 @@ use Rattle.plan.specs.Fields.{SetupItem, setup_item_of}
 use Rattle.plan.specs.Judge.{offset, faulted}
 use Rattle.plan.specs.declared.judge.Fault.{Fault}
 use Rattle.plan.specs.declared.judge.Fault.TheVariants.{BadFormat, BadLane, BadWeight, BadLongest, BadFraming, TotalOver}
-use borrow.Author.Rules.{rules}
 use Rattle.plan.proofs.judge.faulted.Goals as goal
 
 -- the row of a fault that was found ..

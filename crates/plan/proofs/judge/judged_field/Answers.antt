@@ -8,7 +8,6 @@ use Rattle.fields.specs.Item.{whole_field}
 use Rattle.plan.specs.Fields.{SetupItem, setup_item_of, setup_item_at}
 use Rattle.plan.specs.Judge.{outside, over, faulted}
 use Rattle.plan.specs.declared.judge.Fault.{Fault}
-use borrow.Author.Rules.{rules}
 use Rattle.plan.proofs.judge.judged_field.Goals as goal
 
 -- the two tests, one after the other

@@ -1,7 +1,6 @@
 -- `longest_of` meets its contract. Assumes nothing.
 use mathlib.Core.Path.{sym, ap, ◌∙◌}
 use Rattle.plan.specs.Judge.{longest_of}
-use borrow.Author.Rules.{rules}
 use Rattle.plan.proofs.judge.longest_of.Goals as goal
 
 pub returns-in_default : goal.returns-in_default

@@ -1,7 +1,6 @@
 -- `longest_right` meets its contract. Assumes nothing.
 use mathlib.Core.Path.{sym, ap, ◌∙◌}
 use Rattle.plan.specs.Judge.{longest_right}
-use borrow.Author.Rules.{rules}
 use Rattle.plan.proofs.judge.longest_right.Goals as goal
 
 pub returns : goal.returns

@@ -1,7 +1,6 @@
 -- `plan::judge::misplaced` meets its contract. Assumes nothing.
 use mathlib.Core.Path.{sym, ap, ◌∙◌}
 use Rattle.plan.specs.Judge.{misplaced}
-use borrow.Author.Rules.{rules}
 use Rattle.plan.proofs.judge.misplaced.Goals as goal
 
 -- src/judge.rt:128:1

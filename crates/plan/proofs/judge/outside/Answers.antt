@@ -2,7 +2,6 @@
 use borrow.Author.Tests.{lt-ltb, le-ltb}
 use mathlib.Core.Path.{sym, ap, ◌∙◌}
 use Rattle.plan.specs.Judge.{outside}
-use borrow.Author.Rules.{rules}
 use Rattle.plan.proofs.judge.outside.Goals as goal
 
 pub returns-then-known_format : goal.returns-then-known_format

@@ -2,7 +2,6 @@
 use borrow.Author.Tests.{lt-ltb, le-ltb}
 use mathlib.Core.Path.{sym, ap, ◌∙◌}
 use Rattle.plan.specs.Judge.{over}
-use borrow.Author.Rules.{rules}
 use Rattle.plan.proofs.judge.over.Goals as goal
 
 pub returns-then-seen-l-gt-MOST_TOTAL : goal.returns-then-seen-l-gt-MOST_TOTAL

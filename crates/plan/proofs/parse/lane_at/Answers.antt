@@ -1,5 +1,4 @@
 -- `plan::parse::lane_at` meets its contract. Assumes nothing.
-use borrow.Author.Rules.{rules}
 use native.Mathlib.Omega.{arith}
 use Rattle.plan.proofs.Tags.{lane-three}
 use Rattle.plan.proofs.parse.lane_at.Goals as goal

@@ -1,5 +1,4 @@
 -- `plan::parse::longest_at` meets its contract. Assumes nothing.
-use borrow.Author.Rules.{rules}
 use mathlib.Core.Path.{sym}
 use native.Mathlib.Omega.{arith}
 use Rattle.plan.proofs.Tags.{lane-long, longest-short, longest-long}

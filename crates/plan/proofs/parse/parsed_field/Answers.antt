@@ -1,6 +1,5 @@
 -- `plan::parse::parsed_field` meets its contract. Assumes nothing.
 use Prim.Native.Nat.{◌+◌}
-use borrow.Author.Rules.{rules}
 use lib.ListN.{length}
 use native.Mathlib.Omega.{arith}
 use Rattle.fields.proofs.Tested.{passed, passed-within, tested-whole, tested}

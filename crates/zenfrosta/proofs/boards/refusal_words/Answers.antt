@@ -1,6 +1,6 @@
 -- `refusal_words` meets its contract. Assumes nothing.
 use borrow.Author.Rules.{rules}
-use Rattle.zenfrosta.proofs.board.refusal_words.Goals as goal
+use Rattle.zenfrosta.proofs.boards.refusal_words.Goals as goal
 
 pub returns-in-Cut : goal.returns-in-Cut
 returns-in-Cut c = rw c.in-Cut.is c.placed.ensures

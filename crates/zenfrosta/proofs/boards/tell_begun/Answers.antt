@@ -1,7 +1,7 @@
 -- `tell_begun` meets its contract. Assumes nothing.
 use Rattle.zenfrosta.proofs.Spoken.{told-as}
 use borrow.Author.Rules.{rules}
-use Rattle.zenfrosta.proofs.board.tell_begun.Goals as goal
+use Rattle.zenfrosta.proofs.boards.tell_begun.Goals as goal
 
 pub returns-in-Begun : goal.returns-in-Begun
 returns-in-Begun c =

@@ -1,7 +1,7 @@
 -- `tell_line` meets its contract. Assumes nothing.
 use Rattle.zenfrosta.proofs.Spoken.{told-as}
 use borrow.Author.Rules.{rules}
-use Rattle.zenfrosta.proofs.board.tell_line.Goals as goal
+use Rattle.zenfrosta.proofs.boards.tell_line.Goals as goal
 
 pub returns-in-Line : goal.returns-in-Line
 returns-in-Line c =

@@ -1,7 +1,7 @@
 -- `tell_shown` meets its contract. Assumes nothing.
 use Rattle.zenfrosta.proofs.Spoken.{told-as}
 use borrow.Author.Rules.{rules}
-use Rattle.zenfrosta.proofs.board.tell_shown.Goals as goal
+use Rattle.zenfrosta.proofs.boards.tell_shown.Goals as goal
 
 pub returns-in-Free : goal.returns-in-Free
 returns-in-Free c =
