@@ -9,7 +9,7 @@ ghost use Rattle.plan.specs.Fields.{setup_item_at, setup_item_of};
 
 use crate::parse::Parsed;
 
-#[derive(Drop)]
+#[derive(Clone, Copy)]
 pub struct Reader<'a> {
     pub src: &'a [u8],
     pub at: usize,
