@@ -12,6 +12,8 @@ use Rattle.rules.specs.Sets.{groups, ready, ineligible_ready, eligible_blocked, 
 use Rattle.rules.specs.Calls.{Call, put, take, look, sets, lag, restart, Reply, lagged, restarted, Outcome, Pick, no, put_refusal, put_of, do_put, picked, take_of, do_take, look_of, do_look, do_sets, lag_of, do_lag, fresh, do_restart, step}
 use Rattle.rules.specs.Reads.{reads}
 use Rattle.rules.specs.declared.Answer.{Answer}
+use Rattle.std.specs.Prelude.{Result}
+use Rattle.rules.specs.declared.Refusal.{Refusal}
 use Rattle.rules.proofs.Keep.{PickIs, pick_is}
 use Rattle.rules.proofs.SameSetup.{setting-lane}
 use Rattle.rules.proofs.Word.{word_lt}
@@ -75,5 +77,5 @@ module _ (t : List ℕ) (sound : Sound t) where
   step-told restart = either-told (any_holds s.lanes) (no 15 s) (record { reply = restarted; state = fresh (setup_of s) }) (tt, tt) (tt, tt)
 
   -- no call changes the setup, so the table after the call has the lane too
-  pub told : (t' : List ℕ) (c : Call) (x : Answer) → Encodes t' (step s c).state → reads x ≡ (step s c).reply → Words32 (reads x) × InSetup (setup_of (meant t')) (reads x)
+  pub told : (t' : List ℕ) (c : Call) (x : Result Answer Refusal) → Encodes t' (step s c).state → reads x ≡ (step s c).reply → Words32 (reads x) × InSetup (setup_of (meant t')) (reads x)
   told t' c x e says = subst (λ (gs : List Setting). Told gs (reads x)) (sym (kept-setup t t' c e)) (subst (Told (setup_of s)) (sym says) (step-told c))

@@ -14,6 +14,8 @@ use Rattle.rules.specs.State.{Setting, Lane, State, setting_at, lane_at, setup_o
 use Rattle.rules.specs.Calls.{Call, step}
 use Rattle.rules.specs.Reads.{reads}
 use Rattle.rules.specs.declared.Answer.{Answer}
+use Rattle.std.specs.Prelude.{Result}
+use Rattle.rules.specs.declared.Refusal.{Refusal}
 use Rattle.rules.proofs.SameSetup.{setting-lane, same_setup}
 use Rattle.table.specs.Layout.{cells, row_at}
 use Rattle.table.specs.Means.{meant}
@@ -52,7 +54,7 @@ pub kept-setup : (t t' : List ℕ) (c : Call) → Encodes t' (step (meant t) c).
 kept-setup t t' c e = encodes-setup t' (step (meant t) c).state e ∙ same_setup (meant t) c
 
 -- a line that is written by the table after the call is the one by the setup before it
-pub line-told : (t t' : List ℕ) (c : Call) (x : Answer) {a a' : List ℕ} {at next : ℕ} → Encodes t' (step (meant t) c).state
+pub line-told : (t t' : List ℕ) (c : Call) (x : Result Answer Refusal) {a a' : List ℕ} {at next : ℕ} → Encodes t' (step (meant t) c).state
     → reads x ≡ (step (meant t) c).reply → Line a a' at (line_by (setup_of (meant t')) (reads x)) next
     → Line a a' at (line_by (setup_of (meant t)) (step (meant t) c).reply) next
 line-told t t' c x {a} {a'} {at} {next} e says l =

@@ -6,7 +6,7 @@
 
 ghost use Rattle.std.specs.Prelude.{◌≡◌, ◌+◌, ◌≤◌, ◌<◌, length};
 ghost use Rattle.rules.specs.State.{setting_at, setup_of};
-ghost use Rattle.rules.specs.Reads.{reads};
+ghost use Rattle.rules.specs.Reads.{answer, reads};
 ghost use Rattle.table.specs.Layout.{Room};
 ghost use Rattle.table.specs.Means.{meant};
 ghost use Rattle.choice.specs.Known.{Known};
@@ -18,7 +18,7 @@ ghost use Rattle.answers.specs.Answers.{Made, Answers};
 
 use lines::{put_accepted, put_lag, put_no, put_record, put_restarted, put_sets, put_verb};
 use requests::Request;
-use rules::Answer;
+use rules::{Answer, Refusal};
 use table::row;
 
 // How far the answers have come: the requests answered, and the place behind their lines.
@@ -29,7 +29,7 @@ pub struct Tally {
 }
 
 // The call of a request.
-fn call(t: &mut [u8], q: Request) -> Answer
+fn call(t: &mut [u8], q: Request) -> Result<Answer, Refusal>
     requires { Known t.old }
     ensures { Does (call_is q) t.old result t.new }
 {
@@ -57,10 +57,10 @@ fn shared_lane(t: &[u8], lane: u8) -> bool
     l.shared
 }
 
-// Writes the line of an answer: that of a record of a shared lane ends with the train.
-fn tell(t: &[u8], a: &mut [u8], at: usize, x: Answer) -> usize
-    requires { Room t.now × Words32 (reads x) × InSetup (setup_of (meant t.now)) (reads x) × (at + 64 ≤ length a.old) }
-    ensures { Line a.old a.new at (line_by (setup_of (meant t.now)) (reads x)) result }
+// Writes the line of an answer that is no refusal: that of a record of a shared lane ends with the train.
+fn tell_done(t: &[u8], a: &mut [u8], at: usize, x: Answer) -> usize
+    requires { Room t.now × Words32 (answer x) × InSetup (setup_of (meant t.now)) (answer x) × (at + 64 ≤ length a.old) }
+    ensures { Line a.old a.new at (line_by (setup_of (meant t.now)) (answer x)) result }
 {
     match x {
         Answer::Accepted(n) => put_accepted(a, at, n),
@@ -75,7 +75,17 @@ fn tell(t: &[u8], a: &mut [u8], at: usize, x: Answer) -> usize
         Answer::Sets(w) => put_sets(a, at, w),
         Answer::Lag(z) => put_lag(a, at, z),
         Answer::Restarted => put_restarted(a, at),
-        Answer::Refused(r) => put_no(a, at, r),
+    }
+}
+
+// Writes the line of an answer.
+fn tell(t: &[u8], a: &mut [u8], at: usize, x: Result<Answer, Refusal>) -> usize
+    requires { Room t.now × Words32 (reads x) × InSetup (setup_of (meant t.now)) (reads x) × (at + 64 ≤ length a.old) }
+    ensures { Line a.old a.new at (line_by (setup_of (meant t.now)) (reads x)) result }
+{
+    match x {
+        Ok(x) => tell_done(t, a, at, x),
+        Err(r) => put_no(a, at, r),
     }
 }
 

@@ -97,13 +97,16 @@ lower-leaves t t' k d y x hk weight above ey ex n =
 
 -- ---- the loop
 
+pub lower-none : (t : List ℕ) (d : ℕ) → Leaves t t (lowered_to 0 d (meant t))
+lower-none t d = record { state = sym (lowered-first d (meant t) (lanes-many t)); beside = λ b. b; rest = behind-refl }
+
 module _ (t₀ : List ℕ) (d lanes : ℕ) (word : lanes ≡ get_or (cells t₀) present_word 0) where
   passed : (n k : ℕ) → Next lanes n k → lowered_to n d (meant t₀) ≡ lowered_to k d (meant t₀)
   passed n k x =
       lowered-next d (meant t₀) (lanes-many t₀) n k x.on x.ends (λ i p q. unnamed-lane t₀ i (omega (arith, x.ends)) (subst (λ (m : ℕ). bit i m ≡ 0) word (x.absent i p q)))
 
-  pub lower-none : (k : ℕ) → Next lanes 0 k → Leaves t₀ t₀ (lowered_to k d (meant t₀))
-  lower-none k x = record { state = sym (lowered-first d (meant t₀) (lanes-many t₀)) ∙ passed 0 k x; beside = λ b. b; rest = behind-refl }
+  pub lower_skip : {t : List ℕ} (n k : ℕ) → Next lanes n k → Leaves t₀ t (lowered_to n d (meant t₀)) → Leaves t₀ t (lowered_to k d (meant t₀))
+  lower_skip n k x l = record { state = l.state ∙ passed n k x; beside = l.beside; rest = l.rest }
 
   module _ (t : List ℕ) (k : ℕ) (hk : k < 64) (l : Leaves t₀ t (lowered_to k d (meant t₀))) where
     pub lower-same : lane_at (meant t) k ≡ lane_at (meant t₀) k
@@ -112,9 +115,9 @@ module _ (t₀ : List ℕ) (d lanes : ℕ) (word : lanes ≡ get_or (cells t₀)
     pub lower-above : ((i : ℕ) → NotBelow d (lane_at (meant t₀) i)) → NotBelow d (lane_at (meant t) k)
     lower-above a = subst (NotBelow d) (sym lower-same) (a k)
 
-    pub lower-more : (t' : List ℕ) (k' : ℕ) → Leaves t t' (with_lane (meant t) k (lowered d (lane_at (meant t) k))) → Next lanes (k + 1) k' → Leaves t₀ t' (lowered_to k' d (meant t₀))
-    lower-more t' k' r x =
-        let step : with_lane (meant t) k (lowered d (lane_at (meant t) k)) ≡ lowered_to k' d (meant t₀)
+    pub lower-more : (t' : List ℕ) → Leaves t t' (with_lane (meant t) k (lowered d (lane_at (meant t) k))) → Leaves t₀ t' (lowered_to (k + 1) d (meant t₀))
+    lower-more t' r =
+        let step : with_lane (meant t) k (lowered d (lane_at (meant t) k)) ≡ lowered_to (k + 1) d (meant t₀)
         = ap (λ (u : State). with_lane u k (lowered d (lane_at u k))) l.state ∙ ap (λ (y : Lane). with_lane (lowered_to k d (meant t₀)) k (lowered d y)) (lowered-here d (meant t₀) (lanes-many t₀) k hk)
-        ∙ lowered-more d (meant t₀) (lanes-many t₀) k hk ∙ passed (k + 1) k' x in
+        ∙ lowered-more d (meant t₀) (lanes-many t₀) k hk in
         leaves-then l (record { state = r.state ∙ step; beside = r.beside; rest = r.rest })

@@ -15,8 +15,9 @@ ghost use Rattle.choice.specs.Known.{Known};
 ghost use Rattle.back.specs.Back.{NotBelow, lowered_to, TakesBack};
 
 use slot_lists::{earlier_by, lower};
-use table::{LANES, PRESENT, ROW_WORDS, ROWS, cell, clock, next_present, set_cell, set_clock};
-use units::{Clock, before};
+use table::{PRESENT, ROW_WORDS, ROWS, cell, clock, set_cell, set_clock};
+use units::Clock;
+use words::SetBits;
 
 // V from which on a put takes the clock back: 2^61.
 const FAR: u64 = 2305843009213693952;
@@ -42,11 +43,8 @@ fn lower_lanes(t: &mut [u8], d: Clock)
     requires { Sound t.old × ((k : ℕ) → NotBelow d.0 (lane_at (meant t.old) k)) }
     ensures { Leaves t.old t.new (lowered_to 64 d.0 (meant t.old)) }
 {
-    let lanes = cell(t, PRESENT);
-    let mut k = next_present(lanes, 0);
-    while k < LANES {
-        lower_lane(t, k, d);
-        k = next_present(lanes, k + 1);
+    for k in SetBits(cell(t, PRESENT)) {
+        lower_lane(t, k as usize, d);
     }
 }
 
@@ -56,11 +54,11 @@ pub fn take_back(t: &mut [u8])
     ensures { TakesBack t.old t.new }
 {
     let v = clock(t);
-    if before(v, Clock(FAR)) {
+    if v < Clock(FAR) {
         return;
     }
     let d = Clock((v.0 - KEPT) / STEP * STEP);
     lower_lanes(t, d);
-    set_clock(t, Clock(v.0 - d.0));
+    set_clock(t, v - d);
     lower(t, d.0);
 }

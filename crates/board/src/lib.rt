@@ -92,12 +92,10 @@ pub fn find(t: &[u8], train: u32, n: usize) -> usize
     requires { BoardRoom t.now × (n ≤ 64) }
     ensures { Found (is_of train) (board_of t.now) n result }
 {
-    let mut k = 0;
-    while k < n {
+    for k in 0..n {
         if is_of(t, k, train) {
             return k;
         }
-        k += 1;
     }
     n
 }
@@ -107,12 +105,10 @@ pub fn lowest(t: &[u8]) -> usize
     requires { BoardRoom t.now }
     ensures { Found is_free (board_of t.now) 64 result }
 {
-    let mut k = 0;
-    while k < LINES {
+    for k in 0..LINES {
         if is_free(t, k) {
             return k;
         }
-        k += 1;
     }
     LINES
 }
@@ -200,9 +196,8 @@ pub fn sound(t: &[u8]) -> bool
     if t.len() < SIZE {
         return false;
     }
-    let mut k = 0;
     let mut seen = [0u64; SEEN];
-    while k < LINES {
+    for k in 0..LINES {
         if !formed_at(t, k) {
             return false;
         }
@@ -213,7 +208,6 @@ pub fn sound(t: &[u8]) -> bool
             return false;
         }
         seen[i] = mark(word, train);
-        k += 1;
     }
     true
 }

@@ -1,5 +1,5 @@
 -- The sweep over the groups from the highest down gives the four words. Assumes nothing.
-use Prim.Native.Nat.{ℕ, zero, suc, ◌+◌, ◌-◌, ◌*◌, ◌^◌, ◌≤◌, ◌<◌, min}
+use Prim.Native.Nat.{ℕ, zero, suc, ◌+◌, ◌*◌, ◌^◌, ◌≤◌, ◌<◌, min}
 use native.Mathlib.Nat.{eq-or-lt_of_le, le_refl}
 use native.Mathlib.Decide.{dec_le}
 use native.Mathlib.Omega.{arith}
@@ -15,13 +15,11 @@ use Rattle.std.specs.Prelude.{if◌then◌else◌}
 use Rattle.units.specs.Plain.{any_below, word_of}
 use Rattle.rules.specs.State.{Lane, State}
 use Rattle.rules.specs.Sets.{groups, group_start, held_start, reached, finish_from, group_holds, group_eligible, group_finish, blocks, blocked, ready, ineligible_ready, eligible_blocked, ineligible_blocked}
-use Rattle.units.specs.declared.Clock.{Clock}
 use Rattle.units.proofs.Bools.{and_parts, not-passed}
 use Rattle.units.proofs.Lists.{any_at}
-use Rattle.rules.specs.declared.SetWords.{SetWords}
 use Rattle.rules.proofs.Word.{word_lt}
 use Rattle.filing.specs.Filing.{never}
-use Rattle.choice.specs.Sweep.{sorted_into, swept, BitFits, AreWords}
+use Rattle.choice.specs.Sweep.{swept, BitFits, AreWords}
 use Rattle.choice.specs.declared.Sweep.{Sweep}
 
 none_below : (p : ℕ → Bool) (n : ℕ) → ((k : ℕ) → k < n → p k ≡ false) → any_below p n ≡ false
@@ -38,25 +36,6 @@ lacks_less : (p : ℕ → Bool) (i w : ℕ) (b : Bool) → p i ≡ b → Lacks p
 unfolding word_of
 lacks_less p i w true e h = omega (arith, simp e at h)
 lacks_less p i w false e h = omega (arith, simp e at h)
-
--- ---- one group, as the code takes it
-
-module _ (start v i f bit : ℕ) (a : Sweep) (w : SetWords) (x : Clock)
-    (finish-is : f ≡ start + 2 * 2 ^ i)
-    (bit_is : bit ≡ 2 ^ i)
-    (words_are : w ≡ sorted_into a.words bit (leb start v) (ltb a.least.0 f))
-  where
-    same-words : w ≡ (swept start v i a).words
-    same-words = words_are ∙ rw (finish-is, bit_is)
-
-    made : x.0 ≡ (swept start v i a).least.0 → record { words = w; least = x } ≡ swept start v i a
-    made e = ap (λ (y : SetWords). record { words = y; least = x }) same-words ∙ ap (λ (n : ℕ). record { words = (swept start v i a).words; least = record { 0 = n } }) e
-
-    pub swept-eligible : leb start v ≡ true → x.0 ≡ min f a.least.0 → record { words = w; least = x } ≡ swept start v i a
-    swept-eligible e m = made (m ∙ rw (finish-is) (simp e))
-
-    pub swept-not-yet : leb start v ≡ false → x.0 ≡ a.least.0 → record { words = w; least = x } ≡ swept start v i a
-    swept-not-yet e m = made (m ∙ simp e)
 
 module _ (v : ℕ) (ls : List Lane) where
   -- the groups from i on are swept

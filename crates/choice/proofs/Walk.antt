@@ -1,12 +1,11 @@
--- Words of tests, walked by their set bits from the highest down: the highest set bit and what is left without it; and one more bit. Assumes nothing.
-use Prim.Native.Nat.{ℕ, zero, suc, ◌+◌, ◌-◌, ◌^◌, ◌≤◌, ◌<◌}
+-- Words of tests, walked by their set bits from the highest down: the highest set bit and what is left without it. Assumes nothing.
+use Prim.Native.Nat.{ℕ, zero, suc, ◌+◌, ◌^◌, ◌≤◌, ◌<◌}
 use native.Mathlib.Nat.{eq-or-lt_of_le, le_of_suc-le-suc, le_antisymm, not-suc-le-zero, two-pow-succ}
 use native.Mathlib.Decide.{dec_le}
 use native.Mathlib.Omega.{arith}
-use mathlib.Core.Path.{◌≡◌, refl, sym, ap, subst, ◌∙◌}
+use mathlib.Core.Path.{◌≡◌, refl, sym, ap, ◌∙◌}
 use mathlib.Core.Bool.{Bool, true, false}
-use mathlib.Core.Logic.{◌⊎◌, ⊎_elim}
-use lib.Count.{count_leading_zeros, leading_top}
+use mathlib.Core.Logic.{⊎_elim}
 use lib.Pow.{pow_mono}
 use Rattle.std.specs.Prelude.{if◌then◌else◌}
 use Rattle.units.specs.Plain.{word_of}
@@ -28,7 +27,7 @@ length-one i n w s h l =
     (elim (dec_le n i) [ yes q ↦ q | no q ↦ absurd (omega (arith, pow_mono {i = suc i} {j = n} (omega arith))) ])
 
 -- a word of i + 1 digits has it at i
-highest-at : (p : ℕ → Bool) (n i : ℕ) → 2 ^ i ≤ word_of p n → word_of p n < 2 ^ suc i → Highest p n i
+pub highest-at : (p : ℕ → Bool) (n i : ℕ) → 2 ^ i ≤ word_of p n → word_of p n < 2 ^ suc i → Highest p n i
 unfolding word_of
 highest-at p zero i h l = absurd (omega (arith, pow_mono {i = 0} {j = i} (omega arith)))
 highest-at p (suc n) i h l = go (p n) refl h l (highest-at p n i)
@@ -51,17 +50,6 @@ highest-at p (suc n) i h l = go (p n) refl h l (highest-at p n i)
           none_above = λ k a b. ⊎_elim (λ (z : k ≡ n). ap p z ∙ e) (λ (z : k < n). t.none_above k a z) (eq-or-lt_of_le (le_of_suc-le-suc b));
           rest = simp e (omega (arith, t.rest));
         }
-
--- and the leading zeros tell it
-module _ (p : ℕ → Bool) (n : ℕ) (fits : n ≤ 64) (pos : 0 < word_of p n) where
-  top : (j : ℕ) × (count_leading_zeros 64 (word_of p n) + suc j ≡ 64) × (2 ^ j ≤ word_of p n) × (word_of p n < 2 ^ suc j)
-  top = leading_top 64 (word_of p n) pos (omega (arith, word_lt p n, pow_mono {i = n} {j = 64} fits))
-
-  pub few-zeros : count_leading_zeros 64 (word_of p n) ≤ 63
-  few-zeros = omega (arith, top.1)
-
-  pub highest-set : Highest p n (63 - count_leading_zeros 64 (word_of p n))
-  highest-set = subst (Highest p n) (omega (arith, top.1)) (highest-at p n top.0 top.2 top.3)
 
 -- a word that is 0 has none
 set-some : (p : ℕ → Bool) (n k : ℕ) → k < n → p k ≡ true → 0 < word_of p n

@@ -1,19 +1,19 @@
 -- The sweep as the code walks it: by the set bits of the word of the groups that hold records, from the highest down. Assumes nothing.
-use Prim.Native.Nat.{ℕ, zero, suc, ◌+◌, ◌-◌, ◌^◌, ◌≤◌, ◌<◌}
-use native.Mathlib.Nat.{eq-or-lt_of_le}
+use Prim.Native.Nat.{ℕ, zero, suc, ◌^◌, ◌≤◌, ◌<◌}
+use native.Mathlib.Nat.{eq-or-lt_of_le, two-pow-succ}
 use native.Mathlib.Omega.{arith}
 use mathlib.Core.Path.{◌≡◌, refl, sym, subst, ◌∙◌}
 use mathlib.Core.Bool.{true, false, false≢true}
 use mathlib.Core.Logic.{⊎_elim}
 use mathlib.Core.List.{List}
 use mathlib.Core.Option.{Option, none, some}
-use lib.Count.{count_leading_zeros}
+use Rattle.words.specs.Bits.{Highest}
 use Rattle.units.specs.Plain.{word_of}
 use Rattle.rules.specs.State.{Lane}
 use Rattle.rules.specs.Sets.{groups, group_start, held_start, group_holds}
 use Rattle.choice.specs.Sweep.{swept}
 use Rattle.choice.specs.declared.Sweep.{Sweep}
-use Rattle.choice.proofs.Walk.{few-zeros, highest-set, none-set}
+use Rattle.choice.proofs.Walk.{highest-at, none-set}
 use Rattle.choice.proofs.Sweeps.{Swept, swept-skip, swept-group}
 
 module _ (v : ℕ) (ls : List Lane) where
@@ -41,30 +41,28 @@ module _ (v : ℕ) (ls : List Lane) where
     pub done : Swept v ls n a
 
   -- the highest set bit is the next group that holds records
-  pub record Next (left i : ℕ) (a : Sweep) : Type 0 where
-    pub zeros : count_leading_zeros 64 left ≤ 63
+  pub record Next (i rest : ℕ) (a : Sweep) : Type 0 where
     pub small : i < groups
     pub is : group_holds ls i ≡ true
-    pub rest : left ≡ 2 ^ i + word_of (group_holds ls) i
+    pub rest_is : rest ≡ word_of (group_holds ls) i
     pub done : Swept v ls (suc i) a
 
-  pub walk-next : (left : ℕ) (a : Sweep) → 0 < left → Walked left a → Next left (63 - count_leading_zeros 64 left) a
-  walk-next left a pos w =
-      let h = highest-set (group_holds ls) w.n (omega (arith, w.few)) (subst (λ (x : ℕ). 0 < x) w.left_is pos) in
-      rw w.left_is (record {
-        zeros = few-zeros (group_holds ls) w.n (omega (arith, w.few)) (subst (λ (x : ℕ). 0 < x) w.left_is pos);
+  pub walk-next : {left i rest : ℕ} (a : Sweep) → Highest left i rest → Walked left a → Next i rest a
+  walk-next {left} {i} a b w =
+      let h = highest-at (group_holds ls) w.n i (omega (arith, w.left_is, b.is)) (omega (arith, w.left_is, b.is, b.below, two-pow-succ i)) in
+      record {
         small = omega (arith, h.below, w.few);
         is = h.is;
-        rest = h.rest;
-        done = swept-down _ w.n a h.below (λ k p q. h.none_above k p q) w.done;
-      })
+        rest_is = omega (arith, h.rest, w.left_is, b.is);
+        done = swept-down (suc i) w.n a h.below (λ k p q. h.none_above k p q) w.done;
+      }
 
   -- that group swept, and its bit taken from what is left
-  pub walk-on : (left i r : ℕ) (a : Sweep) → Next left i a → group_start ls i ≡ some r → r < 2 ^ 63 → Walked (left - 2 ^ i) (swept r v i a)
-  walk-on left i r a x start early = record {
+  pub walk-on : {i rest : ℕ} (r : ℕ) (a : Sweep) → Next i rest a → group_start ls i ≡ some r → r < 2 ^ 63 → Walked rest (swept r v i a)
+  walk-on {i} r a x start early = record {
     n = i;
     few = omega (arith, x.small);
-    left_is = omega (arith, x.rest);
+    left_is = x.rest_is;
     done = swept-group v ls i a r x.small start early x.done;
   }
 

@@ -5,7 +5,7 @@
 --   ChoiceIs   what the choice answers
 --
 -- Assumes nothing.
-use Rattle.std.specs.Prelude.{ℕ, ◌≤◌, ◌≡◌, List}
+use Rattle.std.specs.Prelude.{ℕ, ◌≤◌, ◌≡◌, List, Option, Some, None}
 use Rattle.std.proofs.Math.Option.{none, some}
 use Rattle.rules.specs.Choice.{choose}
 use Rattle.rules.specs.BySets.{candidate_lane}
@@ -14,8 +14,6 @@ use Rattle.slot_lists.specs.Lists.{list_at, start_at, list_of}
 use Rattle.filing.specs.Filing.{front_of}
 use Rattle.table.specs.Means.{meant, Sound, Listed}
 use Rattle.choice.specs.declared.Place.{Place}
-use Rattle.choice.specs.declared.Choice.{Choice}
-use Rattle.choice.specs.declared.Choice.TheVariants.{Serve, Idle}
 
 pub record Known (t : List ℕ) : Type 0 where
   pub sound : Sound t
@@ -29,6 +27,6 @@ pub record Standing (t : List ℕ) (p : Place) : Type 0 where
   pub start : start_at t p.group ≡ some p.start
   pub first : front_of (list_at t p.group (list_of t p.group p.start)) ≡ some p.lane
 
-abbrev pub ChoiceIs : List ℕ → Choice → Type 0
-ChoiceIs t (Serve p) = Standing t p
-ChoiceIs t Idle = none ≡ candidate_lane (choose (meant t))
+abbrev pub ChoiceIs : List ℕ → Option Place → Type 0
+ChoiceIs t (Some p) = Standing t p
+ChoiceIs t None = none ≡ candidate_lane (choose (meant t))

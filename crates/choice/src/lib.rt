@@ -16,8 +16,8 @@ use groups::{NEVER, next_group};
 use rules::SetWords;
 use slot_lists::{BACK, GROUPS, MAPS, STARTS, first, list_number};
 use table::clock;
-use units::{Clock, before, earlier, not_after, rounded_finish};
-use words::word;
+use units::{Clock, rounded_finish};
+use words::{SetBits, word};
 
 // The four words so far, and the least finish of the eligible groups met; `NEVER` where there is none.
 #[derive(Clone, Copy)]
@@ -32,13 +32,6 @@ pub struct Place {
     pub lane: usize,
     pub group: u32,
     pub start: u64,
-}
-
-// The lane to serve.
-#[derive(Clone, Copy)]
-pub enum Choice {
-    Serve(Place),
-    Idle,
 }
 
 // A group's bit in a set word.
@@ -75,13 +68,13 @@ fn sweep_group(start: Clock, v: Clock, i: u32, a: Sweep) -> Sweep
     ensures { result ≡ swept start.0 v.0 i a }
 {
     let finish = rounded_finish(start, i);
-    let eligible = not_after(start, v);
+    let eligible = start <= v;
     let so_far = a.least;
-    let words = sorted(a.words, group_bit(i), eligible, before(so_far, finish));
+    let words = sorted(a.words, group_bit(i), eligible, so_far < finish);
     if eligible {
         return Sweep {
             words,
-            least: earlier(finish, so_far),
+            least: finish.min(so_far),
         };
     }
     Sweep {
@@ -105,29 +98,26 @@ pub fn set_words(t: &[u8]) -> SetWords
         },
         least: Clock(NEVER),
     };
-    let mut left = word(t, GROUPS);
-    while left != 0 {
-        let i = 63 - u64::leading_zeros(left);
+    for i in SetBits(word(t, GROUPS)).rev() {
         let start = word(t, STARTS + (i as usize));
         a = sweep_group(Clock(start), v, i, a);
-        left -= group_bit(i);
     }
     a.words
 }
 
-// The lane that take serves and look sees.
-pub fn chosen(t: &[u8]) -> Choice
+// The lane that take serves and look sees; none where no lane holds a record.
+pub fn chosen(t: &[u8]) -> Option<Place>
     requires { Known t.now }
     ensures { ChoiceIs t.now result }
 {
     let v = clock(t);
     let f = next_group(t, v.0);
     if f.finish == NEVER {
-        return Choice::Idle;
+        return None;
     }
     let group = f.group;
     let start = f.finish - (2u64 << group);
     let list = list_number(start, word(t, BACK), group);
     let lane = first(t, group, list, word(t, MAPS + (group as usize)));
-    Choice::Serve(Place { lane, group, start })
+    Some(Place { lane, group, start })
 }

@@ -26,9 +26,12 @@ absent-over old t k c none =
       housed = λ p some. absurd (false≢true (sym b ∙ p));
     }
 
-pub over_none : (old t : List ℕ) (lanes k : ℕ) → lanes ≡ get_or (cells old) present_word 0 → Carried old t → Next lanes 0 k → Over old t k
-over_none old t lanes k e c x =
-    record { carried = c; lanes = λ j h. absent-over old t j c (rw (← e) (x.absent j (omega arith) h)) }
+pub over_none : (old t : List ℕ) → Carried old t → Over old t 0
+over_none old t c = record { carried = c; lanes = λ j h. absurd (omega arith) }
+
+-- no lane of the setup is between
+pub over_skip : (old t : List ℕ) (n k : ℕ) → Next (get_or (cells old) present_word 0) n k → Over old t n → Over old t k
+over_skip old t n k x o = record { carried = o.carried; lanes = λ j h. ⊎_elim (λ (q : n ≤ j). absent-over old t j o.carried (x.absent j q h)) (λ (q : j < n). o.lanes j q) (le-or-lt n j) }
 
 module _ (old t u : List ℕ) (k : ℕ) (hk : k < 64) (m : LaneMoved old t u k) where
   outside : Outside (cells t) (cells u) k
@@ -53,16 +56,12 @@ module _ (old t u : List ℕ) (k : ℕ) (hk : k < 64) (m : LaneMoved old t u k) 
         housed = rw row (λ p some. housed-kept (cells t) (cells u) j s.lengths s.marks s.trains (s.row (round_word j) (omega arith) (omega arith)) (row_at (cells t) j) (o.housed (sym s.present ∙ p) some));
       }
 
-  pub over-more : (lanes n : ℕ) → lanes ≡ get_or (cells old) present_word 0 → Over old t k → Next lanes (k + 1) n → Over old u n
-  over-more lanes n e o x = record { carried = carried_on o.carried; lanes = each }
+  pub over-more : Over old t k → Over old u (k + 1)
+  over-more o = record { carried = carried_on o.carried; lanes = each }
     where
-      each : (j : ℕ) → j < n → LaneOver old u j
+      each : (j : ℕ) → j < k + 1 → LaneOver old u j
       each j h =
           ⊎_elim
           (λ (q : j ≡ k). subst (LaneOver old u) (sym q) m.over)
-          (λ (ne : j ≡ k → ⊥).
-          ⊎_elim
-          (λ (q : k ≤ j). absent-over old u j (carried_on o.carried) (rw (← e) (x.absent j (omega arith) h)))
-          (λ (q : j < k). other-over j (omega arith) ne (o.lanes j q))
-          (le-or-lt k j))
+          (λ (ne : j ≡ k → ⊥). other-over j (omega arith) ne (o.lanes j (omega (arith, ne))))
           (eq-or-ne j k)

@@ -14,16 +14,18 @@ use Rattle.pages.specs.Device.{Device}
 use Rattle.table.specs.Layout.{table_size}
 use Rattle.paged.specs.Paged.{EncodesDevice, GoodUnit}
 use Rattle.old_table.specs.Old.{old_meant, OldTable}
-use Rattle.convert.specs.declared.Converting.{Converting}
-use Rattle.convert.specs.declared.Converting.TheVariants.{Converted, Refused}
+use Rattle.std.specs.Prelude.{Result}
+use Rattle.rules.specs.declared.Refusal.{Refusal}
+use Rattle.std.specs.Prelude.{Ok}
+use Rattle.std.specs.Prelude.{Err}
 
 pub data ConvertReply : Type 0 where
   converted : ConvertReply
   not_converted : ℕ → Option ℕ → ConvertReply
 
-abbrev pub convert_reply : Converting → ConvertReply
-convert_reply Converted = converted
-convert_reply (Refused x) = not_converted (number x) (place_of x)
+abbrev pub convert_reply : Result (Unit {0}) Refusal → ConvertReply
+convert_reply (Ok u) = converted
+convert_reply (Err x) = not_converted (number x) (place_of x)
 
 -- the unit of a state that has taken no page
 abbrev pub unpaged : State → Device
@@ -36,7 +38,7 @@ pub record TakenOver (old before after : List ℕ) : Type 0 where
   pub rest : drop table_size after ≡ drop table_size before
 
 -- R7.1, R14.39
-pub record Converts (old before : List ℕ) (a : Converting) (after : List ℕ) : Type 0 where
+pub record Converts (old before : List ℕ) (a : Result (Unit {0}) Refusal) (after : List ℕ) : Type 0 where
   -- R7.4, R14.13: 7 for too little room, at place 0; it goes before 10
   pub short : length before < table_size → (convert_reply a ≡ not_converted 7 (some 0)) × (after ≡ before)
   -- R7.4, R14.22: 10 for an old table that is not good by the rule of its time

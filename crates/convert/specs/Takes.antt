@@ -16,7 +16,8 @@ use Rattle.table.specs.Layout.{table_size}
 use Rattle.scheduler.specs.Step.{UnitStep}
 use Rattle.old_table.specs.Old.{old_meant, OldTable, OldEncodes}
 use Rattle.convert.specs.Converts.{Converts}
-use Rattle.convert.specs.declared.Converting.{Converting}
+use Rattle.std.specs.Prelude.{Result}
+use Rattle.rules.specs.declared.Refusal.{Refusal}
 
 -- 10 and nothing changed, or what the rules answer, and bytes that encode what they leave
 pub data OldTake : List ℕ → Reply → List ℕ → Type 0 where
@@ -38,5 +39,5 @@ UntilTen (r ∷ rs) (q ∷ qs) = (r ≡ refused 10 none) ⊎ ((r ≡ q) × Until
 
 unfoldable pub SameTakes : Type 0
 SameTakes =
-    (old before after : List ℕ) (a : Converting) → table_size ≤ length before → OldTable old → Converts old before a after
+    (old before after : List ℕ) (a : Result (Unit {0}) Refusal) → table_size ≤ length before → OldTable old → Converts old before a after
     → (rs qs : List Reply) (u v : List ℕ) → OldTakes old rs u → TakeChain after qs v → UntilTen rs qs

@@ -21,32 +21,25 @@ use editions::set_taken;
 use old_table::{record_at, row};
 use rules::Refusal;
 use table::{
-    DEPTH, DEPTH_NUMBER, LANES, LaneRow, PRESENT, cell, clear_lengths, next_present, set_cell,
-    set_record, set_row,
+    DEPTH, DEPTH_NUMBER, LaneRow, PRESENT, cell, clear_lengths, set_cell, set_record, set_row,
 };
 use units::Clock;
+use words::SetBits;
 
 // The fixed sizes of a table then and now, in bytes.
 pub const OLD_SIZE: usize = old_table::SIZE;
 
 pub const NEW_SIZE: usize = table::TABLE_SIZE;
 
-#[derive(Clone, Copy)]
-pub enum Converting {
-    // The new bytes are a table with the old one's queues, clock, lanes and tie order.
-    Converted,
-    Refused(Refusal),
-}
-
-// Copies the old table's bytes. What they mean is made anew where the layouts differ.
+// Copies the old table's bytes. What they mean is made anew where the layouts differ. Not inlined: there the compiler sees that the two do not overlap, and calls
+// memcpy; of the loop inlined, as of `copy_from_slice`, it makes a call of memmove, and the library is to need memcpy and memset alone.
+#[inline(never)]
 fn copy(old: &[u8], new: &mut [u8])
     requires { (old_size ≤ length old.now) × Room new.old }
     ensures { Copied old.now new.old new.new old_size }
 {
-    let mut i = 0;
-    while i < OLD_SIZE {
+    for i in 0..OLD_SIZE {
         new[i] = old[i];
-        i += 1;
     }
 }
 
@@ -57,11 +50,9 @@ fn records_over(old: &[u8], new: &mut [u8], k: usize, l: LaneRow)
 {
     // Every place of a holding lane is within the lane's numbers, a record there or not.
     clear_lengths(new, k);
-    let mut i = 0;
-    while i < l.count {
+    for i in 0..l.count {
         let e = record_at(old, k, l.head + i);
         set_record(new, k, i, e);
-        i += 1;
     }
 }
 
@@ -97,11 +88,8 @@ fn lanes_over(old: &[u8], new: &mut [u8])
     requires { OldTable old.now × Room new.old × Carried old.now new.old }
     ensures { Over old.now new.new 64 × Behind new.old new.new }
 {
-    let lanes = cell(old, PRESENT);
-    let mut k = next_present(lanes, 0);
-    while k < LANES {
-        lane_over(old, new, k);
-        k = next_present(lanes, k + 1);
+    for k in SetBits(cell(old, PRESENT)) {
+        lane_over(old, new, k as usize);
     }
 }
 
@@ -115,18 +103,18 @@ fn write(old: &[u8], new: &mut [u8])
     lanes_over(old, new);
 }
 
-// Takes over the table `old`, of 16 places in a lane, into the bytes `new`, whatever they held.
-pub fn convert(old: &[u8], new: &mut [u8]) -> Converting
+// Takes over the table `old`, of 16 places in a lane, into the bytes `new`, whatever they held: they are then a table with the old one's queues, clock, lanes and
+// tie order.
+pub fn convert(old: &[u8], new: &mut [u8]) -> Result<(), Refusal>
     ensures { Converts old.now new.old result new.new }
 {
     if new.len() < NEW_SIZE {
-        return Converting::Refused(Refusal::TableShort);
+        return Err(Refusal::TableShort);
     }
-    let good = old_table::good(old);
-    if !good {
-        return Converting::Refused(Refusal::NotGood);
+    if !old_table::good(old) {
+        return Err(Refusal::NotGood);
     }
     write(old, new);
     set_taken(&mut new[table::SIZE..], 0);
-    Converting::Converted
+    Ok(())
 }

@@ -3,7 +3,7 @@
 --   prints-line                     a line at the front
 --   prints-long, prints-refused     an input that is too long, and one that is not read
 --   plan-good, prints-plan          a plan that was read: it is within the numbers, and what is written of it is printed
---   setup-written, setup-never      a plan written as a setup, which it always is
+--   setup-written, setup-always     a plan written as a setup, which it always is
 --   sheet-written, sheet-framed     and as a sheet, or a plan that a sheet cannot say
 --
 -- Assumes nothing.
@@ -16,6 +16,8 @@ use mathlib.Core.List.{List, ◌++◌}
 use mathlib.Core.Option.{none}
 use borrow.Author.Tests.{lt-ltb, le-ltb, ne_eqb, eq-eqb}
 use lib.ListN.{length, drop, length-append}
+use Rattle.std.specs.Prelude.{Result, Ok, Err}
+use Rattle.std.specs.Result.{IsOk}
 use Rattle.rules.specs.State.{Setting}
 use Rattle.rules.specs.Setup.{framing_of}
 use Rattle.rules.specs.Reads.{number, place_of}
@@ -26,8 +28,6 @@ use Rattle.plan.specs.declared.Reading.{Reading}
 use Rattle.plan.proofs.Accepted.{accepted-setup}
 use Rattle.plan_writer.specs.Write as setup
 use Rattle.plan_writer.specs.Write.{Planned, planned, Within, shareds, setup_bytes}
-use Rattle.plan_writer.specs.declared.Written as setup-answer
-use Rattle.plan_writer.specs.declared.Written.TheVariants as setup-told
 use Rattle.plan_writer.specs.declared.Unwritten as setup-unwritten
 use Rattle.plan_writer.proofs.Numbered.{numbered-all}
 use Rattle.plan_writer.proofs.Round.{size_is_lem, size-most}
@@ -36,15 +36,11 @@ use Rattle.plan_writer.proofs.Calls.{size-refused}
 use Rattle.sheet.specs.Text.{sheet_bytes}
 use Rattle.sheet.proofs.Back.{accepted-sheet}
 use Rattle.sheet_writer.specs.Write.{Bare, WritesSheet, sheet_size, sheet_write_reply}
-use Rattle.sheet_writer.specs.declared.Written as sheet-answer
-use Rattle.sheet_writer.specs.declared.Written.TheVariants as sheet-told
 use Rattle.sheet_writer.specs.declared.Unwritten as sheet-unwritten
 use Rattle.sheet_writer.proofs.Calls.{bare-or-not}
 use Rattle.sheet_writer.proofs.Most.{sheet-most}
-use Rattle.plan.specs.Read.{settings, setup_came, setup_reply}
+use Rattle.plan.specs.Read.{settings, setup_reply}
 use Rattle.plan.specs.declared.Plan.{Plan}
-use Rattle.plan.specs.declared.Outcome.{Outcome}
-use Rattle.plan.specs.declared.Outcome.TheVariants.{Read, Refused}
 use Rattle.depot.specs.Prints.{as_planned, read_other, plan_text, reply_text, depot_text, PrintsText}
 use Rattle.depot.specs.declared.Form.{Form}
 use Rattle.depot.specs.declared.Form.TheVariants.{Setup, Sheet}
@@ -70,22 +66,22 @@ module _ (form : Form) (s a a' : List ℕ) (n : ℕ) (room : 1024 ≤ length a) 
   pub prints-long : 32768 < length s → Line a a' 0 (no_line 18 none) n → PrintsText (depot_text form s) a a' n
   prints-long long l = as-text (depot_text form s) (no_line 18 none) a a' n (rw (lt-ltb 32768 (length s) long)) (prints-line (no_line 18 none) a a' n l (omega (arith, room)))
 
-  module _ (few : length s ≤ 32768) (r : Reading) (e : setup_reply r ≡ read_other form s) where
-    came : (o : Outcome) → r.outcome ≡ o → depot_text form s ≡ reply_text form (setup_came r.plan o)
-    came o h = rw (le-ltb 32768 (length s) few, ← e, h)
+  module _ (few : length s ≤ 32768) where
+    came : (o : Result Reading Refusal) → setup_reply o ≡ read_other form s → depot_text form s ≡ reply_text form (setup_reply o)
+    came o e = rw (le-ltb 32768 (length s) few, ← e)
 
-    pub prints-refused : (x : Refusal) → r.outcome ≡ Refused x → Line a a' 0 (no_line (number x) (place_of x)) n → PrintsText (depot_text form s) a a' n
-    prints-refused x o l = as-text _ _ a a' n (came (Refused x) o) (prints-line (no_line (number x) (place_of x)) a a' n l (omega (arith, room)))
+    pub prints-refused : (x : Refusal) → setup_reply (Err x) ≡ read_other form s → Line a a' 0 (no_line (number x) (place_of x)) n → PrintsText (depot_text form s) a a' n
+    prints-refused x e l = as-text _ _ a a' n (came (Err x) e) (prints-line (no_line (number x) (place_of x)) a a' n l (omega (arith, room)))
 
-    pub prints-plan : (k : ℕ) → r.outcome ≡ Read k → PrintsText (plan_text form (as_planned r.plan)) a a' n → PrintsText (depot_text form s) a a' n
-    prints-plan k o p = as-text _ _ a a' n (came (Read k) o) p
+    pub prints-plan : (r : Reading) → setup_reply (Ok r) ≡ read_other form s → PrintsText (plan_text form (as_planned r.plan)) a a' n → PrintsText (depot_text form s) a a' n
+    prints-plan r e p = as-text _ _ a a' n (came (Ok r) e) p
 
-pub plan-good : (form : Form) (s : List ℕ) (r : Reading) → setup_reply r ≡ read_other form s → (k : ℕ) → r.outcome ≡ Read k → Within (as_planned r.plan)
-plan-good Setup s r e k o =
-    let x = accepted-sheet s r.plan.format (settings r.plan) r.plan.count k (sym e ∙ ap (setup_came r.plan) o) in
+pub plan-good : (form : Form) (s : List ℕ) (r : Reading) → setup_reply (Ok r) ≡ read_other form s → Within (as_planned r.plan)
+plan-good Setup s r e =
+    let x = accepted-sheet s r.plan.format (settings r.plan) r.plan.count r.next (sym e) in
     record { format = ap known_format x.format; setup = x.setup; count = x.are_there }
-plan-good Sheet s r e k o =
-    let x = (accepted-setup r s k e o).0 in
+plan-good Sheet s r e =
+    let x = (accepted-setup r s e).0 in
     record { format = x.rule.format; setup = x.setup; count = x.are_there }
 
 -- ---- a plan
@@ -98,20 +94,24 @@ module _ (plan : Plan) (within : Within (as_planned plan)) (a : List ℕ) (room 
   lanes-are : planned plan ≡ p
   lanes-are = ap (λ (y : List Setting). record { format = plan.format; lanes = y; count = plan.count }) (numbered-all (settings plan) within.setup.size)
 
-  module _ (answer : setup-answer.Written) (a' : List ℕ) (w : setup.Writes (planned plan) a answer a') where
+  module _ (answer : Result ℕ setup-unwritten.Unwritten) (a' : List ℕ) (w : setup.Writes (planned plan) a answer a') where
     done : (setup.write_reply answer ≡ setup.written_size (setup.setup_size p)) × (a' ≡ setup_bytes p ++ drop (setup.setup_size p) a)
     done = (subst (λ (y : Planned). setup.Writes y a answer a') lanes-are w).written within (omega (arith, size-most p within, room))
 
-    pub setup-written : (n : ℕ) → answer ≡ setup-told.Size n → PrintsText (setup_bytes p) a a' n
+    pub setup-written : (n : ℕ) → answer ≡ Ok n → PrintsText (setup_bytes p) a a' n
     setup-written n t =
         let q : setup.written_size n ≡ setup.written_size (setup.setup_size p) = sym (ap setup.write_reply t) ∙ done.0 in
         let n-is : n ≡ setup.setup_size p = cc in
         front (setup_bytes p) a a' n (n-is ∙ sym (size_is_lem p within)) (done.1 ∙ ap (λ (i : ℕ). setup_bytes p ++ drop i a) (sym n-is))
 
-    pub setup-never : {A : Type 0} (x : setup-unwritten.Unwritten) → answer ≡ setup-told.Refused x → A
-    setup-never x t = size-refused (sym done.0 ∙ ap setup.write_reply t)
+    pub setup-always : IsOk answer
+    setup-always = go answer refl
+      where
+        go : (o : Result ℕ setup-unwritten.Unwritten) → answer ≡ o → IsOk o
+        go (Ok n) t = refl
+        go (Err x) t = size-refused (sym done.0 ∙ ap setup.write_reply t)
 
-  module _ (answer : sheet-answer.Written) (a' : List ℕ) (w : WritesSheet (planned plan) a answer a') where
+  module _ (answer : Result ℕ sheet-unwritten.Unwritten) (a' : List ℕ) (w : WritesSheet (planned plan) a answer a') where
     writes : WritesSheet p a answer a'
     writes = subst (λ (y : Planned). WritesSheet y a answer a') lanes-are w
 
@@ -124,7 +124,7 @@ module _ (plan : Plan) (within : Within (as_planned plan)) (a : List ℕ) (room 
     text-framed : (Bare p → ⊥) → plan_text Sheet p ≡ no_line 82 none
     text-framed b = rw (ne_eqb (framing_of p.lanes + shareds p.lanes) 0 (λ z. b (omega (arith, z), omega (arith, z))))
 
-    pub sheet-written : (n : ℕ) → answer ≡ sheet-told.Size n → PrintsText (plan_text Sheet p) a a' n
+    pub sheet-written : (n : ℕ) → answer ≡ Ok n → PrintsText (plan_text Sheet p) a a' n
     sheet-written n t =
         ⊎_elim
         (λ (b : Bare p).
@@ -135,7 +135,7 @@ module _ (plan : Plan) (within : Within (as_planned plan)) (a : List ℕ) (room 
         (λ (b : Bare p → ⊥). size-refused (sym (ap sheet_write_reply t) ∙ (writes.no_sheet within b).0))
         (bare-or-not p)
 
-    pub sheet-framed : (x : sheet-unwritten.Unwritten) → answer ≡ sheet-told.Refused x → (a'' : List ℕ) (n : ℕ) → Line a' a'' 0 (no_line 82 none) n → PrintsText (plan_text Sheet p) a a'' n
+    pub sheet-framed : (x : sheet-unwritten.Unwritten) → answer ≡ Err x → (a'' : List ℕ) (n : ℕ) → Line a' a'' 0 (no_line 82 none) n → PrintsText (plan_text Sheet p) a a'' n
     sheet-framed x t a'' n l =
         ⊎_elim
         (λ (b : Bare p). size-refused (sym (writes.written within b fits).0 ∙ ap sheet_write_reply t))

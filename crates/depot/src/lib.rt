@@ -10,7 +10,7 @@ ghost use Rattle.plan.specs.Read.{setup_reply};
 ghost use Rattle.plan_writer.specs.Write.{Within};
 ghost use Rattle.depot.specs.Prints.{as_planned, read_other, plan_text, depot_text, PrintsText};
 
-use plan::{Outcome, Plan, Reading};
+use plan::{Plan, Reading};
 use rules::Refusal;
 
 // The most bytes of input: those of the unit's program.
@@ -29,7 +29,7 @@ pub enum Form {
     Sheet,
 }
 
-fn read_other(input: &[u8], form: Form) -> Reading
+fn read_other(input: &[u8], form: Form) -> Result<Reading, Refusal>
     ensures { setup_reply result ≡ read_other form input.now }
 {
     match form {
@@ -44,15 +44,12 @@ fn write_plan(plan: Plan, out: &mut [u8], form: Form) -> usize
     ensures { PrintsText (plan_text form (as_planned plan)) out.old out.new result }
 {
     match form {
-        Form::Setup => match plan_writer::write_setup(plan, out) {
-            plan_writer::Written::Size(n) => n,
-            // The plan is within the numbers, and there is room.
-            plan_writer::Written::Refused(_) => 0,
-        },
+        // The plan is within the numbers, and there is room.
+        Form::Setup => plan_writer::write_setup(plan, out).unwrap(),
         Form::Sheet => match sheet_writer::write_sheet(plan, out) {
-            sheet_writer::Written::Size(n) => n,
+            Ok(n) => n,
             // Within the numbers, and with room: what is left is a plan with framing bytes or a shared lane.
-            sheet_writer::Written::Refused(_) => lines::put_no(out, 0, Refusal::NoSheet),
+            Err(_) => lines::put_no(out, 0, Refusal::NoSheet),
         },
     }
 }
@@ -65,14 +62,9 @@ pub fn print(input: &[u8], out: &mut [u8], form: Form) -> usize
     if input.len() > MOST_INPUT {
         return lines::put_no(out, 0, Refusal::InputLong);
     }
-    let r = read_other(input, form);
-    let outcome = r.outcome;
-    match outcome {
-        Outcome::Refused(x) => lines::put_no(out, 0, x),
-        Outcome::Read(_) => {
-            let plan = r.plan;
-            write_plan(plan, out, form)
-        }
+    match read_other(input, form) {
+        Ok(r) => write_plan(r.plan, out, form),
+        Err(x) => lines::put_no(out, 0, x),
     }
 }
 

@@ -72,14 +72,7 @@ pub fn compare(out: Stdout, before: &[u8], t: &[u8]) {
 }
 
 fn tail_is(t: &[u8]) -> bool {
-    let mut i = scheduler::SIZE;
-    while i < t.len() {
-        if t[i] != FILL {
-            return false;
-        }
-        i += 1;
-    }
-    true
+    t.iter().skip(scheduler::SIZE).all(|b| *b == FILL)
 }
 
 // Whether the bytes past the fixed size are those that were there before making.

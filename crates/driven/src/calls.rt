@@ -50,28 +50,22 @@ pub fn every(out: Stdout, t: &mut [u8]) {
 
 // `n` puts of 100 bytes to a lane, with the marks 0, 1, ..
 pub fn fill(out: Stdout, t: &mut [u8], lane: u8, n: u32) {
-    let mut i: u32 = 0;
-    while i < n {
+    for i in 0..n {
         put(out, t, lane, i, 100);
-        i += 1;
     }
 }
 
 // The same for a train.
 pub fn fill_train(out: Stdout, t: &mut [u8], lane: u8, train: u8, n: u32) {
-    let mut i: u32 = 0;
-    while i < n {
+    for i in 0..n {
         put_train(out, t, lane, train, i, 100);
-        i += 1;
     }
 }
 
 // `n` takes.
 pub fn drain(out: Stdout, t: &mut [u8], n: u32) {
-    let mut i: u32 = 0;
-    while i < n {
+    for _ in 0..n {
         take(out, t);
-        i += 1;
     }
 }
 
@@ -83,9 +77,7 @@ fn serve(out: Stdout, t: &mut [u8]) {
 
 // `n` of them.
 pub fn served(out: Stdout, t: &mut [u8], n: u32) {
-    let mut i: u32 = 0;
-    while i < n {
+    for _ in 0..n {
         serve(out, t);
-        i += 1;
     }
 }

@@ -52,9 +52,7 @@ fn look_and_take(out: Stdout, t: &mut [u8]) {
 }
 
 pub fn looks_and_takes(out: Stdout, t: &mut [u8], n: u32) {
-    let mut i: u32 = 0;
-    while i < n {
+    for _ in 0..n {
         look_and_take(out, t);
-        i += 1;
     }
 }

@@ -12,7 +12,8 @@ use Rattle.rules.specs.Choice.{Candidate, choose}
 use Rattle.rules.specs.Calls.{restart, fresh, do_restart, Call, put, take, look, lag, lagged, lag_of, do_lag, refused, Outcome, no, put_refusal, accept, accepted, ahead, shifted, put_of, do_put, Pick, pick_first, pick_of, picked, serve, take_of, do_take, look_of, do_look, step}
 use Rattle.rules.specs.Reads.{number, place_of}
 use Rattle.rules.specs.declared.Refusal.{Refusal}
-use Rattle.rules.specs.declared.Answer.TheVariants.{Restarted, Accepted, Taken, Seen, Refused}
+use Rattle.rules.specs.declared.Answer.TheVariants.{Restarted, Accepted, Taken, Seen}
+use Rattle.std.specs.Prelude.{Ok, Err}
 use Rattle.rules.specs.declared.Record.{Record}
 use Rattle.rules.specs.Good.{Times, Good}
 use Rattle.rules.proofs.Figures.{slot_at}
@@ -30,10 +31,10 @@ use Rattle.engine.specs.Does.{SaysReply, Does, Serves}
 
 -- ---- refusals
 
-pub refusal-says : (c : Call) (t : List ℕ) (x : Refusal) → place_of x ≡ none → step (meant t) c ≡ no (number x) (meant t) → SaysReply c t (Refused x)
+pub refusal-says : (c : Call) (t : List ℕ) (x : Refusal) → place_of x ≡ none → step (meant t) c ≡ no (number x) (meant t) → SaysReply c t (Err x)
 refusal-says c t x p e = ap (refused (number x)) p ∙ sym (ap (λ (o : Outcome). o.reply) e)
 
-pub refusal-does : (c : Call) (t : List ℕ) (x : Refusal) → Known t → place_of x ≡ none → step (meant t) c ≡ no (number x) (meant t) → Does c t (Refused x) t
+pub refusal-does : (c : Call) (t : List ℕ) (x : Refusal) → Known t → place_of x ≡ none → step (meant t) c ≡ no (number x) (meant t) → Does c t (Err x) t
 refusal-does c t x known p e = record {
   says = refusal-says c t x p e;
   encodes = step-encodes (meant t) c t known.good (subst (Holds t) (sym (ap (λ (o : Outcome). o.state) e)) (known-holds t known));
@@ -60,7 +61,7 @@ back-allowed t b j r k a = subst (λ (s : State). Allowed s j r) (sym k.state) (
 
 -- t before the put, b with the clock taken back, u after it
 pub put-does : (t b u : List ℕ) (j i m n a : ℕ) → Known t → none ≡ put_refusal (meant t) j (record { train = i; mark = m; len = n }) → TakesBack t b → Turns b u (accept (meant b) j (record { train = i; mark = m; len = n }))
-    → a ≡ ahead (meant t) j i → Does (put j i m n) t (Accepted a) u
+    → a ≡ ahead (meant t) j i → Does (put j i m n) t (Ok (Accepted a)) u
 unfolding put_of
 put-does t b u j i m n a known e k l h =
     let r : Rec = record { train = i; mark = m; len = n } in
@@ -116,7 +117,7 @@ served-state : (s : State) (p : Pick) → picked s ≡ some p → (step s take).
 unfolding step do_take take_of
 served-state s p e = rw e
 
-pub take-does : (t u : List ℕ) (r : Record) → Known t → Serves t r u → Does take t (Taken r) u
+pub take-does : (t u : List ℕ) (r : Record) → Known t → Serves t r u → Does take t (Ok (Taken r)) u
 unfolding step do_take take_of
 take-does t u r known s = record {
   says = rw (s.picks, s.lane, s.train, s.mark, s.size);
@@ -125,7 +126,7 @@ take-does t u r known s = record {
   rest = s.turns.rest;
 }
 
-pub look-says : (t : List ℕ) (r : Record) (p : Pick) → picked (meant t) ≡ some p → r.lane ≡ p.lane → r.train ≡ p.first.train → r.mark ≡ p.first.mark → r.length.0 ≡ p.first.len → SaysReply look t (Seen r)
+pub look-says : (t : List ℕ) (r : Record) (p : Pick) → picked (meant t) ≡ some p → r.lane ≡ p.lane → r.train ≡ p.first.train → r.mark ≡ p.first.mark → r.length.0 ≡ p.first.len → SaysReply look t (Ok (Seen r))
 unfolding step do_look look_of
 look-says t r p e l i m n = rw (e, l, i, m, n)
 
@@ -164,7 +165,7 @@ restarted-state : (s : State) → any_holds s.lanes ≡ false → (step s restar
 unfolding step do_restart
 restarted-state s e = simp e
 
-pub restart-does : (t u : List ℕ) → Known t → any_holds (meant t).lanes ≡ false → Turns t u (fresh (setup_of (meant t))) → Does restart t Restarted u
+pub restart-does : (t u : List ℕ) → Known t → any_holds (meant t).lanes ≡ false → Turns t u (fresh (setup_of (meant t))) → Does restart t (Ok Restarted) u
 unfolding step do_restart
 restart-does t u known e l = record {
   says = simp e;

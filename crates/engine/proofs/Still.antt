@@ -11,6 +11,8 @@ use Rattle.rules.specs.State.{State}
 use Rattle.rules.specs.Calls.{Call, look, sets, lag, Reply, accepted, taken, seen, words, lagged, restarted, refused, picked, do_look, do_sets, step}
 use Rattle.rules.specs.Reads.{reads}
 use Rattle.rules.specs.declared.Answer.{Answer}
+use Rattle.rules.specs.declared.Refusal.{Refusal}
+use Rattle.std.specs.Prelude.{Result}
 use Rattle.rules.proofs.Keep.{look-same, lag-same}
 use Rattle.table.specs.Means.{meant}
 use Rattle.engine.specs.Does.{SaysReply, Unchanged, Does}
@@ -39,5 +41,5 @@ same_bytes (lagged z) t = tt
 same_bytes restarted t = tt
 same_bytes (refused n p) t = refl
 
-pub looks-does : (c : Call) (t : List ℕ) (x : Answer) → Known t → (step (meant t) c).state ≡ meant t → SaysReply c t x → Does c t x t
+pub looks-does : (c : Call) (t : List ℕ) (x : Result Answer Refusal) → Known t → (step (meant t) c).state ≡ meant t → SaysReply c t x → Does c t x t
 looks-does c t x known e h = record { says = h; encodes = step-encodes (meant t) c t known.good (subst (Holds t) (sym e) (known-holds t known)); unchanged = same_bytes (reads x) t; rest = refl }

@@ -7,7 +7,7 @@
 --   Serves      a record is handed out
 --
 -- Assumes nothing.
-use Rattle.std.specs.Prelude.{ℕ, ◌≡◌, List, Bool, false, eqb, drop, if◌then◌else◌}
+use Rattle.std.specs.Prelude.{ℕ, ◌≡◌, List, Bool, false, eqb, drop, if◌then◌else◌, Result, Ok, Err}
 use Rattle.std.proofs.Math.Option.{Option, none, some}
 use Rattle.rounds.specs.Round.{train_count, train_depth}
 use Rattle.turns.specs.Turns.{count_of}
@@ -16,15 +16,14 @@ use Rattle.rules.specs.Calls.{Call, Reply, accepted, taken, seen, words, lagged,
 use Rattle.rules.specs.Reads.{reads, number, place_of}
 use Rattle.rules.specs.declared.Answer.{Answer}
 use Rattle.rules.specs.declared.Record.{Record}
+use Rattle.rules.specs.declared.Refusal.{Refusal}
 use Rattle.table.specs.Layout.{SIZE, train_number}
 use Rattle.table.specs.declared.LaneRow.{LaneRow}
 use Rattle.table.specs.Means.{meant}
 use Rattle.table.specs.Encodes.{Encodes}
 use Rattle.engine.specs.Turns.{Turns}
-use Rattle.engine.specs.declared.Verdict.{Verdict}
-use Rattle.engine.specs.declared.Verdict.TheVariants.{Allowed, Refused}
 
-abbrev pub SaysReply : Call → List ℕ → Answer → Type 0
+abbrev pub SaysReply : Call → List ℕ → Result Answer Refusal → Type 0
 SaysReply c t a = reads a ≡ (step (meant t) c).reply
 
 -- R3.3: a refused call leaves every byte
@@ -37,7 +36,7 @@ Unchanged (lagged z) before after = Unit {0}
 Unchanged restarted before after = Unit {0}
 Unchanged (refused n p) before after = after ≡ before
 
-pub record Does (c : Call) (before : List ℕ) (a : Answer) (after : List ℕ) : Type 0 where
+pub record Does (c : Call) (before : List ℕ) (a : Result Answer Refusal) (after : List ℕ) : Type 0 where
   pub says : SaysReply c before a
   pub encodes : Encodes after (step (meant before) c).state
   pub unchanged : Unchanged (reads a) before after
@@ -58,19 +57,19 @@ unfoldable pub held_by : List ℕ → ℕ → LaneRow → ℕ → ℕ
 held_by w k l j = if l.shared then (if eqb l.count 0 then 0 else count_of (train_number w k j)) else l.count
 
 -- a put's refusal, by its number
-abbrev pub verdict_is : Verdict → Option ℕ
-verdict_is (Allowed n) = none
-verdict_is (Refused x) = some (number x)
+abbrev pub verdict_is : Result ℕ Refusal → Option ℕ
+verdict_is (Ok n) = none
+verdict_is (Err x) = some (number x)
 
 -- 11 to 13, 70 and 71 have no place
-abbrev pub Placeless : Verdict → Type 0
-Placeless (Allowed n) = Unit {0}
-Placeless (Refused x) = place_of x ≡ none
+abbrev pub Placeless : Result ℕ Refusal → Type 0
+Placeless (Ok n) = Unit {0}
+Placeless (Err x) = place_of x ≡ none
 
 -- an allowed one finds so many records of its train before it
-abbrev pub Finds : State → ℕ → ℕ → Verdict → Type 0
-Finds s j t (Allowed n) = n ≡ ahead s j t
-Finds s j t (Refused x) = Unit {0}
+abbrev pub Finds : State → ℕ → ℕ → Result ℕ Refusal → Type 0
+Finds s j t (Ok n) = n ≡ ahead s j t
+Finds s j t (Err x) = Unit {0}
 
 -- ---- take
 

@@ -23,7 +23,7 @@ ghost use Rattle.engine.specs.Turns.{Turns, Reaching, Settled};
 ghost use Rattle.engine.specs.Does.{SaysReply, Does, lane_trains, queue_depth, held_by, verdict_is, Placeless, Finds, Idle, Serves};
 
 use back::take_back;
-use choice::{Choice, Place, chosen, set_words};
+use choice::{Place, chosen, set_words};
 use fresh::renew;
 use groups::settled_clock;
 use lane_moves::{add, refile};
@@ -33,15 +33,8 @@ use rules::{Answer, Record, Refusal};
 use slot_lists::GROUPS;
 use table::{DEPTH, LaneRow, charged, clock, present, row, set_clock};
 use turns::{COUNT_UNIT, TRAIN_DEPTH};
-use units::{Bytes, Clock, lane_charge, later, line_charge, plus, rounded_start};
+use units::{Bytes, Clock, lane_charge, line_charge, rounded_start};
 use words::word;
-
-// Whether a put is allowed, and then how many records of its train the lane holds.
-#[derive(Clone, Copy)]
-pub enum Verdict {
-    Allowed(u64),
-    Refused(Refusal),
-}
 
 // How many trains a lane knows: one that is not shared has train 0 alone.
 fn trains(shared: bool) -> usize
@@ -72,39 +65,39 @@ fn train_held(t: &[u8], k: usize, l: LaneRow, j: usize) -> u64
     table::train(t, k, j) / COUNT_UNIT % 16
 }
 
-// Refusals in their order: 11, 70, 12, then 71 in a shared lane, 13 in any other. The train's records are counted once: the answer of the put is the same
-// number.
-fn put_verdict(t: &[u8], lane: u8, e: Item) -> Verdict
+// Whether a put is allowed: how many records of its train the lane holds, which the put's answer says too; or the refusals in their order: 11, 70, 12, then 71 in
+// a shared lane, 13 in any other.
+fn put_verdict(t: &[u8], lane: u8, e: Item) -> Result<u64, Refusal>
     requires { Known t.now }
     ensures { (verdict_is result ≡ put_refusal (meant t.now) lane (waiting e)) × Placeless result × Finds (meant t.now) lane e.train result }
 {
     let k = lane as usize;
     if 64 <= k {
-        return Verdict::Refused(Refusal::NoLane);
+        return Err(Refusal::NoLane);
     }
     if !present(t, k) {
-        return Verdict::Refused(Refusal::NoLane);
+        return Err(Refusal::NoLane);
     }
     let l = row(t, k);
     let j = e.train as usize;
     if trains(l.shared) <= j {
-        return Verdict::Refused(Refusal::NoTrain);
+        return Err(Refusal::NoTrain);
     }
     let length = e.length;
     if length.0 == 0 {
-        return Verdict::Refused(Refusal::BadLength);
+        return Err(Refusal::BadLength);
     }
     if l.longest.0 < length.0 {
-        return Verdict::Refused(Refusal::BadLength);
+        return Err(Refusal::BadLength);
     }
     let held = train_held(t, k, l, j);
     if depth(l.shared) <= held {
         if l.shared {
-            return Verdict::Refused(Refusal::TrainFull);
+            return Err(Refusal::TrainFull);
         }
-        return Verdict::Refused(Refusal::LaneFull);
+        return Err(Refusal::LaneFull);
     }
-    Verdict::Allowed(held)
+    Ok(held)
 }
 
 // R3.7, R3.8: an idle lane begins at the later of its F and V, and where no other lane holds, V is moved up to its R. Lane `k` goes to the end of its slot's
@@ -116,11 +109,11 @@ fn put_first(t: &mut [u8], k: usize, e: Item)
     let l = row(t, k);
     let v = clock(t);
     let groups = word(t, GROUPS);
-    let start = later(l.time, v);
+    let start = l.time.max(v);
     let group = wake(t, k, start, e);
     add(t, groups, group, start.0, k);
     if groups == 0 {
-        set_clock(t, later(v, rounded_start(start, group)));
+        set_clock(t, v.max(rounded_start(start, group)));
     }
 }
 
@@ -138,7 +131,7 @@ fn put_record(t: &mut [u8], k: usize, e: Item)
 }
 
 // Put: takes the clock back where it is far on, and appends the record; or refuses. The answer: how many records of its train the lane held before.
-pub fn put(t: &mut [u8], lane: u8, train: u8, mark: u32, length: Bytes) -> Answer
+pub fn put(t: &mut [u8], lane: u8, train: u8, mark: u32, length: Bytes) -> Result<Answer, Refusal>
     requires { Known t.old }
     ensures { Does (Calls.put lane train mark length.0) t.old result t.new }
 {
@@ -147,15 +140,10 @@ pub fn put(t: &mut [u8], lane: u8, train: u8, mark: u32, length: Bytes) -> Answe
         mark,
         length,
     };
-    let verdict = put_verdict(t, lane, e);
-    match verdict {
-        Verdict::Refused(x) => Answer::Refused(x),
-        Verdict::Allowed(n) => {
-            take_back(t);
-            put_record(t, lane as usize, e);
-            Answer::Accepted(n)
-        }
-    }
+    let held = put_verdict(t, lane, e)?;
+    take_back(t);
+    put_record(t, lane as usize, e);
+    Ok(Answer::Accepted(held))
 }
 
 // R3.14: where lanes hold and none is eligible, V is set to the least R. `r` is at most V only if some group's start is.
@@ -171,6 +159,19 @@ fn settle(t: &mut [u8], v: Clock, r: u64)
     }
 }
 
+// A record that waits in lane `k`, as it is told.
+fn record_of(k: usize, e: Item) -> Record
+    requires { k < 64 }
+    ensures { (result.lane ≡ k) × (result.train ≡ e.train) × (result.mark ≡ e.mark) × (result.length ≡ e.length) }
+{
+    Record {
+        lane: k as u8,
+        train: e.train,
+        mark: e.mark,
+        length: e.length,
+    }
+}
+
 // Hands out the first record of the chosen lane, which stands at `p`.
 fn serve_lane(t: &mut [u8], p: Place) -> Record
     requires { Known t.old × Standing t.old p }
@@ -180,60 +181,43 @@ fn serve_lane(t: &mut [u8], p: Place) -> Record
     let l = row(t, k);
     let v = clock(t);
     let e = take_first(t, k);
-    let length = e.length;
-    let charge = charged(l, length);
-    let finish = plus(l.time, lane_charge(charge, l.rate));
+    let charge = charged(l, e.length);
+    let finish = l.time + lane_charge(charge, l.rate);
     let r = refile(t, p.group, p.start, finish.0, k, 1 < l.count);
-    settle(t, plus(v, line_charge(charge)), r);
-    Record {
-        lane: k as u8,
-        train: e.train,
-        mark: e.mark,
-        length,
-    }
+    settle(t, v + line_charge(charge), r);
+    record_of(k, e)
 }
 
 // Take: hands out the chosen lane's first record.
-pub fn take(t: &mut [u8]) -> Answer
+pub fn take(t: &mut [u8]) -> Result<Answer, Refusal>
     requires { Known t.old }
     ensures { Does Calls.take t.old result t.new }
 {
-    let choice = chosen(t);
-    match choice {
-        Choice::Serve(p) => Answer::Taken(serve_lane(t, p)),
-        Choice::Idle => Answer::Refused(Refusal::NothingHeld),
-    }
+    let Some(p) = chosen(t) else {
+        return Err(Refusal::NothingHeld);
+    };
+    Ok(Answer::Taken(serve_lane(t, p)))
 }
 
 // Look: what take would hand out.
-pub fn look(t: &[u8]) -> Answer
+pub fn look(t: &[u8]) -> Result<Answer, Refusal>
     requires { Known t.now }
     ensures { SaysReply Calls.look t.now result }
 {
-    let choice = chosen(t);
-    match choice {
-        Choice::Serve(p) => {
-            let k = p.lane;
-            let e = first(t, k);
-            let length = e.length;
-            let record = Record {
-                lane: k as u8,
-                train: e.train,
-                mark: e.mark,
-                length,
-            };
-            Answer::Seen(record)
-        }
-        Choice::Idle => Answer::Refused(Refusal::NothingHeld),
-    }
+    let Some(p) = chosen(t) else {
+        return Err(Refusal::NothingHeld);
+    };
+    let k = p.lane;
+    let e = first(t, k);
+    Ok(Answer::Seen(record_of(k, e)))
 }
 
 // Sets: the four words.
-pub fn sets(t: &[u8]) -> Answer
+pub fn sets(t: &[u8]) -> Result<Answer, Refusal>
     requires { Known t.now }
     ensures { SaysReply Calls.sets t.now result }
 {
-    Answer::Sets(set_words(t))
+    Ok(Answer::Sets(set_words(t)))
 }
 
 // The exact difference of two times, below, at or above zero.
@@ -245,23 +229,23 @@ fn difference(v: Clock, s: Clock) -> i64
 }
 
 // Lag (R3.18): how far V is ahead of S, or of what S would be in an idle lane.
-pub fn lag(t: &[u8], lane: u8) -> Answer
+pub fn lag(t: &[u8], lane: u8) -> Result<Answer, Refusal>
     requires { Known t.now }
     ensures { SaysReply (Calls.lag lane) t.now result }
 {
     let k = lane as usize;
     if 64 <= k {
-        return Answer::Refused(Refusal::NoLane);
+        return Err(Refusal::NoLane);
     }
     if !present(t, k) {
-        return Answer::Refused(Refusal::NoLane);
+        return Err(Refusal::NoLane);
     }
     let l = row(t, k);
     let v = clock(t);
     if l.count == 0 {
-        return Answer::Lag(difference(v, later(l.time, v)));
+        return Ok(Answer::Lag(difference(v, l.time.max(v))));
     }
-    Answer::Lag(difference(v, l.time))
+    Ok(Answer::Lag(difference(v, l.time)))
 }
 
 // Whether no lane holds records: no group has lanes.
@@ -273,13 +257,13 @@ fn none_held(t: &[u8]) -> bool
 }
 
 // Restart (R3.19): the fresh table of the table's own setup.
-pub fn restart(t: &mut [u8]) -> Answer
+pub fn restart(t: &mut [u8]) -> Result<Answer, Refusal>
     requires { Known t.old }
     ensures { Does Calls.restart t.old result t.new }
 {
     if !none_held(t) {
-        return Answer::Refused(Refusal::StillHolds);
+        return Err(Refusal::StillHolds);
     }
     renew(t);
-    Answer::Restarted
+    Ok(Answer::Restarted)
 }

@@ -1,6 +1,7 @@
 -- Laws of numbers in bytes.
 --
 --   big-two    a two-byte number by its bytes
+--   big-four   a four-byte number by its halves
 --   big-same   a number depends on its own bytes alone
 --   byte-from, two_from, long-from   an input by what stands from a place on: a byte, a two-byte number, its length
 --
@@ -8,6 +9,7 @@
 use Prim.Native.Nat.{ℕ, zero, suc, ◌+◌, ◌*◌, ◌^◌, ◌≤◌, ◌<◌}
 use mathlib.Core.Path.{◌≡◌, refl, sym, ap, ◌∙◌}
 use mathlib.Core.List.{List}
+use native.Mathlib.Numerals.{towards_suc}
 use native.Mathlib.Omega.{arith}
 use lib.ListN.{length, get_or, drop, length-drop}
 use lib.Seq.{get_or-drop}
@@ -16,6 +18,10 @@ use Rattle.fields.specs.Bytes.{byte_at, big}
 pub big-two : (s : List ℕ) (at : ℕ) → big s at 2 ≡ byte_at s at * 256 + byte_at s (at + 1)
 unfolding big
 big-two s at = omega arith
+
+pub big-four : (s : List ℕ) (at : ℕ) → big s at 2 * 65536 + big s (at + 2) 2 ≡ big s at 4
+unfolding big
+big-four s at = simp towards_suc (omega arith)
 
 -- two inputs that have the same bytes from `at` on have the same number there
 pub big-same : (s t : List ℕ) (n at : ℕ) → ((i : ℕ) → at ≤ i → i < at + n → byte_at s i ≡ byte_at t i) → big s at n ≡ big t at n

@@ -3,11 +3,14 @@
 --   Item     a field, taken apart, with the place after it; or a refusal's number and place
 --   FieldKinds   what an input knows: its tags, the lengths that are right for them, and how a value is taken apart
 --   item_at   what stands at a place
+--   item_told   the code's answer as an `Item`
 --
 -- Assumes nothing.
-use Rattle.std.specs.Prelude.{ℕ, ◌+◌, Bool, not, List, leb, length}
+use Rattle.std.specs.Prelude.{ℕ, ◌+◌, Bool, not, List, Result, Ok, Err, leb, length}
 use Rattle.std.proofs.Math.Option.{Option, some}
 use Rattle.fields.specs.Header.{pick, header_at}
+use Rattle.rules.specs.Reads.{number, place_of}
+use Rattle.rules.specs.declared.Refusal.{Refusal}
 use Rattle.fields.specs.declared.Field.{Field}
 use Rattle.fields.specs.declared.Field.TheVariants.{Nothing, Cut, Header}
 
@@ -34,3 +37,8 @@ item_by_header known s at (Header tag value n) =
 -- R8.4
 unfoldable pub item_at : {A : Type 0} → FieldKinds A → List ℕ → ℕ → Item A
 item_at known s at = item_by_header known s at (header_at s at)
+
+-- The code's answer, its refusal by number.
+abbrev pub item_told : {A : Type 0} → Result (A × ℕ) Refusal → Item A
+item_told (Ok r) = whole_field r.0 r.1
+item_told (Err x) = bad_field (number x) (place_of x)

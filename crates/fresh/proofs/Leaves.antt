@@ -91,19 +91,22 @@ unnamed-lane t k hk b = lane-is (cells t) (in_aRow (list_at t)) k hk ∙ lane-ab
 
 -- ---- the loop of `rest_lanes`
 
+pub rest-none : (t : List ℕ) → Leaves t t (rested_to 0 (meant t))
+rest-none t = record { state = sym (rested-none (meant t) (lanes-many t)); beside = λ b. b; rest = behind-refl }
+
 module _ (t₀ : List ℕ) (lanes : ℕ) (word : lanes ≡ get_or (cells t₀) present_word 0) where
   passed : (n k : ℕ) → Next lanes n k → rested_to n (meant t₀) ≡ rested_to k (meant t₀)
   passed n k x =
       rested-next (meant t₀) (lanes-many t₀) n k x.on x.ends (λ i p q. unnamed-lane t₀ i (omega (arith, x.ends)) (subst (λ (m : ℕ). bit i m ≡ 0) word (x.absent i p q)))
 
-  pub rest-none : (k : ℕ) → Next lanes 0 k → Leaves t₀ t₀ (rested_to k (meant t₀))
-  rest-none k x = record { state = sym (rested-none (meant t₀) (lanes-many t₀)) ∙ passed 0 k x; beside = λ b. b; rest = behind-refl }
+  pub rest_skip : {t : List ℕ} (n k : ℕ) → Next lanes n k → Leaves t₀ t (rested_to n (meant t₀)) → Leaves t₀ t (rested_to k (meant t₀))
+  rest_skip n k x l = record { state = l.state ∙ passed n k x; beside = l.beside; rest = l.rest }
 
   module _ (t : List ℕ) (k : ℕ) (hk : k < 64) (l : Leaves t₀ t (rested_to k (meant t₀))) where
     pub rest-same : lane_at (meant t) k ≡ lane_at (meant t₀) k
     rest-same = ap (λ (u : State). lane_at u k) l.state ∙ rested-at (meant t₀) (lanes-many t₀) k hk
 
-    pub rest_more : (t' : List ℕ) (k' : ℕ) → Leaves t t' (with_lane (meant t) k (idle (lane_at (meant t) k).given)) → Next lanes (k + 1) k' → Leaves t₀ t' (rested_to k' (meant t₀))
-    rest_more t' k' r x =
-        let step : with_lane (meant t) k (idle (lane_at (meant t) k).given) ≡ rested_to k' (meant t₀) = ap (λ (u : State). with_lane u k (idle (lane_at u k).given)) l.state ∙ ap (λ (y : Lane). with_lane (rested_to k (meant t₀)) k (idle y.given)) (rested-at (meant t₀) (lanes-many t₀) k hk) ∙ rested-more (meant t₀) (lanes-many t₀) k hk ∙ passed (k + 1) k' x in
+    pub rest_more : (t' : List ℕ) → Leaves t t' (with_lane (meant t) k (idle (lane_at (meant t) k).given)) → Leaves t₀ t' (rested_to (k + 1) (meant t₀))
+    rest_more t' r =
+        let step : with_lane (meant t) k (idle (lane_at (meant t) k).given) ≡ rested_to (k + 1) (meant t₀) = ap (λ (u : State). with_lane u k (idle (lane_at u k).given)) l.state ∙ ap (λ (y : Lane). with_lane (rested_to k (meant t₀)) k (idle y.given)) (rested-at (meant t₀) (lanes-many t₀) k hk) ∙ rested-more (meant t₀) (lanes-many t₀) k hk in
         leaves-then l (record { state = r.state ∙ step; beside = r.beside; rest = r.rest })

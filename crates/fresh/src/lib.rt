@@ -17,9 +17,10 @@ use plan::Lane;
 use slot_lists::empty;
 use table::{
     CLOCK, DEPTH, DEPTH_NUMBER, FRAMING, LANES, PRESENT, ROW_WORDS, ROWS, SHARED_UNIT, WEIGHT_UNIT,
-    cell, next_present, row, set_cell, set_clock, set_row,
+    cell, row, set_cell, set_clock, set_row,
 };
 use units::{Bytes, Clock};
+use words::SetBits;
 
 // The setting word of a lane, whatever framing bytes the line has.
 fn setting_word(weight: u64, longest: Bytes, shared: bool) -> u64
@@ -63,13 +64,10 @@ fn line_framing(lanes: [Lane; LANES]) -> Bytes
     requires { Setup (lane_settings lanes) }
     ensures { FramedBy result.0 (lane_settings lanes) }
 {
-    let mut k = 0;
-    while k < LANES {
-        let g = lanes[k];
+    for g in &lanes {
         if g.weight != 0 {
             return Bytes(g.framing as u64);
         }
-        k += 1;
     }
     Bytes(0)
 }
@@ -81,13 +79,10 @@ pub fn write(t: &mut [u8], lanes: [Lane; LANES])
 {
     let h = line_framing(lanes);
     begin(t, h);
-    let mut k = 0;
-    while k < LANES {
-        let g = lanes[k];
+    for (k, g) in lanes.iter().enumerate() {
         if g.weight != 0 {
             add_lane(t, k, h, g.weight as u64, Bytes(g.longest as u64), g.shared);
         }
-        k += 1;
     }
 }
 
@@ -110,11 +105,8 @@ fn rest_lanes(t: &mut [u8])
     requires { Sound t.old }
     ensures { Leaves t.old t.new (rested_to 64 (meant t.old)) }
 {
-    let lanes = cell(t, PRESENT);
-    let mut k = next_present(lanes, 0);
-    while k < LANES {
-        rest_lane(t, k);
-        k = next_present(lanes, k + 1);
+    for k in SetBits(cell(t, PRESENT)) {
+        rest_lane(t, k as usize);
     }
 }
 

@@ -1,4 +1,3 @@
-pub mod Rest
 pub mod Kept
 pub mod Lanes
 pub mod Walk

@@ -1,26 +1,24 @@
 -- The pass so far: the lanes below some number have passed, and the rest of the word of present lanes is left. It is the same pass however a table keeps
 -- its lanes, and whatever else its test asks of one. Assumes nothing.
-use mathlib.Core.Path.{◌≡◌, refl, ap, subst, ◌∙◌}
+use mathlib.Core.Path.{◌≡◌, refl, sym, ap, subst, ◌∙◌}
 use mathlib.Core.Bool.{Bool, true, false, not}
 use mathlib.Core.List.{List}
-use Prim.Native.Nat.{ℕ, ◌+◌, ◌-◌, ◌*◌, ◌^◌, ◌≤◌, ◌<◌}
-use native.Mathlib.Nat.{pos_of_ne-zero}
+use Prim.Native.Nat.{ℕ, ◌+◌, ◌*◌, ◌^◌, ◌≤◌, ◌<◌}
 use native.Mathlib.Omega.{arith}
-use lib.Bits.{bit_and, and_le_r}
-use lib.Count.{count_trailing_zeros}
 use lib.ListN.{get_or}
 use Rattle.rules.proofs.Word.{word_lt}
+use Rattle.words.specs.Bits.{Lowest}
+use Rattle.words.proofs.Walk.{Left, left-all, left-after}
 use Rattle.table.specs.Layout.{present_word, framing_word}
 use Rattle.table.specs.Means.{present_at, Next}
 use Rattle.table.specs.declared.LaneRow.{LaneRow}
-use Rattle.table.proofs.Next.{bit-present}
+use Rattle.table.proofs.Next.{next-bit, next-end, bit-present}
 use Rattle.lane_test.specs.Says.{Says, LaneFine}
 use Rattle.lane_test.proofs.Setting.{says-yes, says-no}
 use Rattle.good.specs.Pass.{Noted, FoundSays}
 use Rattle.good.specs.declared.Found.{Found}
 use Rattle.good.proofs.Kept.{Kept}
 use Rattle.good.proofs.Lanes.{found_none, found-next, found-noted, note-weight, note-group}
-use Rattle.good.proofs.Rest.{Rest, rest_all, rest-none, rest-small, rest-next, rest_more}
 
 -- how a table keeps its lanes, and its test of one
 pub record Tested (v : ℕ) (w : List ℕ) : Type 1 where
@@ -30,58 +28,46 @@ pub record Tested (v : ℕ) (w : List ℕ) : Type 1 where
 
 pub record Walked {v : ℕ} {w : List ℕ} (x : Tested v w) (rest : ℕ) (f : Found) : Type 0 where
   pub n : ℕ
-  pub left : Rest (get_or w present_word 0) rest n
+  pub left : Left (get_or w present_word 0) rest n
   pub found : FoundSays v w x.kept.lane x.Passes n f
   pub weights : f.weights ≤ 1024 * n
 
-pub walked_none : {v : ℕ} {w : List ℕ} (x : Tested v w) (rest : ℕ) → rest ≡ get_or w present_word 0 → rest < 2 ^ 64 → Walked x rest (record { weights = 0; held = 0; eligible = false })
-walked_none {v} {w} x rest e h = record { n = 0; left = subst (λ (lanes : ℕ). Rest lanes rest 0) e (rest_all rest h); found = found_none v w x.kept.lane x.Passes; weights = omega arith }
+pub walked_none : {v : ℕ} {w : List ℕ} (x : Tested v w) (rest : ℕ) → rest ≡ get_or w present_word 0 → Walked x rest (record { weights = 0; held = 0; eligible = false })
+walked_none {v} {w} x rest e = record { n = 0; left = subst (λ (r : ℕ). Left (get_or w present_word 0) r 0) (sym e) (left-all (get_or w present_word 0)); found = found_none v w x.kept.lane x.Passes; weights = omega arith }
 
 module _ {v : ℕ} {w : List ℕ} {x : Tested v w} {rest : ℕ} {f : Found} (walked : Walked x rest f) where
   -- all lanes are passed
   pub walked_all : rest ≡ 0 → FoundSays v w x.kept.lane x.Passes 64 f
-  walked_all e = found-next v w x.kept x.Passes (get_or w present_word 0) walked.n 64 f refl (rest-none _ rest walked.n walked.left e) walked.found
+  walked_all e = found-next v w x.kept x.Passes (get_or w present_word 0) walked.n 64 f refl (next-end walked.left e) walked.found
 
   -- the next lane
-  module _ (some : (rest ≡ 0) → ⊥) where
-    abbrev k : ℕ
-    k = count_trailing_zeros 64 rest
-
-    more : 0 < rest
-    more = pos_of_ne-zero some
-
-    pub rest-less : bit_and rest (rest - 1) < rest
-    rest-less = omega (arith, and_le_r rest (rest - 1), more)
-
-    pub lane-small : k < 64
-    lane-small = rest-small (get_or w present_word 0) rest walked.n walked.left more
-
+  module _ {k rest' : ℕ} (b : Lowest rest k rest') where
     next : Next (get_or w present_word 0) walked.n k
-    next = rest-next (get_or w present_word 0) rest walked.n walked.left more
+    next = next-bit walked.left b
 
     pub lane_here : present_at w k ≡ true
-    lane_here = bit-present w k (next.present lane-small)
+    lane_here = bit-present w k (next.present b.small)
 
     found : FoundSays v w x.kept.lane x.Passes k f
     found = found-next v w x.kept x.Passes (get_or w present_word 0) walked.n k f refl next walked.found
 
     -- its test and its row, as they are read
-    module _ (b : Bool) (says : Says b (x.Passes k)) where
-      pub lane-stops : not b ≡ true → ((k : ℕ) → k < 64 → present_at w k ≡ true → x.Passes k) → ⊥
-      lane-stops failed all = says-no b says failed (all k lane-small lane_here)
+    module _ (r : Bool) (says : Says r (x.Passes k)) where
+      pub lane-stops : not r ≡ true → ((k : ℕ) → k < 64 → present_at w k ≡ true → x.Passes k) → ⊥
+      lane-stops failed all = says-no r says failed (all k b.small lane_here)
 
-      module _ (passed : not b ≡ false) (l : LaneRow) (e : l ≡ x.kept.row k) where
+      module _ (passed : not r ≡ false) (l : LaneRow) (e : l ≡ x.kept.row k) where
         weight : l.weight ≤ 1024
-        weight = note-weight v w x.kept x.Passes x.fine k lane_here (says-yes b says passed) l e
+        weight = note-weight v w x.kept x.Passes x.fine k lane_here (says-yes r says passed) l e
 
         pub note-takes : (k < 64) × (f.weights + l.weight < 2 ^ 64) × (f.held < 2 ^ k) × (0 < l.count → l.group ≤ 31)
-        note-takes = (lane-small, omega (arith, weight, walked.weights, walked.left.ends), rw found.held (word_lt _ k), note-group v w x.kept x.Passes x.fine k lane_here (says-yes b says passed) l e)
+        note-takes = (b.small, omega (arith, weight, walked.weights, walked.left.ends), rw found.held (word_lt _ k), note-group v w x.kept x.Passes x.fine k lane_here (says-yes r says passed) l e)
 
-        pub walked_on : (r : Found) → Noted f k l v r → Walked x (bit_and rest (rest - 1)) r
-        walked_on r n = record {
+        pub walked_on : (g : Found) → Noted f k l v g → Walked x rest' g
+        walked_on g n = record {
           n = k + 1;
-          left = rest_more (get_or w present_word 0) rest walked.n walked.left more;
-          found = found-noted v w x.kept x.Passes x.fine k lane_here (says-yes b says passed) l e f r found n;
+          left = left-after walked.left b;
+          found = found-noted v w x.kept x.Passes x.fine k lane_here (says-yes r says passed) l e f g found n;
           weights = omega (arith, weight, walked.weights, n.weights, next.on);
         }
 

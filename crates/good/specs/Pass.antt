@@ -6,15 +6,13 @@
 --
 -- The lanes and what each must pass are parameters: a table of an older layout keeps its lanes in another way, and is walked by the same pass.
 -- Assumes nothing.
-use Rattle.std.specs.Prelude.{◌≡◌, Bool, true, ◌&&◌, ◌||◌, ℕ, zero, suc, ◌+◌, ◌^◌, ◌<◌, List, leb, ltb, if◌then◌else◌}
+use Rattle.std.specs.Prelude.{◌≡◌, Bool, true, ◌&&◌, ◌||◌, ℕ, zero, suc, ◌+◌, ◌^◌, ◌<◌, List, leb, ltb, if◌then◌else◌, Option, Some, None}
 use Rattle.units.specs.Numbers.{round_down}
 use Rattle.units.specs.Plain.{any_below, word_of}
 use Rattle.rules.specs.State.{Lane, holds, eligible}
 use Rattle.table.specs.Means.{present_at}
 use Rattle.table.specs.declared.LaneRow.{LaneRow}
 use Rattle.good.specs.declared.Found.{Found}
-use Rattle.good.specs.declared.Pass.{Pass}
-use Rattle.good.specs.declared.Pass.TheVariants.{Bad, Fine}
 
 pub record Noted (f : Found) (k : ℕ) (l : LaneRow) (v : ℕ) (r : Found) : Type 0 where
   pub weights : r.weights ≡ f.weights + l.weight
@@ -41,6 +39,6 @@ pub record FoundSays (v : ℕ) (w : List ℕ) (lane : ℕ → Lane) (Passes : �
   pub eligible : f.eligible ≡ any_below (eligible_at v lane) n
 
 -- a lane that is in the setup and does not pass stops the pass
-unfoldable pub PassSays : ℕ → List ℕ → (ℕ → Lane) → (ℕ → Type 0) → Pass → Type 0
-PassSays v w lane Passes Bad = ((k : ℕ) → k < 64 → present_at w k ≡ true → Passes k) → ⊥
-PassSays v w lane Passes (Fine f) = FoundSays v w lane Passes 64 f
+unfoldable pub PassSays : ℕ → List ℕ → (ℕ → Lane) → (ℕ → Type 0) → Option Found → Type 0
+PassSays v w lane Passes None = ((k : ℕ) → k < 64 → present_at w k ≡ true → Passes k) → ⊥
+PassSays v w lane Passes (Some f) = FoundSays v w lane Passes 64 f

@@ -18,7 +18,8 @@ ghost use Rattle.good.specs.Table.{GoodTable};
 use lane_test::lane_good;
 use lists_test::lists_good;
 use table::{DEPTH, DEPTH_NUMBER, FRAMING, LaneRow, PRESENT, SIZE, cell, clock, row};
-use units::{Clock, not_after, rounded_start};
+use units::{Clock, rounded_start};
+use words::SetBits;
 
 // V stays below 2^62 + 2^44.
 const CLOCK_END: u64 = 4611703610613432320;
@@ -34,65 +35,46 @@ pub struct Found {
     pub eligible: bool,
 }
 
-#[derive(Clone, Copy)]
-pub enum Pass {
-    // A lane is not good.
-    Bad,
-    Fine(Found),
-}
-
 // What is found, once lane `k` with the row `l` is seen too.
 pub fn note(f: Found, k: usize, l: LaneRow, v: Clock) -> Found
     requires { (k < 64) × (f.weights + l.weight < 2 ^ 64) × (f.held < 2 ^ k) × (0 < l.count → l.group ≤ 31) }
     ensures { Noted f k l v.0 result }
 {
     let weights = f.weights + l.weight;
-    let eligible = f.eligible;
     if l.count == 0 {
-        return Found {
-            weights: weights,
-            held: f.held,
-            eligible: eligible,
-        };
+        return Found { weights, ..f };
     }
     let held = (1u64 << (k as u32)) + f.held;
-    if not_after(rounded_start(l.time, l.group), v) {
+    if rounded_start(l.time, l.group) <= v {
         return Found {
-            weights: weights,
-            held: held,
+            weights,
+            held,
             eligible: true,
         };
     }
-    Found {
-        weights: weights,
-        held: held,
-        eligible: eligible,
-    }
+    Found { weights, held, ..f }
 }
 
-// The pass over the lanes of the setup.
-fn lanes_good(t: &[u8], v: Clock) -> Pass
+// The pass over the lanes of the setup: what it found, or none where a lane is not good.
+fn lanes_good(t: &[u8], v: Clock) -> Option<Found>
     requires { Room t.now × (v.0 < 2 ^ 63) × (get_or (cells t.now) framing_word 0 ≤ 64) }
     ensures { PassSays v.0 (cells t.now) (lane_of (cells t.now)) (LaneGood v.0 (cells t.now)) result }
 {
-    let mut rest = cell(t, PRESENT);
     let mut found = Found {
         weights: 0,
         held: 0,
         eligible: false,
     };
-    while rest != 0 {
-        let k = u64::trailing_zeros(rest) as usize;
+    for lane in SetBits(cell(t, PRESENT)) {
+        let k = lane as usize;
         let l = row(t, k);
         let good = lane_good(t, k, l, v);
         if !good {
-            return Pass::Bad;
+            return None;
         }
         found = note(found, k, l, v);
-        // the lowest set bit is done
-        rest = rest & (rest - 1);
     }
-    Pass::Fine(found)
+    Some(found)
 }
 
 // Whether a lane is eligible, if any holds records.
@@ -135,7 +117,7 @@ pub fn good(t: &[u8]) -> bool
         return false;
     }
     let v = clock(t);
-    if not_after(Clock(CLOCK_END), v) {
+    if v >= Clock(CLOCK_END) {
         return false;
     }
     // Numbers of the whole table, so they are tested once, before the lanes.
@@ -146,7 +128,7 @@ pub fn good(t: &[u8]) -> bool
         return false;
     }
     match lanes_good(t, v) {
-        Pass::Bad => false,
-        Pass::Fine(f) => found_good(t, f),
+        None => false,
+        Some(f) => found_good(t, f),
     }
 }

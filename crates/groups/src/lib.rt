@@ -3,14 +3,14 @@
 // The word of the groups that have lanes is walked by its lowest set bit. Units: starts and finishes are clock units.
 #![tactic(auto)]
 
-ghost use Rattle.std.specs.Prelude.{◌≡◌, ℕ, ◌+◌, ◌^◌, ◌<◌, ◌≤◌, min};
+ghost use Rattle.std.specs.Prelude.{◌≡◌, ℕ, ◌+◌, ◌^◌, ◌<◌, ◌≤◌};
 ghost use Rattle.std.proofs.Math.Option.{some};
 ghost use Rattle.rings.specs.Rings.{Long};
 ghost use Rattle.slot_lists.specs.Lists.{Solid, start_at};
 ghost use Rattle.groups.specs.Front.{preferred, Leads, Settles};
 
 use slot_lists::{GROUPS, STARTS};
-use words::word;
+use words::{SetBits, word};
 
 // A group, and its finish: start + 2s. The finish is `NEVER` where no group was found.
 #[derive(Clone, Copy)]
@@ -46,21 +46,11 @@ pub fn next_group(t: &[u8], v: u64) -> Front
         group: 0,
         finish: NEVER,
     };
-    let mut left = word(t, GROUPS);
-    while left != 0 {
-        let g = u64::trailing_zeros(left);
+    for g in SetBits(word(t, GROUPS)) {
         let start = word(t, STARTS + (g as usize));
         best = prefer(best, g, start, v);
-        left = left & (left - 1);
     }
     best
-}
-
-// The lesser of two starts.
-fn earlier(a: u64, b: u64) -> u64
-    ensures { result ≡ min a b }
-{
-    if b < a { b } else { a }
 }
 
 // Where the clock settles, from `v` on: it stays where a start is at most `v`, or no group has lanes, and else becomes the least start.
@@ -69,15 +59,12 @@ pub fn settled_clock(t: &[u8], v: u64) -> u64
     ensures { Settles (start_at t.now) v result }
 {
     let mut found = NEVER;
-    let mut left = word(t, GROUPS);
-    while left != 0 {
-        let g = u64::trailing_zeros(left);
+    for g in SetBits(word(t, GROUPS)) {
         let start = word(t, STARTS + (g as usize));
         if start <= v {
             return v;
         }
-        found = earlier(start, found);
-        left = left & (left - 1);
+        found = start.min(found);
     }
     if found == NEVER {
         return v;

@@ -11,6 +11,8 @@ use Rattle.rules.specs.State.{Setting, Lane, setup_of}
 use Rattle.rules.specs.Calls.{Call, step}
 use Rattle.rules.specs.Reads as rules
 use Rattle.rules.specs.declared.Answer.{Answer}
+use Rattle.std.specs.Prelude.{Result}
+use Rattle.rules.specs.declared.Refusal.{Refusal}
 use Rattle.rules.proofs.SameSetup.{same_setup, fresh-setup}
 use Rattle.pages.specs.Device.{Page, Device, ruled, answered, fresh_device, in_force_of, settled_device, device_step_by}
 use Rattle.pages.specs.Offers.{DeviceEvent}
@@ -23,7 +25,6 @@ use Rattle.paged.proofs.Units.{device-encoded}
 use Rattle.scheduler.specs.Step.{Step}
 use Rattle.scheduler.specs.Make.{MakeStep, TableBySetup, made, not_made, make_reply}
 use Rattle.scheduler.specs.Chain.{Chain, done, then, Begins, Led}
-use Rattle.scheduler.specs.declared.Making as scheduler-making
 use Rattle.scheduler.proofs.Chains.{led_on, led-good}
 use Rattle.scheduler.proofs.Begins.{by-make}
 use Rattle.halt.specs.Halt.{halt_setup, HaltTable, OwnPlan}
@@ -36,7 +37,7 @@ made-not : (n m : ℕ) (p : Option ℕ) → made n ≡ not_made m p → ⊥
 made-not n m p e = let z : ◌≡◌ {A = ℕ} 0 1 = cc in absurd (omega arith)
 
 module _ (t : List ℕ) (b : HaltBegins t) where
-  by-it : (m : scheduler-making.Making) × MakeStep b.setup b.before m t × (make_reply m ≡ made b.lanes)
+  by-it : (m : Result ℕ Refusal) × MakeStep b.setup b.before m t × (make_reply m ≡ made b.lanes)
   by-it =
       let s = b.makes.same (λ room o. made-not b.lanes 90 none (sym b.accepted ∙ (b.makes.other room o).0)) in
       (s.0, s.1, sym s.2 ∙ b.accepted)
@@ -78,7 +79,7 @@ goes-halt past t g = record { good = led-good halt_setup past t g.led; setup = g
 encodes-setup : (t : List ℕ) (d : Device) → EncodesDevice t d → setup_of (meant t) ≡ setup_of d.state
 encodes-setup t d e = ap (λ (ls : List Lane). setup_of (record { clock = 0; lanes = ls; order = d.state.order })) e.core.alike.lanes
 
-module _ (c : Call) (t : List ℕ) (a : Answer) (u : List ℕ) (g : GoodUnit t) (free : waiting_in (part_of t) ≡ none) (p : Step c t a u) where
+module _ (c : Call) (t : List ℕ) (a : Result Answer Refusal) (u : List ℕ) (g : GoodUnit t) (free : waiting_in (part_of t) ≡ none) (p : Step c t a u) where
   left : EncodesDevice u (record { state = (step (meant t) c).state; edition = last_in (part_of t); waiting = none })
   unfolding device_of device_step_by settled_device
   left =
@@ -98,7 +99,7 @@ goes_first t b =
     let e = (subst (λ (y : SetupReply). TableBySetup y s.before s.answer t) s.reads_it (s.makes.follows s.room)).1 in
     record { led = by-make halt_setup t s; setup = encodes-setup t (fresh_device halt_setup) e ∙ fresh-setup halt_setup; free = e.waiting }
 
-pub goes_on : (past : List DeviceEvent) (c : Call) (t : List ℕ) (a : Answer) (u : List ℕ) → Goes past t → Step c t a u
+pub goes_on : (past : List DeviceEvent) (c : Call) (t : List ℕ) (a : Result Answer Refusal) (u : List ℕ) → Goes past t → Step c t a u
     → Goes (past ++ (record { call = ruled c; reply = answered (rules.reads a) } ∷ [])) u
 goes_on past c t a u g p =
     let h = goes-halt past t g in

@@ -10,7 +10,7 @@
 use Prim.Native.Nat.{ℕ, zero, suc, ◌+◌, ◌≤◌, ◌<◌}
 use native.Mathlib.Omega.{arith}
 use mathlib.Core.Path.{◌≡◌, refl, sym, ap, subst, ◌∙◌}
-use mathlib.Core.Bool.{Bool, true, false}
+use mathlib.Core.Bool.{Bool, true, false, not}
 use mathlib.Core.Logic.{◌⊎◌, inl, inr}
 use mathlib.Core.List.{List, [], ◌∷◌, map}
 use lib.Dec.{eqb}
@@ -20,11 +20,12 @@ use borrow.Author.Tests.{eqb-true, eqb-false}
 use Rattle.rules.specs.State.{Setting, no_setting, setting_at}
 use Rattle.rules.specs.Setup.{Setup, InNumbers, weights}
 use Rattle.lane_test.specs.Says.{Says}
+use Rattle.lane_test.proofs.Setting.{says-true, says-false}
 use Rattle.good.proofs.Whole.{says-iff}
-use Rattle.plan.specs.Read.{setting_of, settings, read_setup, setup_came, setup_reply}
+use Rattle.plan.specs.Read.{setting_of, settings, read_setup, setup_reply}
 use Rattle.plan.specs.declared.Lane.{Lane}
 use Rattle.plan.specs.declared.Reading.{Reading}
-use Rattle.plan.specs.declared.Outcome.TheVariants as outcome
+use Rattle.std.specs.Prelude.{Ok, Err}
 use Rattle.rules.specs.declared.Refusal.{Refusal}
 use Rattle.halt.specs.Halt.{halt_lane, halt_setup, OtherPlan, OwnPlan, Judged}
 
@@ -144,12 +145,17 @@ module _ (lanes : List Lane) where
       let at : setting_at (map setting_of lanes) k ≡ setting_of (get_or lanes k none) = get_or-map setting_of lanes k none in
       says-iff b (λ e. at ∙ e) (λ e. sym at ∙ e) h
 
-module _ (setup : List ℕ) (r : Reading) (e : setup_reply r ≡ read_setup setup) where
-  pub judged-refused : (x : Refusal) → r.outcome ≡ outcome.Refused x → Judged false (read_setup setup)
-  judged-refused x o = subst OwnPlan (sym (ap (setup_came r.plan) o) ∙ e) tt
+pub judged-refused : (setup : List ℕ) (x : Refusal) → setup_reply (Err x) ≡ read_setup setup → Judged false (read_setup setup)
+judged-refused setup x e = subst OwnPlan e tt
 
-  pub judged-own : (p : ℕ) → r.outcome ≡ outcome.Read p → settings r.plan ≡ halt_setup → Judged false (read_setup setup)
-  judged-own p o h = subst OwnPlan (sym (ap (setup_came r.plan) o) ∙ e) h
+module _ (setup : List ℕ) (r : Reading) (e : setup_reply (Ok r) ≡ read_setup setup) where
+  pub judged-own : settings r.plan ≡ halt_setup → Judged false (read_setup setup)
+  judged-own h = subst OwnPlan e h
 
-  pub judged-other : (p : ℕ) → r.outcome ≡ outcome.Read p → (settings r.plan ≡ halt_setup → ⊥) → Judged true (read_setup setup)
-  judged-other p o h = subst OtherPlan (sym (ap (setup_came r.plan) o) ∙ e) h
+  pub judged-other : (settings r.plan ≡ halt_setup → ⊥) → Judged true (read_setup setup)
+  judged-other h = subst OtherPlan e h
+
+  -- by a test of its lanes
+  pub judged-by : (b : Bool) → Says b (settings r.plan ≡ halt_setup) → Judged (not b) (read_setup setup)
+  judged-by true h = judged-own (says-true true h refl)
+  judged-by false h = judged-other (says-false false h refl)

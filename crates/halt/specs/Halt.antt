@@ -8,13 +8,14 @@
 --   HaltMake     of making
 --
 -- Assumes nothing.
-use Rattle.std.specs.Prelude.{ℕ, ◌≤◌, ◌≡◌, Bool, true, false, List, ◌∷◌, length, replicate}
+use Rattle.std.specs.Prelude.{ℕ, ◌≤◌, ◌≡◌, Bool, true, false, List, ◌∷◌, length, replicate, Result, Ok, Err}
 use Rattle.std.proofs.Math.Option.{none}
 use Rattle.rules.specs.State.{Setting, no_setting, setup_of}
 use Rattle.rules.specs.Calls.{Call, refused}
 use Rattle.rules.specs.Reads as rules
 use Rattle.rules.specs.Reads.{number, place_of}
 use Rattle.rules.specs.declared.Answer.{Answer}
+use Rattle.rules.specs.declared.Refusal.{Refusal}
 use Rattle.editions.specs.Part.{waiting_in}
 use Rattle.plan.specs.Read.{read_setup, SetupReply, setup_refused, setup_read}
 use Rattle.table.specs.Layout.{table_size}
@@ -22,9 +23,8 @@ use Rattle.table.specs.Means.{meant}
 use Rattle.paged.specs.Paged.{part_of, GoodUnit}
 use Rattle.scheduler.specs.Step.{Step}
 use Rattle.scheduler.specs.Make.{MakeStep, made, not_made, MakeReply, make_reply}
-use Rattle.scheduler.specs.declared.Making as scheduler-making
-use Rattle.halt.specs.declared.Making.{Making}
-use Rattle.halt.specs.declared.Making.TheVariants.{Made, NotAHalt, Refused}
+use Rattle.halt.specs.declared.NotMade.{NotMade}
+use Rattle.halt.specs.declared.NotMade.TheVariants.{NotAHalt, Refused}
 
 -- R20.1
 abbrev pub halt_lane : ℕ → Setting
@@ -42,7 +42,7 @@ pub record HaltTable (t : List ℕ) : Type 0 where
 
 -- R20.3, R20.4: the call c on the bytes `before` is answered a and leaves the bytes `after`: on the halt's table as the scheduler's call, on any other bytes by
 -- 10, and they stay.
-pub record HaltStep (c : Call) (before : List ℕ) (a : Answer) (after : List ℕ) : Type 0 where
+pub record HaltStep (c : Call) (before : List ℕ) (a : Result Answer Refusal) (after : List ℕ) : Type 0 where
   pub other : (HaltTable before → ⊥) → (rules.reads a ≡ refused 10 none) × (after ≡ before)
   -- R20.4
   pub same : HaltTable before → Step c before a after
@@ -63,15 +63,15 @@ Judged true r = OtherPlan r
 Judged false r = OwnPlan r
 
 -- R20.2: 90 has no place
-abbrev pub halt_reply : Making → MakeReply
-halt_reply (Made n) = made n
-halt_reply NotAHalt = not_made 90 none
-halt_reply (Refused x) = not_made (number x) (place_of x)
+abbrev pub halt_reply : Result ℕ NotMade → MakeReply
+halt_reply (Ok n) = made n
+halt_reply (Err NotAHalt) = not_made 90 none
+halt_reply (Err (Refused x)) = not_made (number x) (place_of x)
 
 -- R20.2: 90 where there is room and the setup reads and is another one; else making is the scheduler's, so 7 and what is wrong with the setup come first.
-pub record HaltMake (setup before : List ℕ) (a : Making) (after : List ℕ) : Type 0 where
+pub record HaltMake (setup before : List ℕ) (a : Result ℕ NotMade) (after : List ℕ) : Type 0 where
   pub other : table_size ≤ length before → OtherPlan (read_setup setup) → (halt_reply a ≡ not_made 90 none) × (after ≡ before)
   pub same : (table_size ≤ length before → OtherPlan (read_setup setup) → ⊥)
-      → (m : scheduler-making.Making) × MakeStep setup before m after × (halt_reply a ≡ make_reply m)
+      → (m : Result ℕ Refusal) × MakeStep setup before m after × (halt_reply a ≡ make_reply m)
   -- so a table that was made is the halt's
   pub own : (n : ℕ) → halt_reply a ≡ made n → OwnPlan (read_setup setup)

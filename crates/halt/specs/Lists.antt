@@ -16,6 +16,8 @@ use Rattle.rules.specs.Calls.{Call}
 use Rattle.rules.specs.Reads as rules
 use Rattle.rules.specs.Fair.{bytes_sent, bytes_sent_of}
 use Rattle.rules.specs.declared.Answer.{Answer}
+use Rattle.std.specs.Prelude.{Result}
+use Rattle.rules.specs.declared.Refusal.{Refusal}
 use Rattle.pages.specs.Device.{ruled, answered}
 use Rattle.pages.specs.Offers.{DeviceEvent, of_rules}
 use Rattle.pages.specs.Claims.{HeldThroughout}
@@ -23,17 +25,17 @@ use Rattle.scheduler.specs.Make.{made}
 use Rattle.scheduler.specs.Compared.{tightest}
 use Rattle.scheduler.specs.Demands.{Demands}
 use Rattle.halt.specs.Halt.{halt_setup, HaltTable, HaltStep, halt_reply, HaltMake}
-use Rattle.halt.specs.declared.Making.{Making}
+use Rattle.halt.specs.declared.NotMade.{NotMade}
 
 pub data HaltChain : List ℕ → List DeviceEvent → List ℕ → Type 0 where
   done : {t : List ℕ} → HaltChain t [] t
-  then : {t u v : List ℕ} {c : Call} {a : Answer} {es : List DeviceEvent} → HaltStep c t a u → HaltChain u es v
+  then : {t u v : List ℕ} {c : Call} {a : Result Answer Refusal} {es : List DeviceEvent} → HaltStep c t a u → HaltChain u es v
       → HaltChain t (record { call = ruled c; reply = answered (rules.reads a) } ∷ es) v
 
 pub record HaltBegins (t : List ℕ) : Type 0 where
   pub setup : List ℕ
   pub before : List ℕ
-  pub answer : Making
+  pub answer : Result ℕ NotMade
   pub lanes : ℕ
   pub makes : HaltMake setup before answer t
   pub accepted : halt_reply answer ≡ made lanes

@@ -17,8 +17,9 @@ ghost use Rattle.table.specs.Means.{meant};
 ghost use Rattle.lane_test.specs.Says.{Says};
 ghost use Rattle.paged.specs.Paged.{GoodUnit};
 ghost use Rattle.halt.specs.Halt.{halt_lane, halt_setup, HaltTable, HaltStep, Judged, HaltMake};
+ghost use Rattle.halt.specs.declared.NotMade.TheVariants.{Refused};
 
-use plan::{LANES, Lane, Outcome, read_setup};
+use plan::{LANES, Lane, read_setup};
 use rules::{Answer, Refusal};
 use scheduler::SIZE;
 use table::{present, row};
@@ -27,13 +28,20 @@ use units::Bytes;
 // The longest record of each lane.
 const LONGEST: u64 = 256;
 
+// Why no table is made.
 #[derive(Clone, Copy)]
-pub enum Making {
-    // A fresh table stands in the lent bytes; the number of its lanes.
-    Made(usize),
+pub enum NotMade {
     // 90: a good setup that is not the halt's.
     NotAHalt,
     Refused(Refusal),
+}
+
+impl From<Refusal> for NotMade {
+    ghost from_gives = { λ x e. e ≡ Refused x };
+
+    fn from(x: Refusal) -> NotMade {
+        NotMade::Refused(x)
+    }
 }
 
 // Whether a lane's numbers are those of the halt's lane of a weight.
@@ -86,18 +94,9 @@ fn lanes_are(lanes: [Lane; LANES]) -> bool
 fn other_plan(setup: &[u8]) -> bool
     ensures { Judged result (read_setup setup.now) }
 {
-    let r = read_setup(setup);
-    let outcome = r.outcome;
-    match outcome {
-        Outcome::Refused(_) => false,
-        Outcome::Read(_) => {
-            let plan = r.plan;
-            let lanes = plan.lanes;
-            if lanes_are(lanes) {
-                return false;
-            }
-            true
-        }
+    match read_setup(setup) {
+        Ok(r) => !lanes_are(r.plan.lanes),
+        Err(_) => false,
     }
 }
 
@@ -136,78 +135,76 @@ fn is_halt(t: &[u8]) -> bool
     has_lane(t, 3, 128)
 }
 
-// Makes the halt's fresh table in the lent bytes, whatever they held: 7, then what is wrong with the setup, then 90.
-pub fn make(setup: &[u8], t: &mut [u8]) -> Making
+// Makes the halt's fresh table in the lent bytes, whatever they held: 7, then what is wrong with the setup, then 90. The answer: the number of its lanes.
+pub fn make(setup: &[u8], t: &mut [u8]) -> Result<usize, NotMade>
     ensures { HaltMake setup.now t.old result t.new }
 {
     if t.len() < SIZE {
-        return Making::Refused(Refusal::TableShort);
+        return Err(NotMade::Refused(Refusal::TableShort));
     }
     if other_plan(setup) {
-        return Making::NotAHalt;
+        return Err(NotMade::NotAHalt);
     }
-    match scheduler::make(setup, t) {
-        scheduler::Making::Made(n) => Making::Made(n),
-        scheduler::Making::Refused(x) => Making::Refused(x),
-    }
+    let lanes = scheduler::make(setup, t)?;
+    Ok(lanes)
 }
 
 // Puts a record into a lane; no lane of the halt's is shared, so the train is 0.
-pub fn put(t: &mut [u8], lane: u8, mark: u32, length: Bytes) -> Answer
+pub fn put(t: &mut [u8], lane: u8, mark: u32, length: Bytes) -> Result<Answer, Refusal>
     ensures { HaltStep (Calls.put lane 0 mark length.0) t.old result t.new }
 {
     if !is_halt(t) {
-        return Answer::Refused(Refusal::NotGood);
+        return Err(Refusal::NotGood);
     }
     scheduler::put(t, lane, 0, mark, length)
 }
 
 // Takes the next record.
-pub fn take(t: &mut [u8]) -> Answer
+pub fn take(t: &mut [u8]) -> Result<Answer, Refusal>
     ensures { HaltStep Calls.take t.old result t.new }
 {
     if !is_halt(t) {
-        return Answer::Refused(Refusal::NotGood);
+        return Err(Refusal::NotGood);
     }
     scheduler::take(t)
 }
 
 // Looks at the record that take would hand out.
-pub fn look(t: &[u8]) -> Answer
+pub fn look(t: &[u8]) -> Result<Answer, Refusal>
     ensures { HaltStep Calls.look t.now result t.now }
 {
     if !is_halt(t) {
-        return Answer::Refused(Refusal::NotGood);
+        return Err(Refusal::NotGood);
     }
     scheduler::look(t)
 }
 
 // The four words of the group sets.
-pub fn sets(t: &[u8]) -> Answer
+pub fn sets(t: &[u8]) -> Result<Answer, Refusal>
     ensures { HaltStep Calls.sets t.now result t.now }
 {
     if !is_halt(t) {
-        return Answer::Refused(Refusal::NotGood);
+        return Err(Refusal::NotGood);
     }
     scheduler::sets(t)
 }
 
 // How far the clock is ahead of a lane.
-pub fn lag(t: &[u8], lane: u8) -> Answer
+pub fn lag(t: &[u8], lane: u8) -> Result<Answer, Refusal>
     ensures { HaltStep (Calls.lag lane) t.now result t.now }
 {
     if !is_halt(t) {
-        return Answer::Refused(Refusal::NotGood);
+        return Err(Refusal::NotGood);
     }
     scheduler::lag(t, lane)
 }
 
 // Begins anew (R3.19), once no record is held. The last edition stays.
-pub fn restart(t: &mut [u8]) -> Answer
+pub fn restart(t: &mut [u8]) -> Result<Answer, Refusal>
     ensures { HaltStep Calls.restart t.old result t.new }
 {
     if !is_halt(t) {
-        return Answer::Refused(Refusal::NotGood);
+        return Err(Refusal::NotGood);
     }
     scheduler::restart(t)
 }

@@ -6,15 +6,15 @@ use mathlib.Core.Bool.{Bool, true, false, false≢true}
 use mathlib.Core.List.{List, [], ◌∷◌}
 use lib.ListN.{length, drop}
 use borrow.Author.Tests.{lt-ltb, le-ltb}
-use types.Run.{OneOf}
-use denote.Enum.Declared.{tag_of}
 use Rattle.fields.specs.Bytes.{byte_at, big}
-use Rattle.rules.specs.contracts.Answer.{the_type}
 use Rattle.std.specs.Prelude.{if◌then◌else◌}
 use Rattle.rules.specs.State.{State, any_holds, setup_of}
 use Rattle.rules.specs.Calls.{Call, take, restart, Reply, restarted, Outcome, no, fresh, do_restart, step}
 use Rattle.rules.specs.declared.Answer.{Answer}
-use Rattle.rules.specs.declared.Answer.TheVariants.{Restarted}
+use Rattle.std.specs.Prelude.{Result}
+use Rattle.rules.specs.declared.Refusal.{Refusal}
+use Rattle.std.specs.Prelude.{Ok, Err}
+use Rattle.rules.specs.Reads.{answer}
 use Rattle.rules.proofs.AlwaysGood.{Reached, fresh-reached, step-reached, reached-good}
 use Rattle.alike.specs.Alike.{Alike}
 use Rattle.alike.proofs.Alike.{alike_refl, alike-sym, alike-trans, step-alike}
@@ -24,7 +24,7 @@ use Rattle.choice.specs.Known.{Known}
 use Rattle.table.specs.Means.{meant}
 use Rattle.table.specs.Encodes.{Encodes}
 use Rattle.engine.specs.Does.{Does, Unchanged}
-use Rattle.scheduler.proofs.Taken.{kind_of, not-kind}
+use Rattle.scheduler.proofs.Taken.{kind_of, answer-kind}
 use Rattle.answers.specs.Answers.{Made}
 use Rattle.answers.proofs.Made.{made-step, encodes-step}
 use Rattle.good.specs.Table.{GoodTable}
@@ -34,7 +34,7 @@ use Rattle.inner.specs.Works.{CALL, put_by, call_at, calls_in, worked, LeadsTabl
 abbrev by_lane : List ℕ → ℕ → Bool → Call
 by_lane calls at b = if b then put_by (byte_at calls at) (big calls (at + 1) 2) else take
 
-module _ {t u : List ℕ} {a : Answer} (calls : List ℕ) (at : ℕ) where
+module _ {t u : List ℕ} {a : Result Answer Refusal} (calls : List ℕ) (at : ℕ) where
   pub put-at : (n : ℕ) → byte_at calls at < 64 → n ≡ big calls (at + 1) 2 → Does (put_by (byte_at calls at) n) t a u → Does (call_at calls at) t a u
   unfolding call_at
   put-at n h e d =
@@ -57,7 +57,7 @@ so-none calls t m = record { made = m; leads = record { table = record { room = 
 one_more : (i : ℕ) → suc i ≡ i + 1
 one_more i = omega arith
 
-pub so-more : (calls t₀ t u : List ℕ) (i : ℕ) (a : Answer) → So calls t₀ t i → Does (call_at calls (i * CALL)) t a u → So calls t₀ u (i + 1)
+pub so-more : (calls t₀ t u : List ℕ) (i : ℕ) (a : Result Answer Refusal) → So calls t₀ t i → Does (call_at calls (i * CALL)) t a u → So calls t₀ u (i + 1)
 unfolding worked
 so-more calls t₀ t u i a s d = record {
   made = made-step t u (call_at calls (i * CALL)) s.made d.encodes;
@@ -83,12 +83,12 @@ pub record Begun (t u : List ℕ) : Type 0 where
   pub alike : Alike (meant u) (fresh (setup_of (meant t)))
   pub rest : drop SIZE u ≡ drop SIZE t
 
-pub begun : (t u : List ℕ) → Known t → Does restart t Restarted u → Begun t u
+pub begun : (t u : List ℕ) (a : Answer) → Known t → Does restart t (Ok a) u → Begun t u
 unfolding kind_of
-begun t u k d = go (any_holds (meant t).lanes) refl
+begun t u a k d = go (any_holds (meant t).lanes) refl
   where
     go : (b : Bool) → any_holds (meant t).lanes ≡ b → Begun t u
-    go true e = let z : ◌≡◌ {A = ℕ} 5 6 = ap kind_of (d.says ∙ ap (λ (o : Outcome). o.reply) (restart-by (meant t) true e)) in absurd (omega arith)
+    go true e = let z : kind_of (answer a) ≡ 6 = ap kind_of (d.says ∙ ap (λ (o : Outcome). o.reply) (restart-by (meant t) true e)) in absurd (omega (arith, answer-kind a))
     go false e =
         let σ = fresh (setup_of (meant t)) in
         let is : Encodes u σ = subst (Encodes u) (ap (λ (o : Outcome). o.state) (restart-by (meant t) false e)) d.encodes in
@@ -104,27 +104,23 @@ begun t u k d = go (any_holds (meant t).lanes) refl
           rest = d.rest;
         }
 
--- The other arm of the match on what restart answers: any variant of `Answer` but the fifth, `Restarted`.
-abbrev pub Other : Answer → Type 0
-Other a = OneOf (0 ∷ 1 ∷ 2 ∷ 3 ∷ 4 ∷ 6 ∷ []) (tag_of the_type a)
-
--- an answer that is another: 15, and nothing is done
-pub still : (t u : List ℕ) (a : Answer) → Other a → Does restart t a u → (any_holds (meant t).lanes ≡ true) × (u ≡ t)
+-- a refusal: a lane holds records, and nothing is done
+pub still : (t u : List ℕ) (x : Refusal) → Does restart t (Err x) u → (any_holds (meant t).lanes ≡ true) × (u ≡ t)
 unfolding kind_of
-still t u a o d = go (any_holds (meant t).lanes) refl
+still t u x d = (go (any_holds (meant t).lanes) refl, d.unchanged)
   where
-    go : (b : Bool) → any_holds (meant t).lanes ≡ b → (any_holds (meant t).lanes ≡ true) × (u ≡ t)
-    go true e = (e, subst (λ (x : Reply). Unchanged x t u) (d.says ∙ ap (λ (o : Outcome). o.reply) (restart-by (meant t) true e)) d.unchanged)
-    go false e = absurd (not-kind (0 ∷ 1 ∷ 2 ∷ 3 ∷ 4 ∷ 6 ∷ []) 5 tt a o (ap kind_of (d.says ∙ ap (λ (o : Outcome). o.reply) (restart-by (meant t) false e))))
+    go : (b : Bool) → any_holds (meant t).lanes ≡ b → any_holds (meant t).lanes ≡ true
+    go true e = e
+    go false e = let z : ◌≡◌ {A = ℕ} 6 5 = ap kind_of (d.says ∙ ap (λ (o : Outcome). o.reply) (restart-by (meant t) false e)) in absurd (omega arith)
 
 -- ---- the promise, by what the tests found
 
 pub bad-works : (calls t : List ℕ) → (GoodTable t → ⊥) → Works calls t 10 t
 bad-works calls t b = record { not_good = λ _. (refl, refl); held = λ g. absurd (b g); done = λ g. absurd (b g); size = refl }
 
-pub held-works : (calls t u : List ℕ) (a : Answer) → GoodTable t → Other a → Does restart t a u → Works calls t 15 u
-held-works calls t u a g o d =
-    let s = still t u a o d in
+pub held-works : (calls t u : List ℕ) (x : Refusal) → GoodTable t → Does restart t (Err x) u → Works calls t 15 u
+held-works calls t u x g d =
+    let s = still t u x d in
     record {
       not_good = λ b. absurd (b g);
       held = λ _ _. (refl, s.1);

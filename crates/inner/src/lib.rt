@@ -16,7 +16,7 @@ ghost use Rattle.inner.specs.Works.{CALL, call_at, calls_in, worked, LeadsTable,
 
 use fields::u16_at;
 use good::good;
-use rules::Answer;
+use rules::{Answer, Refusal};
 use units::Bytes;
 
 // The bytes of a call.
@@ -26,7 +26,7 @@ const CALL: usize = 3;
 const TRAIN_UNIT: u16 = 4096;
 
 // The call of the bytes from `at` on.
-fn call(t: &mut [u8], calls: &[u8], at: usize) -> Answer
+fn call(t: &mut [u8], calls: &[u8], at: usize) -> Result<Answer, Refusal>
     requires { Known t.old × (at + CALL ≤ length calls.now) }
     ensures { Does (call_at calls.now at) t.old result t.new }
 {
@@ -50,11 +50,8 @@ fn work(t: &mut [u8], calls: &[u8])
     requires { Made t.old }
     ensures { LeadsTable t.old t.new (worked calls.now (meant t.old) (calls_in calls.now)) }
 {
-    let many = calls.len() / CALL;
-    let mut i = 0;
-    while i < many {
-        call(t, calls, i * CALL);
-        i += 1;
+    for i in 0..calls.len() / CALL {
+        let _ = call(t, calls, i * CALL);
     }
 }
 
@@ -67,10 +64,10 @@ pub extern "C" fn zf_inner_calls(table: &mut [u8], calls: &[u8]) -> u64
         return 10;
     }
     match engine::restart(table) {
-        Answer::Restarted => {
+        Ok(_) => {
             work(table, calls);
             0
         }
-        _ => 15,
+        Err(_) => 15,
     }
 }

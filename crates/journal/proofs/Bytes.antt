@@ -21,7 +21,7 @@ use Rattle.board.proofs.Order.{lines-either}
 use Rattle.board.proofs.Decided.{decided}
 use Rattle.journal.specs.Reads.{Plain, plain_refused, plain_told, shown, from_rules}
 use Rattle.journal.specs.Record.{Reading, says, faulty, read_record}
-use Rattle.journal.specs.declared.Told.{Told}
+use Rattle.journal.specs.Reads.{Told}
 use Rattle.journal.specs.Step.{stored, Stays, Kept, BoardStep, RecordSays}
 use Rattle.journal.specs.Bytes.{Exactly29, Exact29, EachMade, OneBoard, OneRecordAnswer, OneClear, AnyOrder}
 use Rattle.journal.proofs.Numbers.{rules-not-29, stands-not-29, field-not-29}

@@ -9,6 +9,7 @@ use mathlib.Core.Option.{Option, none, some}
 use lib.Dec.{ltb, leb}
 use lib.ListN.{length, set}
 use borrow.Author.Tests.{eqb-true, eq-eqb, ne_eqb, lt-ltb, le-ltb}
+use Rattle.std.specs.Prelude.{Ok, Err}
 use Rattle.std.specs.Prelude.{if◌then◌else◌}
 use Rattle.fields.specs.Header.{header_at}
 use Rattle.fields.specs.declared.Field.TheVariants.{Nothing, Cut, Header}
@@ -26,11 +27,9 @@ use Rattle.board.proofs.Stores.{put-size, put_rest, put-shows, found_first}
 use Rattle.journal.specs.Reads.{plain_refused, refused_by}
 use Rattle.journal.specs.Record.{rec_line, RecordRead, Reading, says, faulty, read_header, read_record}
 use Rattle.journal.specs.Step.{BoardStep, RecordSays}
-use Rattle.journal.specs.Field.{ReadingIs}
-use Rattle.journal.specs.declared.Reading as Answered
 use Rattle.journal.specs.declared.Refusal.{Refusal}
 use Rattle.journal.specs.declared.Refusal.TheVariants.{NotABoard, KindUnknown, NoFreeLine, OutOfTurn, DoesNotFollow}
-use Rattle.journal.specs.declared.Told.{Told}
+use Rattle.journal.specs.Reads.{Told}
 use Rattle.journal.proofs.Steps.{kept_same, bad-step, does-step}
 
 -- ---- a record that is refused, and one that is accepted
@@ -44,19 +43,19 @@ unfolding board_step
 enter-accepted-is b r k e t = rw (e, t)
 
 module _ (t : List ℕ) (r : Handover) (s : ShowsBoard t (board_of t)) where
-  refused-record : (x : Refusal) (n : ℕ) → refused_by x ≡ plain_refused n none → record_refusal (board_of t) r ≡ some n → BoardStep (enter_record r) t (Told.Refused x) t
+  refused-record : (x : Refusal) (n : ℕ) → refused_by x ≡ plain_refused n none → record_refusal (board_of t) r ≡ some n → BoardStep (enter_record r) t (Err x) t
   refused-record x n q e =
       let w = enter-refused-is (board_of t) r n e in
-      does-step (enter_record r) t (Told.Refused x) t s (rw w q) (rw w s) (rw w) (kept_same (refused_by x) t refl)
+      does-step (enter_record r) t (Err x) t s (rw w q) (rw w s) (rw w) (kept_same (refused_by x) t refl)
 
-  accepted-record : (k : ℕ) → InField r → record_refusal (board_of t) r ≡ none → target (board_of t) r ≡ k → k < 64 → BoardStep (enter_record r) t (Told.Line k) (put_line t k (some r))
+  accepted-record : (k : ℕ) → InField r → record_refusal (board_of t) r ≡ none → target (board_of t) r ≡ k → k < 64 → BoardStep (enter_record r) t (Ok k) (put_line t k (some r))
   unfolding Sayable
   accepted-record k c e q h =
       let w = enter-accepted-is (board_of t) r k e q in
       let m : Makeable (set (board_of t) k (some r)) = (rw w at (keeps (board_of t) (enter_record r) s.makeable c)) in
-      does-step (enter_record r) t (Told.Line k) (put_line t k (some r)) s (rw w) (rw w (put-shows t k (some r) h (board_of t) s m)) (rw w) (record { stays = tt; rest = put_rest t k (some r) h; size = put-size t k (some r) h })
+      does-step (enter_record r) t (Ok k) (put_line t k (some r)) s (rw w) (rw w (put-shows t k (some r) h (board_of t) s m)) (rw w) (record { stays = tt; rest = put_rest t k (some r) h; size = put-size t k (some r) h })
 
-  pub unknown-kind : known_kind r.kind ≡ false → BoardStep (enter_record r) t (Told.Refused KindUnknown) t
+  pub unknown-kind : known_kind r.kind ≡ false → BoardStep (enter_record r) t (Err KindUnknown) t
   unfolding record_refusal
   unknown-kind e = refused-record KindUnknown 30 refl (rw e)
 
@@ -72,13 +71,13 @@ module _ (t : List ℕ) (r : Handover) (s : ShowsBoard t (board_of t)) where
     first-refusal : (k : ℕ) (v : Bool) → Found is_free (board_of t) 64 k → ltb k 64 ≡ v → record_refusal (board_of t) r ≡ record_judged none v r
     first-refusal k v f e = refusal_is (board_of t) r none v Known-is line-none (rw (found_first is_free (board_of t) k (board-size t) f, board-size t) e)
 
-    pub no-free-line : (k : ℕ) → Found is_free (board_of t) 64 k → k ≡ 64 → BoardStep (enter_record r) t (Told.Refused NoFreeLine) t
+    pub no-free-line : (k : ℕ) → Found is_free (board_of t) 64 k → k ≡ 64 → BoardStep (enter_record r) t (Err NoFreeLine) t
     no-free-line k f e = refused-record NoFreeLine 31 refl (first-refusal k false f (le-ltb k 64 (omega arith)))
 
-    pub first-leave : (k : ℕ) → Found is_free (board_of t) 64 k → k < 64 → (r.kind ≡ 1 → ⊥) → BoardStep (enter_record r) t (Told.Refused DoesNotFollow) t
+    pub first-leave : (k : ℕ) → Found is_free (board_of t) 64 k → k < 64 → (r.kind ≡ 1 → ⊥) → BoardStep (enter_record r) t (Err DoesNotFollow) t
     first-leave k f h n = refused-record DoesNotFollow 33 refl (first-refusal k true f (lt-ltb k 64 h) ∙ rw (ne_eqb r.kind 1 n))
 
-    pub first-join : (k : ℕ) → InField r → Found is_free (board_of t) 64 k → k < 64 → r.kind ≡ 1 → BoardStep (enter_record r) t (Told.Line k) (put_line t k (some r))
+    pub first-join : (k : ℕ) → InField r → Found is_free (board_of t) 64 k → k < 64 → r.kind ≡ 1 → BoardStep (enter_record r) t (Ok k) (put_line t k (some r))
     first-join k c f h e =
         accepted-record k c (first-refusal k true f (lt-ltb k 64 h) ∙ rw (eq-eqb r.kind 1 e)) (target-new (board_of t) r (omega (arith, board-size t, place_none)) ∙ found_first is_free (board_of t) k (board-size t) f) h
 
@@ -100,10 +99,10 @@ module _ (t : List ℕ) (r : Handover) (s : ShowsBoard t (board_of t)) where
         refusal_is (board_of t) r (some (rec_line l)) (ltb (lowest (board_of t)) (length (board_of t))) Known-is (ap (line_at (board_of t)) place_at ∙ used (line_at (board_of t) k) read (found.hit below)) refl
         ∙ rw (e, q)
 
-    pub out-of-turn : in_sequence (rec_line l) r ≡ false → BoardStep (enter_record r) t (Told.Refused OutOfTurn) t
+    pub out-of-turn : in_sequence (rec_line l) r ≡ false → BoardStep (enter_record r) t (Err OutOfTurn) t
     out-of-turn e = refused-record OutOfTurn 32 refl (later-refusal false (follows (rec_line l) r) e refl)
 
-    pub not-following : in_sequence (rec_line l) r ≡ true → follows (rec_line l) r ≡ false → BoardStep (enter_record r) t (Told.Refused DoesNotFollow) t
+    pub not-following : in_sequence (rec_line l) r ≡ true → follows (rec_line l) r ≡ false → BoardStep (enter_record r) t (Err DoesNotFollow) t
     not-following e q = refused-record DoesNotFollow 33 refl (later-refusal true false e q)
 
     -- the old line takes the record: the train is the same
@@ -116,7 +115,7 @@ module _ (t : List ℕ) (r : Handover) (s : ShowsBoard t (board_of t)) where
     pub follows_next : (next : Line) → next ≡ follow l r.cell r.kind r.sequence → rec_line next ≡ r
     follows_next next e = ap rec_line e ∙ next-is
 
-    pub follows_on : InField r → in_sequence (rec_line l) r ≡ true → follows (rec_line l) r ≡ true → BoardStep (enter_record r) t (Told.Line k) (put_line t k (some r))
+    pub follows_on : InField r → in_sequence (rec_line l) r ≡ true → follows (rec_line l) r ≡ true → BoardStep (enter_record r) t (Ok k) (put_line t k (some r))
     follows_on c e q = accepted-record k c (later-refusal true true e q) (target-old (board_of t) r (rw (place_at, board-size t) below) ∙ place_at) below
 
 -- ---- the field
@@ -149,18 +148,15 @@ module _ (s : List ℕ) where
 
 -- ---- record
 
-pub record-bad : (g : Reading) (t : List ℕ) → NoBoard t → RecordSays g t (Told.Refused NotABoard) t
+pub record-bad : (g : Reading) (t : List ℕ) → NoBoard t → RecordSays g t (Err NotABoard) t
 record-bad (says r) t n = bad-step (enter_record r) t n
 record-bad (faulty m p) t n = (λ q. refl, λ b s. absurd (n b s), kept_same (plain_refused 29 none) t refl)
 
-pub record-faulty : (g : Reading) (t : List ℕ) (x : Refusal) (m : ℕ) (p : Option ℕ) → ShowsBoard t (board_of t) → refused_by x ≡ plain_refused m p → g ≡ faulty m p → RecordSays g t (Told.Refused x) t
+pub record-faulty : (g : Reading) (t : List ℕ) (x : Refusal) (m : ℕ) (p : Option ℕ) → ShowsBoard t (board_of t) → refused_by x ≡ plain_refused m p → g ≡ faulty m p → RecordSays g t (Err x) t
 record-faulty g t x m p s q e = rw e (λ n. absurd (n (board_of t) s), λ b h. q, kept_same (refused_by x) t refl)
 
 pub record-said : (g : Reading) (t : List ℕ) (a : Told) (u : List ℕ) (r : Handover) → g ≡ says r → BoardStep (enter_record r) t a u → RecordSays g t a u
 record-said g t a u r e s = rw e s
-
-pub reading-known : (s : List ℕ) (g h : Answered.Reading) → ReadingIs g s → g ≡ h → ReadingIs h s
-reading-known s g h r e = subst (λ x. ReadingIs x s) e r
 
 -- a search that ended at 64 found none
 pub found-64 : (p : Option Handover → Bool) (b : Board) (k : ℕ) → k ≡ 64 → Found p b 64 k → Found p b 64 64

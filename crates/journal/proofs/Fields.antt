@@ -1,6 +1,5 @@
 -- The numbers of a handover record, and the tests of one record against the last. Assumes nothing.
-use Prim.Native.Nat.{ℕ, ◌+◌, ◌*◌, ◌≤◌, ◌<◌}
-use native.Mathlib.Numerals.{towards_suc}
+use Prim.Native.Nat.{ℕ, ◌+◌, ◌≤◌, ◌<◌}
 use native.Mathlib.Omega.{arith}
 use mathlib.Core.Path.{◌≡◌}
 use mathlib.Core.Bool.{true, false}
@@ -14,10 +13,6 @@ use Rattle.desk.specs.Calls.{known_kind, in_sequence, follows}
 pub big-one : (s : List ℕ) (at : ℕ) → byte_at s at ≡ big s at 1
 unfolding big
 big-one s at = omega arith
-
-pub big-four : (s : List ℕ) (at : ℕ) → big s at 2 * 65536 + big s (at + 2) 2 ≡ big s at 4
-unfolding big
-big-four s at = simp towards_suc (omega arith)
 
 pub known_joined : (n : ℕ) → n ≡ 1 → true ≡ known_kind n
 known_joined n e = rw e

@@ -17,7 +17,7 @@ use Rattle.journal.specs.Reads.{plain_refused, plain_told, from_rules}
 use Rattle.journal.specs.Record.{Reading, says, faulty, read_record}
 use Rattle.journal.specs.Step.{BoardStep, RecordSays, RecordStep}
 use Rattle.journal.specs.Lists.{Asked, recorded, cleared, JournalEvent, JournalStep, JournalChain, done, next, line_accepted, note_read, note, last_said, JournalNotCleared, JournalEndsAtLast}
-use Rattle.journal.specs.declared.Told.{Told}
+use Rattle.journal.specs.Reads.{Told}
 use Rattle.journal.proofs.Bytes.{stayed}
 use Rattle.journal.proofs.Lists.{after_one, from-begin, said}
 

@@ -6,6 +6,7 @@ use mathlib.Core.Logic.{⊎_elim}
 use mathlib.Core.List.{List}
 use mathlib.Core.Option.{Option, none, some}
 use lib.ListN.{length}
+use Rattle.std.specs.Prelude.{Ok}
 use Rattle.std.specs.Prelude.{if◌then◌else◌}
 use Rattle.words.proofs.Runs.{le-or-lt}
 use Rattle.desk.specs.Board.{Handover, Board, empty_board, line_at, train_line}
@@ -20,9 +21,8 @@ use Rattle.journal.specs.Reads.{plain_refused, plain_told, shown, from_rules, st
 use Rattle.journal.specs.Record.{Reading, says, faulty, read_record}
 use Rattle.journal.specs.Step.{BoardStep, RecordSays, LineStep, BeginStep}
 use Rattle.journal.specs.Lists.{Asked, recorded, cleared, JournalEvent, JournalStep, JournalChain, done, next, line_accepted, note, last_said, Never29, JournalShowsLast}
-use Rattle.journal.specs.declared.Told.{Told}
-use Rattle.journal.specs.declared.Shown.{Shown}
-use Rattle.journal.specs.declared.Begun.TheVariants as Begun
+use Rattle.journal.specs.Reads.{Told}
+use Rattle.journal.specs.Reads.{Shown}
 use Rattle.journal.proofs.Numbers.{rules-not-29, stands-not-29, field-not-29}
 use Rattle.journal.proofs.Bytes.{stayed}
 
@@ -108,7 +108,7 @@ module _ (b : Board) (u : List ℕ) (s : ShowsBoard u b) where
 
 -- ---- from a board that begin left
 
-pub from-begin : (t₀ t u : List ℕ) (es : List JournalEvent) → BeginStep t₀ Begun.Begun t → JournalChain t es u → Run empty_board es u
+pub from-begin : (t₀ t u : List ℕ) (es : List JournalEvent) → BeginStep t₀ (Ok tt) t → JournalChain t es u → Run empty_board es u
 from-begin t₀ t u es x ch =
     let room : BoardRoom t₀ = ⊎_elim (λ (h : 1024 ≤ length t₀). h) (λ (h : length t₀ < 1024). absurd (begun-not (x.short (λ (g : 1024 ≤ length t₀). omega arith)))) (le-or-lt 1024 (length t₀)) in
     runs empty_board (x.done room).1 ch

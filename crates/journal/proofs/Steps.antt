@@ -9,6 +9,7 @@ use mathlib.Core.Option.{Option, none, some}
 use lib.Dec.{eqb}
 use lib.ListN.{length, drop, set}
 use borrow.Author.Tests.{eq-eqb, ne_eqb}
+use Rattle.std.specs.Prelude.{Some, None, Ok, Err}
 use Rattle.words.specs.Words.{word_at, put_word}
 use Rattle.words.proofs.Runs.{eq-or-ne}
 use Rattle.words.proofs.Laws.{length-put_word, word_at-put_word-same, word_at-put_word-other, drop-put_word}
@@ -23,9 +24,8 @@ use Rattle.board.proofs.Stores.{put-size, put_rest, put-shows, found_first}
 use Rattle.journal.specs.Reads.{Plain, stands, plain_refused, from_rules, plain_told, shown}
 use Rattle.journal.specs.Step.{stored, Stays, Kept, BoardStep, LineStep, BeginStep}
 use Rattle.journal.specs.declared.Refusal.TheVariants.{BoardShort, NotABoard, NotCleared}
-use Rattle.journal.specs.declared.Told.{Told}
-use Rattle.journal.specs.declared.Shown.{Shown}
-use Rattle.journal.specs.declared.Begun.{Begun}
+use Rattle.journal.specs.Reads.{Told}
+use Rattle.journal.specs.Reads.{Shown}
 
 -- ---- what the test of 29 found
 
@@ -42,7 +42,7 @@ found_none t false h e = h
 pub kept_same : (a : Plain) (t : List ℕ) → Stays a t t → Kept a t t
 kept_same a t s = record { stays = s; rest = refl; size = refl }
 
-pub bad-step : (c : BoardCall) (t : List ℕ) → NoBoard t → BoardStep c t (Told.Refused NotABoard) t
+pub bad-step : (c : BoardCall) (t : List ℕ) → NoBoard t → BoardStep c t (Err NotABoard) t
 bad-step c t n = record {
   not_board = λ m. refl;
   reply = λ b s. absurd (n b s);
@@ -74,27 +74,27 @@ module _ (t : List ℕ) (u k : ℕ) (s : ShowsBoard t (board_of t)) (f : Found (
   at_place : train_line u (board_of t) ≡ k
   at_place = found_first (is_of u) (board_of t) k (board-size t) f
 
-  refused-clear : left (line_at (board_of t) k) ≡ false → BoardStep (clear u) t (Told.Refused NotCleared) t
+  refused-clear : left (line_at (board_of t) k) ≡ false → BoardStep (clear u) t (Err NotCleared) t
   refused-clear e =
       let q = clear-is (board_of t) u k false at_place e in
-      does-step (clear u) t (Told.Refused NotCleared) t s (rw q) (rw q s) (rw q) (kept_same (plain_refused 34 none) t refl)
+      does-step (clear u) t (Err NotCleared) t s (rw q) (rw q s) (rw q) (kept_same (plain_refused 34 none) t refl)
 
-  pub clear-absent : k ≡ 64 → BoardStep (clear u) t (Told.Refused NotCleared) t
+  pub clear-absent : k ≡ 64 → BoardStep (clear u) t (Err NotCleared) t
   clear-absent e = refused-clear (ap left (beyond (board_of t) k (omega (arith, board-size t))))
 
-  pub clear-joined : (l : Line) → handover_of l ≡ line_at (board_of t) k → (l.kind ≡ 2 → ⊥) → BoardStep (clear u) t (Told.Refused NotCleared) t
+  pub clear-joined : (l : Line) → handover_of l ≡ line_at (board_of t) k → (l.kind ≡ 2 → ⊥) → BoardStep (clear u) t (Err NotCleared) t
   clear-joined l e n = refused-clear (sym (left-kind l (line_at (board_of t) k) e) ∙ ne_eqb l.kind 2 n)
 
-  pub clear-done : (l : Line) → handover_of l ≡ line_at (board_of t) k → l.kind ≡ 2 → k < 64 → u < 4294967296 → BoardStep (clear u) t (Told.Line k) (put_line t k none)
+  pub clear-done : (l : Line) → handover_of l ≡ line_at (board_of t) k → l.kind ≡ 2 → k < 64 → u < 4294967296 → BoardStep (clear u) t (Ok k) (put_line t k none)
   unfolding Sayable
   clear-done l e two h w =
       let q = clear-is (board_of t) u k true at_place (sym (left-kind l (line_at (board_of t) k) e) ∙ eq-eqb l.kind 2 two) in
       let m : Makeable (set (board_of t) k none) = (rw q at (keeps (board_of t) (clear u) s.makeable w)) in
-      does-step (clear u) t (Told.Line k) (put_line t k none) s (rw q) (rw q (put-shows t k none h (board_of t) s m)) (rw q) (record { stays = tt; rest = put_rest t k none h; size = put-size t k none h })
+      does-step (clear u) t (Ok k) (put_line t k none) s (rw q) (rw q (put-shows t k none h (board_of t) s m)) (rw q) (record { stays = tt; rest = put_rest t k none h; size = put-size t k none h })
 
 -- ---- line
 
-pub line-bad : (k : ℕ) (t : List ℕ) → NoBoard t → LineStep k t (Shown.Refused NotABoard)
+pub line-bad : (k : ℕ) (t : List ℕ) → NoBoard t → LineStep k t (Err NotABoard)
 line-bad k t n = record { not_board = λ m. refl; reply = λ b s. absurd (n b s) }
 
 line-is : (k : ℕ) (t : List ℕ) (a : Shown) → ShowsBoard t (board_of t) → shown a ≡ stands (line_at (board_of t) k) → LineStep k t a
@@ -103,14 +103,14 @@ line-is k t a s e = record {
   reply = λ b h. subst (λ x. shown a ≡ stands (line_at x k)) (shows-is t b h) e;
 }
 
-pub line-beyond : (k : ℕ) (t : List ℕ) → ShowsBoard t (board_of t) → 64 ≤ k → LineStep k t Shown.Free
-line-beyond k t s h = line-is k t Shown.Free s (ap stands (sym (beyond (board_of t) k (rw (board-size t) h))))
+pub line-beyond : (k : ℕ) (t : List ℕ) → ShowsBoard t (board_of t) → 64 ≤ k → LineStep k t (Ok None)
+line-beyond k t s h = line-is k t (Ok None) s (ap stands (sym (beyond (board_of t) k (rw (board-size t) h))))
 
-pub line-free : (k : ℕ) (t : List ℕ) (l : Line) → ShowsBoard t (board_of t) → handover_of l ≡ line_at (board_of t) k → l.kind ≡ 0 → LineStep k t Shown.Free
-line-free k t l s e z = line-is k t Shown.Free s (rw (← e, eq-eqb l.kind 0 z))
+pub line-free : (k : ℕ) (t : List ℕ) (l : Line) → ShowsBoard t (board_of t) → handover_of l ≡ line_at (board_of t) k → l.kind ≡ 0 → LineStep k t (Ok None)
+line-free k t l s e z = line-is k t (Ok None) s (rw (← e, eq-eqb l.kind 0 z))
 
-pub line-holds : (k : ℕ) (t : List ℕ) (l : Line) → ShowsBoard t (board_of t) → handover_of l ≡ line_at (board_of t) k → (l.kind ≡ 0 → ⊥) → LineStep k t (Shown.Holds l)
-line-holds k t l s e n = line-is k t (Shown.Holds l) s (rw (← e, ne_eqb l.kind 0 n))
+pub line-holds : (k : ℕ) (t : List ℕ) (l : Line) → ShowsBoard t (board_of t) → handover_of l ≡ line_at (board_of t) k → (l.kind ≡ 0 → ⊥) → LineStep k t (Ok (Some l))
+line-holds k t l s e n = line-is k t (Ok (Some l)) s (rw (← e, ne_eqb l.kind 0 n))
 
 -- ---- begin
 
@@ -135,10 +135,10 @@ wiped-more t₀ t n room h w = record {
   size = length-put_word t n 0 ∙ w.size;
 }
 
-pub begin-short : (t : List ℕ) → length t < 1024 → BeginStep t (Begun.Refused BoardShort) t
+pub begin-short : (t : List ℕ) → length t < 1024 → BeginStep t (Err BoardShort) t
 begin-short t h = record { short = λ r. refl; done = λ r. absurd (omega arith); kept = kept_same (plain_refused 7 (some 0)) t refl }
 
-pub begin-done : (t₀ t : List ℕ) → BoardRoom t₀ → Wiped t₀ t 128 → BeginStep t₀ Begun.Begun t
+pub begin-done : (t₀ t : List ℕ) → BoardRoom t₀ → Wiped t₀ t 128 → BeginStep t₀ (Ok tt) t
 begin-done t₀ t room w = record {
   short = λ r. absurd (r room);
   done = λ r. (

@@ -16,8 +16,8 @@ use Rattle.desk.specs.Calls.{BoardCall, enter_record, MadeBoard}
 use Rattle.board.specs.Layout.{board_size, BoardRoom, Written, ShowsBoard}
 use Rattle.journal.specs.Reads.{Plain, plain_refused, plain_told, shown}
 use Rattle.journal.specs.Step.{BoardStep, RecordStep, LineStep}
-use Rattle.journal.specs.declared.Told.{Told}
-use Rattle.journal.specs.declared.Shown.{Shown}
+use Rattle.journal.specs.Reads.{Told}
+use Rattle.journal.specs.Reads.{Shown}
 
 -- no list of calls from the empty board makes a board that is written there
 abbrev pub NotMade : List ℕ → Type 0

@@ -9,6 +9,7 @@
 --   JournalEndsAtLast     .. and R11.17: after sequence 4,294,967,295 nothing of that train is accepted until it is cleared
 --
 -- Assumes nothing.
+use Rattle.std.specs.Prelude.{Ok}
 use Rattle.std.specs.Prelude.{ℕ, ◌<◌, ◌≡◌, Bool, true, false, List, [], ◌∷◌, if◌then◌else◌}
 use Rattle.std.proofs.Math.Option.{Option, none, some}
 use Rattle.desk.specs.Board.{Handover}
@@ -16,9 +17,8 @@ use Rattle.desk.specs.Calls.{enter_record, clear, known_kind, noted}
 use Rattle.journal.specs.Reads.{Plain, line, stands, begun, plain_refused, plain_told, shown}
 use Rattle.journal.specs.Record.{Reading, says, faulty, read_record}
 use Rattle.journal.specs.Step.{BoardStep, RecordStep, LineStep, BeginStep}
-use Rattle.journal.specs.declared.Told.{Told}
-use Rattle.journal.specs.declared.Shown.{Shown}
-use Rattle.journal.specs.declared.Begun.TheVariants as Begun
+use Rattle.journal.specs.Reads.{Told}
+use Rattle.journal.specs.Reads.{Shown}
 
 pub data Asked : Type 0 where
   recorded : List ℕ → Asked
@@ -75,7 +75,7 @@ pub record Showing (es : List JournalEvent) (u : List ℕ) : Type 0 where
   pub once : (j k : ℕ) (a c : Shown) (q r : Handover) → LineStep j u a → LineStep k u c → shown a ≡ stands (some q) → shown c ≡ stands (some r) → q.train ≡ r.train → j ≡ k
 
 abbrev pub JournalShowsLast : Type 0
-JournalShowsLast = (t₀ t u : List ℕ) (es : List JournalEvent) → BeginStep t₀ Begun.Begun t → JournalChain t es u → Showing es u
+JournalShowsLast = (t₀ t u : List ℕ) (es : List JournalEvent) → BeginStep t₀ (Ok tt) t → JournalChain t es u → Showing es u
 
 -- ---- the last sequence
 
@@ -94,5 +94,5 @@ pub record JournalEnded (o : Handover) (u : List ℕ) : Type 0 where
 
 abbrev pub JournalEndsAtLast : Type 0
 JournalEndsAtLast =
-    (t₀ t u : List ℕ) (es : List JournalEvent) (o : Handover) → BeginStep t₀ Begun.Begun t → JournalChain t es u
+    (t₀ t u : List ℕ) (es : List JournalEvent) (o : Handover) → BeginStep t₀ (Ok tt) t → JournalChain t es u
     → last_said o.train none es ≡ some o → o.sequence ≡ 4294967295 → JournalEnded o u

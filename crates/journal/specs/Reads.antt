@@ -2,19 +2,19 @@
 --
 --   board_listed          R11.14: a refusal's number, and its place where the list has one
 --   Plain                an answer as the rules give it; from_rules: that of a reply of `desk`
---   plain_told, shown, begun   an answer of a call, read
+--   Told, Shown, Begun     what record and clear, line, and begin answer
+--   plain_told, shown, beginning   an answer of a call, read
 --
 -- Assumes nothing.
-use Rattle.std.specs.Prelude.{ℕ}
+use Rattle.std.specs.Prelude as core
+use Rattle.std.specs.Prelude.{ℕ, Some, None, Result, Ok, Err}
 use Rattle.std.proofs.Math.Option.{Option, none, some}
 use Rattle.desk.specs.Board.{Handover}
 use Rattle.desk.specs.Calls as Calls
 use Rattle.desk.specs.Calls.{BoardReply}
 use Rattle.journal.specs.declared.Refusal.{Refusal}
 use Rattle.journal.specs.declared.Refusal.TheVariants.{Cut, UnknownTag, WrongLength, BoardShort, NotABoard, KindUnknown, NoFreeLine, OutOfTurn, DoesNotFollow, NotCleared}
-use Rattle.journal.specs.declared.Told.{Told}
-use Rattle.journal.specs.declared.Shown.{Shown}
-use Rattle.journal.specs.declared.Begun.{Begun}
+use Rattle.desk_line.specs.declared.Line.{Line}
 
 abbrev pub board_listed : Refusal → ℕ × Option ℕ
 board_listed (Cut p) = (1, some p)
@@ -41,15 +41,27 @@ abbrev pub from_rules : BoardReply → Plain
 from_rules (Calls.told k) = line k
 from_rules (Calls.board_refused n) = plain_refused n none
 
+-- What record and clear answer: the line that was changed.
+abbrev pub Told : Type 0
+Told = Result ℕ Refusal
+
+-- What line answers: the record that stands there, if one does.
+abbrev pub Shown : Type 0
+Shown = Result (core.Option Line) Refusal
+
+-- What begin answers.
+abbrev pub Begun : Type 0
+Begun = Result (Unit {0}) Refusal
+
 abbrev pub plain_told : Told → Plain
-plain_told (Told.Line k) = line k
-plain_told (Told.Refused x) = refused_by x
+plain_told (Ok k) = line k
+plain_told (Err x) = refused_by x
 
 abbrev pub shown : Shown → Plain
-shown Shown.Free = stands none
-shown (Shown.Holds l) = stands (some (record { train = l.train; cell = l.cell; kind = l.kind; sequence = l.sequence }))
-shown (Shown.Refused x) = refused_by x
+shown (Ok None) = stands none
+shown (Ok (Some l)) = stands (some (record { train = l.train; cell = l.cell; kind = l.kind; sequence = l.sequence }))
+shown (Err x) = refused_by x
 
 abbrev pub beginning : Begun → Plain
-beginning Begun.Begun = begun
-beginning (Begun.Refused x) = refused_by x
+beginning (Ok done) = begun
+beginning (Err x) = refused_by x

@@ -17,9 +17,9 @@ pub use Rattle.board.specs.Layout.{board_size}
 use Rattle.board.specs.Layout.{BoardRoom, put_line, ShowsBoard, NoBoard}
 use Rattle.journal.specs.Reads.{Plain, line, stands, begun, plain_refused, from_rules, plain_told, shown, beginning}
 use Rattle.journal.specs.Record.{Reading, says, faulty, read_record}
-use Rattle.journal.specs.declared.Told.{Told}
-use Rattle.journal.specs.declared.Shown.{Shown}
-use Rattle.journal.specs.declared.Begun.{Begun}
+use Rattle.journal.specs.Reads.{Told}
+use Rattle.journal.specs.Reads.{Shown}
+use Rattle.journal.specs.Reads.{Begun}
 
 -- what an accepted call leaves on its line
 abbrev pub leaves : BoardCall → Option Handover

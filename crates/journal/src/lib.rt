@@ -8,14 +8,14 @@ ghost use Rattle.std.specs.Prelude.{◌≡◌, ◌+◌, ◌^◌, ◌<◌, ◌≤
 ghost use Rattle.desk.specs.Board.{is_of, InField};
 ghost use Rattle.desk.specs.Calls as Calls;
 ghost use Rattle.board.specs.Layout.{board_of, ShowsBoard, Found};
-ghost use Rattle.fields.specs.Bytes.{big};
 ghost use Rattle.journal.specs.Record.{rec_line, RecordRead};
 ghost use Rattle.journal.specs.Field.{ReadingIs};
+ghost use Rattle.journal.specs.Reads.{board_listed};
 ghost use Rattle.journal.specs.Step.{BoardStep, RecordStep, LineStep, BeginStep};
 
 use board::{find, line_at, lowest, set_line, sound};
 use desk_line::{Line, changed};
-use fields::{Field, field_at, fits, u16_at};
+use fields::{Field, field_at, fits, u16_at, u32_at};
 use words::set_word;
 
 // The fixed size of a board, in bytes.
@@ -61,67 +61,17 @@ pub enum Refusal {
     NotCleared,
 }
 
-// What record and clear answer.
-#[derive(Clone, Copy)]
-pub enum Told {
-    // The line that was changed.
-    Line(u8),
-    Refused(Refusal),
-}
-
-// What line answers.
-#[derive(Clone, Copy)]
-pub enum Shown {
-    Free,
-    Holds(Line),
-    Refused(Refusal),
-}
-
-// What begin answers.
-#[derive(Clone, Copy)]
-pub enum Begun {
-    Begun,
-    Refused(Refusal),
-}
-
 // Begins an empty board in the lent bytes, whatever they held.
-pub fn begin(t: &mut [u8]) -> Begun
+pub fn begin(t: &mut [u8]) -> Result<(), Refusal>
     ensures { BeginStep t.old result t.new }
 {
     if t.len() < SIZE {
-        return Begun::Refused(Refusal::BoardShort);
+        return Err(Refusal::BoardShort);
     }
-    let mut i = 0;
-    while i < WORDS {
+    for i in 0..WORDS {
         set_word(t, i, 0);
-        i += 1;
     }
-    Begun::Begun
-}
-
-// What a lent field says.
-#[derive(Clone, Copy)]
-enum Reading {
-    Record(Line),
-    Refused(Refusal),
-}
-
-// The four-byte number at a place.
-fn u32_at(s: &[u8], at: usize) -> u32
-    requires { at + 4 ≤ length s.now }
-    ensures { (result ≡ big s.now at 4) × (result < 2 ^ 32) }
-{
-    let high = u16_at(s, at);
-    let low = u16_at(s, at + 2);
-    (high as u32) * 65536 + (low as u32)
-}
-
-// A byte, at a place.
-fn u8_at(s: &[u8], at: usize) -> u8
-    requires { at + 1 ≤ length s.now }
-    ensures { (result ≡ big s.now at 1) × (result < 2 ^ 8) }
-{
-    s[at]
+    Ok(())
 }
 
 // The record's four numbers, from a value that is whole.
@@ -131,13 +81,13 @@ fn values(s: &[u8]) -> Line
 {
     let train = u32_at(s, 3);
     let cell = u16_at(s, 7);
-    let kind = u8_at(s, 9);
+    let kind = s[9];
     let sequence = u32_at(s, 10);
     Line {
-        train: train,
-        cell: cell,
-        kind: kind,
-        sequence: sequence,
+        train,
+        cell,
+        kind,
+        sequence,
     }
 }
 
@@ -174,72 +124,72 @@ fn follows(old: Line, r: Line) -> bool
     old.kind == LEFT
 }
 
-// The field at the start of lent bytes: refusals 1 (header), 2, 3, 1 (value).
-fn read(s: &[u8]) -> Reading
+// The record in the field at the start of lent bytes: refusals 1 (header), 2, 3, 1 (value).
+fn read(s: &[u8]) -> Result<Line, Refusal>
     ensures { ReadingIs result s.now }
 {
     match field_at(s, 0) {
-        Field::Nothing => Reading::Refused(Refusal::Cut(0)),
-        Field::Cut => Reading::Refused(Refusal::Cut(0)),
+        Field::Nothing => Err(Refusal::Cut(0)),
+        Field::Cut => Err(Refusal::Cut(0)),
         Field::Header {
             tag,
             value: _,
             length,
         } => {
             if tag != RECORD {
-                return Reading::Refused(Refusal::UnknownTag(0));
+                return Err(Refusal::UnknownTag(0));
             }
             if length != RECORD_LENGTH {
-                return Reading::Refused(Refusal::WrongLength(0));
+                return Err(Refusal::WrongLength(0));
             }
             if !fits(s, 3, RECORD_LENGTH) {
-                return Reading::Refused(Refusal::Cut(0));
+                return Err(Refusal::Cut(0));
             }
-            Reading::Record(values(s))
+            Ok(values(s))
         }
     }
 }
 
 // A train's first record: refusals 31 and 33.
-fn enter_first(t: &mut [u8], r: Line) -> Told
+fn enter_first(t: &mut [u8], r: Line) -> Result<u8, Refusal>
     requires { ShowsBoard t.old (board_of t.old) × InField (rec_line r) × (Calls.known_kind r.kind ≡ true) × Found (is_of r.train) (board_of t.old) 64 64 }
     ensures { BoardStep (Calls.enter_record (rec_line r)) t.old result t.new }
 {
     let k = lowest(t);
     if k == LINES {
-        return Told::Refused(Refusal::NoFreeLine);
+        return Err(Refusal::NoFreeLine);
     }
     if r.kind != JOINED {
-        return Told::Refused(Refusal::DoesNotFollow);
+        return Err(Refusal::DoesNotFollow);
     }
     set_line(t, k, r);
-    Told::Line(k as u8)
+    Ok(k as u8)
 }
 
 // A record of a train that stands on line `k`: refusals 32 and 33.
-fn enter_later(t: &mut [u8], r: Line, k: usize) -> Told
+fn enter_later(t: &mut [u8], r: Line, k: usize) -> Result<u8, Refusal>
     requires { ShowsBoard t.old (board_of t.old) × InField (rec_line r) × (Calls.known_kind r.kind ≡ true) × Found (is_of r.train) (board_of t.old) 64 k × (k < 64) }
     ensures { BoardStep (Calls.enter_record (rec_line r)) t.old result t.new }
 {
     let old = line_at(t, k);
     if !in_turn(old, r) {
-        return Told::Refused(Refusal::OutOfTurn);
+        return Err(Refusal::OutOfTurn);
     }
     if !follows(old, r) {
-        return Told::Refused(Refusal::DoesNotFollow);
+        return Err(Refusal::DoesNotFollow);
     }
     let next = changed(old, r.cell, r.kind, r.sequence);
     set_line(t, k, next);
-    Told::Line(k as u8)
+    Ok(k as u8)
 }
 
 // A record, on a board: refusals 30 to 33.
-fn enter(t: &mut [u8], r: Line) -> Told
+fn enter(t: &mut [u8], r: Line) -> Result<u8, Refusal>
     requires { ShowsBoard t.old (board_of t.old) × InField (rec_line r) }
     ensures { BoardStep (Calls.enter_record (rec_line r)) t.old result t.new }
 {
     if !known(r.kind) {
-        return Told::Refused(Refusal::KindUnknown);
+        return Err(Refusal::KindUnknown);
     }
     let k = find(t, r.train, LINES);
     if k == LINES {
@@ -248,33 +198,31 @@ fn enter(t: &mut [u8], r: Line) -> Told
     enter_later(t, r, k)
 }
 
-// Enters the handover record of a field, the one in front (R11.6).
-pub fn record(t: &mut [u8], field: &[u8]) -> Told
+// Enters the handover record of a field, the one in front (R11.6), and answers the line that was changed.
+pub fn record(t: &mut [u8], field: &[u8]) -> Result<u8, Refusal>
     ensures { RecordStep field.now t.old result t.new }
 {
     if !sound(t) {
-        return Told::Refused(Refusal::NotABoard);
+        return Err(Refusal::NotABoard);
     }
-    match read(field) {
-        Reading::Refused(x) => Told::Refused(x),
-        Reading::Record(r) => enter(t, r),
-    }
+    let r = read(field)?;
+    enter(t, r)
 }
 
-// R11.12: frees the line of a train that has left.
-pub fn clear(t: &mut [u8], train: u32) -> Told
+// R11.12: frees the line of a train that has left, and answers which it is.
+pub fn clear(t: &mut [u8], train: u32) -> Result<u8, Refusal>
     ensures { BoardStep (Calls.clear train) t.old result t.new }
 {
     if !sound(t) {
-        return Told::Refused(Refusal::NotABoard);
+        return Err(Refusal::NotABoard);
     }
     let k = find(t, train, LINES);
     if k == LINES {
-        return Told::Refused(Refusal::NotCleared);
+        return Err(Refusal::NotCleared);
     }
     let l = line_at(t, k);
     if l.kind != LEFT {
-        return Told::Refused(Refusal::NotCleared);
+        return Err(Refusal::NotCleared);
     }
     let free = Line {
         train: 0,
@@ -283,23 +231,43 @@ pub fn clear(t: &mut [u8], train: u32) -> Told
         sequence: 0,
     };
     set_line(t, k, free);
-    Told::Line(k as u8)
+    Ok(k as u8)
 }
 
-// What stands on a line.
-pub fn line(t: &[u8], at: u8) -> Shown
+// What stands on a line, if anything does.
+pub fn line(t: &[u8], at: u8) -> Result<Option<Line>, Refusal>
     ensures { LineStep at t.now result }
 {
     if !sound(t) {
-        return Shown::Refused(Refusal::NotABoard);
+        return Err(Refusal::NotABoard);
     }
     let k = at as usize;
     if k >= LINES {
-        return Shown::Free;
+        return Ok(None);
     }
     let l = line_at(t, k);
     if l.kind == 0 {
-        return Shown::Free;
+        return Ok(None);
     }
-    Shown::Holds(l)
+    Ok(Some(l))
+}
+
+// A refusal's number (R11.14).
+impl From<Refusal> for u64 {
+    ghost from_gives = { λ x n. n ≡ (board_listed x).0 };
+
+    fn from(x: Refusal) -> u64 {
+        match x {
+            Refusal::Cut(_) => 1,
+            Refusal::UnknownTag(_) => 2,
+            Refusal::WrongLength(_) => 3,
+            Refusal::BoardShort => 7,
+            Refusal::NotABoard => 29,
+            Refusal::KindUnknown => 30,
+            Refusal::NoFreeLine => 31,
+            Refusal::OutOfTurn => 32,
+            Refusal::DoesNotFollow => 33,
+            Refusal::NotCleared => 34,
+        }
+    }
 }

@@ -19,8 +19,7 @@ use table::{
     DEPTH, LENGTH_WORDS, LENGTHS, LaneRow, TRAIN_NUMBERS, TRAIN_WORDS, charged, pace_of, round,
 };
 use units::{
-    Bytes, Clock, RATE_OF_WEIGHT_ONE, before, lane_charge, line_charge, not_after, plus,
-    rounded_start, slot, two_slots,
+    Bytes, Clock, RATE_OF_WEIGHT_ONE, lane_charge, line_charge, rounded_start, slot, two_slots,
 };
 use words::word;
 
@@ -62,10 +61,10 @@ fn group_good(l: LaneRow) -> bool
     }
     let span = lane_charge(charged(l, l.longest), l.rate);
     let slot = slot(index);
-    if before(slot, span) {
+    if slot < span {
         return false;
     }
-    if not_after(plus(span, span), slot) {
+    if span + span <= slot {
         return false;
     }
     true
@@ -113,7 +112,7 @@ pub fn time_good(l: LaneRow, v: Clock) -> bool
     ensures { Says result (TimeGood v.0 l l.group) }
 {
     let window = two_slots(l.group);
-    if not_after(plus(v, window), l.time) {
+    if v + window <= l.time {
         return false;
     }
     if l.count == 0 {
@@ -122,7 +121,7 @@ pub fn time_good(l: LaneRow, v: Clock) -> bool
     let rounded = rounded_start(l.time, l.group);
     // How far the clock may run ahead in one take: what the longest record of any lane costs the line.
     let reach = line_charge(charged(l, Bytes(MOST_LONGEST)));
-    if not_after(plus(plus(rounded, window), reach), v) {
+    if rounded + window + reach <= v {
         return false;
     }
     true
@@ -136,11 +135,11 @@ fn rest_good(l: LaneRow, v: Clock) -> bool
     requires { RowAgrees l × (l.count ≡ 0) × (v.0 < 2 ^ 63) }
     ensures { Says result (TimeGood v.0 l (group (given_of l))) }
 {
-    if before(l.time, plus(v, Clock(NEAR))) {
+    if l.time < v + Clock(NEAR) {
         return true;
     }
     let p = pace_of(l);
-    if before(l.time, plus(v, two_slots(p.group))) {
+    if l.time < v + two_slots(p.group) {
         return true;
     }
     false
@@ -167,11 +166,9 @@ fn gather(t: &[u8], from: usize, bound: u64) -> u64
 {
     let more = (32768 - bound) * ONES;
     let mut tops: u64 = 0;
-    let mut i = 0;
-    while i < LENGTH_WORDS {
+    for i in 0..LENGTH_WORDS {
         let x = word(t, from + i);
         tops = tops | x | wrapping_add_u64(x, more);
-        i += 1;
     }
     tops
 }

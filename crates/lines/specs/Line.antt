@@ -12,14 +12,13 @@
 --   Line        R10.14: the same of a line, which has at most 64 bytes
 --
 -- Assumes nothing.
-use Rattle.std.specs.Prelude.{ℕ, ◌+◌, ◌^◌, ◌≤◌, ◌<◌, ◌≡◌, Bool, true, false, List, [], ◌∷◌, ◌++◌, ℤ, length}
+use Rattle.std.specs.Prelude as core
+use Rattle.std.specs.Prelude.{ℕ, ◌+◌, ◌^◌, ◌≤◌, ◌<◌, ◌≡◌, Bool, true, false, List, [], ◌∷◌, ◌++◌, ℤ, length, Some, None}
 use Rattle.std.proofs.Math.Option.{Option, none, some}
 use Rattle.std.proofs.lemmas.List.Edits.{sets}
 use Rattle.std.specs.Int.{w64}
 use Rattle.std.proofs.Common.{SFits}
 use Rattle.text.specs.Decimal.{decimal, signed}
-use Rattle.lines.specs.declared.Place.{Place}
-use Rattle.lines.specs.declared.Place.TheVariants.{At, Nowhere}
 use Rattle.rules.specs.Calls.{Reply, accepted, taken, seen, words, lagged, restarted, refused}
 
 -- ' ' is 32
@@ -135,9 +134,9 @@ Short (refused n p) = (n < 2 ^ 8) × ShortPlace p
 -- ---- the code's own
 
 -- a place, where there is one
-abbrev pub place_is : Place → Option ℕ
-place_is (At p) = some p
-place_is Nowhere = none
+abbrev pub place_is : core.Option ℕ → Option ℕ
+place_is (Some p) = some p
+place_is None = none
 
 -- what is written: the text at its place, and the place behind it
 pub record Wrote (before after : List ℕ) (at : ℕ) (text : List ℕ) (next : ℕ) : Type 0 where

@@ -32,10 +32,8 @@ fn put_line(a: &mut [u8], at: usize, word: &[u8], ns: &[u64]) -> usize
     ensures { Wrote a.old a.new at (text_line word.now ns.now) result }
 {
     let mut p = put_word(a, at, word);
-    let mut i = 0;
-    while i < ns.len() {
-        p = put_spaced(a, p, ns[i]);
-        i += 1;
+    for n in ns {
+        p = put_spaced(a, p, *n);
     }
     a[p] = LINE_FEED;
     p + 1
@@ -135,73 +133,42 @@ pub fn put_lag(a: &mut [u8], at: usize, z: i64) -> usize
     p + 1
 }
 
-// A refusal's place, where R14 has one.
-#[derive(Clone, Copy)]
-pub enum Place {
-    At(usize),
-    Nowhere,
-}
-
 // A refusal's number. Each is below 256, so that a line with it is short.
 pub fn number(x: Refusal) -> u64
     ensures { (result ≡ number x) × (result < 256) }
 {
-    match x {
-        Refusal::Cut(_) => 1,
-        Refusal::UnknownTag(_) => 2,
-        Refusal::WrongLength(_) => 3,
-        Refusal::OutOfOrder(_) => 4,
-        Refusal::WeightsOver(_) => 6,
-        Refusal::TableShort => 7,
-        Refusal::NotGood => 10,
-        Refusal::NoLane => 11,
-        Refusal::BadLength => 12,
-        Refusal::LaneFull => 13,
-        Refusal::StillHolds => 15,
-        Refusal::NothingHeld => 16,
-        Refusal::RunBounds => 17,
-        Refusal::InputLong => 18,
-        Refusal::FormatOutside(_) => 50,
-        Refusal::LaneOutside(_) => 51,
-        Refusal::WeightOutside(_) => 52,
-        Refusal::LongestOutside(_) => 53,
-        Refusal::FramingOutside(_) => 54,
-        Refusal::WrongByte(_) => 80,
-        Refusal::SheetCut(_) => 81,
-        Refusal::NoSheet => 82,
-        Refusal::NoTrain => 70,
-        Refusal::TrainFull => 71,
-    }
+    u64::from(x)
 }
 
-pub fn place_of(x: Refusal) -> Place
+// A refusal's place, where R14 has one.
+pub fn place_of(x: Refusal) -> Option<usize>
     ensures { place_is result ≡ place_of x }
 {
     match x {
-        Refusal::Cut(p) => Place::At(p),
-        Refusal::UnknownTag(p) => Place::At(p),
-        Refusal::WrongLength(p) => Place::At(p),
-        Refusal::OutOfOrder(p) => Place::At(p),
-        Refusal::WeightsOver(p) => Place::At(p),
-        Refusal::TableShort => Place::At(0),
-        Refusal::NotGood => Place::Nowhere,
-        Refusal::NoLane => Place::Nowhere,
-        Refusal::BadLength => Place::Nowhere,
-        Refusal::LaneFull => Place::Nowhere,
-        Refusal::StillHolds => Place::Nowhere,
-        Refusal::NothingHeld => Place::Nowhere,
-        Refusal::RunBounds => Place::Nowhere,
-        Refusal::InputLong => Place::Nowhere,
-        Refusal::FormatOutside(p) => Place::At(p),
-        Refusal::LaneOutside(p) => Place::At(p),
-        Refusal::WeightOutside(p) => Place::At(p),
-        Refusal::LongestOutside(p) => Place::At(p),
-        Refusal::FramingOutside(p) => Place::At(p),
-        Refusal::WrongByte(p) => Place::At(p),
-        Refusal::SheetCut(p) => Place::At(p),
-        Refusal::NoSheet => Place::Nowhere,
-        Refusal::NoTrain => Place::Nowhere,
-        Refusal::TrainFull => Place::Nowhere,
+        Refusal::Cut(p) => Some(p),
+        Refusal::UnknownTag(p) => Some(p),
+        Refusal::WrongLength(p) => Some(p),
+        Refusal::OutOfOrder(p) => Some(p),
+        Refusal::WeightsOver(p) => Some(p),
+        Refusal::TableShort => Some(0),
+        Refusal::NotGood => None,
+        Refusal::NoLane => None,
+        Refusal::BadLength => None,
+        Refusal::LaneFull => None,
+        Refusal::StillHolds => None,
+        Refusal::NothingHeld => None,
+        Refusal::RunBounds => None,
+        Refusal::InputLong => None,
+        Refusal::FormatOutside(p) => Some(p),
+        Refusal::LaneOutside(p) => Some(p),
+        Refusal::WeightOutside(p) => Some(p),
+        Refusal::LongestOutside(p) => Some(p),
+        Refusal::FramingOutside(p) => Some(p),
+        Refusal::WrongByte(p) => Some(p),
+        Refusal::SheetCut(p) => Some(p),
+        Refusal::NoSheet => None,
+        Refusal::NoTrain => None,
+        Refusal::TrainFull => None,
     }
 }
 
@@ -212,11 +179,11 @@ pub fn put_no(a: &mut [u8], at: usize, x: Refusal) -> usize
 {
     let n = number(x);
     match place_of(x) {
-        Place::At(p) => {
+        Some(p) => {
             let ns = [n, p as u64];
             put_line(a, at, b"no", &ns)
         }
-        Place::Nowhere => put_one(a, at, b"no", n),
+        None => put_one(a, at, b"no", n),
     }
 }
 

@@ -8,7 +8,7 @@ use lib.Pow.{pow_mono, shr_le}
 use Rattle.words.specs.Bits.{bit}
 use Rattle.words.specs.Words.{word_at}
 use Rattle.slot_lists.specs.Lists.{back_at, map_word, start_word, ring_number}
-use Rattle.lists_test.specs.declared.Met.{Met}
+use Rattle.std.specs.Prelude.{Option}
 use Rattle.lists_test.specs.Stored.{RingFine, start_slot, list_slot, GroupFine, RingSays}
 
 -- no sum of slots is near the end of a word
@@ -34,7 +34,7 @@ module _ (t : List ℕ) (g map start back : ℕ) (m : map ≡ word_at t (map_wor
   not_first e fine = omega (arith, first_bit 0 e, fine.first)
 
   -- what the walk over a ring said
-  pub ring-told : (i n met : ℕ) (r r' : Met) → n ≡ ring_number g i → RingSays t n g (slot + (i + 32 - slot % 32) % 32) met r → r ≡ r' → RingSays t (ring_number g i) g (list_slot t g i) met r'
+  pub ring-told : (i n met : ℕ) (r r' : Option ℕ) → n ≡ ring_number g i → RingSays t n g (slot + (i + 32 - slot % 32) % 32) met r → r ≡ r' → RingSays t (ring_number g i) g (list_slot t g i) met r'
   ring-told i n met r r' en h e =
       subst (RingSays t (ring_number g i) g (list_slot t g i) met) e
       (subst (λ (x : ℕ). RingSays t (ring_number g i) g (x + (i + 32 - x % 32) % 32) met r) slot_is

@@ -86,6 +86,3 @@ module _ (t : List ℕ) (g : ℕ) where
     walk-all b met w end narrow =
         let same : flat b (ring_in t g) ≡ flat 32 (ring_in t g) = flat-skip 32 b (ring_in t g) (omega arith) (λ i p q. ring_out i (λ e. omega (arith, bit-under 32 i map narrow e))) in
         (λ c h e. w.fine c (omega arith) e, λ k. omega (arith, w.adds k, ap (times k) same))
-
-pub next_word : (m m' b c : ℕ) → m ≡ m' → Next m b c → Next m' b c
-next_word m m' b c e n = subst (λ (x : ℕ). Next x b c) e n

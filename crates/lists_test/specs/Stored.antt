@@ -8,7 +8,7 @@
 --   Adds         a word of lanes, with those of a list more
 --
 -- Assumes nothing.
-use Rattle.std.specs.Prelude.{◌≡◌, ℕ, ◌+◌, ◌-◌, ◌*◌, ◌/◌, ◌%◌, ◌^◌, ◌≤◌, ◌<◌, List, [], eqb, length, if◌then◌else◌}
+use Rattle.std.specs.Prelude.{◌≡◌, ℕ, ◌+◌, ◌-◌, ◌*◌, ◌/◌, ◌%◌, ◌^◌, ◌≤◌, ◌<◌, List, [], eqb, length, if◌then◌else◌, Option, Some, None}
 use Rattle.units.specs.Plain.{times}
 use Rattle.words.specs.Bits.{bit}
 use Rattle.words.specs.Words.{word_at}
@@ -16,8 +16,6 @@ use Rattle.table.specs.Layout.{cells, row_at}
 use Rattle.rings.specs.Rings.{ring_at}
 use Rattle.slot_lists.specs.Lists.{groups_at, back_at, start_word, map_word, ring_number}
 use Rattle.filing.specs.Filing.{flat}
-use Rattle.lists_test.specs.declared.Met.{Met}
-use Rattle.lists_test.specs.declared.Met.TheVariants.{Bad, Lanes}
 
 -- what was taken off the clock is whole slots, so the two may be counted apart
 abbrev pub slot_number : List ℕ → ℕ → ℕ → ℕ
@@ -67,10 +65,10 @@ NotListedYet before l = (k : ℕ) → bit k before + times k l ≤ 1
 abbrev pub Adds : ℕ → List ℕ → ℕ → Type 0
 Adds before l after = (k : ℕ) → bit k after ≡ bit k before + times k l
 
-unfoldable pub RingSays : List ℕ → ℕ → ℕ → ℕ → ℕ → Met → Type 0
-RingSays t i g at before Bad = RingFine t i g at → NotListedYet before (ring_at t i) → ⊥
-RingSays t i g at before (Lanes x) = RingFine t i g at × Adds before (ring_at t i) x
+unfoldable pub RingSays : List ℕ → ℕ → ℕ → ℕ → ℕ → Option ℕ → Type 0
+RingSays t i g at before None = RingFine t i g at → NotListedYet before (ring_at t i) → ⊥
+RingSays t i g at before (Some x) = RingFine t i g at × Adds before (ring_at t i) x
 
-unfoldable pub GroupSays : List ℕ → ℕ → ℕ → Met → Type 0
-GroupSays t g before Bad = GroupFine t g → NotListedYet before (flat 32 (ring_in t g)) → ⊥
-GroupSays t g before (Lanes x) = GroupFine t g × Adds before (flat 32 (ring_in t g)) x
+unfoldable pub GroupSays : List ℕ → ℕ → ℕ → Option ℕ → Type 0
+GroupSays t g before None = GroupFine t g → NotListedYet before (flat 32 (ring_in t g)) → ⊥
+GroupSays t g before (Some x) = GroupFine t g × Adds before (flat 32 (ring_in t g)) x

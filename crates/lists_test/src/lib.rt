@@ -12,15 +12,8 @@ ghost use Rattle.lists_test.specs.Stored.{FitsSlot, RingSays, GroupSays, ListsSt
 
 use rings::{entry, held};
 use slot_lists::{BACK, GROUPS, MAPS, STARTS, ring_number};
-use table::{LANES, next_present, row};
-use words::word;
-
-// The lanes met so far.
-#[derive(Clone, Copy)]
-pub enum Met {
-    Bad,
-    Lanes(u64),
-}
+use table::{LANES, row};
+use words::{SetBits, word};
 
 // 2^32: a word of lists, or of groups, is below it; and 2^16: no group is below 16.
 const END: u64 = 4294967296;
@@ -47,67 +40,59 @@ fn stands(t: &[u8], k: usize, g: u32, base: u64, at: u64) -> bool
     true
 }
 
-// The lanes of ring `i`, which keeps a list of group `g` for slot `at`; `before` are those met before.
-fn ring_met(t: &[u8], i: usize, g: u32, base: u64, at: u64, before: u64) -> Met
+// The lanes met once those of ring `i`, which keeps a list of group `g` for slot `at`, are added to those met before; none where one may not stand there.
+fn ring_met(t: &[u8], i: usize, g: u32, base: u64, at: u64, before: u64) -> Option<u64>
     requires { Long t.now × (i < 512) × (16 ≤ g) × (g ≤ 31) × (base ≡ back_at t.now / 2 ^ g) × (base < 2 ^ 36) }
     ensures { RingSays t.now i g at before result }
 {
     let n = held(t, i);
     if n == 0 {
-        return Met::Bad;
+        return None;
     }
     let mut met = before;
-    let mut j = 0;
-    while j < n {
+    for j in 0..n {
         let k = entry(t, i, j);
         if k >= LANES {
-            return Met::Bad;
+            return None;
         }
         if (met >> (k as u32)) % 2 == 1 {
-            return Met::Bad;
+            return None;
         }
         let fits = stands(t, k, g, base, at);
         if !fits {
-            return Met::Bad;
+            return None;
         }
         met += 1u64 << (k as u32);
-        j += 1;
     }
-    Met::Lanes(met)
+    Some(met)
 }
 
 // The lanes of group `g`, which has lanes; `back` was taken off the clock.
-fn group_met(t: &[u8], g: u32, back: u64, before: u64) -> Met
+fn group_met(t: &[u8], g: u32, back: u64, before: u64) -> Option<u64>
     requires { Long t.now × (16 ≤ g) × (g ≤ 31) × (back ≡ back_at t.now) × (back < 2 ^ 36) }
     ensures { GroupSays t.now g before result }
 {
     let map = word(t, MAPS + (g as usize));
     let start = word(t, STARTS + (g as usize));
     if map >= END {
-        return Met::Bad;
+        return None;
     }
     let own = start >> g;
     if own << g != start {
-        return Met::Bad;
+        return None;
     }
     let base = back >> g;
     let slot = own + base;
     let first = slot % 32;
     if (map >> (first as u32)) % 2 == 0 {
-        return Met::Bad;
+        return None;
     }
     let mut met = before;
-    let mut b = next_present(map, 0);
-    while b < LANES {
+    for b in SetBits(map) {
         let at = slot + ((b as u64) + 32 - first) % 32;
-        let r = ring_met(t, ring_number(g, b as u32), g, base, at, met);
-        match r {
-            Met::Bad => return Met::Bad,
-            Met::Lanes(x) => met = x,
-        }
-        b = next_present(map, b + 1);
+        met = ring_met(t, ring_number(g, b), g, base, at, met)?;
     }
-    Met::Lanes(met)
+    Some(met)
 }
 
 // Whether what is stored of the slot lists agrees with the lanes' own words, `lanes` being the word of those that hold records.
@@ -134,14 +119,11 @@ pub fn lists_good(t: &[u8], lanes: u64) -> bool
         return false;
     }
     let mut met: u64 = 0;
-    let mut g = next_present(groups, 0);
-    while g < LANES {
-        let r = group_met(t, g as u32, back, met);
-        match r {
-            Met::Bad => return false,
-            Met::Lanes(x) => met = x,
-        }
-        g = next_present(groups, g + 1);
+    for g in SetBits(groups) {
+        let Some(more) = group_met(t, g, back, met) else {
+            return false;
+        };
+        met = more;
     }
     if met != lanes {
         return false;

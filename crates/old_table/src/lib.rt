@@ -16,11 +16,12 @@ ghost use Rattle.good.specs.Pass.{PassSays};
 ghost use Rattle.old_table.specs.Old.{old_row_at, old_entry_at, old_ring, old_lane, OldTable};
 ghost use Rattle.old_table.specs.Tested.{OldLaneGood};
 
-use good::{Found, Pass, found_good, note};
+use good::{Found, found_good, note};
 use lane_test::{numbers_good, pace_good, time_good};
 use rings::END;
 use table::{CLOCK, Entry, FRAMING, LENGTHS, LaneRow, PRESENT, RATE_UNIT, ROW_WORDS, ROWS, cell};
-use units::{Bytes, Clock, Rate, not_after};
+use units::{Bytes, Clock, Rate};
+use words::SetBits;
 
 // The fixed size of such a table, in bytes: 45,056, where the slot lists end.
 pub const SIZE: usize = END;
@@ -79,8 +80,7 @@ fn lengths_good(t: &[u8], k: usize, l: LaneRow) -> bool
     let head = l.head;
     let count = l.count;
     let longest = l.longest.0;
-    let mut i = 0;
-    while i < count {
+    for i in 0..count {
         let length = record_at(t, k, head + i).length.0;
         if length < 1 {
             return false;
@@ -88,7 +88,6 @@ fn lengths_good(t: &[u8], k: usize, l: LaneRow) -> bool
         if length > longest {
             return false;
         }
-        i += 1;
     }
     true
 }
@@ -121,29 +120,26 @@ fn lane_good(t: &[u8], k: usize, l: LaneRow, v: Clock) -> bool
     true
 }
 
-// The pass over the lanes of the setup.
-fn lanes_good(t: &[u8], v: Clock) -> Pass
+// The pass over the lanes of the setup: what it found, or none where a lane is not good.
+fn lanes_good(t: &[u8], v: Clock) -> Option<Found>
     requires { Front t.now × (v.0 < 2 ^ 63) × (get_or (cells t.now) framing_word 0 ≤ 64) }
     ensures { PassSays v.0 (cells t.now) (old_lane (cells t.now)) (OldLaneGood v.0 (cells t.now)) result }
 {
-    let mut rest = cell(t, PRESENT);
     let mut found = Found {
         weights: 0,
         held: 0,
         eligible: false,
     };
-    while rest != 0 {
-        let k = u64::trailing_zeros(rest) as usize;
+    for lane in SetBits(cell(t, PRESENT)) {
+        let k = lane as usize;
         let l = row(t, k);
         let good = lane_good(t, k, l, v);
         if !good {
-            return Pass::Bad;
+            return None;
         }
         found = note(found, k, l, v);
-        // the lowest set bit is done
-        rest = rest & (rest - 1);
     }
-    Pass::Fine(found)
+    Some(found)
 }
 
 // Whether the bytes are a good table of that time.
@@ -154,14 +150,14 @@ pub fn good(t: &[u8]) -> bool
         return false;
     }
     let v = Clock(cell(t, CLOCK));
-    if not_after(Clock(CLOCK_END), v) {
+    if v >= Clock(CLOCK_END) {
         return false;
     }
     if cell(t, FRAMING) > MOST_FRAMING {
         return false;
     }
     match lanes_good(t, v) {
-        Pass::Bad => false,
-        Pass::Fine(f) => found_good(t, f),
+        None => false,
+        Some(f) => found_good(t, f),
     }
 }

@@ -58,10 +58,8 @@ pub fn base(t: &mut [u8]) {
 
 // Lane 0's 16 places: marks and lengths rise.
 pub fn fill(t: &mut [u8]) {
-    let mut i: u32 = 0;
-    while i < 16 {
+    for i in 0..16 {
         put(t, RECORDS + (i as usize), record(i, 100 + i));
-        i += 1;
     }
 }
 

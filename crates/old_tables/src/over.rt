@@ -1,5 +1,5 @@
 // Converting a case.
-use convert::{Converting, NEW_SIZE, convert};
+use convert::{NEW_SIZE, convert};
 use std::io::Stdout;
 
 // Room for a table and eight bytes behind it.
@@ -10,14 +10,7 @@ pub const MARK: u8 = 9;
 
 // Whether all bytes from `from` on are as they were.
 fn stays(new: &[u8], from: usize) -> bool {
-    let mut i = from;
-    while i < new.len() {
-        if new[i] != MARK {
-            return false;
-        }
-        i += 1;
-    }
-    true
+    new.iter().skip(from).all(|b| *b == MARK)
 }
 
 fn kept(out: Stdout, new: &[u8], from: usize) {
@@ -34,11 +27,11 @@ pub fn over(out: Stdout, name: &[u8], old: &[u8], new: &mut [u8]) {
     printed::word(out, b": ");
     let r = convert(old, new);
     match r {
-        Converting::Converted => {
+        Ok(()) => {
             printed::word(out, b"converted, the rest");
             kept(out, new, NEW_SIZE);
         }
-        Converting::Refused(x) => {
+        Err(x) => {
             printed::refusal(out, x);
             printed::word(out, b", all");
             kept(out, new, 0);

@@ -40,6 +40,9 @@ not-settings f o v n e = miss (0 ∷ 2 ∷ 3 ∷ []) 1 tt (subst (λ (g : PageFi
 pub not-edition : (f : PageField) → OneOf (1 ∷ 2 ∷ 3 ∷ []) (tag_of field.the_type f) → (n : ℕ) → f ≡ Edition n → ⊥
 not-edition f o n e = miss (1 ∷ 2 ∷ 3 ∷ []) 0 tt (subst (λ (g : PageField). OneOf (1 ∷ 2 ∷ 3 ∷ []) (tag_of field.the_type g)) e o)
 
+pub not-skipped : (f : PageField) → OneOf (0 ∷ 1 ∷ 3 ∷ []) (tag_of field.the_type f) → f ≡ Skipped → ⊥
+not-skipped f o e = miss (0 ∷ 1 ∷ 3 ∷ []) 2 tt (subst (λ (g : PageField). OneOf (0 ∷ 1 ∷ 3 ∷ []) (tag_of field.the_type g)) e o)
+
 -- ---- 0x7F
 
 module _ (s : List ℕ) (at : ℕ) (r : PageReply) where

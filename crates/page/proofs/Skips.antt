@@ -1,7 +1,7 @@
 -- How the walk over skipped fields stands at a place: the invariant of `past_skipped`'s loop, and what each field does to it.
 --
 --   Standing     the walk from here comes where the whole walk comes
---   stand-first  before the first field; stand-stop: where it stops; stand-next: behind a skipped field
+--   stand-first  before the first field; stand-stop: where it stops, at any field but a skipped one (stops); stand-next: behind a skipped field
 --
 -- Assumes nothing.
 use Prim.Native.Nat.{ℕ, zero, suc, ◌-◌, ◌≤◌, ◌<◌}
@@ -14,7 +14,8 @@ use Rattle.fields.proofs.Item.{stands}
 use Rattle.std.specs.Prelude.{if◌then◌else◌}
 use Rattle.page.specs.Fields.{PageItem, page_item_at}
 use Rattle.page.specs.Read.{is_skipped, skip_walk, past_skipped}
-use Rattle.page.specs.declared.parse.PageField.TheVariants.{Skipped}
+use Rattle.page.specs.declared.parse.PageField.{PageField}
+use Rattle.page.specs.declared.parse.PageField.TheVariants.{Edition, Settings, Skipped, End}
 
 pub record Standing (s : List ℕ) (at p : ℕ) : Type 0 where
   pub turns : ℕ
@@ -31,6 +32,12 @@ passed turns s at i = elim i [
 -- a field at which the walk stops, whatever follows
 abbrev pub Stops : List ℕ → ℕ → PageItem → Type 0
 Stops s p i = (turns : ℕ) → passed turns s p i ≡ p
+
+pub stops : (s : List ℕ) (p : ℕ) (f : PageField) (m : ℕ) → (f ≡ Skipped → ⊥) → Stops s p (whole_field f m)
+stops s p (Edition e) m isnt turns = refl
+stops s p (Settings v n) m isnt turns = refl
+stops s p Skipped m isnt turns = absurd (isnt refl)
+stops s p End m isnt turns = refl
 
 pub stopped : (turns : ℕ) (s : List ℕ) (p : ℕ) (i : PageItem) → page_item_at s p ≡ i → Stops s p i → skip_walk turns s p ≡ p
 unfolding skip_walk

@@ -1,32 +1,19 @@
 -- Laws of `page_tag`, `page_fits` and `page_field_of` of specs/Fields.antt: what they are at each tag.
 -- Assumes nothing.
-use Prim.Native.Nat.{ℕ, ◌≤◌, ◌<◌}
-use mathlib.Core.Path.{◌≡◌, refl}
-use mathlib.Core.Bool.{Bool, true, false, ◌||◌}
+use Prim.Native.Nat.{ℕ, ◌≤◌}
+use mathlib.Core.Path.{◌≡◌}
+use mathlib.Core.Bool.{true}
 use mathlib.Core.List.{List}
 use native.Mathlib.Omega.{arith}
-use borrow.Author.Tests.{ne_eqb, le-leb, lt-leb}
+use borrow.Author.Tests.{ne_eqb, le-leb}
 use lib.Dec.{eqb}
 use Rattle.fields.specs.Bytes.{big}
 use Rattle.page.specs.Fields.{page_tag, page_fits, page_field_of}
 use Rattle.page.specs.declared.parse.PageField.TheVariants.{Edition, Settings, Skipped, End}
 
 module _ (t : ℕ) where
-  pub known-edition : t ≡ 64 → page_tag t ≡ true
-  known-edition e = rw e
-
-  pub known-settings : t ≡ 65 → page_tag t ≡ true
-  known-settings e = rw e
-
   pub known-skipped : 128 ≤ t → page_tag t ≡ true
   known-skipped h = simp (ne_eqb t 64 (λ e. omega (arith, e)), ne_eqb t 65 (λ e. omega (arith, e)), ne_eqb t 127 (λ e. omega (arith, e)), le-leb 128 t h)
-
-  pub known-low : t < 128 → (t ≡ 64 → ⊥) → (t ≡ 65 → ⊥) → page_tag t ≡ eqb t 127
-  known-low h e f = simp (ne_eqb t 64 e, ne_eqb t 65 f, lt-leb 128 t h) (or-none (eqb t 127))
-    where
-      or-none : (b : Bool) → (b || false) ≡ b
-      or-none true = refl
-      or-none false = refl
 
   module _ (n : ℕ) where
     pub fitting-edition : t ≡ 64 → page_fits t n ≡ eqb n 2

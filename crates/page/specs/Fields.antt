@@ -8,14 +8,12 @@
 --   page_item_of    the code's answer as a `PageItem`
 --
 -- Assumes nothing.
-use Rattle.std.specs.Prelude.{ℕ, Bool, true, ◌||◌, List, leb, eqb, if◌then◌else◌}
+use Rattle.std.specs.Prelude.{ℕ, Bool, true, ◌||◌, List, Result, leb, eqb, if◌then◌else◌}
 use Rattle.fields.specs.Bytes.{big}
-use Rattle.fields.specs.Item.{Item, whole_field, bad_field, FieldKinds, item_at}
-use Rattle.rules.specs.Reads.{number, place_of}
+use Rattle.fields.specs.Item.{Item, FieldKinds, item_at, item_told}
+use Rattle.rules.specs.declared.Refusal.{Refusal}
 use Rattle.page.specs.declared.parse.PageField.{PageField}
 use Rattle.page.specs.declared.parse.PageField.TheVariants.{Edition, Settings, Skipped, End}
-use Rattle.page.specs.declared.parse.Parsed.{Parsed}
-use Rattle.page.specs.declared.parse.Parsed.TheVariants.{Whole, Refused}
 
 -- R19.3: A page knows 0x40, 0x41, 0x7F, and every tag of 0x80 and above, which it skips.
 abbrev pub page_tag : ℕ → Bool
@@ -40,6 +38,5 @@ abbrev pub page_item_at : List ℕ → ℕ → PageItem
 page_item_at = item_at page_kinds
 
 -- The code's answer, its refusal by number.
-abbrev pub page_item_of : Parsed → PageItem
-page_item_of (Whole f next) = whole_field f next
-page_item_of (Refused x) = bad_field (number x) (place_of x)
+abbrev pub page_item_of : Result (PageField × ℕ) Refusal → PageItem
+page_item_of = item_told

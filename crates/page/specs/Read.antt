@@ -11,17 +11,15 @@
 -- The setup inside is what `read_setup` (crate `plan`, specs/Read.antt) says of the bytes of its value.
 --
 -- Assumes nothing.
-use Rattle.std.specs.Prelude.{ℕ, zero, suc, ◌+◌, ◌-◌, Bool, true, false, List, ltb, length, take, drop, if◌then◌else◌}
+use Rattle.std.specs.Prelude.{ℕ, zero, suc, ◌+◌, ◌-◌, Bool, true, false, List, ltb, length, take, drop, Result, Ok, Err, if◌then◌else◌}
 use Rattle.std.proofs.Math.Option.{Option, some, none}
 use Rattle.fields.specs.Item.{whole_field, bad_field}
 use Rattle.rules.specs.State.{Setting}
 use Rattle.rules.specs.Reads.{number, place_of}
+use Rattle.rules.specs.declared.Refusal.{Refusal}
 use Rattle.plan.specs.Read.{read_setup, settings, SetupReply, setup_refused, setup_read}
-use Rattle.plan.specs.declared.Plan.{Plan}
 use Rattle.page.specs.Fields.{PageItem, page_item_at}
 use Rattle.page.specs.declared.Reading.{Reading}
-use Rattle.page.specs.declared.Outcome.{Outcome}
-use Rattle.page.specs.declared.Outcome.TheVariants.{Read, Refused}
 use Rattle.page.specs.declared.parse.PageField.{PageField}
 use Rattle.page.specs.declared.parse.PageField.TheVariants.{Edition, Settings, Skipped, End}
 
@@ -111,13 +109,10 @@ read_page s = page_begun s (page_item_at s 0)
 
 -- ---- the code's answer
 
--- What came of reading, a refusal by its number. Beside a refusal the plan means nothing.
-abbrev pub page_came : Plan → Outcome → PageReply
-page_came p (Read edition) = page_read edition p.format (settings p) p.count
-page_came p (Refused x) = page_refused (number x) (place_of x)
-
-abbrev pub page_reply : Reading → PageReply
-page_reply r = page_came r.plan r.outcome
+-- The code's answer, a refusal by its number.
+abbrev pub page_reply : Result Reading Refusal → PageReply
+page_reply (Ok r) = page_read r.edition r.plan.format (settings r.plan) r.plan.count
+page_reply (Err x) = page_refused (number x) (place_of x)
 
 -- How far from a value's start a place of it is; 0 where there is none.
 abbrev pub distance : Option ℕ → ℕ

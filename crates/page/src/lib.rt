@@ -13,40 +13,19 @@ ghost use Rattle.std.specs.Prelude.{◌≡◌, true, ◌+◌, ◌^◌, ◌<◌};
 ghost use Rattle.rules.specs.Reads.{number, place_of};
 ghost use Rattle.plan.specs.Read.{settings};
 ghost use Rattle.plan.specs.Accepted.{setup_refusals, among};
-ghost use Rattle.page.specs.Read.{page_read, page_refused, past_skipped, end_at, distance, moved, settings_at, read_page, page_reply};
+ghost use Rattle.page.specs.Read.{page_read, past_skipped, end_at, distance, moved, settings_at, read_page, page_reply};
 
 pub mod parse;
 
-use parse::{PageField, Parsed};
+use parse::PageField;
 use plan::Plan;
 use rules::Refusal;
 
-#[derive(Clone, Copy)]
-pub enum Outcome {
-    // The page is read; its edition.
-    Read(u16),
-    Refused(Refusal),
-}
-
-// The page's plan and what came of reading it. Beside a refusal the plan means nothing.
+// A page that was read: the plan of its setup, and its edition.
 #[derive(Clone, Copy)]
 pub struct Reading {
     pub plan: Plan,
-    pub outcome: Outcome,
-}
-
-fn refused(x: Refusal) -> Reading
-    ensures { page_reply result ≡ page_refused (number x) (place_of x) }
-{
-    let lanes = plan::no_lanes();
-    Reading {
-        plan: Plan {
-            format: 0,
-            lanes,
-            count: 0,
-        },
-        outcome: Outcome::Refused(x),
-    }
+    pub edition: u16,
 }
 
 // The place behind the skipped fields that stand from a place on.
@@ -54,19 +33,10 @@ fn past_skipped(s: &[u8], at: usize) -> usize
     ensures { result ≡ past_skipped s.now at }
 {
     let mut p = at;
-    loop {
-        match parse::parsed_field(s, p) {
-            Parsed::Refused(_) => return p,
-            Parsed::Whole(field, next) => match field {
-                PageField::Edition(_) => return p,
-                PageField::Settings(_, _) => return p,
-                PageField::End => return p,
-                PageField::Skipped => {
-                    p = next;
-                }
-            },
-        }
+    while let Ok((PageField::Skipped, next)) = parse::parsed_field(s, p) {
+        p = next;
     }
+    p
 }
 
 // A refusal of a value's bytes, its place counted from where the value's own are.
@@ -91,61 +61,41 @@ fn moved(by: usize, x: Refusal) -> Refusal
 }
 
 // The page's 0x7F, which is to stand here as its last bytes.
-fn end_at(s: &[u8], at: usize, edition: u16, plan: Plan) -> Reading
+fn end_at(s: &[u8], at: usize, edition: u16, plan: Plan) -> Result<Reading, Refusal>
     ensures { page_reply result ≡ end_at s.now at (page_read edition plan.format (settings plan) plan.count) }
 {
-    match parse::parsed_field(s, at) {
-        Parsed::Refused(x) => refused(x),
-        Parsed::Whole(field, next) => {
-            let PageField::End = field else {
-                return refused(Refusal::OutOfOrder(at));
-            };
-            if next < s.len() {
-                return refused(Refusal::OutOfOrder(next));
-            }
-            Reading {
-                plan,
-                outcome: Outcome::Read(edition),
-            }
-        }
+    let (field, next) = parse::parsed_field(s, at)?;
+    let PageField::End = field else {
+        return Err(Refusal::OutOfOrder(at));
+    };
+    if next < s.len() {
+        return Err(Refusal::OutOfOrder(next));
     }
+    Ok(Reading { plan, edition })
 }
 
 // The page from its 0x41 on, which is to stand here. The setup inside ends where its value does.
-fn settings_at(s: &[u8], edition: u16, at: usize) -> Reading
+fn settings_at(s: &[u8], edition: u16, at: usize) -> Result<Reading, Refusal>
     ensures { page_reply result ≡ settings_at s.now edition at }
 {
-    match parse::parsed_field(s, at) {
-        Parsed::Refused(x) => refused(x),
-        Parsed::Whole(field, next) => {
-            let PageField::Settings(value, n) = field else {
-                return refused(Refusal::OutOfOrder(at));
-            };
-            let end = value + n;
-            let inner = plan::read_setup(&s[value..end]);
-            let outcome = inner.outcome;
-            match outcome {
-                plan::Outcome::Refused(x) => refused(moved(value, x)),
-                plan::Outcome::Read(_) => {
-                    let plan = inner.plan;
-                    end_at(s, past_skipped(s, next), edition, plan)
-                }
-            }
-        }
+    let (field, next) = parse::parsed_field(s, at)?;
+    let PageField::Settings(value, n) = field else {
+        return Err(Refusal::OutOfOrder(at));
+    };
+    let end = value + n;
+    match plan::read_setup(&s[value..end]) {
+        Ok(inner) => end_at(s, past_skipped(s, next), edition, inner.plan),
+        Err(x) => Err(moved(value, x)),
     }
 }
 
 // A page that is the whole input.
-pub fn read_page(s: &[u8]) -> Reading
+pub fn read_page(s: &[u8]) -> Result<Reading, Refusal>
     ensures { page_reply result ≡ read_page s.now }
 {
-    match parse::parsed_field(s, 0) {
-        Parsed::Refused(x) => refused(x),
-        Parsed::Whole(field, next) => {
-            let PageField::Edition(edition) = field else {
-                return refused(Refusal::OutOfOrder(0));
-            };
-            settings_at(s, edition, past_skipped(s, next))
-        }
-    }
+    let (field, next) = parse::parsed_field(s, 0)?;
+    let PageField::Edition(edition) = field else {
+        return Err(Refusal::OutOfOrder(0));
+    };
+    settings_at(s, edition, past_skipped(s, next))
 }

@@ -1,8 +1,8 @@
 // One field of a settings page, taken apart: refusals 1 to 3.
-ghost use Rattle.std.specs.Prelude.{◌≡◌, true, ◌+◌, ◌≤◌, length};
-ghost use Rattle.page.specs.Fields.{page_tag, page_fits, page_field_of, page_item_at, page_item_of};
+ghost use Rattle.std.specs.Prelude.{◌≡◌};
+ghost use Rattle.page.specs.Fields.{page_kinds, page_item_at, page_item_of};
 
-use fields::Field;
+use fields::Fields;
 use rules::Refusal;
 
 pub const EDITION: u8 = 0x40;
@@ -23,67 +23,40 @@ pub enum PageField {
     End,
 }
 
-#[derive(Clone, Copy)]
-pub enum Parsed {
-    // A whole field, and the place after it.
-    Whole(PageField, usize),
-    Refused(Refusal),
-}
+// What a page knows of its fields.
+pub struct Pages;
 
-pub fn known(tag: u8) -> bool
-    ensures { result ≡ page_tag tag }
-{
-    if tag >= SKIPPED {
-        return true;
-    }
-    match tag {
-        EDITION => true,
-        SETTINGS => true,
-        _ => tag == END,
-    }
-}
+impl Fields for Pages {
+    type Taken = PageField;
 
-// Whether a length is right for a tag that is known.
-pub fn fitting(tag: u8, n: usize) -> bool
-    ensures { result ≡ page_fits tag n }
-{
-    match tag {
-        EDITION => n == 2,
-        END => n == 0,
-        _ => true,
-    }
-}
+    ghost kinds = { page_kinds };
 
-fn field_of(s: &[u8], tag: u8, at: usize, n: usize) -> PageField
-    requires { (page_fits tag n ≡ true) × (at + n ≤ length s.now) }
-    ensures { result ≡ page_field_of s.now tag at n }
-{
-    match tag {
-        EDITION => PageField::Edition(fields::u16_at(s, at)),
-        SETTINGS => PageField::Settings(at, n),
-        END => PageField::End,
-        _ => PageField::Skipped,
+    fn known(tag: u8) -> bool {
+        tag >= SKIPPED || matches!(tag, EDITION | SETTINGS | END)
     }
-}
 
-// The field of a page at a place.
-pub fn parsed_field(s: &[u8], at: usize) -> Parsed
-    ensures { page_item_of result ≡ page_item_at s.now at }
-{
-    match fields::field_at(s, at) {
-        Field::Nothing => Parsed::Refused(Refusal::Cut(s.len())),
-        Field::Cut => Parsed::Refused(Refusal::Cut(at)),
-        Field::Header { tag, value, length } => {
-            if !known(tag) {
-                return Parsed::Refused(Refusal::UnknownTag(at));
-            }
-            if !fitting(tag, length) {
-                return Parsed::Refused(Refusal::WrongLength(at));
-            }
-            if !fields::fits(s, value, length) {
-                return Parsed::Refused(Refusal::Cut(at));
-            }
-            Parsed::Whole(field_of(s, tag, value, length), value + length)
+    // Whether a length is right for a tag that is known.
+    fn fitting(tag: u8, n: usize) -> bool {
+        match tag {
+            EDITION => n == 2,
+            END => n == 0,
+            _ => true,
         }
     }
+
+    fn taken(s: &[u8], tag: u8, at: usize, n: usize) -> PageField {
+        match tag {
+            EDITION => PageField::Edition(fields::u16_at(s, at)),
+            SETTINGS => PageField::Settings(at, n),
+            END => PageField::End,
+            _ => PageField::Skipped,
+        }
+    }
+}
+
+// The field of a page at a place, and the place after it.
+pub fn parsed_field(s: &[u8], at: usize) -> Result<(PageField, usize), Refusal>
+    ensures { page_item_of result ≡ page_item_at s.now at }
+{
+    fields::parsed::<Pages>(s, at)
 }

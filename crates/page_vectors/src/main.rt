@@ -12,8 +12,9 @@
 
 ghost use Rattle.std.specs.Prelude.{◌≤◌, ◌<◌, length};
 
-use page::{Outcome, Reading};
+use page::Reading;
 use printed_plan::{number, word};
+use rules::Refusal;
 use std::io::Stdout;
 
 // The number of a page's bytes stands before it.
@@ -22,17 +23,16 @@ const FRAME: usize = 2;
 // Room for all frames.
 const FRAMES: usize = 65536;
 
-fn print_reading(out: Stdout, r: Reading) {
-    let outcome = r.outcome;
-    match outcome {
-        Outcome::Read(edition) => {
+fn print_reading(out: Stdout, read: Result<Reading, Refusal>) {
+    match read {
+        Ok(r) => {
             let p = r.plan;
-            number(out, b"edition ", edition as u64);
+            number(out, b"edition ", r.edition as u64);
             number(out, b", format ", p.format as u64);
             number(out, b", lanes ", p.count as u64);
             printed_plan::lanes(out, p)
         }
-        Outcome::Refused(x) => printed_plan::refusal(out, x),
+        Err(x) => printed_plan::refusal(out, x),
     }
     word(out, b"\n");
 }

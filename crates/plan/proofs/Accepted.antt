@@ -14,18 +14,17 @@ use native.Mathlib.Omega.{arith}
 use borrow.Author.Tests.{ltb-false}
 use lib.Dec.{ltb}
 use lib.ListN.{length}
-use Rattle.std.specs.Prelude.{if◌then◌else◌}
+use Rattle.std.specs.Prelude.{Ok, if◌then◌else◌}
 use Rattle.units.proofs.Bools.{true-false}
 use Rattle.rules.specs.State.{Setting}
 use Rattle.rules.proofs.Figures.{framing-bound, framed-by}
 use Rattle.fields.specs.Item.{whole_field, bad_field}
 use Rattle.plan.specs.Fields.{SetupItem}
 use Rattle.plan.specs.Judge.{known_format, judged_at, seen_after}
-use Rattle.plan.specs.Read.{SetupReply, setup_read, setup_refused, nothing_seen, no_lanes, placed, setup_walk, read_plan, setup_closed, read_setup, settings, setup_came, setup_reply}
+use Rattle.plan.specs.Read.{SetupReply, setup_read, setup_refused, nothing_seen, no_lanes, placed, setup_walk, read_plan, setup_closed, read_setup, settings, setup_reply}
 use Rattle.plan.specs.Accepted.{Laid, framed, framed_by, placed_all, shared_behind, fields_of, PlanWithin}
 use Rattle.plan.specs.declared.judge.Seen.{Seen}
 use Rattle.plan.specs.declared.Reading.{Reading}
-use Rattle.plan.specs.declared.Outcome.TheVariants.{Read}
 use Rattle.plan.specs.declared.parse.SetupField.{SetupField}
 use Rattle.plan.specs.declared.parse.SetupField.TheVariants.{Format, Lane, Framing, Shared, End}
 use Rattle.plan.proofs.Turn.{turned}
@@ -150,10 +149,10 @@ module _ (s : List ℕ) (v : ℕ) (gs : List Setting) (n p : ℕ) where
   unfolding read_setup
   accepted-whole h = whole-reply (read_plan s 0) refl h
 
--- what a caller of `read_plan` or of `read_setup` has: the contract's equation, and the outcome that it found
-pub accepted-plan : (r : Reading) (s : List ℕ) (at p : ℕ) → setup_reply r ≡ read_plan s at → r.outcome ≡ Read p → PlanWithin s at r.plan.format (settings r.plan) r.plan.count p
-accepted-plan r s at p e o = accepted s at r.plan.format (settings r.plan) r.plan.count p (sym e ∙ ap (setup_came r.plan) o)
+-- what a caller of `read_plan` or of `read_setup` has where a setup was read: the contract's equation
+pub accepted-plan : (r : Reading) (s : List ℕ) (at : ℕ) → setup_reply (Ok r) ≡ read_plan s at → PlanWithin s at r.plan.format (settings r.plan) r.plan.count r.next
+accepted-plan r s at e = accepted s at r.plan.format (settings r.plan) r.plan.count r.next (sym e)
 
-pub accepted-setup : (r : Reading) (s : List ℕ) (p : ℕ) → setup_reply r ≡ read_setup s → r.outcome ≡ Read p
-    → PlanWithin s 0 r.plan.format (settings r.plan) r.plan.count p × (p ≡ length s)
-accepted-setup r s p e o = accepted-whole s r.plan.format (settings r.plan) r.plan.count p (sym e ∙ ap (setup_came r.plan) o)
+pub accepted-setup : (r : Reading) (s : List ℕ) → setup_reply (Ok r) ≡ read_setup s
+    → PlanWithin s 0 r.plan.format (settings r.plan) r.plan.count r.next × (r.next ≡ length s)
+accepted-setup r s e = accepted-whole s r.plan.format (settings r.plan) r.plan.count r.next (sym e)

@@ -12,16 +12,15 @@ use native.Mathlib.Omega.{arith}
 use borrow.Author.Tests.{le-leb, le-ltb, eq-eqb, ne_eqb}
 use lib.ListN.{length, set, length-set}
 use lib.Seq.{get_or-set_same, set-set}
+use Rattle.std.specs.Prelude as core
+use Rattle.std.specs.Prelude.{Some, None}
 use Rattle.rules.specs.State.{Setting, no_setting, setting_at}
 use Rattle.fields.specs.Item.{whole_field}
 use Rattle.plan.specs.Fields.{setup_item_at}
 use Rattle.plan.specs.Judge.{given, longest_of, longest_right, most_framing, misplaced, Inside, over, judged_at, seen_after}
 use Rattle.plan.specs.Read.{SetupReply, setup_read, nothing_seen, no_lanes, as_shared, setup_walk, read_plan}
 use Rattle.plan.specs.Accepted.{Laid, LaneFields, Rising, LaneWithin, LanesWithin, weighed, given_by, framed, framed_by, placed_all, shared_behind, fields_of, AcceptedSetup}
-use Rattle.plan.specs.declared.judge.Fault.TheVariants.{NoFault}
 use Rattle.plan.specs.declared.judge.Seen.{Seen}
-use Rattle.plan.specs.declared.parse.Longest.{Longest}
-use Rattle.plan.specs.declared.parse.Longest.TheVariants.{Given, Default}
 use Rattle.plan.specs.declared.parse.LaneField.{LaneField}
 use Rattle.plan.specs.declared.parse.SetupField.{SetupField}
 use Rattle.plan.specs.declared.parse.SetupField.TheVariants.{Format, Lane, Framing, Shared, End}
@@ -35,9 +34,9 @@ inside l w =
     outside-none l (omega (arith, w.number)) (simp (le-leb 1 l.weight n.weight_low, le-leb l.weight 1024 n.weight_high))
     (right l.longest n.longest_low n.longest_high)
   where
-    right : (x : Longest) → 64 ≤ longest_of 1 x → longest_of 1 x ≤ 1500 → longest_right x ≡ true
-    right (Given k) a b = simp (le-leb 64 k a, le-leb k 1500 b)
-    right Default a b = refl
+    right : (x : core.Option ℕ) → 64 ≤ longest_of 1 x → longest_of 1 x ≤ 1500 → longest_right x ≡ true
+    right (Some k) a b = simp (le-leb 64 k a, le-leb k 1500 b)
+    right None a b = refl
 
 module _ (s : List ℕ) where
   -- a turn at a field that stands and is taken
@@ -94,7 +93,7 @@ module _ (s : List ℕ) where
   lanes-read turns seen gs at (x ∷ xs) p size b low f r a w c =
       let l = x.lane in
       let placed-right : misplaced seen (Lane l) ≡ false = simp (b, le-ltb l.lane seen.floor r.0) in
-      let under : over seen (Lane l) ≡ NoFault = rw (le-ltb 1024 (seen.total + l.weight) (omega (arith, w))) in
+      let under : over seen (Lane l) ≡ None = rw (le-ltb 1024 (seen.total + l.weight) (omega (arith, w))) in
       let j = judged-whole seen s at (Lane l) f.0 f.1 placed-right (inside l a.0) under in
       let e : seen.count + 1 + length xs ≡ seen.count + length (x ∷ xs) = omega arith in
       let answer = setup_read seen.format (placed_all seen.format seen.framing (whole-lane seen gs l size a.0.number x.shared) xs) (seen.count + length (x ∷ xs)) p in

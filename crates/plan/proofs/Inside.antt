@@ -1,21 +1,18 @@
 -- What a test of specs/Judge.antt that was passed says of the numbers.
 -- Assumes nothing.
 use Prim.Native.Nat.{ℕ, ◌+◌, ◌≤◌}
-use mathlib.Core.Path.{◌≡◌, refl, sym, ap, ◌∙◌}
-use mathlib.Core.Option.{none, some}
+use mathlib.Core.Path.{◌≡◌, refl}
 use mathlib.Core.Bool.{Bool, true, false, not, ◌||◌}
 use native.Mathlib.Omega.{arith}
 use borrow.Author.Tests.{leb-true, ltb-false, eqb-true}
 use lib.Dec.{leb, ltb, eqb}
-use Rattle.std.specs.Prelude.{if◌then◌else◌}
+use Rattle.std.specs.Prelude.{Option, Some, None, if◌then◌else◌}
 use Rattle.units.proofs.Bools.{and_parts, or_parts, true-false}
 use Rattle.rules.specs.Setup.{InNumbers}
-use Rattle.plan.specs.Judge.{known_format, longest_of, longest_right, given, last_lane, most_framing, within, misplaced, lane_outside, Inside, over, faults}
+use Rattle.plan.specs.Judge.{known_format, longest_of, longest_right, given, last_lane, most_framing, within, misplaced, lane_outside, Inside, over}
 use Rattle.plan.specs.declared.judge.Fault.{Fault}
-use Rattle.plan.specs.declared.judge.Fault.TheVariants.{NoFault, BadFormat, BadLane, BadWeight, BadLongest, BadFraming, TotalOver}
+use Rattle.plan.specs.declared.judge.Fault.TheVariants.{BadFormat, BadLane, BadWeight, BadLongest, BadFraming, TotalOver}
 use Rattle.plan.specs.declared.judge.Seen.{Seen}
-use Rattle.plan.specs.declared.parse.Longest.{Longest}
-use Rattle.plan.specs.declared.parse.Longest.TheVariants.{Given, Default}
 use Rattle.plan.specs.declared.parse.LaneField.{LaneField}
 use Rattle.plan.specs.declared.parse.SetupField.TheVariants.{Format, Lane, Framing, Shared}
 
@@ -27,15 +24,15 @@ default-right : (b : Bool) → (64 ≤ (if b then 1500 else 576)) × ((if b then
 default-right true = (omega arith, omega arith)
 default-right false = (omega arith, omega arith)
 
-longest-true : (v : ℕ) (x : Longest) → longest_right x ≡ true → (64 ≤ longest_of v x) × (longest_of v x ≤ 1500)
-longest-true v (Given n) h = within-true 64 1500 n h
-longest-true v Default h = default-right (eqb v 1)
+longest-true : (v : ℕ) (x : Option ℕ) → longest_right x ≡ true → (64 ≤ longest_of v x) × (longest_of v x ≤ 1500)
+longest-true v (Some n) h = within-true 64 1500 n h
+longest-true v None h = default-right (eqb v 1)
 
 -- a fault is one, and no other
-pub fault-none : {A : Type 0} {x : Fault} (row : ℕ × ℕ) → faults x ≡ some row → x ≡ NoFault → A
-fault-none row h e = absurd (let z : some row ≡ none = sym h ∙ ap faults e in let y : ◌≡◌ {A = ℕ} 0 1 = cc in omega arith)
+pub fault-none : {A : Type 0} {x : Fault} → Some x ≡ None → A
+fault-none e = absurd (cc)
 
-module _ (l : LaneField) (h : lane_outside l ≡ NoFault) where
+module _ (l : LaneField) (h : lane_outside l ≡ None) where
   abbrev number : Bool
   number = leb l.lane last_lane
 
@@ -45,10 +42,10 @@ module _ (l : LaneField) (h : lane_outside l ≡ NoFault) where
   abbrev longest : Bool
   longest = longest_right l.longest
 
-  by_tests_lem : (a b c : Bool) → (if not a then BadLane else (if not b then BadWeight else (if not c then BadLongest else NoFault))) ≡ NoFault → (a ≡ true) × ((b ≡ true) × (c ≡ true))
-  by_tests_lem false b c e = fault-none _ refl e
-  by_tests_lem true false c e = fault-none _ refl e
-  by_tests_lem true true false e = fault-none _ refl e
+  by_tests_lem : (a b c : Bool) → (if not a then Some BadLane else (if not b then Some BadWeight else (if not c then Some BadLongest else None))) ≡ None → (a ≡ true) × ((b ≡ true) × (c ≡ true))
+  by_tests_lem false b c e = fault-none e
+  by_tests_lem true false c e = fault-none e
+  by_tests_lem true true false e = fault-none e
   by_tests_lem true true true e = (refl, (refl, refl))
 
   tests : (number ≡ true) × ((weight ≡ true) × (longest ≡ true))
@@ -81,24 +78,24 @@ module _ (seen : Seen) (l : LaneField) where
   pub is-rising : misplaced seen (Lane l) ≡ false → seen.floor ≤ l.lane
   is-rising h = ltb-false l.lane seen.floor (or_parts (not seen.begun) (ltb l.lane seen.floor) h).1
 
-  by-test : (b : Bool) → (if b then TotalOver else NoFault) ≡ NoFault → b ≡ false
-  by-test true e = fault-none _ refl e
+  by-test : (b : Bool) → (if b then Some TotalOver else None) ≡ None → b ≡ false
+  by-test true e = fault-none e
   by-test false e = refl
 
-  pub is-under : over seen (Lane l) ≡ NoFault → seen.total + l.weight ≤ 1024
+  pub is-under : over seen (Lane l) ≡ None → seen.total + l.weight ≤ 1024
   is-under h = ltb-false 1024 (seen.total + l.weight) (by-test (ltb 1024 (seen.total + l.weight)) h)
 
 -- a format is a known one
-format-test : (b : Bool) → (if b then NoFault else BadFormat) ≡ NoFault → b ≡ true
+format-test : (b : Bool) → (if b then None else Some BadFormat) ≡ None → b ≡ true
 format-test true e = refl
-format-test false e = fault-none _ refl e
+format-test false e = fault-none e
 
 pub format-known : (v : ℕ) → Inside (Format v) → known_format v ≡ true
 format-known v h = format-test (known_format v) h
 
 -- and the framing bytes are at most 64
-framing-test : (b : Bool) → (if b then BadFraming else NoFault) ≡ NoFault → b ≡ false
-framing-test true e = fault-none _ refl e
+framing-test : (b : Bool) → (if b then Some BadFraming else None) ≡ None → b ≡ false
+framing-test true e = fault-none e
 framing-test false e = refl
 
 pub framing-small : (h : ℕ) → Inside (Framing h) → h ≤ 64

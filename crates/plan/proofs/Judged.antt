@@ -6,38 +6,32 @@ use mathlib.Core.Bool.{true, false}
 use mathlib.Core.List.{List}
 use mathlib.Core.Option.{Option, some}
 use borrow.Author.Tests.{le-leb, lt-leb}
-use lib.Dec.{leb}
+use Rattle.std.specs.Prelude as core
+use Rattle.std.specs.Prelude.{Some, None}
 use Rattle.fields.specs.Item.{whole_field, bad_field}
 use Rattle.plan.specs.Fields.{setup_item_at}
 use Rattle.plan.specs.Judge.{longest_right, last_lane, within, misplaced, lane_outside, outside, Inside, over, faulted, judged, judged_at}
 use Rattle.plan.specs.declared.judge.Fault.{Fault}
-use Rattle.plan.specs.declared.judge.Fault.TheVariants.{NoFault, BadLane, BadWeight, BadLongest}
+use Rattle.plan.specs.declared.judge.Fault.TheVariants.{BadLane, BadWeight, BadLongest}
 use Rattle.plan.specs.declared.judge.Seen.{Seen}
 use Rattle.plan.specs.declared.parse.LaneField.{LaneField}
 use Rattle.plan.specs.declared.parse.SetupField.{SetupField}
 
-module _ (low high n : ℕ) where
-  pub within-above : low ≤ n → within low high n ≡ leb n high
-  within-above h = rw (le-leb low n h)
-
-  pub within-below : n < low → within low high n ≡ false
-  within-below h = rw (lt-leb low n h)
-
 module _ (l : LaneField) where
-  pub outside-number : last_lane < l.lane → lane_outside l ≡ BadLane
+  pub outside-number : last_lane < l.lane → lane_outside l ≡ Some BadLane
   unfolding lane_outside
   outside-number h = rw (lt-leb l.lane last_lane h)
 
   module _ (h : l.lane ≤ last_lane) where
-    pub outside-weight : within 1 1024 l.weight ≡ false → lane_outside l ≡ BadWeight
+    pub outside-weight : within 1 1024 l.weight ≡ false → lane_outside l ≡ Some BadWeight
     unfolding lane_outside
     outside-weight w = simp (le-leb l.lane last_lane h, w)
 
-    pub outside-longest : within 1 1024 l.weight ≡ true → longest_right l.longest ≡ false → lane_outside l ≡ BadLongest
+    pub outside-longest : within 1 1024 l.weight ≡ true → longest_right l.longest ≡ false → lane_outside l ≡ Some BadLongest
     unfolding lane_outside
     outside-longest w g = simp (le-leb l.lane last_lane h, w, g)
 
-    pub outside-none : within 1 1024 l.weight ≡ true → longest_right l.longest ≡ true → lane_outside l ≡ NoFault
+    pub outside-none : within 1 1024 l.weight ≡ true → longest_right l.longest ≡ true → lane_outside l ≡ None
     unfolding lane_outside
     outside-none w g = simp (le-leb l.lane last_lane h, w, g)
 
@@ -55,8 +49,8 @@ module _ (seen : Seen) (s : List ℕ) (at : ℕ) where
     unfolding judged_at
     judged-faults m = ap (judged seen at) h ∙ simp m
 
-    pub judged-whole : misplaced seen f ≡ false → Inside f → over seen f ≡ NoFault → judged_at seen s at ≡ whole_field f next
+    pub judged-whole : misplaced seen f ≡ false → Inside f → over seen f ≡ None → judged_at seen s at ≡ whole_field f next
     judged-whole m o w =
         judged-faults m
-        ∙ ap (λ (x : Fault). faulted at x (faulted at (over seen f) (whole_field f next))) o
-        ∙ ap (λ (x : Fault). faulted at x (whole_field f next)) w
+        ∙ ap (λ (x : core.Option Fault). faulted at x (faulted at (over seen f) (whole_field f next))) o
+        ∙ ap (λ (x : core.Option Fault). faulted at x (whole_field f next)) w

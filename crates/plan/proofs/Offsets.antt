@@ -15,38 +15,37 @@ use borrow.Author.Tests.{eqb-true}
 use lib.Dec.{leb, ltb, eqb}
 use Rattle.fields.specs.Bytes.{byte_at, big}
 use Rattle.fields.proofs.Item.{Stands}
-use Rattle.std.specs.Prelude.{if◌then◌else◌}
+use Rattle.std.specs.Prelude.{Option, Some, None, if◌then◌else◌}
 use Rattle.units.proofs.Bools.{true-false}
 use Rattle.plan.specs.Fields.{setup_kinds, lane_field_at, longest_at, setup_field_of}
 use Rattle.plan.specs.Judge.{known_format, longest_right, last_lane, most_framing, within, lane_outside, outside, over, offset}
 use Rattle.plan.specs.declared.judge.Fault.{Fault}
-use Rattle.plan.specs.declared.judge.Fault.TheVariants.{NoFault, BadFormat, BadLane, BadWeight, BadLongest, BadFraming, TotalOver}
+use Rattle.plan.specs.declared.judge.Fault.TheVariants.{BadFormat, BadLane, BadWeight, BadLongest, BadFraming, TotalOver}
 use Rattle.plan.specs.declared.judge.Seen.{Seen}
-use Rattle.plan.specs.declared.parse.Longest.{Longest}
 use Rattle.plan.specs.declared.parse.SetupField.{SetupField}
 use Rattle.plan.specs.declared.parse.SetupField.TheVariants.{Format, Lane, Framing, Shared, End}
 use Rattle.plan.proofs.Tags.{lane-size, lane-three, longest-short}
 
-format-in : (b : Bool) → offset (if b then NoFault else BadFormat) ≤ 3
+format-in : (b : Bool) → offset (if b then None else Some BadFormat) ≤ 3
 format-in true = omega arith
 format-in false = omega arith
 
-framing-in : (b : Bool) → offset (if b then BadFraming else NoFault) ≤ 3
+framing-in : (b : Bool) → offset (if b then Some BadFraming else None) ≤ 3
 framing-in true = omega arith
 framing-in false = omega arith
 
-weights-in : (b : Bool) → offset (if b then TotalOver else NoFault) ≤ 4
+weights-in : (b : Bool) → offset (if b then Some TotalOver else None) ≤ 4
 weights-in true = omega arith
 weights-in false = omega arith
 
 -- the longest is the one number past the first three bytes of a value
-lane_in_lem : (a b c : Bool) → offset (if not a then BadLane else (if not b then BadWeight else (if not c then BadLongest else NoFault))) ≤ 7
+lane_in_lem : (a b c : Bool) → offset (if not a then Some BadLane else (if not b then Some BadWeight else (if not c then Some BadLongest else None))) ≤ 7
 lane_in_lem false b c = omega arith
 lane_in_lem true false c = omega arith
 lane_in_lem true true false = omega arith
 lane_in_lem true true true = omega arith
 
-lane-in-three : (a b c : Bool) → c ≡ true → offset (if not a then BadLane else (if not b then BadWeight else (if not c then BadLongest else NoFault))) ≤ 4
+lane-in-three : (a b c : Bool) → c ≡ true → offset (if not a then Some BadLane else (if not b then Some BadWeight else (if not c then Some BadLongest else None))) ≤ 4
 lane-in-three false b c e = omega arith
 lane-in-three true false c e = omega arith
 lane-in-three true true false e = true-false (sym e)
@@ -55,7 +54,7 @@ lane-in-three true true true e = omega arith
 module _ (s : List ℕ) (v n : ℕ) where
   -- a longest that is left out is right
   pub short-right : n ≡ 3 → longest_right (longest_at s v n) ≡ true
-  short-right e = ap (λ (x : Longest). longest_right x) (longest-short s v n e)
+  short-right e = ap (λ (x : Option ℕ). longest_right x) (longest-short s v n e)
 
   short-in : n ≡ 3 → offset (lane_outside (lane_field_at s v n)) < 3 + n
   unfolding lane_outside
@@ -110,5 +109,5 @@ module _ (s : List ℕ) (at : ℕ) (f : SetupField) (m : ℕ) (k : Stands setup_
       let e = ap (λ (g : SetupField). offset (over seen g)) k.field in
       omega (arith, z, e, k.after)
 
-pub fits : (at m : ℕ) (x y : Fault) → x ≡ y → at + offset y < m → at + offset x ≤ m
+pub fits : (at m : ℕ) (x y : Option Fault) → x ≡ y → at + offset y < m → at + offset x ≤ m
 fits at m x y e h = let z : offset x ≡ offset y = ap offset e in omega (arith, z, h)

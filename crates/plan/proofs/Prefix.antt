@@ -15,15 +15,13 @@ use lib.Seq.{get_or-take}
 use Rattle.fields.specs.Bytes.{byte_at, big}
 use Rattle.fields.proofs.Numbers.{big-same}
 use Rattle.fields.proofs.Item.{Stands, item_by}
-use Rattle.std.specs.Prelude.{if◌then◌else◌}
+use Rattle.std.specs.Prelude.{Option, Some, None, if◌then◌else◌}
 use Rattle.rules.specs.State.{Setting}
 use Rattle.fields.specs.Item.{whole_field, bad_field}
 use Rattle.plan.specs.Fields.{SetupItem, ends, setup_tag, setup_fits, setup_kinds, longest_at, lane_field_at, setup_field_of, setup_item_at}
 use Rattle.plan.specs.Judge.{judged_at, seen_after}
 use Rattle.plan.specs.Read.{setup_read, nothing_seen, no_lanes, placed, setup_walk, read_plan}
 use Rattle.plan.specs.declared.judge.Seen.{Seen}
-use Rattle.plan.specs.declared.parse.Longest.{Longest}
-use Rattle.plan.specs.declared.parse.Longest.TheVariants.{Given, Default}
 use Rattle.plan.specs.declared.parse.SetupField.{SetupField}
 use Rattle.plan.specs.declared.parse.SetupField.TheVariants.{Format, Lane, Framing, Shared, End}
 use Rattle.plan.proofs.Turn.{turned}
@@ -43,9 +41,9 @@ module _ (s t : List ℕ) (v n : ℕ) (same : Same s t v (v + n)) where
   number_same : (k w : ℕ) → v ≤ w → w + k ≤ v + n → big s w k ≡ big t w k
   number_same k w low high = big-same s t k w (λ i a b. same i (omega arith) (omega arith))
 
-  longest-same : (b : Bool) → eqb n 3 ≡ b → setup_fits 16 n ≡ true → ◌≡◌ {A = Longest} (if b then Default else Given (big s (v + 3) 2)) (if b then Default else Given (big t (v + 3) 2))
+  longest-same : (b : Bool) → eqb n 3 ≡ b → setup_fits 16 n ≡ true → ◌≡◌ {A = Option ℕ} (if b then None else Some (big s (v + 3) 2)) (if b then None else Some (big t (v + 3) 2))
   longest-same true e f = refl
-  longest-same false e f = ap Given (number_same 2 (v + 3) (omega arith) (omega (arith, lane-long n f (eqb-false n 3 e))))
+  longest-same false e f = ap Some (number_same 2 (v + 3) (omega arith) (omega (arith, lane-long n f (eqb-false n 3 e))))
 
   lane-same : setup_fits 16 n ≡ true → lane_field_at s v n ≡ lane_field_at t v n
   lane-same f =

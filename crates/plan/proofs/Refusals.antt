@@ -12,14 +12,15 @@ use native.Mathlib.Omega.{arith}
 use lib.ListN.{length}
 use Rattle.fields.specs.Item.{whole_field, bad_field}
 use Rattle.fields.proofs.Item.{Broken, none_left, cut, unknown, wrong, broken, Stands, stands}
-use Rattle.std.specs.Prelude.{if◌then◌else◌}
+use Rattle.std.specs.Prelude as core
+use Rattle.std.specs.Prelude.{Some, None, if◌then◌else◌}
 use Rattle.rules.specs.State.{Setting}
 use Rattle.plan.specs.Fields.{SetupItem, setup_kinds, ends, setup_item_at}
 use Rattle.plan.specs.Judge.{misplaced, outside, over, offset, faulted, judged, judged_at, seen_after}
 use Rattle.plan.specs.Read.{setup_read, setup_refused, nothing_seen, no_lanes, placed, setup_walk, read_plan}
 use Rattle.plan.specs.Accepted.{setup_refusals, among, wrong_at, RefusedSetup}
 use Rattle.plan.specs.declared.judge.Fault.{Fault}
-use Rattle.plan.specs.declared.judge.Fault.TheVariants.{NoFault, BadFormat, BadLane, BadWeight, BadLongest, BadFraming, TotalOver}
+use Rattle.plan.specs.declared.judge.Fault.TheVariants.{BadFormat, BadLane, BadWeight, BadLongest, BadFraming, TotalOver}
 use Rattle.plan.specs.declared.judge.Seen.{Seen}
 use Rattle.plan.specs.declared.parse.SetupField.{SetupField}
 use Rattle.plan.proofs.Turn.{turned}
@@ -50,14 +51,14 @@ module _ (s : List ℕ) (at : ℕ) where
   Listed (bad_field n q) = RefusedSetup s at n q
 
   -- a fault's number and place
-  row-bad : (x : Fault) → at + offset x < length s → Shows s at x → (rest : SetupItem) → Listed rest → Listed (faulted at x rest)
-  row-bad NoFault l w rest r = r
-  row-bad BadFormat l w rest r = inside 50 (at + 3) refl (λ z. omega arith) l w
-  row-bad BadLane l w rest r = inside 51 (at + 3) refl (λ z. omega arith) l w
-  row-bad BadWeight l w rest r = inside 52 (at + 4) refl (λ z. omega arith) l w
-  row-bad BadLongest l w rest r = inside 53 (at + 6) refl (λ z. omega arith) l w
-  row-bad BadFraming l w rest r = inside 54 (at + 3) refl (λ z. omega arith) l w
-  row-bad TotalOver l w rest r = inside 6 (at + 4) refl (λ z. omega arith) l w
+  row-bad : (x : core.Option Fault) → at + offset x < length s → Shows s at x → (rest : SetupItem) → Listed rest → Listed (faulted at x rest)
+  row-bad None l w rest r = r
+  row-bad (Some BadFormat) l w rest r = inside 50 (at + 3) refl (λ z. omega arith) l w
+  row-bad (Some BadLane) l w rest r = inside 51 (at + 3) refl (λ z. omega arith) l w
+  row-bad (Some BadWeight) l w rest r = inside 52 (at + 4) refl (λ z. omega arith) l w
+  row-bad (Some BadLongest) l w rest r = inside 53 (at + 6) refl (λ z. omega arith) l w
+  row-bad (Some BadFraming) l w rest r = inside 54 (at + 3) refl (λ z. omega arith) l w
+  row-bad (Some TotalOver) l w rest r = inside 6 (at + 4) refl (λ z. omega arith) l w
 
   field-bad : (seen : Seen) (a : Bool) (f : SetupField) (m : ℕ) → Stands setup_kinds s at f m → Listed (if a then bad_field 4 (some at) else faulted at (outside f) (faulted at (over seen f) (whole_field f m)))
   field-bad seen true f m k = at_tag 4 refl refl (omega (arith, k.fits))

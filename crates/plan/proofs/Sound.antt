@@ -12,12 +12,12 @@ use lib.Seq.{get_or-set_same}
 use Rattle.units.specs.Plain.{sum}
 use Rattle.units.proofs.Bools.{true-false}
 use Rattle.units.proofs.Lists.{set_cases, sum-set}
+use Rattle.std.specs.Prelude.{None}
 use Rattle.rules.specs.State.{Setting, no_setting, setting_at}
 use Rattle.rules.specs.Setup.{InNumbers, weights}
 use Rattle.plan.specs.Judge.{given, misplaced, Inside, Numbered, over, seen_after}
 use Rattle.plan.specs.Read.{nothing_seen, no_lanes, as_shared, placed}
 use Rattle.plan.specs.Accepted.{there, present}
-use Rattle.plan.specs.declared.judge.Fault.TheVariants.{NoFault}
 use Rattle.plan.specs.declared.judge.Seen.{Seen}
 use Rattle.plan.specs.declared.parse.LaneField.{LaneField}
 use Rattle.plan.specs.declared.parse.SetupField.{SetupField}
@@ -61,7 +61,7 @@ sound-first = record {
   last = λ o. true-false (sym o);
 }
 
-module _ (seen : Seen) (gs : List Setting) (ok : Sound seen gs) (l : LaneField) (m : misplaced seen (Lane l) ≡ false) (o : Inside (Lane l)) (w : over seen (Lane l) ≡ NoFault) where
+module _ (seen : Seen) (gs : List Setting) (ok : Sound seen gs) (l : LaneField) (m : misplaced seen (Lane l) ≡ false) (o : Inside (Lane l)) (w : over seen (Lane l) ≡ None) where
   abbrev v : ℕ
   v = seen.format
 
@@ -142,7 +142,7 @@ module _ (seen : Seen) (gs : List Setting) (ok : Sound seen gs) (k : ℕ) (m : m
     last = λ e. true-false (sym e);
   }
 
-pub sound-after : (seen : Seen) (gs : List Setting) (f : SetupField) → Sound seen gs → misplaced seen f ≡ false → Inside f → over seen f ≡ NoFault
+pub sound-after : (seen : Seen) (gs : List Setting) (f : SetupField) → Sound seen gs → misplaced seen f ≡ false → Inside f → over seen f ≡ None
     → Sound (seen_after seen f) (placed seen.format seen.framing gs f)
 sound-after seen gs (Format v) ok m o w = record {
   size = ok.size;

@@ -1,43 +1,20 @@
 -- Laws of `setup_tag`, `setup_fits` and `setup_field_of` of specs/Fields.antt: what they are at each tag.
 -- Assumes nothing.
-use Prim.Native.Nat.{ℕ, ◌+◌, ◌≤◌, ◌<◌}
+use Prim.Native.Nat.{ℕ, ◌+◌, ◌≤◌}
 use mathlib.Core.Path.{◌≡◌, refl}
 use mathlib.Core.Bool.{Bool, true, false, ◌||◌}
 use mathlib.Core.List.{List}
 use mathlib.Core.Logic.{◌⊎◌, inl, inr, ⊎_elim}
-use native.Mathlib.Decide.{dec_le}
 use native.Mathlib.Omega.{arith}
 use borrow.Author.Tests.{ne_eqb, eqb-true}
 use lib.Dec.{eqb}
+use Rattle.std.specs.Prelude.{Some, None}
 use Rattle.fields.specs.Bytes.{byte_at, big}
 use Rattle.plan.specs.Fields.{setup_tag, setup_fits, longest_at, lane_field_at, setup_field_of}
-use Rattle.plan.specs.declared.parse.Longest.TheVariants.{Given, Default}
 use Rattle.plan.specs.declared.parse.SetupField.TheVariants.{Format, Lane, Framing, Shared, End}
 
 pub known_is : (t : ℕ) → (t ≡ 1) ⊎ ((t ≡ 16) ⊎ ((t ≡ 17) ⊎ ((t ≡ 18) ⊎ (t ≡ 127)))) → setup_tag t ≡ true
 known_is t h = ⊎_elim (λ e. rw e) (λ h. ⊎_elim (λ e. rw e) (λ h. ⊎_elim (λ e. rw e) (λ h. ⊎_elim (λ e. rw e) (λ e. rw e) h) h) h) h
-
-pub known-not : (t : ℕ) → ((t ≡ 1) ⊎ ((t ≡ 16) ⊎ ((t ≡ 17) ⊎ ((t ≡ 18) ⊎ (t ≡ 127)))) → ⊥) → setup_tag t ≡ false
-known-not t h =
-    simp (ne_eqb t 1 (λ e. h (inl e)), ne_eqb t 16 (λ e. h (inr (inl e))), ne_eqb t 17 (λ e. h (inr (inr (inl e)))), ne_eqb t 18 (λ e. h (inr (inr (inr (inl e))))), ne_eqb t 127 (λ e. h (inr (inr (inr (inr e))))))
-
--- 0x10, 0x11 and 0x12 stand side by side
-pub known-ends : (t : ℕ) → (t ≡ 1) ⊎ (t ≡ 127) → setup_tag t ≡ true
-known-ends t h = ⊎_elim (λ e. rw e) (λ e. rw e) h
-
-pub known-between : (t : ℕ) → 16 ≤ t → t < 19 → setup_tag t ≡ true
-known-between t low high =
-    elim (dec_le t 16) [
-      | yes q ↦ let e : t ≡ 16 = omega arith in known_is t (inr (inl e))
-      | no q ↦
-          elim (dec_le t 17) [
-            | yes p ↦ let e : t ≡ 17 = omega arith in known_is t (inr (inr (inl e)))
-            | no p ↦ let e : t ≡ 18 = omega arith in known_is t (inr (inr (inr (inl e))))
-          ]
-    ]
-
-pub known_out : (t : ℕ) → ((t ≡ 1) ⊎ (t ≡ 127) → ⊥) → (t ≡ 16 → ⊥) → (t ≡ 17 → ⊥) → (t ≡ 18 → ⊥) → setup_tag t ≡ false
-known_out t n a b c = known-not t (λ h. ⊎_elim (λ e. n (inl e)) (λ h. ⊎_elim a (λ h. ⊎_elim b (λ h. ⊎_elim c (λ e. n (inr e)) h) h) h) h)
 
 module _ (t n : ℕ) where
   pub fitting-format : t ≡ 1 → setup_fits t n ≡ eqb n 2
@@ -73,10 +50,10 @@ pub lane-three : (n : ℕ) → setup_fits 16 n ≡ true → 3 ≤ n
 lane-three n h = ⊎_elim (λ e. omega arith) (λ e. omega arith) (lane-size n h)
 
 module _ (s : List ℕ) (at n : ℕ) where
-  pub longest-short : n ≡ 3 → longest_at s at n ≡ Default
+  pub longest-short : n ≡ 3 → longest_at s at n ≡ None
   longest-short e = rw e
 
-  pub longest-long : (n ≡ 3 → ⊥) → longest_at s at n ≡ Given (big s (at + 3) 2)
+  pub longest-long : (n ≡ 3 → ⊥) → longest_at s at n ≡ Some (big s (at + 3) 2)
   longest-long f = rw (ne_eqb n 3 f)
 
 module _ (s : List ℕ) (t at n : ℕ) where

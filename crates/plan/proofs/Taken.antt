@@ -7,44 +7,27 @@ use Prim.Native.Nat.{ℕ}
 use mathlib.Core.Path.{◌≡◌, refl, sym, ap, ◌∙◌}
 use mathlib.Core.Bool.{Bool, true, false}
 use mathlib.Core.List.{List}
-use mathlib.Core.Option.{Option, none, some}
-use native.Mathlib.Omega.{arith}
+use mathlib.Core.Option.{some}
 use Rattle.fields.specs.Item.{whole_field, bad_field}
 use Rattle.fields.proofs.Item.{bad-whole, Stands, stands}
-use Rattle.std.specs.Prelude.{if◌then◌else◌}
+use Rattle.std.specs.Prelude.{Option, Some, None, if◌then◌else◌}
 use Rattle.plan.specs.Fields.{SetupItem, setup_kinds, setup_item_at}
-use Rattle.plan.specs.Judge.{misplaced, outside, Inside, over, faults, tabled, faulted, judged, judged_at}
+use Rattle.plan.specs.Judge.{misplaced, outside, Inside, over, faulted, judged, judged_at}
 use Rattle.plan.specs.declared.judge.Fault.{Fault}
-use Rattle.plan.specs.declared.judge.Fault.TheVariants.{NoFault, BadFormat, BadLane, BadWeight, BadLongest, BadFraming, TotalOver}
 use Rattle.plan.specs.declared.judge.Seen.{Seen}
 use Rattle.plan.specs.declared.parse.SetupField.{SetupField}
-
-some-none : {A : Type 0} {row : ℕ × ℕ} → some row ≡ none → A
-some-none h = absurd (let z : ◌≡◌ {A = ℕ} 0 1 = cc in omega arith)
 
 pub record Taken (seen : Seen) (s : List ℕ) (at : ℕ) (f : SetupField) (m : ℕ) : Type 0 where
   pub item : setup_item_at s at ≡ whole_field f m
   pub stand : Stands setup_kinds s at f m
   pub in_place : misplaced seen f ≡ false
   pub inside : Inside f
-  pub under : over seen f ≡ NoFault
+  pub under : over seen f ≡ None
 
 -- a whole field after a fault was looked for: there is none
-row-none : (at : ℕ) (o : Option (ℕ × ℕ)) (rest : SetupItem) (f : SetupField) (m : ℕ) → tabled at o rest ≡ whole_field f m → (o ≡ none) × (rest ≡ whole_field f m)
-row-none at none rest f m h = (refl, h)
-row-none at (some row) rest f m h = bad-whole h
-
-only_none : (x : Fault) → faults x ≡ none → x ≡ NoFault
-only_none NoFault h = refl
-only_none BadFormat h = some-none h
-only_none BadLane h = some-none h
-only_none BadWeight h = some-none h
-only_none BadLongest h = some-none h
-only_none BadFraming h = some-none h
-only_none TotalOver h = some-none h
-
-no-fault : (at : ℕ) (x : Fault) (rest : SetupItem) (f : SetupField) (m : ℕ) → faulted at x rest ≡ whole_field f m → (x ≡ NoFault) × (rest ≡ whole_field f m)
-no-fault at x rest f m h = let r = row-none at (faults x) rest f m h in (only_none x r.0, r.1)
+no-fault : (at : ℕ) (x : Option Fault) (rest : SetupItem) (f : SetupField) (m : ℕ) → faulted at x rest ≡ whole_field f m → (x ≡ None) × (rest ≡ whole_field f m)
+no-fault at None rest f m h = (refl, h)
+no-fault at (Some x) rest f m h = bad-whole h
 
 module _ (seen : Seen) (s : List ℕ) (at : ℕ) (f : SetupField) (m : ℕ) where
   judge-field : (g : SetupField) (k : ℕ) (a : Bool) → setup_item_at s at ≡ whole_field g k → misplaced seen g ≡ a

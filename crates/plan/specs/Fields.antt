@@ -9,17 +9,13 @@
 --   setup_item_of    the code's answer as a `SetupItem`
 --
 -- Assumes nothing.
-use Rattle.std.specs.Prelude.{ℕ, ◌+◌, Bool, true, false, ◌||◌, List, eqb, if◌then◌else◌}
+use Rattle.std.specs.Prelude.{ℕ, ◌+◌, Bool, true, false, ◌||◌, List, Option, Some, None, Result, eqb, if◌then◌else◌}
 use Rattle.fields.specs.Bytes.{byte_at, big}
-use Rattle.fields.specs.Item.{Item, whole_field, bad_field, FieldKinds, item_at}
-use Rattle.rules.specs.Reads.{number, place_of}
-use Rattle.plan.specs.declared.parse.Longest.{Longest}
-use Rattle.plan.specs.declared.parse.Longest.TheVariants.{Given, Default}
+use Rattle.fields.specs.Item.{Item, FieldKinds, item_at, item_told}
+use Rattle.rules.specs.declared.Refusal.{Refusal}
 use Rattle.plan.specs.declared.parse.LaneField.{LaneField}
 use Rattle.plan.specs.declared.parse.SetupField.{SetupField}
 use Rattle.plan.specs.declared.parse.SetupField.TheVariants.{Format, Lane, Framing, Shared, End}
-use Rattle.plan.specs.declared.parse.Parsed.{Parsed}
-use Rattle.plan.specs.declared.parse.Parsed.TheVariants.{Whole, Refused}
 
 -- R8.5, R14.3. The tags that this part knows: 0x01, 0x10, 0x11, 0x12 and 0x7F.
 abbrev pub setup_tag : ℕ → Bool
@@ -31,8 +27,8 @@ abbrev pub setup_fits : ℕ → ℕ → Bool
 setup_fits tag n = if eqb tag 1 then eqb n 2 else (if eqb tag 16 then eqb n 3 || eqb n 5 else (if eqb tag 17 then eqb n 1 else (if eqb tag 18 then eqb n 1 else eqb n 0)))
 
 -- R8.9: three bytes leave the longest to the format. Else it stands after the lane and the weight.
-abbrev pub longest_at : List ℕ → ℕ → ℕ → Longest
-longest_at s at n = if eqb n 3 then Default else Given (big s (at + 3) 2)
+abbrev pub longest_at : List ℕ → ℕ → ℕ → Option ℕ
+longest_at s at n = if eqb n 3 then None else Some (big s (at + 3) 2)
 
 -- R8.9: the value of n bytes at a place.
 abbrev pub lane_field_at : List ℕ → ℕ → ℕ → LaneField
@@ -65,6 +61,5 @@ abbrev pub setup_item_at : List ℕ → ℕ → SetupItem
 setup_item_at = item_at setup_kinds
 
 -- The code's answer, its refusal by number.
-abbrev pub setup_item_of : Parsed → SetupItem
-setup_item_of (Whole f next) = whole_field f next
-setup_item_of (Refused x) = bad_field (number x) (place_of x)
+abbrev pub setup_item_of : Result (SetupField × ℕ) Refusal → SetupItem
+setup_item_of = item_told

@@ -9,21 +9,21 @@
 --   Numbered    a lane that 0x12 names is one of the 64
 --   over        what is wrong with the weights so far: refusal 6
 --   faults      the table: fault, number, place from the field's tag; offset: that place alone
---   faulted     a fault's refusal, or what the rest decides
+--   faulted     a fault's refusal, or what the rest decides; settled: the same of the code's answer
 --   judged_at    the field at a place, or its first refusal in the order 1, 2, 3, 1, 4, 50 to 54, 6
 --   seen_after   what the fields so far fix for the next one, after one more
 --
 -- Assumes nothing.
-use Rattle.std.specs.Prelude.{ℕ, ◌+◌, ◌≤◌, Bool, true, false, not, ◌||◌, ◌&&◌, List, ◌≡◌, ltb, leb, eqb, if◌then◌else◌}
-use Rattle.std.proofs.Math.Option.{Option, none, some}
+use Rattle.std.specs.Prelude.{ℕ, ◌+◌, ◌≤◌, Bool, true, false, not, ◌||◌, ◌&&◌, List, Option, Some, None, Result, Ok, Err, ◌≡◌, ltb, leb, eqb, if◌then◌else◌}
+use Rattle.std.proofs.Math.Option.{some}
 use Rattle.rules.specs.State.{Setting}
+use Rattle.rules.specs.Reads.{number, place_of}
+use Rattle.rules.specs.declared.Refusal.{Refusal}
 use Rattle.fields.specs.Item.{whole_field, bad_field}
 use Rattle.plan.specs.Fields.{SetupItem, setup_item_at}
 use Rattle.plan.specs.declared.judge.Fault.{Fault}
-use Rattle.plan.specs.declared.judge.Fault.TheVariants.{NoFault, BadFormat, BadLane, BadWeight, BadLongest, BadFraming, TotalOver}
+use Rattle.plan.specs.declared.judge.Fault.TheVariants.{BadFormat, BadLane, BadWeight, BadLongest, BadFraming, TotalOver}
 use Rattle.plan.specs.declared.judge.Seen.{Seen}
-use Rattle.plan.specs.declared.parse.Longest.{Longest}
-use Rattle.plan.specs.declared.parse.Longest.TheVariants.{Given, Default}
 use Rattle.plan.specs.declared.parse.LaneField.{LaneField}
 use Rattle.plan.specs.declared.parse.SetupField.{SetupField}
 use Rattle.plan.specs.declared.parse.SetupField.TheVariants.{Format, Lane, Framing, Shared, End}
@@ -36,9 +36,9 @@ known_format v = eqb v 1 || eqb v 2
 abbrev pub default_of : ℕ → ℕ
 default_of v = if eqb v 1 then 1500 else 576
 
-abbrev pub longest_of : ℕ → Longest → ℕ
-longest_of v (Given n) = n
-longest_of v Default = default_of v
+abbrev pub longest_of : ℕ → Option ℕ → ℕ
+longest_of v (Some n) = n
+longest_of v None = default_of v
 
 -- R8.9. In a setup of format v a lane field gives its lane a weight and a longest; the framing bytes are the line's.
 abbrev pub given : ℕ → ℕ → LaneField → Setting
@@ -58,36 +58,36 @@ abbrev pub within : ℕ → ℕ → ℕ → Bool
 within low high n = leb low n && leb n high
 
 -- R8.10. A longest is 64 to 1,500; one that is left out is right in every format.
-abbrev pub longest_right : Longest → Bool
-longest_right (Given n) = within 64 1500 n
-longest_right Default = true
+abbrev pub longest_right : Option ℕ → Bool
+longest_right (Some n) = within 64 1500 n
+longest_right None = true
 
 -- R8.10. Lanes are numbered 0 to 63.
 abbrev pub last_lane : ℕ
 last_lane = 63
 
 -- R8.10, R14.8 to R14.10: the first of a lane field's numbers that is outside R1.1 to R1.3
-unfoldable pub lane_outside : LaneField → Fault
+unfoldable pub lane_outside : LaneField → Option Fault
 lane_outside l =
-    if not (leb l.lane last_lane) then BadLane
-    else (if not (within 1 1024 l.weight) then BadWeight
-    else (if not (longest_right l.longest) then BadLongest else NoFault))
+    if not (leb l.lane last_lane) then Some BadLane
+    else (if not (within 1 1024 l.weight) then Some BadWeight
+    else (if not (longest_right l.longest) then Some BadLongest else None))
 
 -- R8.8. The line's framing bytes are 0 to 64.
 abbrev pub most_framing : ℕ
 most_framing = 64
 
 -- R8.7, R8.8, R14.7, R14.11. A format is 1 or 2, framing at most 64; of a lane field's numbers the first one that is outside, in the order of their bytes.
-abbrev pub outside : SetupField → Fault
-outside (Format v) = if known_format v then NoFault else BadFormat
+abbrev pub outside : SetupField → Option Fault
+outside (Format v) = if known_format v then None else Some BadFormat
 outside (Lane l) = lane_outside l
-outside (Framing h) = if ltb most_framing h then BadFraming else NoFault
-outside (Shared k) = NoFault
-outside End = NoFault
+outside (Framing h) = if ltb most_framing h then Some BadFraming else None
+outside (Shared k) = None
+outside End = None
 
 -- A field whose numbers are all inside.
 abbrev pub Inside : SetupField → Type 0
-Inside f = outside f ≡ NoFault
+Inside f = outside f ≡ None
 
 -- A lane that is said to be shared is one of the 64: the walk has met its 0x10.
 abbrev pub Numbered : SetupField → Type 0
@@ -98,39 +98,36 @@ Numbered (Shared k) = k ≤ last_lane
 Numbered End = Unit {0}
 
 -- R8.11, R14.12: more than 1,024 with this field's weight.
-abbrev pub over : Seen → SetupField → Fault
-over seen (Format v) = NoFault
-over seen (Lane l) = if ltb 1024 (seen.total + l.weight) then TotalOver else NoFault
-over seen (Framing h) = NoFault
-over seen (Shared k) = NoFault
-over seen End = NoFault
+abbrev pub over : Seen → SetupField → Option Fault
+over seen (Format v) = None
+over seen (Lane l) = if ltb 1024 (seen.total + l.weight) then Some TotalOver else None
+over seen (Framing h) = None
+over seen (Shared k) = None
+over seen End = None
 
 -- R8.13, R14.7 to R14.12. The table of faults: the refusal's number, and its place, counted from the field's tag: the first byte of the number that is wrong.
-abbrev pub faults : Fault → Option (ℕ × ℕ)
-faults NoFault = none
-faults BadFormat = some (50, 3)
-faults BadLane = some (51, 3)
-faults BadWeight = some (52, 4)
-faults BadLongest = some (53, 6)
-faults BadFraming = some (54, 3)
-faults TotalOver = some (6, 4)
+abbrev pub faults : Fault → ℕ × ℕ
+faults BadFormat = (50, 3)
+faults BadLane = (51, 3)
+faults BadWeight = (52, 4)
+faults BadLongest = (53, 6)
+faults BadFraming = (54, 3)
+faults TotalOver = (6, 4)
 
--- A fault's place from the tag; where there is none, 0.
-abbrev pub fault_place : Option (ℕ × ℕ) → ℕ
-fault_place none = 0
-fault_place (some row) = row.1
-
--- R8.13
-abbrev pub offset : Fault → ℕ
-offset x = fault_place (faults x)
+-- R8.13. A fault's place from the tag; where there is none, 0.
+abbrev pub offset : Option Fault → ℕ
+offset None = 0
+offset (Some x) = (faults x).1
 
 -- A fault of the field at a place refuses it; else the rest decides.
-abbrev pub tabled : ℕ → Option (ℕ × ℕ) → SetupItem → SetupItem
-tabled at none rest = rest
-tabled at (some row) rest = bad_field row.0 (some (at + row.1))
+abbrev pub faulted : ℕ → Option Fault → SetupItem → SetupItem
+faulted at None rest = rest
+faulted at (Some x) rest = bad_field (faults x).0 (some (at + (faults x).1))
 
-abbrev pub faulted : ℕ → Fault → SetupItem → SetupItem
-faulted at x rest = tabled at (faults x) rest
+-- The same of the code's answer: its refusal, or what the rest decides.
+abbrev pub settled : {A : Type 0} → Result A Refusal → SetupItem → SetupItem
+settled (Ok x) rest = rest
+settled (Err x) rest = bad_field (number x) (place_of x)
 
 -- R8.3, R14.36. In a field 1 (header), 2, 3, 1 (value), 4, then its own numbers, then 6.
 abbrev pub judged : Seen → ℕ → SetupItem → SetupItem

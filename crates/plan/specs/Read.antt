@@ -7,18 +7,17 @@
 --   setup_reply  the code's answer as a `SetupReply`
 --
 -- Assumes nothing.
-use Rattle.std.specs.Prelude.{ℕ, zero, suc, ◌-◌, false, true, List, map, ltb, length, set, replicate, if◌then◌else◌}
+use Rattle.std.specs.Prelude.{ℕ, zero, suc, ◌-◌, false, true, List, map, ltb, length, set, replicate, Result, Ok, Err, if◌then◌else◌}
 use Rattle.std.proofs.Math.Option.{Option, some}
 use Rattle.rules.specs.State.{Setting, no_setting, setting_at}
 use Rattle.rules.specs.Reads.{number, place_of}
+use Rattle.rules.specs.declared.Refusal.{Refusal}
 use Rattle.fields.specs.Item.{whole_field, bad_field}
 use Rattle.plan.specs.Fields.{ends}
 use Rattle.plan.specs.Judge.{given, judged_at, seen_after}
 use Rattle.plan.specs.declared.Lane as lane
 use Rattle.plan.specs.declared.Plan.{Plan}
 use Rattle.plan.specs.declared.Reading.{Reading}
-use Rattle.plan.specs.declared.Outcome.{Outcome}
-use Rattle.plan.specs.declared.Outcome.TheVariants.{Read, Refused}
 use Rattle.plan.specs.declared.judge.Seen.{Seen}
 use Rattle.plan.specs.declared.parse.SetupField.{SetupField}
 use Rattle.plan.specs.declared.parse.SetupField.TheVariants.{Format, Lane, Framing, Shared, End}
@@ -82,11 +81,7 @@ setting_of l = record { weight = l.weight; longest = l.longest; framing = l.fram
 abbrev pub settings : Plan → List Setting
 settings p = map setting_of p.lanes
 
--- What came of reading, a refusal by its number. Beside a refusal the plan means nothing.
-abbrev pub setup_came : Plan → Outcome → SetupReply
-setup_came p (Read at) = setup_read p.format (settings p) p.count at
-setup_came p (Refused x) = setup_refused (number x) (place_of x)
-
--- The code's answer.
-abbrev pub setup_reply : Reading → SetupReply
-setup_reply r = setup_came r.plan r.outcome
+-- The code's answer, a refusal by its number.
+abbrev pub setup_reply : Result Reading Refusal → SetupReply
+setup_reply (Ok r) = setup_read r.plan.format (settings r.plan) r.plan.count r.next
+setup_reply (Err x) = setup_refused (number x) (place_of x)

@@ -1,9 +1,9 @@
 // A field of a setup judged by the fields before it: refusals 4, 50 to 54, and 6.
 ghost use Rattle.std.specs.Prelude.{◌≡◌, ◌+◌, ◌≤◌};
-ghost use Rattle.plan.specs.Fields.{setup_item_of};
-ghost use Rattle.plan.specs.Judge.{known_format, default_of, longest_of, longest_right, within, misplaced, lane_outside, outside, over, offset, faulted, seen_after, judged_at};
+ghost use Rattle.plan.specs.Fields.{SetupItem, setup_item_of};
+ghost use Rattle.plan.specs.Judge.{known_format, default_of, longest_of, longest_right, within, misplaced, lane_outside, outside, over, offset, settled, faulted, seen_after, judged_at};
 
-use crate::parse::{LaneField, Longest, Parsed, SetupField};
+use crate::parse::{LaneField, SetupField};
 use rules::Refusal;
 
 // R1.1 to R1.3: lanes are numbered 0 to 63, a weight is 1 to 1,024, a longest 64 to 1,500, and the weights sum to at most 1,024.
@@ -66,7 +66,6 @@ pub struct Seen {
 // What is wrong with the numbers of a field. specs/Judge.antt has a table of the number and the place of each.
 #[derive(Clone, Copy)]
 pub enum Fault {
-    NoFault,
     BadFormat,
     BadLane,
     BadWeight,
@@ -97,29 +96,30 @@ fn default_of(format: u16) -> u16
 }
 
 // R8.9: where a lane field has no longest, the format says what it means.
-pub fn longest_of(format: u16, longest: Longest) -> u16
+pub fn longest_of(format: u16, longest: Option<u16>) -> u16
     ensures { result ≡ longest_of format longest }
 {
-    let Longest::Given(n) = longest else {
+    let Some(n) = longest else {
         return default_of(format);
     };
     n
 }
 
-fn within(low: u16, high: u16, n: u16) -> bool
+// Whether a number is in its bounds. It may be wider than they are, as those of a sheet's lines are.
+pub fn within(low: u16, high: u16, n: u64) -> bool
     ensures { result ≡ within low high n }
 {
-    if low <= n { n <= high } else { false }
+    (low as u64) <= n && n <= (high as u64)
 }
 
 // Whether a longest is in its numbers; one that is left out is.
-fn longest_right(longest: Longest) -> bool
+fn longest_right(longest: Option<u16>) -> bool
     ensures { result ≡ longest_right longest }
 {
-    let Longest::Given(n) = longest else {
-        return true;
-    };
-    within(LEAST_LONGEST, MOST_LONGEST, n)
+    match longest {
+        Some(n) => within(LEAST_LONGEST, MOST_LONGEST, n as u64),
+        None => true,
+    }
 }
 
 // Refusal 4 (R14.5): 0x01 twice or not in front, a lane that does not rise, 0x7F without a lane; 0x11 elsewhere than directly behind 0x01, 0x12 elsewhere than
@@ -148,97 +148,95 @@ fn misplaced(seen: Seen, field: SetupField) -> bool
     }
 }
 
-fn lane_outside(l: LaneField) -> Fault
+fn lane_outside(l: LaneField) -> Option<Fault>
     ensures { result ≡ lane_outside l }
 {
     let longest = l.longest;
     if l.lane > LAST_LANE {
-        return Fault::BadLane;
+        return Some(Fault::BadLane);
     }
-    if !within(LEAST_WEIGHT, MOST_WEIGHT, l.weight) {
-        return Fault::BadWeight;
+    if !within(LEAST_WEIGHT, MOST_WEIGHT, l.weight as u64) {
+        return Some(Fault::BadWeight);
     }
     if !longest_right(longest) {
-        return Fault::BadLongest;
+        return Some(Fault::BadLongest);
     }
-    Fault::NoFault
+    None
 }
 
 // Refusals 50 to 54: the first number of a field, in the order of their bytes, that is outside its numbers.
-fn outside(field: SetupField) -> Fault
+fn outside(field: SetupField) -> Option<Fault>
     ensures { result ≡ outside field }
 {
     match field {
         SetupField::Format(n) => {
             if known_format(n) {
-                Fault::NoFault
+                None
             } else {
-                Fault::BadFormat
+                Some(Fault::BadFormat)
             }
         }
         SetupField::Lane(l) => lane_outside(l),
         SetupField::Framing(n) => {
             if n > MOST_FRAMING {
-                Fault::BadFraming
+                Some(Fault::BadFraming)
             } else {
-                Fault::NoFault
+                None
             }
         }
-        SetupField::Shared(_) => Fault::NoFault,
-        SetupField::End => Fault::NoFault,
+        SetupField::Shared(_) => None,
+        SetupField::End => None,
     }
 }
 
 // Refusal 6 (R14.12): more than 1,024 with this field's weight.
-fn over(seen: Seen, field: SetupField) -> Fault
+fn over(seen: Seen, field: SetupField) -> Option<Fault>
     requires { seen.total ≤ 1024 }
     ensures { result ≡ over seen field }
 {
     match field {
         SetupField::Lane(l) => {
             if seen.total + (l.weight as u64) > MOST_TOTAL {
-                Fault::TotalOver
+                Some(Fault::TotalOver)
             } else {
-                Fault::NoFault
+                None
             }
         }
-        SetupField::Format(_) => Fault::NoFault,
-        SetupField::Framing(_) => Fault::NoFault,
-        SetupField::Shared(_) => Fault::NoFault,
-        SetupField::End => Fault::NoFault,
+        SetupField::Format(_) => None,
+        SetupField::Framing(_) => None,
+        SetupField::Shared(_) => None,
+        SetupField::End => None,
     }
 }
 
 // What a fault makes of the field from a place to the next: its refusal; where there is none, the rest decides.
-fn faulted(at: usize, next: usize, fault: Fault, rest: Parsed) -> Parsed
+fn faulted(at: usize, next: usize, fault: Option<Fault>) -> Result<(), Refusal>
     requires { at + offset fault ≤ next }
-    ensures { setup_item_of result ≡ faulted at fault (setup_item_of rest) }
+    ensures { (rest : SetupItem) → settled result rest ≡ faulted at fault rest }
 {
     match fault {
-        Fault::NoFault => rest,
-        Fault::BadFormat => Parsed::Refused(Refusal::FormatOutside(at + FORMAT_AT)),
-        Fault::BadLane => Parsed::Refused(Refusal::LaneOutside(at + LANE_AT)),
-        Fault::BadWeight => Parsed::Refused(Refusal::WeightOutside(at + WEIGHT_AT)),
-        Fault::BadLongest => Parsed::Refused(Refusal::LongestOutside(at + LONGEST_AT)),
-        Fault::BadFraming => Parsed::Refused(Refusal::FramingOutside(at + FRAMING_AT)),
-        Fault::TotalOver => Parsed::Refused(Refusal::WeightsOver(at + WEIGHT_AT)),
+        None => Ok(()),
+        Some(Fault::BadFormat) => Err(Refusal::FormatOutside(at + FORMAT_AT)),
+        Some(Fault::BadLane) => Err(Refusal::LaneOutside(at + LANE_AT)),
+        Some(Fault::BadWeight) => Err(Refusal::WeightOutside(at + WEIGHT_AT)),
+        Some(Fault::BadLongest) => Err(Refusal::LongestOutside(at + LONGEST_AT)),
+        Some(Fault::BadFraming) => Err(Refusal::FramingOutside(at + FRAMING_AT)),
+        Some(Fault::TotalOver) => Err(Refusal::WeightsOver(at + WEIGHT_AT)),
     }
 }
 
-// The field at a place, judged: refusals 1 to 4, 50 to 54 and 6, in the order in a field.
-pub fn judged_field(s: &[u8], at: usize, seen: Seen) -> Parsed
+// The field at a place, judged, and the place after it: refusals 1 to 4, 50 to 54 and 6, in the order in a field.
+pub fn judged_field(s: &[u8], at: usize, seen: Seen) -> Result<(SetupField, usize), Refusal>
     requires { seen.total ≤ 1024 }
     ensures { setup_item_of result ≡ judged_at seen s.now at }
 {
-    let parsed = crate::reader::field_at(s, at);
-    let Parsed::Whole(field, next) = parsed else {
-        return parsed;
-    };
+    let (field, next) = crate::reader::field_at(s, at)?;
     if misplaced(seen, field) {
-        return Parsed::Refused(Refusal::OutOfOrder(at));
+        return Err(Refusal::OutOfOrder(at));
     }
-    let weighed = faulted(at, next, over(seen, field), parsed);
-    faulted(at, next, outside(field), weighed)
+    faulted(at, next, outside(field))?;
+    faulted(at, next, over(seen, field))?;
+    Ok((field, next))
 }
 
 // What a field that was taken adds.
@@ -252,40 +250,29 @@ pub fn after(seen: Seen, field: SetupField) -> Seen
             opening: true,
             laned: false,
             format: v,
-            framing: seen.framing,
-            floor: seen.floor,
-            total: seen.total,
-            count: seen.count,
+            ..seen
         },
         SetupField::Lane(l) => Seen {
             begun: true,
             opening: false,
             laned: true,
-            format: seen.format,
-            framing: seen.framing,
             floor: l.lane as usize + 1,
             total: seen.total + l.weight as u64,
             count: seen.count + 1,
+            ..seen
         },
         SetupField::Framing(n) => Seen {
             begun: true,
             opening: false,
             laned: false,
-            format: seen.format,
             framing: n,
-            floor: seen.floor,
-            total: seen.total,
-            count: seen.count,
+            ..seen
         },
         SetupField::Shared(_) => Seen {
             begun: true,
             opening: false,
             laned: false,
-            format: seen.format,
-            framing: seen.framing,
-            floor: seen.floor,
-            total: seen.total,
-            count: seen.count,
+            ..seen
         },
         SetupField::End => seen,
     }

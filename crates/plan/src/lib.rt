@@ -13,14 +13,14 @@
 
 ghost use Rattle.std.specs.Prelude.{◌≡◌, map};
 ghost use Rattle.plan.specs.Judge.{given, Inside, Numbered};
-ghost use Rattle.plan.specs.Read.{no_lanes, placed, setting_of, setup_came, setup_reply, read_plan, read_setup};
+ghost use Rattle.plan.specs.Read.{no_lanes, placed, setting_of, setup_reply, read_plan, read_setup};
 
 pub mod judge;
 pub mod parse;
 pub mod reader;
 
 use judge::Seen;
-use parse::{LaneField, Parsed, SetupField};
+use parse::{LaneField, SetupField};
 use rules::Refusal;
 
 // R1.1: how many lane numbers there are.
@@ -45,18 +45,11 @@ pub struct Plan {
     pub count: usize,
 }
 
-#[derive(Clone, Copy)]
-pub enum Outcome {
-    // The plan is read; the place after its 0x7F.
-    Read(usize),
-    Refused(Refusal),
-}
-
-// A plan and what came of reading it. Beside a refusal the plan means nothing.
+// A plan that was read, and the place after its 0x7F.
 #[derive(Clone, Copy)]
 pub struct Reading {
     pub plan: Plan,
-    pub outcome: Outcome,
+    pub next: usize,
 }
 
 // The lane that a field of a setup describes; a longest that is left out is the format's.
@@ -107,21 +100,8 @@ fn placed(mut lanes: [Lane; LANES], format: u16, framing: u8, field: SetupField)
     }
 }
 
-fn answered(format: u16, lanes: [Lane; LANES], count: usize, outcome: Outcome) -> Reading
-    ensures { setup_reply result ≡ setup_came (record { format = format; lanes = lanes; count = count }) outcome }
-{
-    Reading {
-        plan: Plan {
-            format,
-            lanes,
-            count,
-        },
-        outcome,
-    }
-}
-
 // The setup that stands at a place of an input, up to its 0x7F. What follows that is not looked at.
-pub fn read_plan(s: &[u8], at: usize) -> Reading
+pub fn read_plan(s: &[u8], at: usize) -> Result<Reading, Refusal>
     ensures { setup_reply result ≡ read_plan s.now at }
 {
     let mut lanes = no_lanes();
@@ -137,39 +117,32 @@ pub fn read_plan(s: &[u8], at: usize) -> Reading
     };
     let mut p = at;
     loop {
-        match judge::judged_field(s, p, seen) {
-            Parsed::Refused(x) => {
-                return answered(seen.format, lanes, seen.count, Outcome::Refused(x));
-            }
-            Parsed::Whole(field, _) => {
-                let next = reader::next_at(s, p);
-                if parse::ends(field) {
-                    return answered(seen.format, lanes, seen.count, Outcome::Read(next));
-                }
-                let more = placed(lanes, seen.format, seen.framing, field);
-                lanes = more;
-                seen = judge::after(seen, field);
-                p = next;
-            }
+        let (field, _) = judge::judged_field(s, p, seen)?;
+        let next = reader::next_at(s, p);
+        if parse::ends(field) {
+            return Ok(Reading {
+                plan: Plan {
+                    format: seen.format,
+                    lanes,
+                    count: seen.count,
+                },
+                next,
+            });
         }
+        let more = placed(lanes, seen.format, seen.framing, field);
+        lanes = more;
+        seen = judge::after(seen, field);
+        p = next;
     }
 }
 
 // A setup that is the whole input, as for making a table: a byte after its 0x7F is out of order.
-pub fn read_setup(s: &[u8]) -> Reading
+pub fn read_setup(s: &[u8]) -> Result<Reading, Refusal>
     ensures { setup_reply result ≡ read_setup s.now }
 {
-    let r = read_plan(s, 0);
-    let outcome = r.outcome;
-    let Outcome::Read(next) = outcome else {
-        return r;
-    };
-    if next < s.len() {
-        let plan = r.plan;
-        return Reading {
-            plan: plan,
-            outcome: Outcome::Refused(Refusal::OutOfOrder(next)),
-        };
+    let r = read_plan(s, 0)?;
+    if r.next < s.len() {
+        return Err(Refusal::OutOfOrder(r.next));
     }
-    r
+    Ok(r)
 }

@@ -7,7 +7,8 @@ ghost use Rattle.std.specs.Prelude.{◌≡◌};
 ghost use Rattle.fields.specs.Header.{behind_at};
 ghost use Rattle.plan.specs.Fields.{setup_item_at, setup_item_of};
 
-use crate::parse::Parsed;
+use crate::parse::SetupField;
+use rules::Refusal;
 
 #[derive(Clone, Copy)]
 pub struct Reader<'a> {
@@ -30,7 +31,7 @@ pub fn moved<'a>(r: Reader<'a>, at: usize) -> Reader<'a>
 }
 
 // The field where the reader stands.
-pub fn field<'a>(r: Reader<'a>) -> Parsed
+pub fn field<'a>(r: Reader<'a>) -> Result<(SetupField, usize), Refusal>
     ensures { setup_item_of result ≡ setup_item_at r.entry.src.now r.entry.at }
 {
     crate::parse::parsed_field(r.src, r.at)
@@ -45,7 +46,7 @@ pub fn next<'a>(r: Reader<'a>) -> Reader<'a>
 }
 
 // The field of a setup at a place of its bytes, through a reader that stands there.
-pub fn field_at(s: &[u8], at: usize) -> Parsed
+pub fn field_at(s: &[u8], at: usize) -> Result<(SetupField, usize), Refusal>
     ensures { setup_item_of result ≡ setup_item_at s.now at }
 {
     field(moved(new(s), at))

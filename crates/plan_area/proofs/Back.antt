@@ -17,13 +17,14 @@ use Rattle.plan.specs.Read as plan
 use Rattle.plan.specs.Read.{read_setup}
 use Rattle.plan_writer.specs.Write.{Planned, Within, setup_bytes, setup_size, written_size, write_reply}
 use Rattle.plan_writer.specs.RoundTrip.{read_as}
-use Rattle.plan_writer.specs.declared.Written.{Written}
+use Rattle.std.specs.Prelude.{Result}
+use Rattle.rules.specs.declared.Refusal.{Refusal}
+use Rattle.plan_writer.specs.declared.Unwritten.{Unwritten}
 use Rattle.plan_writer.proofs.Decided.{within_or_not}
 use Rattle.plan_writer.proofs.Round.{size_is_lem, reads-back, read-within, writes-back}
 use Rattle.plan_writer.proofs.Calls.{size-refused}
 use Rattle.plan_area.specs.Area.{area_size, AreaRoom, plan_in, ShowsPlan, AreaWithin}
 use Rattle.plan_area.specs.Step.{area_lanes, area_refused, area_reply, AreaBySetup, AreaRead, WriteStep, AreaWritesBack, AreaReadsBack}
-use Rattle.plan_area.specs.declared.Got.{Got}
 use Rattle.plan_area.proofs.Shown.{shows-plan, shows-within, area-shows}
 
 lanes-refused : {A : Type 0} {n m : ℕ} {q : Option ℕ} → area_lanes n ≡ area_refused m q → A
@@ -36,7 +37,7 @@ pub record ReadInto (said : plan.SetupReply) (area' : List ℕ) : Type 0 where
   pub shows : ShowsPlan plan area'
   pub room : AreaRoom area'
 
-pub read-into : (said : plan.SetupReply) (area area' : List ℕ) (g : Got) (n : ℕ) → AreaRead said area g area' → area_reply g ≡ area_lanes n → ReadInto said area'
+pub read-into : (said : plan.SetupReply) (area area' : List ℕ) (g : Result ℕ Refusal) (n : ℕ) → AreaRead said area g area' → area_reply g ≡ area_lanes n → ReadInto said area'
 read-into said area area' g n r e =
     elim (dec_le area_size (length area)) [
       | yes room ↦ by-reply room said refl (r.follows room)
@@ -68,7 +69,7 @@ within-area a =
       | no b ↦ inr (λ w. b w.room)
     ]
 
-wrote-size : (area before after : List ℕ) (a : Written) (k : ℕ) → WriteStep area before a after → write_reply a ≡ written_size k → AreaWithin area × (setup_size (plan_in area) ≤ length before) × (k ≡ setup_size (plan_in area))
+wrote-size : (area before after : List ℕ) (a : Result ℕ Unwritten) (k : ℕ) → WriteStep area before a after → write_reply a ≡ written_size k → AreaWithin area × (setup_size (plan_in area) ≤ length before) × (k ≡ setup_size (plan_in area))
 wrote-size area before after a k h e =
     ⊎_elim
     (λ (w : AreaWithin area).

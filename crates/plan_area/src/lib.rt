@@ -17,8 +17,8 @@ ghost use Rattle.plan_writer.specs.Write.{planned};
 ghost use Rattle.plan_area.specs.Area.{AreaRoom, format_in, longest_in, setting_in, plan_in, fitted, narrowed, Gives, shared_part, plan_lane_word, ShowsPlan};
 ghost use Rattle.plan_area.specs.Step.{ReadStep, WriteStep};
 
-use plan::{LANES, Lane, Outcome, Plan};
-use plan_writer::{Unwritten, Written};
+use plan::{LANES, Lane, Plan};
+use plan_writer::Unwritten;
 use rules::Refusal;
 use words::{set_word, word};
 
@@ -35,14 +35,6 @@ const MOST_LONGEST: u64 = 65535;
 
 const MOST_FRAMING: u64 = 255;
 
-// What came of reading a setup into an area.
-#[derive(Clone, Copy)]
-pub enum Got {
-    // The plan is in the area; so many lanes are there.
-    Lanes(usize),
-    Refused(Refusal),
-}
-
 fn longest_in(w: u64) -> u64
     ensures { result ≡ longest_in w }
 {
@@ -56,7 +48,7 @@ fn longest_in(w: u64) -> u64
 fn fitted(most: u64, n: u64) -> u64
     ensures { (result ≡ fitted most n) × (result ≤ most) }
 {
-    if most < n { most } else { n }
+    n.min(most)
 }
 
 // The lane of a word, on a line with `h` framing bytes.
@@ -99,14 +91,12 @@ pub fn plan_in(area: &[u8]) -> Plan
     let h = word(area, 0) / UNIT;
     let mut lanes = plan::no_lanes();
     let mut count = 0usize;
-    let mut k = 0usize;
-    while k < LANES {
+    for k in 0..LANES {
         let l = lane_in(word(area, k + 1), h);
         lanes[k] = l;
         if l.weight != 0 {
             count += 1;
         }
-        k += 1;
     }
     Plan {
         format,
@@ -136,39 +126,29 @@ pub fn store(area: &mut [u8], plan: Plan)
     let lanes = plan.lanes;
     let h = plan_writer::line_framing(lanes) as u64;
     set_word(area, 0, format + UNIT * h);
-    let mut k = 0usize;
-    while k < LANES {
-        let l = lanes[k];
-        set_word(area, k + 1, lane_word(l));
-        k += 1;
+    for (k, l) in lanes.iter().enumerate() {
+        set_word(area, k + 1, lane_word(*l));
     }
 }
 
 // Reads a setup into an area: how many lanes it has, or a refusal with its place.
-pub fn read_setup(setup: &[u8], area: &mut [u8]) -> Got
+pub fn read_setup(setup: &[u8], area: &mut [u8]) -> Result<usize, Refusal>
     ensures { ReadStep setup.now area.old result area.new }
 {
     if area.len() < SIZE {
-        return Got::Refused(Refusal::TableShort);
+        return Err(Refusal::TableShort);
     }
-    let r = plan::read_setup(setup);
-    let outcome = r.outcome;
-    match outcome {
-        Outcome::Refused(x) => Got::Refused(x),
-        Outcome::Read(_) => {
-            let plan = r.plan;
-            store(area, plan);
-            Got::Lanes(plan.count)
-        }
-    }
+    let r = plan::read_setup(setup)?;
+    store(area, r.plan);
+    Ok(r.plan.count)
 }
 
 // Writes the plan of an area as the bytes of a setup. Bytes that are no area are outside the numbers.
-pub fn write_setup(area: &[u8], buf: &mut [u8]) -> Written
+pub fn write_setup(area: &[u8], buf: &mut [u8]) -> Result<usize, Unwritten>
     ensures { WriteStep area.now buf.old result buf.new }
 {
     if area.len() < SIZE {
-        return Written::Refused(Unwritten::Outside);
+        return Err(Unwritten::Outside);
     }
     plan_writer::write_setup(plan_in(area), buf)
 }

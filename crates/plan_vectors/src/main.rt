@@ -14,8 +14,9 @@
 
 ghost use Rattle.std.specs.Prelude.{◌<◌, ◌≤◌, length};
 
-use plan::{Outcome, Reading};
+use plan::Reading;
 use printed_plan::{number, word};
+use rules::Refusal;
 use std::io::Stdout;
 
 // Room for all vectors.
@@ -126,8 +127,7 @@ fn read_line(text: &[u8], from: usize, bytes: &mut [u8]) -> Vector
         comment: false,
         place: 0,
     };
-    let mut i = from;
-    while i < text.len() {
+    for i in from..text.len() {
         let b = text[i];
         if b == b'\n' {
             return Vector {
@@ -137,7 +137,6 @@ fn read_line(text: &[u8], from: usize, bytes: &mut [u8]) -> Vector
             };
         }
         l = step(l, b, bytes);
-        i += 1;
     }
     Vector {
         len: l.len,
@@ -146,17 +145,16 @@ fn read_line(text: &[u8], from: usize, bytes: &mut [u8]) -> Vector
     }
 }
 
-fn print_reading(out: Stdout, r: Reading) {
-    let outcome = r.outcome;
-    match outcome {
-        Outcome::Read(next) => {
+fn print_reading(out: Stdout, read: Result<Reading, Refusal>) {
+    match read {
+        Ok(r) => {
             let p = r.plan;
             number(out, b"format ", p.format as u64);
             number(out, b", lanes ", p.count as u64);
-            number(out, b" to ", next as u64);
+            number(out, b" to ", r.next as u64);
             printed_plan::lanes(out, p)
         }
-        Outcome::Refused(x) => printed_plan::refusal(out, x),
+        Err(x) => printed_plan::refusal(out, x),
     }
 }
 

@@ -16,17 +16,17 @@ use Rattle.fields.proofs.Numbers.{byte-from, two_from, long-from}
 use Rattle.fields.proofs.Item.{item_by}
 use Rattle.fields.specs.Item.{whole_field}
 use Rattle.plan.specs.Fields.{setup_tag, setup_fits, setup_kinds, lane_field_at, setup_field_of, setup_item_at}
-use Rattle.plan.specs.declared.parse.Longest.{Longest}
-use Rattle.plan.specs.declared.parse.Longest.TheVariants.{Given, Default}
+use Rattle.std.specs.Prelude as core
+use Rattle.std.specs.Prelude.{Some, None}
 use Rattle.plan.specs.declared.parse.LaneField.{LaneField}
 use Rattle.plan.specs.declared.parse.SetupField.{SetupField}
 use Rattle.plan.specs.declared.parse.SetupField.TheVariants.{Format, Lane, Framing, Shared, End}
 use Rattle.plan.proofs.Tags.{known_is, field-format, field-lane, field-framing, field_shared, field_end}
 use Rattle.plan_writer.specs.Format.{field_bytes}
 
-abbrev pub LongFits : Longest → Type 0
-LongFits (Given n) = n < 65536
-LongFits Default = ⊥
+abbrev pub LongFits : core.Option ℕ → Type 0
+LongFits (Some n) = n < 65536
+LongFits None = ⊥
 
 abbrev pub Fits : SetupField → Type 0
 Fits (Format v) = v < 65536
@@ -48,15 +48,15 @@ module _ (s : List ℕ) (at : ℕ) (rest : List ℕ) where
       (omega (arith, long-from s xs at h (omega arith)))
       (field-format s 1 (at + 3) 2 refl ∙ ap Format (omega (arith, two_from s xs at h 3 (at + 3) refl)))
 
-  lane-item : (k w n : ℕ) → k < 256 → w < 65536 → n < 65536 → drop at s ≡ field_bytes (Lane (record { lane = k; weight = w; longest = Given n })) ++ rest
-      → setup_item_at s at ≡ whole_field (Lane (record { lane = k; weight = w; longest = Given n })) (at + 8)
+  lane-item : (k w n : ℕ) → k < 256 → w < 65536 → n < 65536 → drop at s ≡ field_bytes (Lane (record { lane = k; weight = w; longest = Some n })) ++ rest
+      → setup_item_at s at ≡ whole_field (Lane (record { lane = k; weight = w; longest = Some n })) (at + 8)
   lane-item k w n a b c h =
-      let xs = field_bytes (Lane (record { lane = k; weight = w; longest = Given n })) ++ rest in
+      let xs = field_bytes (Lane (record { lane = k; weight = w; longest = Some n })) ++ rest in
       let k-is : byte_at s (at + 3) ≡ k = byte-from s xs at h 3 (at + 3) refl in
       let w-is : big s (at + 3 + 1) 2 ≡ w = omega (arith, two_from s xs at h 4 (at + 3 + 1) (omega arith)) in
       let n-is : big s (at + 3 + 3) 2 ≡ n = omega (arith, two_from s xs at h 6 (at + 3 + 3) (omega arith)) in
-      let l-is : lane_field_at s (at + 3) 5 ≡ record { lane = k; weight = w; longest = Given n } = cc in
-      item_from s at 16 5 (at + 8) (Lane (record { lane = k; weight = w; longest = Given n })) (omega arith) (byte-from s xs at h 0 at (omega arith)) (two_from s xs at h 1 (at + 1) refl) (known_is 16 (inr (inl refl))) refl
+      let l-is : lane_field_at s (at + 3) 5 ≡ record { lane = k; weight = w; longest = Some n } = cc in
+      item_from s at 16 5 (at + 8) (Lane (record { lane = k; weight = w; longest = Some n })) (omega arith) (byte-from s xs at h 0 at (omega arith)) (two_from s xs at h 1 (at + 1) refl) (known_is 16 (inr (inl refl))) refl
       (omega (arith, long-from s xs at h (omega arith)))
       (field-lane s 16 (at + 3) 5 refl ∙ ap Lane l-is)
 
@@ -85,10 +85,10 @@ pub item-bytes : (s : List ℕ) (at : ℕ) (rest : List ℕ) (f : SetupField) �
 item-bytes s at rest (Format v) b h = format-item s at rest v b h
 item-bytes s at rest (Lane l) b h = by-longest l.longest refl b.2
   where
-    by-longest : (x : Longest) → l.longest ≡ x → LongFits x → setup_item_at s at ≡ whole_field (Lane l) (at + length (field_bytes (Lane l)))
-    by-longest Default e q = absurd q
-    by-longest (Given n) e q =
-        let l-is : record { lane = l.lane; weight = l.weight; longest = Given n } ≡ l = ap (λ (y : Longest). record { lane = l.lane; weight = l.weight; longest = y }) (sym e) in
+    by-longest : (x : core.Option ℕ) → l.longest ≡ x → LongFits x → setup_item_at s at ≡ whole_field (Lane l) (at + length (field_bytes (Lane l)))
+    by-longest None e q = absurd q
+    by-longest (Some n) e q =
+        let l-is : record { lane = l.lane; weight = l.weight; longest = Some n } ≡ l = ap (λ (y : core.Option ℕ). record { lane = l.lane; weight = l.weight; longest = y }) (sym e) in
         let i = lane-item s at rest l.lane l.weight n b.0 b.1 q (subst (λ (y : LaneField). drop at s ≡ field_bytes (Lane y) ++ rest) (sym l-is) h) in
         subst (λ (y : LaneField). setup_item_at s at ≡ whole_field (Lane y) (at + length (field_bytes (Lane y)))) l-is i
 item-bytes s at rest (Framing n) b h = framing-item s at rest n h

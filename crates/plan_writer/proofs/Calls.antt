@@ -11,8 +11,9 @@ use native.Mathlib.Decide.{dec_le}
 use native.Mathlib.Omega.{arith}
 use lib.ListN.{length, drop, take}
 use Rattle.rules.specs.State.{Setting}
-use Rattle.plan.specs.Read.{read_setup, settings, setup_came}
-use Rattle.plan_writer.specs.declared.Written.{Written}
+use Rattle.plan.specs.Read.{read_setup, settings}
+use Rattle.std.specs.Prelude.{Result}
+use Rattle.plan_writer.specs.declared.Unwritten.{Unwritten}
 use Rattle.plan_writer.specs.Write.{Planned, planned, Within, setup_size, written_size, not_written, write_reply, Writes}
 use Rattle.plan_writer.specs.RoundTrip.{read_as, SetupReadsBack, SetupWritesBack, Rewritten, OnlyOutside, OnlyShort, SetupSizeMost}
 use Rattle.plan_writer.proofs.Numbered.{numbered-all}
@@ -22,7 +23,7 @@ use Rattle.plan_writer.proofs.Decided.{within_or_not}
 pub size-refused : {A : Type 0} {k n : ℕ} → written_size k ≡ not_written n → A
 size-refused h = absurd (let z : ◌≡◌ {A = ℕ} 0 1 = cc in omega arith)
 
-module _ (p : Planned) (before after : List ℕ) (a : Written) (h : Writes p before a after) where
+module _ (p : Planned) (before after : List ℕ) (a : Result ℕ Unwritten) (h : Writes p before a after) where
   pub outcome : (Within p → ⊥) ⊎ (Within p × ((length before < setup_size p) ⊎ (setup_size p ≤ length before)))
   outcome =
       ⊎_elim
@@ -64,9 +65,10 @@ reads-back-calls plan before after a k h e =
 
 pub writes-back-calls : SetupWritesBack
 unfolding SetupWritesBack
-writes-back-calls s bytes form r k e o before after a h room =
+writes-back-calls s bytes form r e before after a h room =
     let p : Planned = record { format = r.plan.format; lanes = settings r.plan; count = r.plan.count } in
-    let is : read_setup s ≡ read_as p k = sym e ∙ ap (setup_came r.plan) o in
+    let k = r.next in
+    let is : read_setup s ≡ read_as p k = sym e in
     let w = read-within s p k is in
     let same = writes-back s p k is bytes form in
     let long : setup_size p ≡ length s = sym (size_is_lem p w) ∙ ap length same in

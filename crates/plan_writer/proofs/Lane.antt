@@ -1,28 +1,30 @@
--- One lane of a plan, tested; and the loop of `line_framing`.
+-- One lane of a plan, tested; the loop of `line_framing`, and the count of `shared_lanes`.
 --
 --   tells-no       a test that answers no
 --   is-there, is-absent, absent-lane, last-test   what the numbers of a lane that fits are, and the tests of `lane_within`
 --   Line           the greatest framing number so far, with that of the lanes behind; line-none, line-more, line_same, line-all
+--   shares-counted  how many lanes are shared, counted
 --
 -- Assumes nothing.
 use Prim.Native.Nat.{ℕ, ◌+◌, ◌≤◌, ◌<◌, max}
-use mathlib.Core.Path.{◌≡◌, sym, ap, ◌∙◌}
-use mathlib.Core.Bool.{Bool, true, false, not}
+use mathlib.Core.Path.{◌≡◌, refl, sym, ap, ◌∙◌}
+use mathlib.Core.Bool.{Bool, true, false, not, cond}
 use mathlib.Core.Logic.{inl, inr, ⊎_elim}
 use mathlib.Core.List.{List, map}
 use native.Mathlib.Numerals.{add-one}
 use native.Mathlib.Omega.{arith}
 use borrow.Author.Tests.{eqb-true, eqb-false, not-true, not-false}
 use lib.Dec.{eqb}
-use lib.ListN.{drop, get_or, drop_of_length-le}
-use Rattle.std.specs.Prelude.{if◌then◌else◌}
+use lib.ListN.{length, drop, get_or, drop_of_length-le, length-map}
+use Rattle.std.specs.Prelude.{if◌then◌else◌, count_by}
+use Rattle.std.proofs.lemmas.List.Recursion.{is_count_by}
 use Rattle.rules.specs.State.{Setting, no_setting}
 use Rattle.rules.specs.Setup.{InNumbers, framing_of}
 use Rattle.plan.specs.Read.{setting_of}
 use Rattle.plan.specs.declared.Lane as plan
 use Rattle.plan_writer.specs.Write.{numbered, Either, Fitting, Tells, shareds}
 use Rattle.plan_writer.proofs.Framing.{fitting-each, fitting-framed}
-use Rattle.plan_writer.proofs.Numbered.{numbered-size, none, lane-next}
+use Rattle.plan_writer.proofs.Numbered.{numbered-size, numbered-all, none, lane-next}
 
 -- ---- one lane
 
@@ -97,27 +99,13 @@ module _ (lanes : List plan.Lane) (k h : ℕ) (so : Line lanes k h) where
 
 -- ---- how many lanes are shared
 
-pub record Shares (lanes : List plan.Lane) (k n : ℕ) : Type 0 where
-  pub low : k ≤ 64
-  pub few : n ≤ k
-  pub all : n + shareds (drop k (lanes_of lanes)) ≡ shareds (lanes_of lanes)
+one_more : (b : Bool) (n : ℕ) → (if b then 1 else 0) + n ≡ cond b (1 + n) n
+one_more true n = refl
+one_more false n = omega arith
 
-pub shares-none : (lanes : List plan.Lane) → Shares lanes 0 0
-shares-none lanes = record { low = omega arith; few = omega arith; all = omega arith }
+shares_each : (lanes : List plan.Lane) → shareds (map setting_of lanes) ≡ count_by (λ (l : plan.Lane). l.shared) lanes
+shares_each = is_count_by (λ (ls : List plan.Lane). shareds (map setting_of ls)) (λ (l : plan.Lane). l.shared) refl (λ l ls. one_more l.shared (shareds (map setting_of ls)))
 
-module _ (lanes : List plan.Lane) (k n : ℕ) (so : Shares lanes k n) where
-  module _ (l : k < 64) where
-    abbrev own : Bool → ℕ
-    own b = if b then 1 else 0
-
-    shares-next : shareds (drop k (lanes_of lanes)) ≡ own (get_or lanes k none).shared + shareds (drop (k + 1) (lanes_of lanes))
-    shares-next = ap shareds (lane-next lanes k l) ∙ ap (λ (i : ℕ). own (get_or lanes k none).shared + shareds (drop i (lanes_of lanes))) (sym (add-one k))
-
-    pub shares-more : (get_or lanes k none).shared ≡ true → Shares lanes (k + 1) (n + 1)
-    shares-more e = record { low = omega arith; few = omega (arith, so.few); all = omega (arith, shares-next, ap own e, so.all) }
-
-    pub shares-same : (get_or lanes k none).shared ≡ false → Shares lanes (k + 1) n
-    shares-same e = record { low = omega arith; few = omega (arith, so.few); all = omega (arith, shares-next, ap own e, so.all) }
-
-  pub shares-all : 64 ≤ k → (n ≡ shareds (lanes_of lanes)) × (n ≤ 64)
-  shares-all done = (omega (arith, so.all, ap shareds (drop_of_length-le (lanes_of lanes) {i = k} (omega (arith, numbered-size (map setting_of lanes), done)))), omega (arith, so.few, so.low))
+-- counted as the code counts, over a plan of 64 lanes
+pub shares-counted : (lanes : List plan.Lane) → length lanes ≡ 64 → count_by (λ (l : plan.Lane). l.shared) lanes ≡ shareds (lanes_of lanes)
+shares-counted lanes size = sym (ap shareds (numbered-all (map setting_of lanes) (length-map lanes setting_of ∙ size)) ∙ shares_each lanes)

@@ -18,8 +18,8 @@ use Rattle.units.proofs.Bools.{and_parts, true-false}
 use Rattle.rules.specs.State.{Setting, no_setting, setting_at}
 use Rattle.plan.specs.Judge.{longest_of}
 use Rattle.plan.specs.Accepted.{LaneFields, Rising, LanesWithin, given_by, placed_all, shared_behind, fields_of}
-use Rattle.plan.specs.declared.parse.Longest.{Longest}
-use Rattle.plan.specs.declared.parse.Longest.TheVariants.{Given, Default}
+use Rattle.std.specs.Prelude as core
+use Rattle.std.specs.Prelude.{Some, None}
 use Rattle.plan.specs.declared.parse.SetupField.{SetupField}
 use Rattle.plan.specs.declared.parse.SetupField.TheVariants.{Lane, End}
 use Rattle.plan_writer.specs.Format.{written_out, formed, all_formed}
@@ -87,11 +87,11 @@ set-replicate {A} (suc d) m x y =
 
 -- a lane field in the form is that of the setting that it gives
 formed-field : (v line : ℕ) (l : LaneFields) → formed (Lane l.lane) ≡ true → lane_fields_of l.lane.lane (given_by v line l) ≡ l
-formed-field v line l h = ap (λ (x : Longest). record { lane = record { lane = l.lane.lane; weight = l.lane.weight; longest = x }; shared = l.shared }) (go l.lane.longest h)
+formed-field v line l h = ap (λ (x : core.Option ℕ). record { lane = record { lane = l.lane.lane; weight = l.lane.weight; longest = x }; shared = l.shared }) (go l.lane.longest h)
   where
-    go : (x : Longest) → written_out x ≡ true → Given (longest_of v x) ≡ x
-    go (Given n) h = refl
-    go Default h = true-false (sym h)
+    go : (x : core.Option ℕ) → written_out x ≡ true → Some (longest_of v x) ≡ x
+    go (Some n) h = refl
+    go None h = true-false (sym h)
 
 -- the fields behind a lane's 0x12 are in the form
 formed-behind : (b : Bool) (k : ℕ) (fs gs : List SetupField) → all_formed ((shared_behind b k ++ fs) ++ gs) ≡ true → all_formed (fs ++ gs) ≡ true

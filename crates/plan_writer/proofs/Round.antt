@@ -29,7 +29,8 @@ use Rattle.plan.proofs.Accepted.{accepted-whole}
 use Rattle.plan.proofs.Prefix.{prefix}
 use Rattle.plan.proofs.Complete.{complete}
 use Rattle.plan_writer.specs.Format.{field_bytes, bytes_of, all_formed, InForm}
-use Rattle.plan_writer.specs.declared.Written.{Written}
+use Rattle.std.specs.Prelude.{Result}
+use Rattle.plan_writer.specs.declared.Unwritten.{Unwritten}
 use Rattle.plan_writer.specs.Write.{Planned, Within, Fitting, lane_fields, unless_zero, plan_fields, setup_bytes, lanes_bytes, framing_bytes, setup_size, Writes}
 use Rattle.plan_writer.specs.RoundTrip.{read_as}
 use Rattle.plan_writer.proofs.Laid.{one-layout, AllFit, laid-bytes, bytes-laid}
@@ -147,7 +148,7 @@ module _ (s : List ℕ) (p : Planned) (q : ℕ) (e : read_setup s ≡ read_as p 
 
 -- ---- of the call's own answers
 
-module _ (p : Planned) (before after : List ℕ) (a : Written) (h : Writes p before a after) (w : Within p) (l : setup_size p ≤ length before) where
+module _ (p : Planned) (before after : List ℕ) (a : Result ℕ Unwritten) (h : Writes p before a after) (w : Within p) (l : setup_size p ≤ length before) where
   first-bytes : take (setup_size p) after ≡ setup_bytes p
   first-bytes = ap (take (setup_size p)) (h.written w l).1 ∙ take_at (setup_bytes p) (drop (setup_size p) before) (setup_size p) (size_is_lem p w)
 

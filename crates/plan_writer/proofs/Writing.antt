@@ -24,7 +24,7 @@ use Rattle.plan.specs.Accepted.{LaneFields, shared_behind, fields_of, setup_fiel
 use Rattle.plan.specs.declared.parse.SetupField.TheVariants.{Format, Lane, Shared, End}
 use Rattle.plan_writer.specs.Format.{field_bytes, bytes_of}
 use Rattle.plan_writer.specs.Write.{lane_field, own_bytes, lane_bytes, lane_size, lane_fields, lanes_bytes, framing_bytes, framing_size, unless_zero, Planned, Within, Either, setup_bytes, setup_size, written_size, Writes}
-use Rattle.plan_writer.specs.declared.Written.TheVariants.{Size}
+use Rattle.std.specs.Prelude.{Ok}
 use Rattle.plan_writer.proofs.Numbered.{numbered-size, none, lane-at, lane-next}
 use Rattle.plan_writer.proofs.Lane.{there-either, absent-either, lanes_of}
 use Rattle.plan_writer.proofs.Framing.{framing-size}
@@ -152,7 +152,7 @@ stored-first a bs n e h = sets-eq bs a 0 (omega (arith, e, h)) ∙ ap (λ (k : �
 -- ---- the promise, where the plan was tested and there is room
 
 pub written_all : (p : Planned) → Within p → (before after : List ℕ) (h n : ℕ) → h ≡ framing_of p.lanes → n ≡ setup_size p → n ≤ length before
-    → after ≡ sets before 0 (bytes_of (setup_fields p.format (unless_zero h) (lane_fields 0 p.lanes))) → Writes p before (Size n) after
+    → after ≡ sets before 0 (bytes_of (setup_fields p.format (unless_zero h) (lane_fields 0 p.lanes))) → Writes p before (Ok n) after
 unfolding setup_bytes
 written_all p w before after h n h-is n-is room e = record {
   outside = λ o. absurd (o w);

@@ -7,11 +7,9 @@
 --   InForm       a setup whose fields are all in that form
 --
 -- Assumes nothing.
-use Rattle.std.specs.Prelude.{ℕ, ◌≡◌, Bool, true, false, not, ◌&&◌, List, [], ◌∷◌, ◌++◌, eqb, length}
+use Rattle.std.specs.Prelude.{ℕ, ◌≡◌, Bool, true, false, not, ◌&&◌, List, [], ◌∷◌, ◌++◌, eqb, length, Option, Some, None}
 use Rattle.fields.specs.Bytes.{two, as_field}
 use Rattle.plan.specs.Accepted.{Laid}
-use Rattle.plan.specs.declared.parse.Longest.{Longest}
-use Rattle.plan.specs.declared.parse.Longest.TheVariants.{Given, Default}
 use Rattle.plan.specs.declared.parse.SetupField.{SetupField}
 use Rattle.plan.specs.declared.parse.SetupField.TheVariants.{Format, Lane, Framing, Shared, End}
 
@@ -24,9 +22,9 @@ tag_of (Framing h) = 17
 tag_of (Shared k) = 18
 tag_of End = 127
 
-abbrev pub longest_bytes : Longest → List ℕ
-longest_bytes (Given n) = two n
-longest_bytes Default = []
+abbrev pub longest_bytes : Option ℕ → List ℕ
+longest_bytes (Some n) = two n
+longest_bytes None = []
 
 -- A format has two bytes; a lane field has the lane, the weight and, where it is given, the longest; the framing bytes are one byte, and so is a shared lane;
 -- 0x7F has none.
@@ -46,9 +44,9 @@ bytes_of (f ∷ fs) = field_bytes f ++ bytes_of fs
 
 -- ---- the form
 
-abbrev pub written_out : Longest → Bool
-written_out (Given n) = true
-written_out Default = false
+abbrev pub written_out : Option ℕ → Bool
+written_out (Some n) = true
+written_out None = false
 
 -- A lane field has its longest, so five bytes; 0x11 stands only for a number that is not 0.
 abbrev pub formed : SetupField → Bool

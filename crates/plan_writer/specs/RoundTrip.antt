@@ -9,15 +9,14 @@
 --   SetupSizeMost     R9.2: no plan within the numbers has more than 780 bytes
 --
 -- Assumes nothing.
-use Rattle.std.specs.Prelude.{ℕ, ◌≤◌, ◌<◌, ◌≡◌, List, ◌++◌, length, drop, take}
+use Rattle.std.specs.Prelude.{ℕ, ◌≤◌, ◌<◌, ◌≡◌, List, ◌++◌, length, drop, take, Result, Ok}
 use Rattle.fields.specs.Bytes.{Bytes}
 use Rattle.plan.specs.Read as r
 use Rattle.plan.specs.Read.{setup_read, read_plan, read_setup, setup_reply}
 use Rattle.plan.specs.declared.Plan.{Plan}
 use Rattle.plan.specs.declared.Reading.{Reading}
-use Rattle.plan.specs.declared.Outcome.TheVariants.{Read}
 use Rattle.plan_writer.specs.Format.{InForm}
-use Rattle.plan_writer.specs.declared.Written.{Written}
+use Rattle.plan_writer.specs.declared.Unwritten.{Unwritten}
 use Rattle.plan_writer.specs.Write.{Planned, planned, Within, setup_bytes, setup_size, written_size, not_written, write_reply, Writes}
 
 -- The reader's reply that is this plan, read as far as a place.
@@ -26,13 +25,13 @@ read_as p next = setup_read p.format p.lanes p.count next
 
 unfoldable pub SetupReadsBack : Type 0
 SetupReadsBack =
-    (p : Plan) (before after : List ℕ) (a : Written) (k : ℕ) → Writes (planned p) before a after → write_reply a ≡ written_size k
+    (p : Plan) (before after : List ℕ) (a : Result ℕ Unwritten) (k : ℕ) → Writes (planned p) before a after → write_reply a ≡ written_size k
     → (read_setup (take k after) ≡ read_as (planned p) k) × (read_plan after 0 ≡ read_as (planned p) k)
 
 unfoldable pub SetupWritesBack : Type 0
 SetupWritesBack =
-    (s : List ℕ) → Bytes s → InForm s → (r : Reading) (k : ℕ) → setup_reply r ≡ read_setup s → r.outcome ≡ Read k
-    → (before after : List ℕ) (a : Written) → Writes (planned r.plan) before a after → length s ≤ length before
+    (s : List ℕ) → Bytes s → InForm s → (r : Reading) → setup_reply (Ok r) ≡ read_setup s
+    → (before after : List ℕ) (a : Result ℕ Unwritten) → Writes (planned r.plan) before a after → length s ≤ length before
     → (write_reply a ≡ written_size (length s)) × (after ≡ s ++ drop (length s) before)
 
 unfoldable pub Rewritten : Type 0
@@ -42,12 +41,12 @@ Rewritten =
 
 unfoldable pub OnlyOutside : Type 0
 OnlyOutside =
-    (p : Planned) (before after : List ℕ) (a : Written) → Writes p before a after
+    (p : Planned) (before after : List ℕ) (a : Result ℕ Unwritten) → Writes p before a after
     → ((Within p → ⊥) → write_reply a ≡ not_written 55) × (write_reply a ≡ not_written 55 → Within p → ⊥)
 
 unfoldable pub OnlyShort : Type 0
 OnlyShort =
-    (p : Planned) (before after : List ℕ) (a : Written) → Writes p before a after
+    (p : Planned) (before after : List ℕ) (a : Result ℕ Unwritten) → Writes p before a after
     → (Within p → length before < setup_size p → write_reply a ≡ not_written 56) × (write_reply a ≡ not_written 56 → Within p × (length before < setup_size p))
 
 unfoldable pub SetupSizeMost : Type 0

@@ -7,7 +7,8 @@
 --   Writes       the promise: what is answered, and the buffer after it, for every plan and every buffer
 --
 -- Assumes nothing.
-use Rattle.std.specs.Prelude.{ℕ, zero, suc, ◌+◌, ◌*◌, ◌≤◌, ◌<◌, ◌≡◌, Bool, true, false, ◌⊎◌, List, [], ◌∷◌, ◌++◌, ltb, eqb, length, drop, if◌then◌else◌}
+use Rattle.std.specs.Prelude.{ℕ, zero, suc, ◌+◌, ◌*◌, ◌≤◌, ◌<◌, ◌≡◌, Bool, true, false, ◌⊎◌, List, [], ◌∷◌, ◌++◌, ltb, eqb, length, drop, Result, Ok, Err, if◌then◌else◌}
+use Rattle.std.specs.Prelude.{Some}
 use Rattle.std.proofs.Math.Option.{Option, some, none}
 use Rattle.units.specs.Plain.{sum}
 use Rattle.rules.specs.State.{Setting, no_setting, setting_at}
@@ -16,15 +17,12 @@ use Rattle.plan.specs.Judge.{known_format}
 use Rattle.plan.specs.Read.{settings}
 use Rattle.plan.specs.Accepted.{LaneFields, framed, shared_behind, fields_of, setup_fields, present}
 use Rattle.plan.specs.declared.Plan.{Plan}
-use Rattle.plan.specs.declared.parse.Longest.TheVariants.{Given}
 use Rattle.plan.specs.declared.parse.LaneField.{LaneField}
 use Rattle.plan.specs.declared.parse.SetupField.{SetupField}
 use Rattle.plan.specs.declared.parse.SetupField.TheVariants.{Lane}
 use Rattle.plan_writer.specs.Format.{field_bytes, bytes_of}
 use Rattle.plan_writer.specs.declared.Unwritten.{Unwritten}
 use Rattle.plan_writer.specs.declared.Unwritten.TheVariants.{Outside, Short}
-use Rattle.plan_writer.specs.declared.Written.{Written}
-use Rattle.plan_writer.specs.declared.Written.TheVariants.{Size, Refused}
 
 -- ---- plans
 
@@ -71,7 +69,7 @@ pub record Tells (b : Bool) (P : Type 0) : Type 0 where
 
 -- The field of lane k: its longest is always written out.
 abbrev pub lane_field : ℕ → Setting → LaneField
-lane_field k g = record { lane = k; weight = g.weight; longest = Given g.longest }
+lane_field k g = record { lane = k; weight = g.weight; longest = Some g.longest }
 
 abbrev pub lane_fields_of : ℕ → Setting → LaneFields
 lane_fields_of k g = record { lane = lane_field k g; shared = g.shared }
@@ -135,13 +133,13 @@ unwritten_number Outside = 55
 unwritten_number Short = 56
 
 -- The code's answer.
-abbrev pub write_reply : Written → WriteReply
-write_reply (Size n) = written_size n
-write_reply (Refused x) = not_written (unwritten_number x)
+abbrev pub write_reply : Result ℕ Unwritten → WriteReply
+write_reply (Ok n) = written_size n
+write_reply (Err x) = not_written (unwritten_number x)
 
 -- R9.3, R9.4, R14.16, R14.17, R14.41. A plan outside the numbers is refused by 55, whatever the buffer; one within them by 56 where the buffer is shorter than
 -- its exact size; the buffer stays for both. Else the answer is the size, the plan's bytes stand first in the buffer, and those past them stay.
-pub record Writes (p : Planned) (before : List ℕ) (answer : Written) (after : List ℕ) : Type 0 where
+pub record Writes (p : Planned) (before : List ℕ) (answer : Result ℕ Unwritten) (after : List ℕ) : Type 0 where
   pub outside : (Within p → ⊥) → (write_reply answer ≡ not_written 55) × (after ≡ before)
   pub short : Within p → length before < setup_size p → (write_reply answer ≡ not_written 56) × (after ≡ before)
   pub written : Within p → setup_size p ≤ length before → (write_reply answer ≡ written_size (setup_size p)) × (after ≡ setup_bytes p ++ drop (setup_size p) before)

@@ -37,20 +37,13 @@ const LANE_SIZE: usize = 8;
 
 const SHARED_SIZE: usize = 4;
 
-// Why nothing was written. These two have no place.
+// Why nothing was written, each with its number (R14.16, R14.17). These two have no place.
 #[derive(Clone, Copy)]
 pub enum Unwritten {
-    // 55: the plan is outside the numbers.
-    Outside,
-    // 56: the buffer is shorter than the exact size.
-    Short,
-}
-
-#[derive(Clone, Copy)]
-pub enum Written {
-    // The exact size: how many bytes were written.
-    Size(usize),
-    Refused(Unwritten),
+    // The plan is outside the numbers.
+    Outside = 55,
+    // The buffer is shorter than the exact size.
+    Short = 56,
 }
 
 // The greatest of the lanes' framing numbers. In a plan within the numbers every lane that is there has it.
@@ -58,14 +51,10 @@ pub fn line_framing(lanes: [Lane; LANES]) -> u8
     ensures { result ≡ framing_of (numbered (map setting_of lanes)) }
 {
     let mut h = 0u8;
-    let mut k = 0usize;
-    while k < LANES {
-        let l = lanes[k];
-        let framing = l.framing;
-        if h < framing {
-            h = framing;
+    for l in &lanes {
+        if h < l.framing {
+            h = l.framing;
         }
-        k += 1;
     }
     h
 }
@@ -74,16 +63,7 @@ pub fn line_framing(lanes: [Lane; LANES]) -> u8
 pub fn shared_lanes(lanes: [Lane; LANES]) -> usize
     ensures { (result ≡ shareds (numbered (map setting_of lanes))) × (result ≤ 64) }
 {
-    let mut n = 0usize;
-    let mut k = 0usize;
-    while k < LANES {
-        let l = lanes[k];
-        if l.shared {
-            n += 1;
-        }
-        k += 1;
-    }
-    n
+    lanes.iter().filter(|l| l.shared).count()
 }
 
 // A lane that is in the numbers, on a line with `h` framing bytes, or not there.
@@ -128,9 +108,7 @@ pub fn within(plan: Plan) -> bool
     }
     let mut total = 0u64;
     let mut there = 0usize;
-    let mut k = 0usize;
-    while k < LANES {
-        let l = lanes[k];
+    for l in lanes {
         if !lane_within(l, h) {
             return false;
         }
@@ -138,7 +116,6 @@ pub fn within(plan: Plan) -> bool
             total += l.weight as u64;
             there += 1;
         }
-        k += 1;
     }
     if total == 0 {
         return false;
@@ -229,13 +206,10 @@ fn put_lanes(a: &mut [u8], at: usize, lanes: [Lane; LANES]) -> usize
     ensures { (a.new ≡ sets a.old at (lanes_bytes 0 (numbered (map setting_of lanes)))) × (result ≡ at + length (lanes_bytes 0 (numbered (map setting_of lanes)))) }
 {
     let mut p = at;
-    let mut k = 0usize;
-    while k < LANES {
-        let l = lanes[k];
+    for (k, l) in lanes.iter().enumerate() {
         if l.weight != 0 {
-            p = put_fields(a, p, k, l);
+            p = put_fields(a, p, k, *l);
         }
-        k += 1;
     }
     p
 }
@@ -267,12 +241,12 @@ fn framing_size(h: u8) -> usize
     if h == NO_FRAMING { 0 } else { FRAMING_SIZE }
 }
 
-// Writes a plan as the bytes of a setup.
-pub fn write_setup(plan: Plan, buf: &mut [u8]) -> Written
+// Writes a plan as the bytes of a setup, and answers the exact size: how many bytes were written.
+pub fn write_setup(plan: Plan, buf: &mut [u8]) -> Result<usize, Unwritten>
     ensures { Writes (planned plan) buf.old result buf.new }
 {
     if !within(plan) {
-        return Written::Refused(Unwritten::Outside);
+        return Err(Unwritten::Outside);
     }
     let lanes = plan.lanes;
     let h = line_framing(lanes);
@@ -281,8 +255,8 @@ pub fn write_setup(plan: Plan, buf: &mut [u8]) -> Written
         + LANE_SIZE * plan.count
         + SHARED_SIZE * shared_lanes(lanes);
     if buf.len() < size {
-        return Written::Refused(Unwritten::Short);
+        return Err(Unwritten::Short);
     }
     put_setup(buf, plan.format, h, lanes);
-    Written::Size(size)
+    Ok(size)
 }

@@ -3,9 +3,7 @@
 // No line here knows whether a lane is shared. `answer` leaves the train out, `answer_with_train` writes it behind every record.
 #![tactic(auto)]
 
-use lines::Place;
 use rules::{Answer, Record, Refusal, SetWords};
-use scheduler::Making;
 use std::io::Stdout;
 
 pub fn word(out: Stdout, w: &[u8]) {
@@ -22,17 +20,9 @@ pub fn number(out: Stdout, before: &[u8], n: u64) {
     let _ = out.print(n);
 }
 
-// A number with its sign.
-fn signed(out: Stdout, z: i64) {
-    let mut a = [0u8; 20];
-    let n = text::put_signed(&mut a, 0, z);
-    let _ = out.write_all(&a[..n]);
-}
-
-fn place(out: Stdout, p: Place) {
-    match p {
-        Place::At(at) => number(out, b" ", at as u64),
-        Place::Nowhere => {}
+fn place(out: Stdout, p: Option<usize>) {
+    if let Some(at) = p {
+        number(out, b" ", at as u64);
     }
 }
 
@@ -43,41 +33,36 @@ pub fn refusal(out: Stdout, x: Refusal) {
 }
 
 fn record(out: Stdout, before: &[u8], r: Record) {
-    number(out, before, r.lane as u64);
-    number(out, b" ", r.mark as u64);
-    number(out, b" ", r.length.0);
+    word(out, before);
+    let _ = print!(out; "{} {} {}", r.lane, r.mark, r.length.0);
 }
 
 fn words(out: Stdout, w: SetWords) {
-    number(out, b"sets ", w.er);
-    number(out, b" ", w.ir);
-    number(out, b" ", w.eb);
-    number(out, b" ", w.ib);
+    let _ = print!(out; "sets {} {} {} {}", w.er, w.ir, w.eb, w.ib);
 }
 
 fn lag(out: Stdout, z: i64) {
-    word(out, b"lag ");
-    signed(out, z);
+    let _ = print!(out; "lag {z}");
 }
 
 fn put_ok(out: Stdout, n: u64) {
     number(out, b"put ok ", n);
 }
 
-fn said(out: Stdout, a: Answer) {
+fn said(out: Stdout, a: Result<Answer, Refusal>) {
     match a {
-        Answer::Accepted(n) => put_ok(out, n),
-        Answer::Taken(r) => record(out, b"take ", r),
-        Answer::Seen(r) => record(out, b"look ", r),
-        Answer::Sets(w) => words(out, w),
-        Answer::Lag(z) => lag(out, z),
-        Answer::Restarted => word(out, b"restart ok"),
-        Answer::Refused(x) => refusal(out, x),
+        Ok(Answer::Accepted(n)) => put_ok(out, n),
+        Ok(Answer::Taken(r)) => record(out, b"take ", r),
+        Ok(Answer::Seen(r)) => record(out, b"look ", r),
+        Ok(Answer::Sets(w)) => words(out, w),
+        Ok(Answer::Lag(z)) => lag(out, z),
+        Ok(Answer::Restarted) => word(out, b"restart ok"),
+        Err(x) => refusal(out, x),
     }
 }
 
 // What a call answered.
-pub fn answer(out: Stdout, a: Answer) {
+pub fn answer(out: Stdout, a: Result<Answer, Refusal>) {
     said(out, a);
     word(out, b"\n");
 }
@@ -87,30 +72,30 @@ fn train(out: Stdout, r: Record) {
 }
 
 // The train of a record, where the answer is one.
-fn of_train(out: Stdout, a: Answer) {
+fn of_train(out: Stdout, a: Result<Answer, Refusal>) {
     match a {
-        Answer::Taken(r) => train(out, r),
-        Answer::Seen(r) => train(out, r),
+        Ok(Answer::Taken(r)) => train(out, r),
+        Ok(Answer::Seen(r)) => train(out, r),
         _ => {}
     }
 }
 
 // What a call answered, a record with its train behind it.
-pub fn answer_with_train(out: Stdout, a: Answer) {
+pub fn answer_with_train(out: Stdout, a: Result<Answer, Refusal>) {
     said(out, a);
     of_train(out, a);
     word(out, b"\n");
 }
 
-fn made(out: Stdout, m: Making) {
+fn made(out: Stdout, m: Result<usize, Refusal>) {
     match m {
-        Making::Made(n) => number(out, b"lanes ", n as u64),
-        Making::Refused(x) => refusal(out, x),
+        Ok(n) => number(out, b"lanes ", n as u64),
+        Err(x) => refusal(out, x),
     }
 }
 
 // What making answered.
-pub fn making(out: Stdout, m: Making) {
+pub fn making(out: Stdout, m: Result<usize, Refusal>) {
     made(out, m);
     word(out, b"\n");
 }

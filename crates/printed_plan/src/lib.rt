@@ -6,8 +6,7 @@
 // with `/shared` at the end of a lane that trains share. A lane that is not in the plan is left out.
 #![tactic(auto)]
 
-use lines::Place;
-use plan::{LANES, Lane, Plan};
+use plan::{Lane, Plan};
 use rules::Refusal;
 use std::io::Stdout;
 
@@ -20,10 +19,9 @@ pub fn number(out: Stdout, before: &[u8], n: u64) {
     let _ = out.print(n);
 }
 
-fn place(out: Stdout, p: Place) {
-    match p {
-        Place::At(at) => number(out, b" ", at as u64),
-        Place::Nowhere => {}
+fn place(out: Stdout, p: Option<usize>) {
+    if let Some(at) = p {
+        number(out, b" ", at as u64);
     }
 }
 
@@ -34,10 +32,7 @@ pub fn refusal(out: Stdout, x: Refusal) {
 
 fn lane(out: Stdout, k: usize, l: Lane) {
     if l.weight != 0 {
-        number(out, b" ", k as u64);
-        number(out, b"/", l.weight as u64);
-        number(out, b"/", l.longest as u64);
-        number(out, b"/", l.framing as u64);
+        let _ = print!(out; " {k}/{}/{}/{}", l.weight, l.longest, l.framing);
         if l.shared {
             word(out, b"/shared");
         }
@@ -46,10 +41,7 @@ fn lane(out: Stdout, k: usize, l: Lane) {
 
 pub fn lanes(out: Stdout, p: Plan) {
     word(out, b",");
-    let lanes = p.lanes;
-    let mut k: usize = 0;
-    while k < LANES {
-        lane(out, k, lanes[k]);
-        k += 1;
+    for (k, l) in p.lanes.iter().enumerate() {
+        lane(out, k, *l);
     }
 }

@@ -21,7 +21,7 @@ use table::{
     set_pace, set_record, set_ring, set_round, set_row, set_train, train,
 };
 use turns::{COUNT_UNIT, DEFICIT_UNIT, NAMED_UNIT, ORDER_UNIT, TRAIN_DEPTH};
-use units::{Bytes, Clock, lane_charge, plus};
+use units::{Bytes, Clock, lane_charge};
 
 // A record that waits: its train (0 in a lane that is not shared), the host's mark, and its length.
 #[derive(Clone, Copy)]
@@ -183,7 +183,7 @@ pub fn take_first(t: &mut [u8], k: usize) -> Item
 {
     let l = row(t, k);
     let e = first(t, k);
-    let finish = plus(l.time, lane_charge(charged(l, e.length), l.rate));
+    let finish = l.time + lane_charge(charged(l, e.length), l.rate);
     let mut next = l;
     next.time = finish;
     next.count = l.count - 1;

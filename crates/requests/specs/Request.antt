@@ -7,7 +7,8 @@
 --   call_by_number    the request of a tag, from its value as one number
 --
 -- Assumes nothing.
-use Rattle.std.specs.Prelude.{ℕ, ◌+◌, ◌/◌, ◌%◌, ◌^◌, ◌≡◌, ◌||◌, List, leb, eqb, length, if◌then◌else◌}
+use Rattle.std.specs.Prelude as core
+use Rattle.std.specs.Prelude.{ℕ, ◌+◌, ◌/◌, ◌%◌, ◌^◌, ◌≡◌, ◌||◌, List, leb, eqb, length, Some, None, Result, Ok, Err, if◌then◌else◌}
 use Rattle.std.proofs.Math.Option.{Option, none, some}
 use Rattle.fields.specs.Bytes.{byte_at, big}
 use Rattle.fields.specs.Header.{header_at}
@@ -15,10 +16,8 @@ use Rattle.fields.specs.declared.Field.{Field}
 use Rattle.fields.specs.declared.Field.TheVariants.{Nothing, Cut, Header}
 use Rattle.rules.specs.Calls.{Call, put, take, look, sets, lag, restart}
 use Rattle.rules.specs.Reads.{number, place_of}
-use Rattle.requests.specs.declared.Size as Size
-use Rattle.requests.specs.declared.Head as Head
+use Rattle.rules.specs.declared.Refusal.{Refusal}
 use Rattle.requests.specs.declared.Request as Request
-use Rattle.requests.specs.declared.Quick as Quick
 
 -- R10.1: the tags that this part knows, each with the one length that is right for it; 0x26 is a put with a train.
 abbrev pub request_size : ℕ → Option ℕ
@@ -76,13 +75,13 @@ request_item_at s at = valued s at (head_at s at)
 
 -- ---- the code's own
 
-abbrev pub size_is : Size.Size → Option ℕ
-size_is Size.TheVariants.Unknown = none
-size_is (Size.TheVariants.Of n) = some n
+abbrev pub size_is : core.Option ℕ → Option ℕ
+size_is None = none
+size_is (Some n) = some n
 
-abbrev pub head_is : Head.Head → Heading
-head_is (Head.TheVariants.Right tag n) = right tag n
-head_is (Head.TheVariants.Refused x) = wrong (number x) (place_of x)
+abbrev pub head_is : Result (ℕ × ℕ) Refusal → Heading
+head_is (Ok h) = right h.0 h.1
+head_is (Err x) = wrong (number x) (place_of x)
 
 abbrev pub call_is : Request.Request → Call
 call_is (Request.TheVariants.Put j t m n) = put j t m n.0
@@ -93,9 +92,9 @@ call_is (Request.TheVariants.Lag j) = lag j
 call_is Request.TheVariants.Restart = restart
 
 -- a request that was read at once is the one that stands at the place
-abbrev pub Quickly : List ℕ → ℕ → Quick.Quick → Type 0
-Quickly s at (Quick.TheVariants.Whole q next) = request_item_at s at ≡ request (call_is q) next
-Quickly s at Quick.TheVariants.Other = Unit
+abbrev pub Quickly : List ℕ → ℕ → core.Option (Request.Request × ℕ) → Type 0
+Quickly s at (Some q) = request_item_at s at ≡ request (call_is q.0) q.1
+Quickly s at None = Unit
 
 -- the value as one number, high byte first: proofs/Values.antt shows that this is `call_of`
 unfoldable pub call_by_number : ℕ → ℕ → Call

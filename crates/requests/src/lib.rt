@@ -7,11 +7,10 @@
 // Units: a place is a number of bytes from the first byte of the input; a record's length is in `Bytes`.
 #![tactic(auto)]
 
-ghost use Rattle.std.specs.Prelude.{◌≡◌, ◌+◌, ◌<◌, ◌≤◌, length};
-ghost use Rattle.fields.specs.Bytes.{big};
+ghost use Rattle.std.specs.Prelude.{◌≡◌};
 ghost use Rattle.requests.specs.Request.{request_size, size_is, head_at, head_is, call_is, call_by_number, Quickly};
 
-use fields::{Field, HEADER, u16_at};
+use fields::{Field, HEADER, u16_at, u32_at};
 use rules::Refusal;
 use units::Bytes;
 
@@ -47,58 +46,37 @@ pub enum Request {
     Restart,
 }
 
-// How long the value of a tag is.
-#[derive(Clone, Copy)]
-pub enum Size {
-    Of(usize),
-    Unknown,
-}
-
-#[derive(Clone, Copy)]
-pub enum Head {
-    // A tag that is known, and the length of its value, which may be cut.
-    Right(u8, usize),
-    Refused(Refusal),
-}
-
-// A request that was read at once, with the place behind it.
-#[derive(Clone, Copy)]
-pub enum Quick {
-    Whole(Request, usize),
-    Other,
-}
-
-// R10.1, and 0x26, a put with its train behind the lane. A lag names its lane; the others have no value.
-pub fn size_of(tag: u8) -> Size
+// How long the value of a tag is, where the tag is known: R10.1, and 0x26, a put with its train behind the lane. A lag names its lane; the others have no value.
+pub fn size_of(tag: u8) -> Option<usize>
     ensures { size_is result ≡ request_size tag }
 {
     match tag {
-        PUT => Size::Of(7),
-        PUT_TRAIN => Size::Of(8),
-        LAG => Size::Of(1),
-        TAKE | LOOK | SETS | RESTART | END => Size::Of(0),
-        _ => Size::Unknown,
+        PUT => Some(7),
+        PUT_TRAIN => Some(8),
+        LAG => Some(1),
+        TAKE | LOOK | SETS | RESTART | END => Some(0),
+        _ => None,
     }
 }
 
-// The header at a place, judged: refusals 1 (header), 2 and 3.
-pub fn head_at(s: &[u8], at: usize) -> Head
+// The header at a place, judged: refusals 1 (header), 2 and 3. A tag that is known, and the length of its value, which may be cut.
+pub fn head_at(s: &[u8], at: usize) -> Result<(u8, usize), Refusal>
     ensures { head_is result ≡ head_at s.now at }
 {
     match fields::field_at(s, at) {
-        Field::Nothing => Head::Refused(Refusal::Cut(s.len())),
-        Field::Cut => Head::Refused(Refusal::Cut(at)),
+        Field::Nothing => Err(Refusal::Cut(s.len())),
+        Field::Cut => Err(Refusal::Cut(at)),
         Field::Header {
             tag,
             value: _,
             length,
         } => match size_of(tag) {
-            Size::Unknown => Head::Refused(Refusal::UnknownTag(at)),
-            Size::Of(n) => {
+            None => Err(Refusal::UnknownTag(at)),
+            Some(n) => {
                 if length == n {
-                    Head::Right(tag, length)
+                    Ok((tag, length))
                 } else {
-                    Head::Refused(Refusal::WrongLength(at))
+                    Err(Refusal::WrongLength(at))
                 }
             }
         },
@@ -130,48 +108,34 @@ pub fn request_of(tag: u8, x: u64) -> Request
     }
 }
 
-fn wide(b: u8) -> u32
-    ensures { (result ≡ b) × (result < 256) }
-{
-    b as u32
-}
-
-// The four-byte number at a place.
-fn u32_at(s: &[u8], at: usize) -> u32
-    requires { at + 4 ≤ length s.now }
-    ensures { result ≡ big s.now at 4 }
-{
-    ((wide(s[at]) * 256 + wide(s[at + 1])) * 256 + wide(s[at + 2])) * 256 + wide(s[at + 3])
-}
-
-// What stands at a place, if it is a whole put without a train or a whole take: most requests of a session are. They are read at once, each part of the value
-// by itself. `Other` says nothing of the place.
-pub fn quick_at(s: &[u8], at: usize) -> Quick
+// What stands at a place, with the place behind it, if it is a whole put without a train or a whole take: most requests of a session are. They are read at
+// once, each part of the value by itself. `None` says nothing of the place.
+pub fn quick_at(s: &[u8], at: usize) -> Option<(Request, usize)>
     ensures { Quickly s.now at result }
 {
     if at >= s.len() {
-        return Quick::Other;
+        return None;
     }
     let left = s.len() - at;
     if left < HEADER {
-        return Quick::Other;
+        return None;
     }
     let tag = s[at];
     let value = at + HEADER;
     if tag == TAKE {
         if u16_at(s, at + 1) != 0 {
-            return Quick::Other;
+            return None;
         }
-        return Quick::Whole(Request::Take, value);
+        return Some((Request::Take, value));
     }
     if tag != PUT {
-        return Quick::Other;
+        return None;
     }
     if left < 10 {
-        return Quick::Other;
+        return None;
     }
     if u16_at(s, at + 1) != 7 {
-        return Quick::Other;
+        return None;
     }
     let request = Request::Put {
         lane: s[value],
@@ -179,5 +143,5 @@ pub fn quick_at(s: &[u8], at: usize) -> Quick
         mark: u32_at(s, value + 1),
         length: Bytes(u16_at(s, value + 5) as u64),
     };
-    Quick::Whole(request, value + 7)
+    Some((request, value + 7))
 }

@@ -37,11 +37,9 @@ fn seen(order: u64) -> u64
 {
     let mut rest = order;
     let mut seen: u64 = 0;
-    let mut i = 0;
-    while i < TRAINS {
+    for _ in 0..TRAINS {
         seen = seen | (1u64 << ((rest % ORDER_UNIT) as u32));
         rest = rest / ORDER_UNIT;
-        i += 1;
     }
     seen % NUMBER_UNIT
 }
@@ -77,10 +75,8 @@ fn held(t: &[u8], trains: usize) -> u64
     ensures { result ≡ held_below (numbers_at t.now trains) 8 }
 {
     let mut held: u64 = 0;
-    let mut k = 0;
-    while k < TRAINS {
-        held += two_counts(t, trains, k);
-        k += 2;
+    for i in 0..TRAINS / 2 {
+        held += two_counts(t, trains, 2 * i);
     }
     held % HALF_UNIT + held / HALF_UNIT
 }
@@ -116,8 +112,7 @@ fn trains_good(
     ensures { Says result (Tallied longest (numbers_at t.now trains) (lengths_at lens.now lengths) order named) }
 {
     let mut tally: u64 = 0;
-    let mut k = 0;
-    while k < TRAINS {
+    for k in 0..TRAINS {
         let train = half(t, trains + k);
         let one = 1u64 << (k as u32);
         if holds(train) {
@@ -133,7 +128,6 @@ fn trains_good(
                 return false;
             }
         }
-        k += 1;
     }
     tally == wanted(order, named)
 }

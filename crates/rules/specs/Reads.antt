@@ -1,16 +1,17 @@
 -- The numbers (R14.1) and values (R3.23) of each case of the answer enums. Every promise about an answer speaks of it through `reads`.
 --
 --   listed   a refusal's number, and its place where R14 has one; number, place_of: the two alone
---   reads    an answer as the rules give it
+--   answer   an answer that is no refusal, as the rules give it
+--   reads    any answer: that, or the refusal by its number and place
 --
 -- Assumes nothing.
-use Rattle.std.specs.Prelude.{ℕ}
+use Rattle.std.specs.Prelude.{ℕ, Result, Ok, Err}
 use Rattle.std.proofs.Math.Option.{Option, none, some}
 use Rattle.rules.specs.Calls.{Reply, accepted, taken, seen, words, lagged, restarted, refused}
 use Rattle.rules.specs.declared.Refusal.{Refusal}
 use Rattle.rules.specs.declared.Refusal.TheVariants.{Cut, UnknownTag, WrongLength, OutOfOrder, WeightsOver, TableShort, NotGood, NoLane, BadLength, LaneFull, StillHolds, NothingHeld, RunBounds, InputLong, FormatOutside, LaneOutside, WeightOutside, LongestOutside, FramingOutside, WrongByte, SheetCut, NoSheet, NoTrain, TrainFull}
 use Rattle.rules.specs.declared.Answer.{Answer}
-use Rattle.rules.specs.declared.Answer.TheVariants.{Accepted, Taken, Seen, Sets, Lag, Restarted, Refused}
+use Rattle.rules.specs.declared.Answer.TheVariants.{Accepted, Taken, Seen, Sets, Lag, Restarted}
 
 -- R14's tables: the number, and the place where they have one
 abbrev pub listed : Refusal → ℕ × Option ℕ
@@ -45,11 +46,14 @@ number x = (listed x).0
 abbrev pub place_of : Refusal → Option ℕ
 place_of x = (listed x).1
 
-abbrev pub reads : Answer → Reply
-reads (Accepted n) = accepted n
-reads (Taken r) = taken r.lane r.train r.mark r.length.0
-reads (Seen r) = seen r.lane r.train r.mark r.length.0
-reads (Sets w) = words w.er w.ir w.eb w.ib
-reads (Lag z) = lagged z
-reads Restarted = restarted
-reads (Refused x) = refused (number x) (place_of x)
+abbrev pub answer : Answer → Reply
+answer (Accepted n) = accepted n
+answer (Taken r) = taken r.lane r.train r.mark r.length.0
+answer (Seen r) = seen r.lane r.train r.mark r.length.0
+answer (Sets w) = words w.er w.ir w.eb w.ib
+answer (Lag z) = lagged z
+answer Restarted = restarted
+
+abbrev pub reads : Result Answer Refusal → Reply
+reads (Ok a) = answer a
+reads (Err x) = refused (number x) (place_of x)

@@ -1,11 +1,14 @@
 // The rules of the line scheduler (docs/RULES.md, R1 to R6), and all that is true of every list of calls.
 //
-// There is no code here but the types that the promises speak of. The rules are definitions in specs/, over plain numbers and lists; they know
+// There is no code here but the types that the promises speak of, and the numbers of the refusals. The rules are definitions in specs/, over plain numbers and lists; they know
 // nothing of bytes and tables. The theorems are in proofs/: the fair share (proofs/Fair.antt), never found not good (proofs/AlwaysGood.antt), each
 // accepted record handed out once and in order (proofs/Order.antt), and what the four sets mean (proofs/GroupRule.antt, proofs/BySets.antt).
 //
 // A lane is what the field calls a flow, the clock V is the system's virtual time, and a record is a packet.
 #![tactic(auto)]
+
+ghost use Rattle.std.specs.Prelude.{◌≡◌, ◌<◌};
+ghost use Rattle.rules.specs.Reads.{number};
 
 use units::Bytes;
 
@@ -80,7 +83,7 @@ pub enum Refusal {
     TrainFull,
 }
 
-// R3.23: what a call answers. specs/Reads.antt gives the number and the values of each case.
+// R3.23: what a call answers that is not refused. specs/Reads.antt gives the number and the values of each case.
 #[derive(Clone, Copy)]
 pub enum Answer {
     // How many records of its train the lane held before.
@@ -90,5 +93,38 @@ pub enum Answer {
     Sets(SetWords),
     Lag(i64),
     Restarted,
-    Refused(Refusal),
+}
+
+// A refusal's number (R14.1). Each is below 256, so that a line with it is short.
+impl From<Refusal> for u64 {
+    ghost from_gives = { λ x n. (n ≡ number x) × (n < 256) };
+
+    fn from(x: Refusal) -> u64 {
+        match x {
+            Refusal::Cut(_) => 1,
+            Refusal::UnknownTag(_) => 2,
+            Refusal::WrongLength(_) => 3,
+            Refusal::OutOfOrder(_) => 4,
+            Refusal::WeightsOver(_) => 6,
+            Refusal::TableShort => 7,
+            Refusal::NotGood => 10,
+            Refusal::NoLane => 11,
+            Refusal::BadLength => 12,
+            Refusal::LaneFull => 13,
+            Refusal::StillHolds => 15,
+            Refusal::NothingHeld => 16,
+            Refusal::RunBounds => 17,
+            Refusal::InputLong => 18,
+            Refusal::FormatOutside(_) => 50,
+            Refusal::LaneOutside(_) => 51,
+            Refusal::WeightOutside(_) => 52,
+            Refusal::LongestOutside(_) => 53,
+            Refusal::FramingOutside(_) => 54,
+            Refusal::WrongByte(_) => 80,
+            Refusal::SheetCut(_) => 81,
+            Refusal::NoSheet => 82,
+            Refusal::NoTrain => 70,
+            Refusal::TrainFull => 71,
+        }
+    }
 }

@@ -13,6 +13,8 @@ use Rattle.rules.specs.Setup.{Setup}
 use Rattle.rules.specs.Calls.{restart, restarted, no, fresh, do_restart, step}
 use Rattle.rules.specs.Reads.{reads}
 use Rattle.rules.specs.declared.Answer.{Answer}
+use Rattle.std.specs.Prelude.{Result}
+use Rattle.rules.specs.declared.Refusal.{Refusal}
 use Rattle.pages.specs.Device.{Page, fresh_device, in_force_of, offer, DeviceOutcome, in_force_now, newest_edition, do_offer, device_step, device_step_by}
 use Rattle.pages.specs.Offers.{device_after_by, device_trace_by, Read, AllRead}
 use Rattle.pages.proofs.Run.{fresh-none}
@@ -72,7 +74,7 @@ led-own n gs t s e = go (eqb n 0) refl
         subst (λ (o : DeviceOutcome). Led gs (record { call = offer at; reply = o.reply } ∷ []) t) is
         (led-by gs (offer at ∷ []) t s (s, tt) (subst (λ (o : DeviceOutcome). EncodesDevice t o.device) (sym is) e))
 
-pub by-restart : (before t : List ℕ) (a : Answer) → GoodUnit before → Step restart before a t → reads a ≡ restarted
+pub by-restart : (before t : List ℕ) (a : Result Answer Refusal) → GoodUnit before → Step restart before a t → reads a ≡ restarted
     → Led (setup_of (meant before)) (own_offer (last_in (part_of before)) (setup_of (meant before))) t
 unfolding in_force_of
 by-restart before t a g p e =

@@ -1,7 +1,7 @@
 pub mod Steps
 pub mod Taken
 pub mod Made
-pub mod Offered
+pub mod PageOffers
 pub mod Chains
 pub mod Begins
 pub mod Ahead

@@ -11,6 +11,8 @@ use Rattle.rules.specs.State.{State}
 use Rattle.rules.specs.Calls.{Call, put, take, look, sets, lag, restart, Reply, refused, step}
 use Rattle.rules.specs.Reads.{reads}
 use Rattle.rules.specs.declared.Answer.{Answer}
+use Rattle.std.specs.Prelude.{Result}
+use Rattle.rules.specs.declared.Refusal.{Refusal}
 use Rattle.alike.specs.AlikeDevice.{AlikeDevice, RespectsDevice, DeviceRespects}
 use Rattle.alike.proofs.Alike.{alike-trans}
 use Rattle.alike.proofs.AlikeDevice.{device-respects}
@@ -116,12 +118,12 @@ pub others-stay : (c : Call) (t : List ℕ) → takes c ≡ false → GoodUnit t
 unfolding device_of OnlyTake
 others-stay c t h g = only-take (device_of t) g.core.good.waiting (device-good t g).waiting c (not-take c h)
 
-pub does-step : (c : Call) (t : List ℕ) (a : Answer) (u : List ℕ) → takes c ≡ false → GoodUnit t → length u ≡ length t → Does c t a u → Step c t a u
+pub does-step : (c : Call) (t : List ℕ) (a : Result Answer Refusal) (u : List ℕ) → takes c ≡ false → GoodUnit t → length u ≡ length t → Does c t a u → Step c t a u
 unfolding device_of device_step_by
 does-step c t a u h g len d =
     unit-step (ruled c) t (answered (reads a)) u g (ap answered d.says)
     (subst (EncodesDevice u) (sym (others-stay c t h g)) (core-encoded t u (step (meant t) c).state g d.encodes d.rest len)) d.unchanged (past-table t u d.rest) len
 
 -- the calls that change nothing
-pub says-step : (c : Call) (t : List ℕ) (a : Answer) → takes c ≡ false → GoodUnit t → (step (meant t) c).state ≡ meant t → SaysReply c t a → Step c t a t
+pub says-step : (c : Call) (t : List ℕ) (a : Result Answer Refusal) → takes c ≡ false → GoodUnit t → (step (meant t) c).state ≡ meant t → SaysReply c t a → Step c t a t
 says-step c t a h g e d = does-step c t a t h g refl (looks-does c t a (good-known t g.core) e d)

@@ -1,24 +1,20 @@
 -- A take, and the page that waits. Assumes nothing.
-use Prim.Native.Nat.{ℕ}
+use Prim.Native.Nat.{ℕ, ◌<◌}
 use native.Mathlib.Omega.{arith}
 use mathlib.Core.Path.{◌≡◌, refl, sym, ap, subst, ◌∙◌}
 use mathlib.Core.Bool.{Bool, true, false, not}
-use mathlib.Core.List.{List, [], ◌∷◌}
+use mathlib.Core.List.{List}
 use mathlib.Core.Option.{Option, none, some}
-use lib.Dec.{T}
 use lib.ListN.{length}
-use mir.Val.{has_key}
-use types.Run.{OneOf, miss}
-use denote.Enum.Declared.{tag_of}
 use Rattle.std.specs.Prelude.{if◌then◌else◌}
 use Rattle.rules.specs.State.{Lane, State, any_holds}
 use Rattle.rules.specs.Setup.{Setup}
 use Rattle.rules.specs.Calls.{take, Reply, accepted, taken, seen, words, lagged, restarted, refused, Pick, picked, take_of, do_take, step}
-use Rattle.rules.specs.Reads.{reads}
+use Rattle.rules.specs.Reads.{number, place_of, answer, reads}
 use Rattle.rules.specs.declared.Answer.{Answer}
-use Rattle.rules.specs.declared.Answer.TheVariants.{Accepted, Taken, Seen, Sets, Lag, Restarted, Refused}
-use Rattle.rules.specs.declared.Record.{Record}
-use Rattle.rules.specs.contracts.Answer.{the_type}
+use Rattle.rules.specs.declared.Answer.TheVariants.{Accepted, Taken, Seen, Sets, Lag, Restarted}
+use Rattle.std.specs.Prelude.{Result, Ok, Err}
+use Rattle.rules.specs.declared.Refusal.{Refusal}
 use Rattle.rules.proofs.Sound.{step-sound}
 use Rattle.rules.proofs.SameSetup.{same_setup}
 use Rattle.alike.specs.Alike.{Alike}
@@ -34,10 +30,6 @@ use Rattle.engine.specs.Does.{Unchanged, Does}
 use Rattle.scheduler.specs.Step.{Step}
 use Rattle.scheduler.proofs.Steps.{alike-encoded, unit-step, past-table}
 
--- The other arm of the match on what the engine's take answers: any variant of `Answer` but the first, `Taken`.
-abbrev pub Other : Answer → Type 0
-Other a = OneOf (0 ∷ 2 ∷ 3 ∷ 4 ∷ 5 ∷ 6 ∷ []) (tag_of the_type a)
-
 -- a reply's variant, by number
 unfoldable pub kind_of : Reply → ℕ
 kind_of (accepted n) = 0
@@ -48,39 +40,42 @@ kind_of (lagged z) = 4
 kind_of restarted = 5
 kind_of (refused n p) = 6
 
--- it is the answer's
-kind-reads : (a : Answer) → kind_of (reads a) ≡ tag_of the_type a
-unfolding kind_of
-kind-reads (Accepted n) = refl
-kind-reads (Taken r) = refl
-kind-reads (Seen r) = refl
-kind-reads (Sets w) = refl
-kind-reads (Lag z) = refl
-kind-reads Restarted = refl
-kind-reads (Refused x) = refl
-
--- so an answer of an arm is read as no reply of another variant
-pub not-kind : (ks : List ℕ) (k : ℕ) → T (not (has_key ks k)) → (a : Answer) → OneOf ks (tag_of the_type a) → kind_of (reads a) ≡ k → ⊥
-not-kind ks k h a o e = miss ks k h (subst (OneOf ks) (sym (kind-reads a) ∙ e) o)
-
--- a take answers a record, or 16
-take-or : (s : State) (o : Option Pick) → (kind_of (take_of s o).reply ≡ 1 → ⊥) → (take_of s o).reply ≡ refused 16 none
+-- a take that is refused is refused by 16
+take-or : (s : State) (o : Option Pick) (n : ℕ) (p : Option ℕ) → refused n p ≡ (take_of s o).reply → (take_of s o).reply ≡ refused 16 none
 unfolding take_of kind_of
-take-or s none n = refl
-take-or s (some p) n = absurd (n refl)
+take-or s none n p e = refl
+take-or s (some q) n p e = let z : ◌≡◌ {A = ℕ} 6 1 = ap kind_of e in absurd (omega arith)
 
--- one that hands nothing out leaves the unit as it was
-pub took-none : (t : List ℕ) (a : Answer) (u : List ℕ) → GoodUnit t → length u ≡ length t → Does take t a u → Other a → Step take t a u
+-- and leaves the unit as it was
+pub took-none : (t : List ℕ) (x : Refusal) (u : List ℕ) → GoodUnit t → length u ≡ length t → Does take t (Err x) u → Step take t (Err x) u
 unfolding device_of device_step_by step do_take RefusedKeeps
-took-none t a u g len d h =
-    let sixteen : reads a ≡ refused 16 none = d.says ∙ take-or (meant t) (picked (meant t)) (λ e. not-kind (0 ∷ 2 ∷ 3 ∷ 4 ∷ 5 ∷ 6 ∷ []) 1 tt a h (ap kind_of d.says ∙ e)) in
-    let same : u ≡ t = subst (λ (r : Reply). Unchanged r t u) sixteen d.unchanged in
+took-none t x u g len d =
+    let sixteen : reads (Err x) ≡ refused 16 none = d.says ∙ take-or (meant t) (picked (meant t)) (number x) (place_of x) d.says in
     let kept : (device_step (device_of t) (ruled take)).device ≡ device_of t = refused-keeps (device_of t) (device-good t g) (ruled take) 16 none (ap answered (sym d.says ∙ sixteen)) in
-    unit-step (ruled take) t (answered (reads a)) u g (ap answered d.says)
-    (subst (EncodesDevice u) (sym kept) (subst (λ (x : List ℕ). EncodesDevice x (device_of t)) (sym same) (device-encoded t g))) d.unchanged (past-table t u d.rest) len
+    unit-step (ruled take) t (answered (reads (Err x))) u g (ap answered d.says)
+    (subst (EncodesDevice u) (sym kept) (subst (λ (y : List ℕ). EncodesDevice y (device_of t)) (sym d.unchanged) (device-encoded t g))) d.unchanged (past-table t u d.rest) len
+
+-- an answer that is no refusal is read as none ..
+pub answer-kind : (a : Answer) → kind_of (answer a) < 6
+unfolding kind_of
+answer-kind (Accepted n) = omega arith
+answer-kind (Taken r) = omega arith
+answer-kind (Seen r) = omega arith
+answer-kind (Sets w) = omega arith
+answer-kind (Lag z) = omega arith
+answer-kind Restarted = omega arith
+
+-- .. and leaves the bytes open
+may-change : (a : Answer) (t u : List ℕ) → Unchanged (answer a) t u
+may-change (Accepted n) t u = tt
+may-change (Taken r) t u = tt
+may-change (Seen r) t u = tt
+may-change (Sets w) t u = tt
+may-change (Lag z) t u = tt
+may-change Restarted t u = tt
 
 -- what the engine's take leaves for the page that waits
-pub take-rests : (t : List ℕ) (a : Answer) (u : List ℕ) → GoodUnit t → length u ≡ length t → Does take t a u → Rests u
+pub take-rests : (t : List ℕ) (a : Result Answer Refusal) (u : List ℕ) → GoodUnit t → length u ≡ length t → Does take t a u → Rests u
 take-rests t a u g len d =
     let s = (step (meant t) take).state in
     let old = good-rests t g in
@@ -105,13 +100,13 @@ settled_on v s s' a n (some p) e =
     go false h = h
 
 -- and one that hands a record out brings the page into force where nothing is held any more
-pub took_one : (t : List ℕ) (a : Answer) (u v : List ℕ) (r : Record) → GoodUnit t → length u ≡ length t → length v ≡ length u → Does take t a u → a ≡ Taken r
-    → LeadsDevice u v (settled_device (meant u) (last_in (part_of u)) (waiting_in (part_of u))) → Step take t a v
+pub took_one : (t : List ℕ) (a : Answer) (u v : List ℕ) → GoodUnit t → length u ≡ length t → length v ≡ length u → Does take t (Ok a) u
+    → LeadsDevice u v (settled_device (meant u) (last_in (part_of u)) (waiting_in (part_of u))) → Step take t (Ok a) v
 unfolding device_of device_step_by
-took_one t a u v r g len len' d e leads =
+took_one t a u v g len len' d leads =
     let s = (step (meant t) take).state in
     let at : EncodesDevice v (settled_device (meant u) (last_in (part_of t)) (waiting_in (part_of t))) =
     subst (λ (p : List ℕ). EncodesDevice v (settled_device (meant u) (last_in p) (waiting_in p))) d.rest leads.encodes in
-    unit-step (ruled take) t (answered (reads a)) v g (ap answered d.says)
+    unit-step (ruled take) t (answered (answer a)) v g (ap answered d.says)
     (settled_on v (meant u) s d.encodes.alike (last_in (part_of t)) (waiting_in (part_of t)) at)
-    (subst (λ (x : Answer). Unchanged (reads x) t v) (sym e) tt) (leads.rest ∙ past-table t u d.rest) (len' ∙ len)
+    (may-change a t v) (leads.rest ∙ past-table t u d.rest) (len' ∙ len)

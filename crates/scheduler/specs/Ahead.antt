@@ -10,6 +10,8 @@ use Rattle.rules.specs.Calls.{put, accepted, ahead}
 use Rattle.rules.specs.Reads.{reads}
 use Rattle.rules.specs.Runs.{accepted_of, sent_of, of_train}
 use Rattle.rules.specs.declared.Answer.{Answer}
+use Rattle.std.specs.Prelude.{Result}
+use Rattle.rules.specs.declared.Refusal.{Refusal}
 use Rattle.table.specs.Means.{meant}
 use Rattle.pages.specs.Device.{ruled, answered}
 use Rattle.pages.specs.Offers.{DeviceEvent, of_rules, in_force}
@@ -24,5 +26,5 @@ AheadTold gs es =
 
 unfoldable pub PutAhead : Type 0
 PutAhead =
-    (b u : List ℕ) (a : Answer) (j t m l n : ℕ) → GoodUnit b → Step (put j t m l) b a u → reads a ≡ accepted n
+    (b u : List ℕ) (a : Result Answer Refusal) (j t m l n : ℕ) → GoodUnit b → Step (put j t m l) b a u → reads a ≡ accepted n
     → (n ≡ ahead (meant b) j t) × (n < room_of (lane_at (meant b) j).given)

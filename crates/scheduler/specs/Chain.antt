@@ -17,7 +17,8 @@ use Rattle.table.specs.Layout.{table_size}
 use Rattle.paged.specs.Paged.{EncodesDevice}
 use Rattle.scheduler.specs.Step.{UnitStep, offered}
 use Rattle.scheduler.specs.Make.{MakeStep}
-use Rattle.scheduler.specs.declared.Making.{Making}
+use Rattle.std.specs.Prelude.{Result}
+use Rattle.rules.specs.declared.Refusal.{Refusal}
 
 -- R3.22: no call of a list makes a table anew; an offer of a page is one of its calls
 pub data Chain : List ℕ → List DeviceEvent → List ℕ → Type 0 where
@@ -34,7 +35,7 @@ calls_of es = map (λ (e : DeviceEvent). e.call) es
 pub record Begins (gs : List Setting) (t : List ℕ) : Type 0 where
   pub setup : List ℕ
   pub before : List ℕ
-  pub answer : Making
+  pub answer : Result ℕ Refusal
   pub format : ℕ
   pub lanes : ℕ
   pub at : ℕ

@@ -29,6 +29,8 @@ use Rattle.rules.specs.Reads.{reads}
 use Rattle.rules.specs.Runs.{accepted_of, sent_of, of_train}
 use Rattle.rules.specs.Fair.{bytes_sent, bytes_sent_of}
 use Rattle.rules.specs.declared.Answer.{Answer}
+use Rattle.std.specs.Prelude.{Result}
+use Rattle.rules.specs.declared.Refusal.{Refusal}
 use Rattle.pages.specs.Device.{Page, Device, start_page, fresh_device, ruled, offer, answered, in_force_now, waits_now}
 use Rattle.pages.specs.Offers.{DeviceEvent, device_after, device_trace, of_rules, Held, any_held, newest, page_in, in_force}
 use Rattle.pages.specs.Claims.{own_page, HeldThroughout}
@@ -145,7 +147,7 @@ own_offer edition gs = if eqb edition 0 then [] else record { call = offer (reco
 -- a good table of any origin, and its own setup
 unfoldable pub AfterRestart : Type 0
 AfterRestart =
-    (before t u : List ℕ) (a : Answer) (calls : List DeviceEvent) → GoodUnit before → Step restart before a t → reads a ≡ restarted
+    (before t u : List ℕ) (a : Result Answer Refusal) (calls : List DeviceEvent) → GoodUnit before → Step restart before a t → reads a ≡ restarted
     → Chain t calls u → Demands (setup_of (meant before)) (own_offer (last_in (part_of before)) (setup_of (meant before)) ++ calls) u
 
 unfoldable pub AsRuled : Type 0

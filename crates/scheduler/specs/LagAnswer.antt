@@ -4,6 +4,8 @@ use Rattle.rules.specs.State.{lane_at}
 use Rattle.rules.specs.Calls.{lag, lagged, lag_of}
 use Rattle.rules.specs.Reads.{reads}
 use Rattle.rules.specs.declared.Answer.{Answer}
+use Rattle.std.specs.Prelude.{Result}
+use Rattle.rules.specs.declared.Refusal.{Refusal}
 use Rattle.table.specs.Means.{meant}
 use Rattle.paged.specs.Paged.{GoodUnit}
 use Rattle.engine.specs.LagRange.{LagRange}
@@ -11,5 +13,5 @@ use Rattle.scheduler.specs.Step.{Step}
 
 unfoldable pub LagCall : Type 0
 LagCall =
-    (t u : List ℕ) (a : Answer) (j : ℕ) (z : ℤ) → GoodUnit t → Step (lag j) t a u → reads a ≡ lagged z
+    (t u : List ℕ) (a : Result Answer Refusal) (j : ℕ) (z : ℤ) → GoodUnit t → Step (lag j) t a u → reads a ≡ lagged z
     → (z ≡ lag_of (meant t).clock (lane_at (meant t) j)) × LagRange (meant t) j

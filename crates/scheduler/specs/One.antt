@@ -12,7 +12,8 @@ use Rattle.table.specs.Layout.{table_size}
 use Rattle.paged.specs.Paged.{device_of, GoodUnit}
 use Rattle.scheduler.specs.Step.{UnitStep}
 use Rattle.scheduler.specs.Make.{MakeStep, make_reply}
-use Rattle.scheduler.specs.declared.Making.{Making}
+use Rattle.std.specs.Prelude.{Result}
+use Rattle.rules.specs.declared.Refusal.{Refusal}
 
 -- the tables after two outcomes: no call tells their units apart, and the bytes past the table are the same
 pub record SameTable (u u' : List ℕ) : Type 0 where
@@ -26,5 +27,5 @@ OneAnswer =
 
 unfoldable pub OneMaking : Type 0
 OneMaking =
-    (setup t : List ℕ) (a a' : Making) (u u' : List ℕ) → MakeStep setup t a u → MakeStep setup t a' u'
+    (setup t : List ℕ) (a a' : Result ℕ Refusal) (u u' : List ℕ) → MakeStep setup t a u → MakeStep setup t a' u'
     → (make_reply a ≡ make_reply a') × SameTable u u'

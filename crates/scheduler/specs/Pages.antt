@@ -12,6 +12,8 @@ use Rattle.rules.specs.State.{Setting, any_holds}
 use Rattle.rules.specs.Calls.{Call, take, refused, step}
 use Rattle.rules.specs.Reads.{reads}
 use Rattle.rules.specs.declared.Answer.{Answer}
+use Rattle.std.specs.Prelude.{Result}
+use Rattle.rules.specs.declared.Refusal.{Refusal}
 use Rattle.pages.specs.Device.{Page, answered, in_force_of}
 use Rattle.page.specs.Read.{page_read, read_page}
 use Rattle.page.specs.Form.{Extra, AllSkippable, page_bytes}
@@ -20,18 +22,19 @@ use Rattle.table.specs.Means.{meant}
 use Rattle.paged.specs.Paged.{part_of, EncodesDevice, GoodUnit}
 use Rattle.scheduler.specs.Step.{Step, offering, OfferStep}
 use Rattle.scheduler.specs.One.{SameTable}
-use Rattle.scheduler.specs.declared.Offering.{Offering}
+use Rattle.scheduler.specs.declared.Offered.{Offered}
+use Rattle.scheduler.specs.declared.NotTaken.{NotTaken}
 
 -- R19.9, R19.10
 unfoldable pub OnlyTakes : Type 0
 OnlyTakes =
-    (t u : List ℕ) (a : Answer) (c : Call) → (c ≡ take → ⊥) → GoodUnit t → Step c t a u
+    (t u : List ℕ) (a : Result Answer Refusal) (c : Call) → (c ≡ take → ⊥) → GoodUnit t → Step c t a u
     → (last_in (part_of u) ≡ last_in (part_of t)) × (waiting_in (part_of u) ≡ waiting_in (part_of t))
 
 -- R19.9
 unfoldable pub LastTake : Type 0
 LastTake =
-    (t u : List ℕ) (a : Answer) (p : Page) → GoodUnit t → Step take t a u → waiting_in (part_of t) ≡ some p → any_holds (step (meant t) take).state.lanes ≡ false
+    (t u : List ℕ) (a : Result Answer Refusal) (p : Page) → GoodUnit t → Step take t a u → waiting_in (part_of t) ≡ some p → any_holds (step (meant t) take).state.lanes ≡ false
     → (reads a ≡ (step (meant t) take).reply) × EncodesDevice u (in_force_of p)
 
 -- R19.2
@@ -39,10 +42,10 @@ unfoldable pub AsWithout : Type 0
 AsWithout =
     (edition : ℕ) (xs : List Extra) (setup : List ℕ) (ys : List Extra) → edition < 65536 → AllSkippable xs → length setup < 65536 → AllSkippable ys
     → (e format n : ℕ) (gs : List Setting) → read_page (page_bytes edition xs setup ys) ≡ page_read e format gs n
-    → (t u u' : List ℕ) (o o' : Offering) → GoodUnit t ⊎ (GoodUnit t → ⊥)
+    → (t u u' : List ℕ) (o o' : Result Offered NotTaken) → GoodUnit t ⊎ (GoodUnit t → ⊥)
     → OfferStep (page_bytes edition xs setup ys) t o u → OfferStep (page_bytes edition [] setup []) t o' u'
     → (offering o ≡ offering o') × SameTable u u'
 
 -- R19.7
 unfoldable pub OfferKeeps : Type 0
-OfferKeeps = (bytes t u : List ℕ) (o : Offering) (n : ℕ) (p : Option ℕ) → OfferStep bytes t o u → offering o ≡ answered (refused n p) → u ≡ t
+OfferKeeps = (bytes t u : List ℕ) (o : Result Offered NotTaken) (n : ℕ) (p : Option ℕ) → OfferStep bytes t o u → offering o ≡ answered (refused n p) → u ≡ t

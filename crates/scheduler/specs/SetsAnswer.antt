@@ -14,6 +14,8 @@ use Rattle.rules.specs.Sets.{groups, group_holds, group_finish}
 use Rattle.rules.specs.Calls.{sets, look, words, seen, step}
 use Rattle.rules.specs.Reads.{reads}
 use Rattle.rules.specs.declared.Answer.{Answer}
+use Rattle.std.specs.Prelude.{Result}
+use Rattle.rules.specs.declared.Refusal.{Refusal}
 use Rattle.table.specs.Means.{meant}
 use Rattle.paged.specs.Paged.{GoodUnit}
 use Rattle.scheduler.specs.Step.{Step}
@@ -31,5 +33,5 @@ pub record SetsAnswer (s : State) (er ir eb ib : ℕ) : Type 0 where
 -- R4.5 to R4.8
 unfoldable pub SetsCall : Type 0
 SetsCall =
-    (t u : List ℕ) (a : Answer) (er ir eb ib : ℕ) → GoodUnit t → Step sets t a u → reads a ≡ words er ir eb ib
+    (t u : List ℕ) (a : Result Answer Refusal) (er ir eb ib : ℕ) → GoodUnit t → Step sets t a u → reads a ≡ words er ir eb ib
     → SetsAnswer (meant t) er ir eb ib

@@ -5,18 +5,21 @@
 --   offered     what the bytes of a page ask; offering: the answer to them; OfferStep: of an offer
 --
 -- Assumes nothing.
-use Rattle.std.specs.Prelude.{ℕ, ◌≡◌, List, length, drop}
+use Rattle.std.specs.Prelude.{ℕ, ◌≡◌, List, length, drop, Result, Ok, Err}
 use Rattle.std.proofs.Math.Option.{Option, none, some}
 use Rattle.rules.specs.Calls.{Call, refused}
 use Rattle.rules.specs.Reads.{number, place_of, reads}
 use Rattle.rules.specs.declared.Answer.{Answer}
+use Rattle.rules.specs.declared.Refusal.{Refusal}
 use Rattle.pages.specs.Device.{Device, DeviceCall, ruled, offer, unread, DeviceReply, answered, in_force_now, waits_now, device_step}
 use Rattle.page.specs.Read.{read_page, PageReply, page_read, page_refused}
 use Rattle.table.specs.Layout.{table_size}
 use Rattle.engine.specs.Does.{Unchanged}
 use Rattle.paged.specs.Paged.{EncodesDevice, GoodUnit}
-use Rattle.scheduler.specs.declared.Offering.{Offering}
-use Rattle.scheduler.specs.declared.Offering.TheVariants.{InForce, Waits, Old, Refused}
+use Rattle.scheduler.specs.declared.Offered.{Offered}
+use Rattle.scheduler.specs.declared.Offered.TheVariants.{InForce, Waits}
+use Rattle.scheduler.specs.declared.NotTaken.{NotTaken}
+use Rattle.scheduler.specs.declared.NotTaken.TheVariants.{Old, Refused}
 
 -- a refusal leaves every byte
 abbrev pub KeptBy : DeviceReply → List ℕ → List ℕ → Type 0
@@ -40,7 +43,7 @@ pub record UnitStep (c : DeviceCall) (before : List ℕ) (r : DeviceReply) (afte
   pub size : length after ≡ length before
 
 -- R14.40, R15.1
-abbrev pub Step : Call → List ℕ → Answer → List ℕ → Type 0
+abbrev pub Step : Call → List ℕ → Result Answer Refusal → List ℕ → Type 0
 Step c before a after = UnitStep (ruled c) before (answered (reads a)) after
 
 -- ---- offers
@@ -59,12 +62,12 @@ abbrev pub offered : List ℕ → DeviceCall
 offered bytes = offered_as (read_page bytes)
 
 -- 60 has no place
-abbrev pub offering : Offering → DeviceReply
-offering InForce = in_force_now
-offering Waits = waits_now
-offering Old = answered (refused 60 none)
-offering (Refused x) = answered (refused (number x) (place_of x))
+abbrev pub offering : Result Offered NotTaken → DeviceReply
+offering (Ok InForce) = in_force_now
+offering (Ok Waits) = waits_now
+offering (Err Old) = answered (refused 60 none)
+offering (Err (Refused x)) = answered (refused (number x) (place_of x))
 
 -- R14.49, R19.7
-abbrev pub OfferStep : List ℕ → List ℕ → Offering → List ℕ → Type 0
+abbrev pub OfferStep : List ℕ → List ℕ → Result Offered NotTaken → List ℕ → Type 0
 OfferStep bytes before o after = UnitStep (offered bytes) before (offering o) after

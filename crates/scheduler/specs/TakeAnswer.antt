@@ -12,6 +12,8 @@ use Rattle.rules.specs.State.{State, group, finish_r, first_of, eligible, lane_a
 use Rattle.rules.specs.Calls.{take, look, taken, seen, refused}
 use Rattle.rules.specs.Reads.{reads}
 use Rattle.rules.specs.declared.Answer.{Answer}
+use Rattle.std.specs.Prelude.{Result}
+use Rattle.rules.specs.declared.Refusal.{Refusal}
 use Rattle.table.specs.Means.{meant}
 use Rattle.paged.specs.Paged.{GoodUnit}
 use Rattle.scheduler.specs.Step.{Step}
@@ -28,9 +30,9 @@ pub record Served (s : State) (j k m n : ℕ) : Type 0 where
       → group (lane_at s i).given ≤ group (lane_at s j).given → place j s.order ≤ place i s.order
 
 unfoldable pub TakeCall : Type 0
-TakeCall = (t u : List ℕ) (a : Answer) (j k m n : ℕ) → GoodUnit t → Step take t a u → reads a ≡ taken j k m n → Served (meant t) j k m n
+TakeCall = (t u : List ℕ) (a : Result Answer Refusal) (j k m n : ℕ) → GoodUnit t → Step take t a u → reads a ≡ taken j k m n → Served (meant t) j k m n
 
 unfoldable pub LookTakes : Type 0
 LookTakes =
-    (t u : List ℕ) (a b : Answer) → GoodUnit t → Step take t a u → Step look t b t
+    (t u : List ℕ) (a b : Result Answer Refusal) → GoodUnit t → Step take t a u → Step look t b t
     → ((j k m n : ℕ) → reads a ≡ taken j k m n → reads b ≡ seen j k m n) × (reads a ≡ refused 16 none → reads b ≡ refused 16 none)

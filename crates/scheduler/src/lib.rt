@@ -19,159 +19,146 @@ ghost use Rattle.plan.specs.Read.{settings};
 ghost use Rattle.paged.specs.Paged.{GoodUnit};
 ghost use Rattle.scheduler.specs.Step.{UnitStep, Step, offering, OfferStep};
 ghost use Rattle.scheduler.specs.Make.{MakeStep};
+ghost use Rattle.scheduler.specs.declared.NotTaken.TheVariants.{Refused};
 
 use editions::{last, new};
 use page::read_page;
 use paged::{come_in_force, good_unit, held, settle, wait};
-use plan::{Outcome, Plan, read_setup};
+use plan::{Plan, read_setup};
 use rules::{Answer, Refusal};
 use units::Bytes;
 
 // The fixed size of a table, in bytes.
 pub const SIZE: usize = table::TABLE_SIZE;
 
+// What becomes of a page that is taken.
 #[derive(Clone, Copy)]
-pub enum Making {
-    // A fresh table stands in the lent bytes; the number of its lanes.
-    Made(usize),
-    Refused(Refusal),
-}
-
-#[derive(Clone, Copy)]
-pub enum Offering {
+pub enum Offered {
     // The page is in force: a fresh table of its setup stands in the lent bytes.
     InForce,
     // The page waits until nothing is held.
     Waits,
+}
+
+// Why a page is not taken.
+#[derive(Clone, Copy)]
+pub enum NotTaken {
     // 60: its edition is not above the last one taken or waiting.
     Old,
     Refused(Refusal),
 }
 
-// Makes the fresh table of a setup in the lent bytes, whatever they held.
-pub fn make(setup: &[u8], t: &mut [u8]) -> Making
-    ensures { MakeStep setup.now t.old result t.new }
-{
-    if t.len() < SIZE {
-        return Making::Refused(Refusal::TableShort);
-    }
-    let r = read_setup(setup);
-    let outcome = r.outcome;
-    match outcome {
-        Outcome::Refused(x) => Making::Refused(x),
-        Outcome::Read(_) => {
-            let plan = r.plan;
-            let lanes = plan.lanes;
-            come_in_force(t, 0, lanes);
-            Making::Made(plan.count)
-        }
+impl From<Refusal> for NotTaken {
+    ghost from_gives = { λ x e. e ≡ Refused x };
+
+    fn from(x: Refusal) -> NotTaken {
+        NotTaken::Refused(x)
     }
 }
 
+// Makes the fresh table of a setup in the lent bytes, whatever they held. The answer: the number of its lanes.
+pub fn make(setup: &[u8], t: &mut [u8]) -> Result<usize, Refusal>
+    ensures { MakeStep setup.now t.old result t.new }
+{
+    if t.len() < SIZE {
+        return Err(Refusal::TableShort);
+    }
+    let plan = read_setup(setup)?.plan;
+    come_in_force(t, 0, plan.lanes);
+    Ok(plan.count)
+}
+
 // Puts a record of a train into a lane; in a lane that is not shared the train is 0.
-pub fn put(t: &mut [u8], lane: u8, train: u8, mark: u32, length: Bytes) -> Answer
+pub fn put(t: &mut [u8], lane: u8, train: u8, mark: u32, length: Bytes) -> Result<Answer, Refusal>
     ensures { Step (Calls.put lane train mark length.0) t.old result t.new }
 {
     if !good_unit(t) {
-        return Answer::Refused(Refusal::NotGood);
+        return Err(Refusal::NotGood);
     }
     engine::put(t, lane, train, mark, length)
 }
 
 // Takes the next record. Where it was the last one held, a page that waits comes into force; this take has answered by the setup before.
-pub fn take(t: &mut [u8]) -> Answer
+pub fn take(t: &mut [u8]) -> Result<Answer, Refusal>
     ensures { Step Calls.take t.old result t.new }
 {
     if !good_unit(t) {
-        return Answer::Refused(Refusal::NotGood);
+        return Err(Refusal::NotGood);
     }
-    let a = engine::take(t);
-    match a {
-        Answer::Taken(_) => {
-            settle(t);
-            a
-        }
-        _ => a,
-    }
+    let taken = engine::take(t)?;
+    settle(t);
+    Ok(taken)
 }
 
 // Looks at the record that take would hand out.
-pub fn look(t: &[u8]) -> Answer
+pub fn look(t: &[u8]) -> Result<Answer, Refusal>
     ensures { Step Calls.look t.now result t.now }
 {
     if !good_unit(t) {
-        return Answer::Refused(Refusal::NotGood);
+        return Err(Refusal::NotGood);
     }
     engine::look(t)
 }
 
 // The four words of the group sets.
-pub fn sets(t: &[u8]) -> Answer
+pub fn sets(t: &[u8]) -> Result<Answer, Refusal>
     ensures { Step Calls.sets t.now result t.now }
 {
     if !good_unit(t) {
-        return Answer::Refused(Refusal::NotGood);
+        return Err(Refusal::NotGood);
     }
     engine::sets(t)
 }
 
 // How far the clock is ahead of a lane.
-pub fn lag(t: &[u8], lane: u8) -> Answer
+pub fn lag(t: &[u8], lane: u8) -> Result<Answer, Refusal>
     ensures { Step (Calls.lag lane) t.now result t.now }
 {
     if !good_unit(t) {
-        return Answer::Refused(Refusal::NotGood);
+        return Err(Refusal::NotGood);
     }
     engine::lag(t, lane)
 }
 
 // Begins anew with the table's own setup (R3.19), once no record is held.
-pub fn restart(t: &mut [u8]) -> Answer
+pub fn restart(t: &mut [u8]) -> Result<Answer, Refusal>
     ensures { Step Calls.restart t.old result t.new }
 {
     if !good_unit(t) {
-        return Answer::Refused(Refusal::NotGood);
+        return Err(Refusal::NotGood);
     }
     engine::restart(t)
 }
 
 // Offers a settings page: 10, then what is wrong with the page, then 60.
-pub fn offer(t: &mut [u8], page: &[u8]) -> Offering
+pub fn offer(t: &mut [u8], page: &[u8]) -> Result<Offered, NotTaken>
     ensures { OfferStep page.now t.old result t.new }
 {
     if !good_unit(t) {
-        return Offering::Refused(Refusal::NotGood);
+        return Err(NotTaken::Refused(Refusal::NotGood));
     }
-    let r = read_page(page);
-    let outcome = r.outcome;
-    match outcome {
-        page::Outcome::Refused(x) => Offering::Refused(x),
-        page::Outcome::Read(edition) => {
-            let plan = r.plan;
-            bring(t, edition, plan)
-        }
-    }
+    let r = read_page(page)?;
+    bring(t, r.edition, r.plan)
 }
 
 // Offers a page that was read to a good table.
-fn bring(t: &mut [u8], edition: u16, plan: Plan) -> Offering
+fn bring(t: &mut [u8], edition: u16, plan: Plan) -> Result<Offered, NotTaken>
     requires { GoodUnit t.old × Setup (settings plan) × (known_format plan.format ≡ true) }
     ensures { UnitStep (offer (record { edition = edition; settings = settings plan })) t.old (offering result) t.new }
 {
     let number = edition as u64;
     let taken = last(&t[table::SIZE..]);
     if number <= taken {
-        return Offering::Old;
+        return Err(NotTaken::Old);
     }
     let waiting = new(&t[table::SIZE..]);
     if number <= waiting {
-        return Offering::Old;
+        return Err(NotTaken::Old);
     }
     if held(t) {
         wait(t, edition, plan);
-        return Offering::Waits;
+        return Ok(Offered::Waits);
     }
-    let lanes = plan.lanes;
-    come_in_force(t, number, lanes);
-    Offering::InForce
+    come_in_force(t, number, plan.lanes);
+    Ok(Offered::InForce)
 }

@@ -11,7 +11,6 @@
 
 ghost use Rattle.std.specs.Prelude.{◌+◌, ◌≤◌, ◌<◌, length};
 
-use lines::Place;
 use std::io::Stdout;
 use walk::Stop;
 
@@ -26,13 +25,10 @@ const TABLE: usize = table::TABLE_SIZE + 20;
 
 const AREA: usize = 65000;
 
-fn print_place(out: Stdout, p: Place) {
-    match p {
-        Place::At(n) => {
-            let _ = out.write_all(b" ");
-            let _ = out.print(n as u64);
-        }
-        Place::Nowhere => {}
+fn print_place(out: Stdout, p: Option<usize>) {
+    if let Some(n) = p {
+        let _ = out.write_all(b" ");
+        let _ = out.print(n as u64);
     }
 }
 

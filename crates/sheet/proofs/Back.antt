@@ -13,6 +13,7 @@ use mathlib.Core.Option.{some}
 use lib.Dec.{ltb}
 use lib.ListN.{length}
 use borrow.Author.Tests.{ltb-true, ltb-false}
+use Rattle.std.specs.Prelude.{Err, Ok}
 use Rattle.std.specs.Prelude.{if◌then◌else◌}
 use Rattle.units.proofs.Bools.{true-false}
 use Rattle.rules.specs.State.{Setting, no_setting}
@@ -27,7 +28,7 @@ use Rattle.plan.proofs.Lists.{replicate-at}
 use Rattle.plan.proofs.Rest.{refused-read}
 use Rattle.plan.proofs.Sound.{Sound, sound-first, sound-after}
 use Rattle.sheet.specs.Form.{new_line, line_step}
-use Rattle.sheet.specs.Judge.{verdict, row_field}
+use Rattle.sheet.specs.Judge.{Verdict, verdict, row_field}
 use Rattle.sheet.specs.Read.{sheet_format, none_seen, blank, sheet_walk, read_sheet}
 use Rattle.sheet.specs.Text.{sheet_from, sheet_bytes}
 use Rattle.sheet.specs.Promises.{AcceptedSheet}
@@ -37,8 +38,6 @@ use Rattle.sheet.specs.declared.form.Line.{Line}
 use Rattle.sheet.specs.declared.form.Row.{Row}
 use Rattle.sheet.specs.declared.form.Step.{Step}
 use Rattle.sheet.specs.declared.form.Step.TheVariants.{More, Whole, Wrong}
-use Rattle.sheet.specs.declared.judge.Verdict.{Verdict}
-use Rattle.sheet.specs.declared.judge.Verdict.TheVariants.{Taken, Refused}
 use Rattle.sheet.proofs.Turn.{after_line, after-byte}
 use Rattle.sheet.proofs.Steps.{so_far, last_bytes, bytes_of, row_bytes, Sane, sane-begin, Stepped, stepped}
 use Rattle.sheet.proofs.Rows.{Bare, is-taken, in_place}
@@ -51,7 +50,7 @@ pub record Grown (seen : Seen) (gs : List Setting) (r : Row) : Type 0 where
   pub bare : Bare (seen_after seen (Lane (row_field r)))
   pub sheet : sheet_bytes (placed sheet_format 0 gs (Lane (row_field r))) ≡ sheet_bytes gs ++ row_bytes r
 
-pub grows : (seen : Seen) (gs : List Setting) (r : Row) → Sound seen gs → Bare seen → verdict seen r ≡ Taken → Grown seen gs r
+pub grows : (seen : Seen) (gs : List Setting) (r : Row) → Sound seen gs → Bare seen → verdict seen r ≡ Ok tt → Grown seen gs r
 grows seen gs r ok b e =
     let t = is-taken seen r e in
     record {
@@ -124,8 +123,8 @@ module _ (v' : ℕ) (gs' : List Setting) (n p : ℕ) where
     with_byte gs₁ f₁ e k = record { bytes = e ∙ k.bytes; end = omega (arith, k.end); format = k.format; setup = k.setup; bare = k.bare; count = k.count; some_lane = k.some_lane }
 
     back-line : (r : Row) → bytes_of f ++ b ∷ [] ≡ row_bytes r → (v : Verdict) → verdict seen r ≡ v → after_line seen gs (at + 1) r v go ≡ setup_read v' gs' n p → Back gs f at (b ∷ bs)
-    back-line r x (Refused y) e h = refused-read h
-    back-line r x Taken e h =
+    back-line r x (Err y) e h = refused-read h
+    back-line r x (Ok done) e h =
         let g = grows seen gs r ok bare e in
         with_byte (placed sheet_format 0 gs (Lane (row_field r))) (new_line (at + 1))
         (ap (λ (l : List ℕ). sheet_bytes gs ++ l) (add-byte f (row_bytes r) b bs x)

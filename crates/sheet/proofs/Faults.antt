@@ -12,6 +12,7 @@ use mathlib.Core.List.{List, [], ◌∷◌}
 use mathlib.Core.Option.{Option, some}
 use lib.Dec.{leb, ltb, eqb}
 use lib.ListN.{length}
+use Rattle.std.specs.Prelude.{Err, Ok}
 use Rattle.std.specs.Prelude.{if◌then◌else◌}
 use Rattle.rules.specs.State.{Setting}
 use Rattle.rules.specs.Reads.{number, place_of}
@@ -23,15 +24,13 @@ use Rattle.plan.specs.declared.judge.Seen.{Seen}
 use Rattle.plan.specs.declared.parse.SetupField.TheVariants.{Lane}
 use Rattle.plan.proofs.Refusals.{read-refused}
 use Rattle.sheet.specs.Form.{new_line, line_step}
-use Rattle.sheet.specs.Judge.{verdict, row_field}
+use Rattle.sheet.specs.Judge.{Verdict, verdict, row_field}
 use Rattle.sheet.specs.Read.{sheet_format, none_seen, blank, sheet_walk, read_sheet}
 use Rattle.sheet.specs.Promises.{sheet_refusals, RefusedSheet}
 use Rattle.sheet.specs.declared.form.Line.{Line}
 use Rattle.sheet.specs.declared.form.Row.{Row}
 use Rattle.sheet.specs.declared.form.Step.{Step}
 use Rattle.sheet.specs.declared.form.Step.TheVariants.{More, Whole, Wrong}
-use Rattle.sheet.specs.declared.judge.Verdict.{Verdict}
-use Rattle.sheet.specs.declared.judge.Verdict.TheVariants.{Taken, Refused}
 use Rattle.sheet.proofs.Turn.{after_line, after-byte}
 use Rattle.sheet.proofs.Rows.{by_tests}
 use Rattle.sheet.proofs.Steps.{Sane, SaneRow, sane-begin, Stepped, stepped}
@@ -47,8 +46,8 @@ pub record Told (m : ℕ) (x : Refusal) : Type 0 where
   pub behind : place ≤ m
 
 abbrev pub Judged : ℕ → Verdict → Type 0
-Judged m Taken = Unit
-Judged m (Refused x) = Told m x
+Judged m (Ok done) = Unit
+Judged m (Err x) = Told m x
 
 pub judged-fault : (seen : Seen) (r : Row) (m : ℕ) → SaneRow r m → Judged m (verdict seen r)
 unfolding verdict lane_outside
@@ -96,10 +95,10 @@ module _ (n : ℕ) (q : Option ℕ) where
     longer f = record { one_of = f.one_of; place = f.place; is = f.is; within = omega (arith, f.within); at_the_end = λ z. f.at_the_end (omega (arith, z)) }
 
     fault-line : (r : Row) (v : Verdict) → Judged at v → after_line seen gs (at + 1) r v go ≡ setup_refused n q → Fault n q (at + length (b ∷ bs))
-    fault-line r (Refused x) j h =
+    fault-line r (Err x) j h =
         fault-at (number x) j.place (at + length (b ∷ bs)) (among-more (number x) j.listed) (omega (arith, j.behind)) (λ z. absurd (omega (arith, j.behind, z)))
         (ap (setup_refused (number x)) (sym j.is) ∙ h)
-    fault-line r Taken j h = longer (more (seen_after seen (Lane (row_field r))) (placed sheet_format 0 gs (Lane (row_field r))) (new_line (at + 1)) (sane-begin (at + 1)) h)
+    fault-line r (Ok done) j h = longer (more (seen_after seen (Lane (row_field r))) (placed sheet_format 0 gs (Lane (row_field r))) (new_line (at + 1)) (sane-begin (at + 1)) h)
 
     fault-step : (s : Step) → Stepped f at b s → after-byte seen gs at s go ≡ setup_refused n q → Fault n q (at + length (b ∷ bs))
     fault-step Wrong x h = fault-at 80 at (at + length (b ∷ bs)) refl (omega arith) (λ z. absurd (omega (arith, z))) h

@@ -11,6 +11,7 @@ use mathlib.Core.List.{List, [], ◌∷◌}
 use mathlib.Core.Option.{Option, some}
 use lib.ListN.{length}
 use borrow.Author.Tests.{lt-ltb}
+use Rattle.std.specs.Prelude.{Err, Ok}
 use Rattle.std.specs.Prelude.{if◌then◌else◌}
 use Rattle.units.proofs.Bools.{true-false}
 use Rattle.rules.specs.State.{Setting}
@@ -21,13 +22,11 @@ use Rattle.plan.specs.declared.judge.Seen.{Seen}
 use Rattle.plan.specs.declared.parse.SetupField.TheVariants.{Lane}
 use Rattle.plan.proofs.Refusals.{read-refused}
 use Rattle.sheet.specs.Form.{new_line}
-use Rattle.sheet.specs.Judge.{verdict, row_field}
+use Rattle.sheet.specs.Judge.{Verdict, verdict, row_field}
 use Rattle.sheet.specs.Read.{sheet_format, none_seen, sheet_walk, read_sheet}
 use Rattle.sheet.specs.Text.{Entry, ShortNumbers, lines_bytes, AllShort, Formed}
 use Rattle.sheet.specs.Promises.{place₃, row_at}
 use Rattle.sheet.specs.declared.form.Row.{Row}
-use Rattle.sheet.specs.declared.judge.Verdict.{Verdict}
-use Rattle.sheet.specs.declared.judge.Verdict.TheVariants.{Taken, Refused}
 use Rattle.sheet.proofs.Turn.{after_line}
 use Rattle.sheet.proofs.Steps.{SaneRow}
 use Rattle.sheet.proofs.Numbers.{line_walk}
@@ -57,8 +56,8 @@ module _ (n : ℕ) (q : Option ℕ) (other : line_number n ≡ false) where
 
     never-line : ((seen₁ : Seen) (gs₁ : List Setting) → 0 < seen₁.count + length es → sheet_walk seen₁ gs₁ (new_line end) end (lines_bytes es) ≡ setup_refused n q → ⊥)
         → (v : Verdict) → Judged end v → after_line seen gs end row v (λ seen₁ gs₁ f₁. sheet_walk seen₁ gs₁ f₁ end (lines_bytes es)) ≡ setup_refused n q → ⊥
-    never-line more (Refused x) j h = true-false (sym (line-not (number x) n j.listed cc) ∙ other)
-    never-line more Taken j h = more (seen_after seen (Lane (row_field row))) (placed sheet_format 0 gs (Lane (row_field row))) (omega arith) h
+    never-line more (Err x) j h = true-false (sym (line-not (number x) n j.listed cc) ∙ other)
+    never-line more (Ok done) j h = more (seen_after seen (Lane (row_field row))) (placed sheet_format 0 gs (Lane (row_field row))) (omega arith) h
 
     never-next : ((seen₁ : Seen) (gs₁ : List Setting) → 0 < seen₁.count + length es → sheet_walk seen₁ gs₁ (new_line end) end (lines_bytes es) ≡ setup_refused n q → ⊥)
         → sheet_walk seen gs (new_line at) at (lines_bytes (e ∷ es)) ≡ setup_refused n q → ⊥

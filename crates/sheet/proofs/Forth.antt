@@ -23,11 +23,10 @@ use Rattle.plan.specs.Accepted.{there, present}
 use Rattle.plan.specs.declared.judge.Seen.{Seen}
 use Rattle.plan.specs.declared.parse.SetupField.TheVariants.{Lane}
 use Rattle.sheet.specs.Form.{new_line}
-use Rattle.sheet.specs.Judge.{row_field}
+use Rattle.sheet.specs.Judge.{Verdict, Verdict, row_field}
 use Rattle.sheet.specs.Read.{sheet_format, none_seen, sheet_walk, read_sheet}
 use Rattle.sheet.specs.Text.{line_bytes, lane_line, sheet_from, sheet_bytes}
 use Rattle.sheet.specs.declared.form.Row.{Row}
-use Rattle.sheet.specs.declared.judge.Verdict.{Verdict}
 use Rattle.sheet.proofs.Turn.{after_line}
 use Rattle.sheet.proofs.Rows.{passes}
 use Rattle.sheet.proofs.Sheets.{line-there}

@@ -12,6 +12,7 @@ use mathlib.Core.List.{List, [], ◌∷◌, ◌++◌, append-nil}
 use mathlib.Core.Option.{some}
 use lib.Dec.{ltb}
 use lib.ListN.{length}
+use Rattle.std.specs.Prelude.{Err, Ok}
 use Rattle.std.specs.Prelude.{if◌then◌else◌}
 use Rattle.units.proofs.Bools.{true-false}
 use Rattle.rules.specs.State.{Setting}
@@ -22,7 +23,7 @@ use Rattle.plan.specs.declared.judge.Seen.{Seen}
 use Rattle.plan.specs.declared.parse.SetupField.TheVariants.{Lane}
 use Rattle.plan.proofs.Refusals.{read-refused}
 use Rattle.sheet.specs.Form.{new_line, line_step}
-use Rattle.sheet.specs.Judge.{verdict, row_field}
+use Rattle.sheet.specs.Judge.{Verdict, verdict, row_field}
 use Rattle.sheet.specs.Read.{sheet_format, none_seen, blank, sheet_walk, read_sheet}
 use Rattle.sheet.specs.Text.{BeginsSheet}
 use Rattle.sheet.specs.Promises.{WrongByte, Unfinished}
@@ -30,8 +31,6 @@ use Rattle.sheet.specs.declared.form.Line.{Line}
 use Rattle.sheet.specs.declared.form.Row.{Row}
 use Rattle.sheet.specs.declared.form.Step.{Step}
 use Rattle.sheet.specs.declared.form.Step.TheVariants.{More, Whole, Wrong}
-use Rattle.sheet.specs.declared.judge.Verdict.{Verdict}
-use Rattle.sheet.specs.declared.judge.Verdict.TheVariants.{Taken, Refused}
 use Rattle.sheet.proofs.Turn.{after_line, after-byte}
 use Rattle.sheet.proofs.Steps.{bytes_of, row_bytes, Sane, SaneRow, sane-begin, Stepped, stepped}
 use Rattle.sheet.proofs.Back.{add-byte}
@@ -73,8 +72,8 @@ module _ (p : ℕ) where
 
     wronged-line : (r : Row) → line_step f at b ≡ Whole r → SaneRow r at → bytes_of f ++ b ∷ [] ≡ row_bytes r → (v : Verdict) → verdict seen r ≡ v → Judged at v
         → after_line seen gs (at + 1) r v go ≡ setup_refused 80 (some p) → Wronged seen gs f at p (b ∷ bs)
-    wronged-line r e s x (Refused y) d j h = true-false (sym (line-not (number y) 80 j.listed cc))
-    wronged-line r e s x Taken d j h =
+    wronged-line r e s x (Err y) d j h = true-false (sym (line-not (number y) 80 j.listed cc))
+    wronged-line r e s x (Ok done) d j h =
         let w = more (seen_after seen (Lane (row_field r))) (placed sheet_format 0 gs (Lane (row_field r))) (new_line (at + 1)) (sane-begin (at + 1)) h in
         wronged-on (Whole r) e (seen_after seen (Lane (row_field r))) (placed sheet_format 0 gs (Lane (row_field r))) (new_line (at + 1))
         (λ t. ap (λ (v : Verdict). after_line seen gs (at + 1) r v (λ seen₂ gs₂ f₂. sheet_walk seen₂ gs₂ f₂ (at + 1) t)) d)
@@ -119,8 +118,8 @@ module _ (p : ℕ) where
     onward seen₁ gs₁ f₁ = sheet_walk seen₁ gs₁ f₁ (at + 1) bs
 
     cut_line : (r : Row) → SaneRow r at → bytes_of f ++ b ∷ [] ≡ row_bytes r → (v : Verdict) → Judged at v → after_line seen gs (at + 1) r v onward ≡ setup_refused 81 (some p) → Cut f at (b ∷ bs)
-    cut_line r s x (Refused y) j h = true-false (sym (line-not (number y) 81 j.listed cc))
-    cut_line r s x Taken j h =
+    cut_line r s x (Err y) j h = true-false (sym (line-not (number y) 81 j.listed cc))
+    cut_line r s x (Ok done) j h =
         let w = more (seen_after seen (Lane (row_field r))) (placed sheet_format 0 gs (Lane (row_field r))) (new_line (at + 1)) (sane-begin (at + 1)) h in
         (omega (arith, w.0), subst BeginsSheet (sym (add-byte f (row_bytes r) b bs x)) (begins-behind r at bs s w.1))
 

@@ -6,42 +6,40 @@
 --   passes     a line within the numbers, above those before it, is taken
 --
 -- Assumes nothing.
-use Prim.Native.Nat.{ℕ, ◌+◌, ◌≤◌}
-use native.Mathlib.Omega.{arith}
+use Prim.Native.Nat.{◌+◌, ◌≤◌}
 use mathlib.Core.Path.{◌≡◌, refl, sym}
 use mathlib.Core.Bool.{Bool, true, false, not}
 use lib.Dec.{leb, ltb}
 use borrow.Author.Tests.{leb-true, le-ltb, le-leb}
+use Rattle.std.specs.Prelude.{Err, None, Ok, Some}
 use Rattle.std.specs.Prelude.{if◌then◌else◌}
 use Rattle.units.proofs.Bools.{and_parts}
 use Rattle.rules.specs.declared.Refusal.{Refusal}
 use Rattle.rules.specs.declared.Refusal.TheVariants.{OutOfOrder}
 use Rattle.plan.specs.Judge.{last_lane, within, misplaced, lane_outside, over}
-use Rattle.plan.specs.declared.judge.Fault.TheVariants.{NoFault, BadLane, BadWeight, BadLongest, TotalOver}
+use Rattle.plan.specs.declared.judge.Fault.TheVariants.{BadLane, BadWeight, BadLongest, TotalOver}
 use Rattle.plan.specs.declared.judge.Seen.{Seen}
 use Rattle.plan.specs.declared.parse.SetupField.TheVariants.{Lane}
-use Rattle.sheet.specs.Judge.{row_verdict, verdict, row_field}
+use Rattle.sheet.specs.Judge.{Verdict, row_verdict, verdict, row_field}
 use Rattle.sheet.specs.Read.{sheet_format}
 use Rattle.sheet.specs.declared.form.Row.{Row}
-use Rattle.sheet.specs.declared.judge.Verdict.{Verdict}
-use Rattle.sheet.specs.declared.judge.Verdict.TheVariants.{Taken, Refused}
 
 pub record Bare (seen : Seen) : Type 0 where
   pub begun : seen.begun ≡ true
   pub format : seen.format ≡ sheet_format
   pub framing : seen.framing ≡ 0
 
-pub refused-taken : {A : Type 0} {x : Refusal} → Refused x ≡ Taken → A
-refused-taken h = absurd (let z : ◌≡◌ {A = ℕ} 0 1 = cc in omega arith)
+pub refused-taken : {A : Type 0} {x : Refusal} → ◌≡◌ {A = Verdict} (Err x) (Ok tt) → A
+refused-taken h = absurd (cc)
 
 pub record TakenRow (seen : Seen) (r : Row) : Type 0 where
   pub number : r.lane.value ≤ 63
   pub weight_low : 1 ≤ r.weight.value
   pub weight_high : r.weight.value ≤ 1024
   pub longest_high : r.longest.value ≤ 1500
-  pub inside : lane_outside (row_field r) ≡ NoFault
+  pub inside : lane_outside (row_field r) ≡ None
   pub rising : ltb r.lane.value seen.floor ≡ false
-  pub under : over seen (Lane (row_field r)) ≡ NoFault
+  pub under : over seen (Lane (row_field r)) ≡ None
 
 module _ (seen : Seen) (r : Row) where
   abbrev number : Bool
@@ -62,10 +60,10 @@ module _ (seen : Seen) (r : Row) where
   -- the answer by its tests
   abbrev pub by_tests : Bool → Bool → Bool → Bool → Bool → Verdict
   by_tests a b c d e =
-      row_verdict r (if not a then BadLane else (if not b then BadWeight else (if not c then BadLongest else NoFault)))
-      (if d then Refused (OutOfOrder r.lane.place) else row_verdict r (if e then TotalOver else NoFault) Taken)
+      row_verdict r (if not a then Some BadLane else (if not b then Some BadWeight else (if not c then Some BadLongest else None)))
+      (if d then Err (OutOfOrder r.lane.place) else row_verdict r (if e then Some TotalOver else None) (Ok tt))
 
-  tests : (a b c d e : Bool) → number ≡ a → weight ≡ b → longest ≡ c → falls ≡ d → heavy ≡ e → by_tests a b c d e ≡ Taken → TakenRow seen r
+  tests : (a b c d e : Bool) → number ≡ a → weight ≡ b → longest ≡ c → falls ≡ d → heavy ≡ e → by_tests a b c d e ≡ Ok tt → TakenRow seen r
   unfolding lane_outside
   tests false b c d e p q s t u h = refused-taken h
   tests true false c d e p q s t u h = refused-taken h
@@ -84,7 +82,7 @@ module _ (seen : Seen) (r : Row) where
         under = rw u;
       }
 
-  pub is-taken : verdict seen r ≡ Taken → TakenRow seen r
+  pub is-taken : verdict seen r ≡ Ok tt → TakenRow seen r
   unfolding verdict lane_outside
   is-taken h = tests number weight longest falls heavy refl refl refl refl refl h
 
@@ -97,7 +95,7 @@ module _ (seen : Seen) (r : Row) where
   verdict-by p q s t u = rw (← p, ← q, ← s, ← t, ← u)
 
   pub passes : r.lane.value ≤ 63 → 1 ≤ r.weight.value → r.weight.value ≤ 1024 → 64 ≤ r.longest.value → r.longest.value ≤ 1500 → seen.floor ≤ r.lane.value
-      → seen.total + r.weight.value ≤ 1024 → verdict seen r ≡ Taken
+      → seen.total + r.weight.value ≤ 1024 → verdict seen r ≡ Ok tt
   passes a b c d e f g =
       let weight-in : weight ≡ true = rw (le-leb 1 r.weight.value b) (le-leb r.weight.value 1024 c) in
       let longest-in : longest ≡ true = rw (le-leb 64 r.longest.value d) (le-leb r.longest.value 1500 e) in

@@ -7,6 +7,7 @@
 use Prim.Native.Nat.{ℕ, ◌+◌}
 use mathlib.Core.List.{List}
 use mathlib.Core.Option.{some}
+use Rattle.std.specs.Prelude.{Err, Ok}
 use Rattle.rules.specs.State.{Setting}
 use Rattle.rules.specs.Reads.{number, place_of}
 use Rattle.plan.specs.Judge.{seen_after}
@@ -14,19 +15,17 @@ use Rattle.plan.specs.Read.{SetupReply, setup_refused, placed}
 use Rattle.plan.specs.declared.judge.Seen.{Seen}
 use Rattle.plan.specs.declared.parse.SetupField.TheVariants.{Lane}
 use Rattle.sheet.specs.Form.{new_line}
-use Rattle.sheet.specs.Judge.{verdict, row_field}
+use Rattle.sheet.specs.Judge.{Verdict, verdict, row_field}
 use Rattle.sheet.specs.Read.{sheet_format}
 use Rattle.sheet.specs.declared.form.Line.{Line}
 use Rattle.sheet.specs.declared.form.Row.{Row}
 use Rattle.sheet.specs.declared.form.Step.{Step}
 use Rattle.sheet.specs.declared.form.Step.TheVariants.{More, Whole, Wrong}
-use Rattle.sheet.specs.declared.judge.Verdict.{Verdict}
-use Rattle.sheet.specs.declared.judge.Verdict.TheVariants.{Taken, Refused}
 
 abbrev pub after_line : Seen → List Setting → ℕ → Row → Verdict → (Seen → List Setting → Line → SetupReply) → SetupReply
 after_line seen gs at r v go = elim v [
-  | Refused x ↦ setup_refused (number x) (place_of x)
-  | Taken ↦ go (seen_after seen (Lane (row_field r))) (placed sheet_format 0 gs (Lane (row_field r))) (new_line at)
+  | Err x ↦ setup_refused (number x) (place_of x)
+  | Ok done ↦ go (seen_after seen (Lane (row_field r))) (placed sheet_format 0 gs (Lane (row_field r))) (new_line at)
 ]
 
 abbrev pub after-byte : Seen → List Setting → ℕ → Step → (Seen → List Setting → Line → SetupReply) → SetupReply

@@ -9,6 +9,7 @@ use mathlib.Core.Bool.{Bool, true, false, ◌&&◌}
 use mathlib.Core.List.{List, [], ◌∷◌}
 use mathlib.Core.Option.{some}
 use lib.Dec.{ltb}
+use Rattle.std.specs.Prelude.{Err, Ok}
 use Rattle.std.specs.Prelude.{if◌then◌else◌}
 use Rattle.rules.specs.State.{Setting, no_setting}
 use Rattle.rules.proofs.Lists.{set_all}
@@ -18,15 +19,13 @@ use Rattle.plan.specs.declared.judge.Seen.{Seen}
 use Rattle.plan.specs.declared.parse.SetupField.TheVariants.{Lane}
 use Rattle.plan.proofs.Rest.{refused-read}
 use Rattle.sheet.specs.Form.{new_line, line_step}
-use Rattle.sheet.specs.Judge.{verdict, row_field}
+use Rattle.sheet.specs.Judge.{Verdict, verdict, row_field}
 use Rattle.sheet.specs.Read.{sheet_format, blank, sheet_walk}
 use Rattle.sheet.specs.Promises.{Unshared}
 use Rattle.sheet.specs.declared.form.Line.{Line}
 use Rattle.sheet.specs.declared.form.Row.{Row}
 use Rattle.sheet.specs.declared.form.Step.{Step}
 use Rattle.sheet.specs.declared.form.Step.TheVariants.{More, Whole, Wrong}
-use Rattle.sheet.specs.declared.judge.Verdict.{Verdict}
-use Rattle.sheet.specs.declared.judge.Verdict.TheVariants.{Taken, Refused}
 use Rattle.sheet.proofs.Turn.{after_line, after-byte}
 
 placed-unshared : (gs : List Setting) (r : Row) → Unshared gs → Unshared (placed sheet_format 0 gs (Lane (row_field r)))
@@ -40,8 +39,8 @@ module _ (v : ℕ) (gs' : List Setting) (n p : ℕ) where
   module _ (seen : Seen) (gs : List Setting) (at : ℕ) (go : Seen → List Setting → Line → SetupReply) (un : Unshared gs)
       (more : (seen₁ : Seen) (gs₁ : List Setting) (f₁ : Line) → Unshared gs₁ → go seen₁ gs₁ f₁ ≡ setup_read v gs' n p → Unshared gs') where
     judged : (r : Row) (x : Verdict) → after_line seen gs (at + 1) r x go ≡ setup_read v gs' n p → Unshared gs'
-    judged r (Refused y) h = refused-read h
-    judged r Taken h = more (seen_after seen (Lane (row_field r))) (placed sheet_format 0 gs (Lane (row_field r))) (new_line (at + 1)) (placed-unshared gs r un) h
+    judged r (Err y) h = refused-read h
+    judged r (Ok done) h = more (seen_after seen (Lane (row_field r))) (placed sheet_format 0 gs (Lane (row_field r))) (new_line (at + 1)) (placed-unshared gs r un) h
 
     stepped-on : (s : Step) → after-byte seen gs at s go ≡ setup_read v gs' n p → Unshared gs'
     stepped-on Wrong h = refused-read h

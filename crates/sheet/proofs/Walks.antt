@@ -14,6 +14,7 @@ use mathlib.Core.Option.{some}
 use lib.Dec.{ltb}
 use lib.ListN.{length, get_or, drop, drop_of_length-le}
 use lib.Seq.{drop-cons}
+use Rattle.std.specs.Prelude.{Err, Ok}
 use Rattle.std.specs.Prelude.{if◌then◌else◌}
 use Rattle.rules.specs.State.{Setting}
 use Rattle.rules.specs.Reads.{number, place_of}
@@ -24,14 +25,12 @@ use Rattle.plan.specs.declared.judge.Seen.{Seen}
 use Rattle.plan.specs.declared.parse.SetupField.TheVariants.{Lane}
 use Rattle.plan.proofs.Sound.{Sound}
 use Rattle.sheet.specs.Form.{new_line, line_step}
-use Rattle.sheet.specs.Judge.{verdict, row_field}
+use Rattle.sheet.specs.Judge.{Verdict, verdict, row_field}
 use Rattle.sheet.specs.Read.{sheet_format, none_seen, blank, sheet_walk, read_sheet}
 use Rattle.sheet.specs.declared.form.Line.{Line}
 use Rattle.sheet.specs.declared.form.Row.{Row}
 use Rattle.sheet.specs.declared.form.Step.{Step}
 use Rattle.sheet.specs.declared.form.Step.TheVariants.{More, Whole, Wrong}
-use Rattle.sheet.specs.declared.judge.Verdict.{Verdict}
-use Rattle.sheet.specs.declared.judge.Verdict.TheVariants.{Taken, Refused}
 use Rattle.sheet.proofs.Turn.{after_line, after-byte}
 use Rattle.sheet.proofs.Steps.{Sane, SaneRow, sane-begin, Stepped, stepped}
 use Rattle.sheet.proofs.Rows.{Bare}
@@ -79,16 +78,16 @@ module _ (s : List ℕ) (seen : Seen) (gs : List Setting) (f : Line) (i : ℕ) (
       judged : (v : Verdict) → verdict seen r ≡ v → after_line seen gs (i + 1) r v go ≡ read_sheet s
       judged v j = sym (ap (λ (w : Verdict). after_line seen gs (i + 1) r w go) j) ∙ here (Whole r) e
 
-      pub stand-refused : (x : Refusal) → verdict seen r ≡ Refused x → setup_refused (number x) (place_of x) ≡ read_sheet s
-      stand-refused x j = judged (Refused x) j
+      pub stand-refused : (x : Refusal) → verdict seen r ≡ Err x → setup_refused (number x) (place_of x) ≡ read_sheet s
+      stand-refused x j = judged (Err x) j
 
-      pub stand-taken : verdict seen r ≡ Taken → Standing s (seen_after seen (Lane (row_field r))) (placed sheet_format 0 gs (Lane (row_field r))) (new_line (i + 1)) (i + 1)
+      pub stand-taken : verdict seen r ≡ Ok tt → Standing s (seen_after seen (Lane (row_field r))) (placed sheet_format 0 gs (Lane (row_field r))) (new_line (i + 1)) (i + 1)
       stand-taken j = record {
         sound = (grows seen gs r st.sound st.bare j).sound;
         bare = (grows seen gs r st.sound st.bare j).bare;
         sane = sane-begin (i + 1);
         low = omega arith;
-        same = judged Taken j;
+        same = judged (Ok tt) j;
       }
 
   module _ (h : length s ≤ i) where

@@ -9,7 +9,7 @@
 --   FormIsRead            R12.3: a sheet of the form is refused by 80 or 81 never
 --
 -- Assumes nothing.
-use Rattle.std.specs.Prelude.{ℕ, ◌+◌, ◌≤◌, ◌<◌, ◌≡◌, true, false, List, [], ◌∷◌, ◌++◌, length}
+use Rattle.std.specs.Prelude.{ℕ, ◌+◌, ◌≤◌, ◌<◌, ◌≡◌, true, false, List, [], ◌∷◌, ◌++◌, length, Ok, Err}
 use Rattle.std.proofs.Math.Option.{Option, some}
 use Rattle.rules.specs.State.{Setting, setting_at}
 use Rattle.rules.specs.Setup.{Setup, framing_of}
@@ -25,7 +25,6 @@ use Rattle.sheet.specs.Judge.{verdict, row_field}
 use Rattle.sheet.specs.Read.{sheet_format, sheet_walk, read_sheet}
 use Rattle.sheet.specs.Text.{line_bytes, Formed, BeginsSheet, sheet_bytes}
 use Rattle.sheet.specs.declared.form.Row.{Row}
-use Rattle.sheet.specs.declared.judge.Verdict.TheVariants as verdicts
 
 -- no lane is shared
 abbrev pub Unshared : List Setting → Type 0
@@ -68,8 +67,8 @@ LineByLine =
     (a b c at : ℕ) (seen : Seen) (gs : List Setting) (bs : List ℕ) → a < 100000 → b < 100000 → c < 100000
     → sheet_walk seen gs (new_line at) at (line_bytes a b c ++ bs)
     ≡ (elim (verdict seen (row_at a b c at)) [
-      | verdicts.Refused x ↦ setup_refused (number x) (place_of x)
-      | verdicts.Taken ↦
+      | Err x ↦ setup_refused (number x) (place_of x)
+      | Ok done ↦
           (let f = Lane (row_field (row_at a b c at)) in
           sheet_walk (seen_after seen f) (placed sheet_format 0 gs f) (new_line (place₃ a b c at)) (place₃ a b c at) bs)
     ])

@@ -5,7 +5,7 @@
 --   read_sheet   R12.2, R12.6: the reply for a whole sheet: a plan of that format with no framing bytes and no shared lane, or a refusal
 --
 -- Assumes nothing.
-use Rattle.std.specs.Prelude.{ℕ, ◌+◌, Bool, true, false, not, ◌&&◌, List, [], ◌∷◌, ltb, if◌then◌else◌}
+use Rattle.std.specs.Prelude.{ℕ, ◌+◌, Bool, true, false, not, ◌&&◌, List, [], ◌∷◌, Ok, Err, ltb, if◌then◌else◌}
 use Rattle.std.proofs.Math.Option.{some}
 use Rattle.rules.specs.State.{Setting}
 use Rattle.rules.specs.Reads.{number, place_of}
@@ -19,7 +19,6 @@ use Rattle.sheet.specs.declared.form.Part as part
 use Rattle.sheet.specs.declared.form.Part.TheVariants as parts
 use Rattle.sheet.specs.declared.form.Line.{Line}
 use Rattle.sheet.specs.declared.form.Step.TheVariants.{More, Whole, Wrong}
-use Rattle.sheet.specs.declared.judge.Verdict.TheVariants.{Taken, Refused}
 
 abbrev pub sheet_format : ℕ
 sheet_format = 2
@@ -43,8 +42,8 @@ sheet_walk seen gs f at (b ∷ bs) = elim (line_step f at b) [
   | Wrong ↦ setup_refused 80 (some at)
   | More f₁ ↦ sheet_walk seen gs f₁ (at + 1) bs
   | Whole r ↦ elim (verdict seen r) [
-    | Refused x ↦ setup_refused (number x) (place_of x)
-    | Taken ↦ sheet_walk (seen_after seen (Lane (row_field r))) (placed sheet_format 0 gs (Lane (row_field r))) (new_line (at + 1)) (at + 1) bs
+    | Err x ↦ setup_refused (number x) (place_of x)
+    | Ok done ↦ sheet_walk (seen_after seen (Lane (row_field r))) (placed sheet_format 0 gs (Lane (row_field r))) (new_line (at + 1)) (at + 1) bs
   ]
 ]
 

@@ -15,7 +15,7 @@ const LINE_FEED: u64 = b'\n' as u64;
 const FIVE_DIGITS: u64 = 10000;
 
 // Which of a line's numbers is being read.
-#[derive(Clone, Copy)]
+#[derive(Clone, Copy, PartialEq, Eq)]
 pub enum Part {
     Lane,
     Weight,
@@ -115,18 +115,13 @@ fn grown(f: Line, b: u64) -> Line
     requires { (f.last.value ≤ 9999) × ((48 ≤ b) × (b ≤ 57)) }
     ensures { result ≡ grown f b }
 {
-    let part = f.part;
-    let lane = f.lane;
-    let weight = f.weight;
     Line {
-        part: part,
-        lane: lane,
-        weight: weight,
         begun: true,
         last: Figure {
             value: f.last.value * 10 + (b - ZERO),
-            place: f.last.place,
+            ..f.last
         },
+        ..f
     }
 }
 
@@ -134,29 +129,25 @@ fn grown(f: Line, b: u64) -> Line
 fn closed(f: Line, at: usize) -> Step
     ensures { result ≡ number_closed f.part f at }
 {
-    let part = f.part;
-    let lane = f.lane;
-    let weight = f.weight;
-    let last = f.last;
-    match part {
+    match f.part {
         Part::Lane => Step::More(Line {
             part: Part::Weight,
-            lane: last,
-            weight: weight,
+            lane: f.last,
             begun: false,
             last: unread(at),
+            ..f
         }),
         Part::Weight => Step::More(Line {
             part: Part::Longest,
-            lane: lane,
-            weight: last,
+            weight: f.last,
             begun: false,
             last: unread(at),
+            ..f
         }),
         Part::Longest => Step::Whole(Row {
-            lane: lane,
-            weight: weight,
-            longest: last,
+            lane: f.lane,
+            weight: f.weight,
+            longest: f.last,
         }),
     }
 }

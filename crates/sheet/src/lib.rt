@@ -11,7 +11,7 @@
 #![tactic(auto)]
 
 ghost use Rattle.std.specs.Prelude.{◌≡◌, map, ◌≤◌, ◌<◌, length, get_or};
-ghost use Rattle.plan.specs.Read.{setting_of, placed, setup_came, setup_reply};
+ghost use Rattle.plan.specs.Read.{setting_of, placed, setup_reply};
 ghost use Rattle.plan.specs.declared.parse.SetupField.TheVariants as fields;
 ghost use Rattle.sheet.specs.Judge.{row_field};
 ghost use Rattle.sheet.specs.Read.{sheet_format, blank, read_sheet};
@@ -20,26 +20,13 @@ mod form;
 mod judge;
 
 use form::{Line, Part, Row, Step};
-use judge::Verdict;
-use plan::judge::{SECOND_FORMAT, Seen};
-use plan::{LANES, Lane, Outcome, Plan, Reading};
+use plan::judge::{SECOND_FORMAT, Seen, after};
+use plan::parse::SetupField;
+use plan::{LANES, Lane, Plan, Reading};
 use rules::Refusal;
 
 // The format of a plan that comes from a sheet.
 const FORMAT: u16 = SECOND_FORMAT;
-
-fn wide(x: u8) -> u64
-    ensures { result ≡ x }
-{
-    x as u64
-}
-
-fn byte(s: &[u8], i: usize) -> u64
-    requires { i < length s.now }
-    ensures { result ≡ get_or s.now i 0 }
-{
-    wide(s[i])
-}
 
 // The lanes, with the one that a line describes.
 fn placed(mut lanes: [Lane; LANES], row: Row) -> [Lane; LANES]
@@ -60,29 +47,11 @@ fn placed(mut lanes: [Lane; LANES], row: Row) -> [Lane; LANES]
 fn blank(f: Line) -> bool
     ensures { result ≡ blank f.part f.begun }
 {
-    let part = f.part;
-    match part {
-        Part::Lane => !f.begun,
-        Part::Weight => false,
-        Part::Longest => false,
-    }
+    f.part == Part::Lane && !f.begun
 }
 
-fn answered(lanes: [Lane; LANES], count: usize, outcome: Outcome) -> Reading
-    ensures { setup_reply result ≡ setup_came (record { format = sheet_format; lanes = lanes; count = count }) outcome }
-{
-    Reading {
-        plan: Plan {
-            format: FORMAT,
-            lanes,
-            count,
-        },
-        outcome,
-    }
-}
-
-// The plan of a sheet.
-pub fn read_sheet(s: &[u8]) -> Reading
+// The plan of a sheet, and the place after its last line.
+pub fn read_sheet(s: &[u8]) -> Result<Reading, Refusal>
     ensures { setup_reply result ≡ read_sheet s.now }
 {
     let mut lanes = plan::no_lanes();
@@ -97,38 +66,34 @@ pub fn read_sheet(s: &[u8]) -> Reading
         count: 0,
     };
     let mut f = form::begin(0);
-    let mut i = 0;
-    while i < s.len() {
-        match form::read_byte(f, i, byte(s, i)) {
-            Step::Wrong => {
-                return answered(lanes, seen.count, Outcome::Refused(Refusal::WrongByte(i)));
-            }
+    for i in 0..s.len() {
+        match form::read_byte(f, i, s[i] as u64) {
+            Step::Wrong => return Err(Refusal::WrongByte(i)),
             Step::More(g) => {
                 f = g;
-                i += 1;
-                continue;
             }
             Step::Whole(row) => {
-                match judge::judged(seen, row) {
-                    Verdict::Refused(x) => {
-                        return answered(lanes, seen.count, Outcome::Refused(x));
-                    }
-                    Verdict::Taken => {
-                        let more = placed(lanes, row);
-                        lanes = more;
-                        seen = judge::after(seen, row);
-                        f = form::begin(i + 1);
-                    }
-                }
+                judge::judged(seen, row)?;
+                let more = placed(lanes, row);
+                lanes = more;
+                seen = after(seen, SetupField::Lane(judge::lane_field(row)));
+                f = form::begin(i + 1);
             }
         }
-        i += 1;
     }
+    let end = s.len();
     if !blank(f) {
-        return answered(lanes, seen.count, Outcome::Refused(Refusal::SheetCut(i)));
+        return Err(Refusal::SheetCut(end));
     }
     if seen.count == 0 {
-        return answered(lanes, seen.count, Outcome::Refused(Refusal::SheetCut(i)));
+        return Err(Refusal::SheetCut(end));
     }
-    answered(lanes, seen.count, Outcome::Read(i))
+    Ok(Reading {
+        plan: Plan {
+            format: FORMAT,
+            lanes,
+            count: seen.count,
+        },
+        next: end,
+    })
 }

@@ -20,7 +20,8 @@ use Rattle.sheet.specs.Read.{sheet_format, read_sheet}
 use Rattle.sheet.proofs.Back.{accepted-sheet}
 use Rattle.sheet.proofs.Forth.{written_read}
 use Rattle.sheet_writer.specs.Write.{sheet_of, sheet_size, Bare, sheet_write_reply}
-use Rattle.sheet_writer.specs.declared.Written.{Written}
+use Rattle.std.specs.Prelude.{Result}
+use Rattle.sheet_writer.specs.declared.Unwritten.{Unwritten}
 use Rattle.sheet_writer.proofs.Calls.{bare-or-not, none-shared, no-shareds}
 use Rattle.sheet_area.specs.Step.{SheetWriteStep, SheetAreaWritesBack, SheetAreaReadsBack}
 
@@ -44,7 +45,7 @@ record Sized (area before : List ℕ) (k : ℕ) : Type 0 where
   room : sheet_size (plan_in area) ≤ length before
   is : k ≡ sheet_size (plan_in area)
 
-module _ (area before after : List ℕ) (a : Written) (k : ℕ) (h : SheetWriteStep area before a after) (e : sheet_write_reply a ≡ written_size k) where
+module _ (area before after : List ℕ) (a : Result ℕ Unwritten) (k : ℕ) (h : SheetWriteStep area before a after) (e : sheet_write_reply a ≡ written_size k) where
   wrote-room : AreaWithin area → Bare (plan_in area) → Sized area before k
   wrote-room w b =
       elim (dec_le (sheet_size (plan_in area)) (length before)) [

@@ -10,35 +10,34 @@ use mathlib.Core.List.{List}
 use native.Mathlib.Omega.{arith}
 use lib.ListN.{length}
 use Rattle.rules.specs.Setup.{Setup}
-use Rattle.plan.specs.Read.{settings, setup_came, setup_reply}
+use Rattle.plan.specs.Read.{settings, setup_reply}
 use Rattle.plan.specs.declared.Reading.{Reading}
-use Rattle.plan.specs.declared.Outcome.TheVariants.{Read}
 use Rattle.plan_writer.specs.Write.{Planned}
 use Rattle.plan_area.specs.Area.{area_size, AreaRoom, plan_in, Gives, AreaWithin}
 use Rattle.sheet.specs.Read.{read_sheet}
 use Rattle.sheet.proofs.Back.{accepted-sheet}
 use Rattle.sheet_writer.specs.Write.{WritesSheet}
-use Rattle.sheet_writer.specs.declared.Written.{Written}
-use Rattle.sheet_writer.specs.declared.Written.TheVariants as written
+use Rattle.std.specs.Prelude.{Result, Ok, Err}
+use Rattle.sheet_writer.specs.declared.Unwritten.{Unwritten}
 use Rattle.sheet_writer.specs.declared.Unwritten.TheVariants.{Outside}
 use Rattle.sheet_area.specs.Step.{SheetWriteStep}
 
 -- a sheet that was read can be stored
-module _ (s : List ℕ) (r : Reading) (e : setup_reply r ≡ read_sheet s) (next : ℕ) (o : r.outcome ≡ Read next) where
+module _ (s : List ℕ) (r : Reading) (e : setup_reply (Ok r) ≡ read_sheet s) where
   pub sheet-good : Setup (settings r.plan)
-  sheet-good = (accepted-sheet s r.plan.format (settings r.plan) r.plan.count next (sym e ∙ ap (setup_came r.plan) o)).setup
+  sheet-good = (accepted-sheet s r.plan.format (settings r.plan) r.plan.count r.next (sym e)).setup
 
   pub sheet-low : r.plan.format ≤ 2
-  sheet-low = omega (arith, (accepted-sheet s r.plan.format (settings r.plan) r.plan.count next (sym e ∙ ap (setup_came r.plan) o)).format)
+  sheet-low = omega (arith, (accepted-sheet s r.plan.format (settings r.plan) r.plan.count r.next (sym e)).format)
 
 module _ (area before : List ℕ) where
-  not_within : (AreaWithin area → ⊥) → SheetWriteStep area before (written.Refused Outside) before
+  not_within : (AreaWithin area → ⊥) → SheetWriteStep area before (Err Outside) before
   not_within n = record { outside = λ _. (refl, refl); no_sheet = λ w _. absurd (n w); short = λ w _ _. absurd (n w); written = λ w _ _. absurd (n w) }
 
-  pub write-short : length area < area_size → SheetWriteStep area before (written.Refused Outside) before
+  pub write-short : length area < area_size → SheetWriteStep area before (Err Outside) before
   write-short h = not_within (λ w. omega (arith, w.room, h))
 
-  pub write-plan : AreaRoom area → (p : Planned) → Gives (plan_in area) p → (a : Written) (after : List ℕ) → WritesSheet p before a after → SheetWriteStep area before a after
+  pub write-plan : AreaRoom area → (p : Planned) → Gives (plan_in area) p → (a : Result ℕ Unwritten) (after : List ℕ) → WritesSheet p before a after → SheetWriteStep area before a after
   write-plan room p g a after h =
       let own : AreaWithin area → WritesSheet (plan_in area) before a after = λ v. subst (λ (x : Planned). WritesSheet x before a after) (g.same v.plan) h in
       record {

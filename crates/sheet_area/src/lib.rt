@@ -9,36 +9,28 @@
 
 ghost use Rattle.sheet_area.specs.Step.{SheetReadStep, SheetWriteStep};
 
-use plan::Outcome;
-use plan_area::{Got, SIZE};
+use plan_area::SIZE;
 use rules::Refusal;
-use sheet_writer::{Unwritten, Written};
+use sheet_writer::Unwritten;
 
 // Reads a sheet into an area: how many lanes it has, or a refusal with its place.
-pub fn read_sheet(s: &[u8], area: &mut [u8]) -> Got
+pub fn read_sheet(s: &[u8], area: &mut [u8]) -> Result<usize, Refusal>
     ensures { SheetReadStep s.now area.old result area.new }
 {
     if area.len() < SIZE {
-        return Got::Refused(Refusal::TableShort);
+        return Err(Refusal::TableShort);
     }
-    let r = sheet::read_sheet(s);
-    let outcome = r.outcome;
-    match outcome {
-        Outcome::Refused(x) => Got::Refused(x),
-        Outcome::Read(_) => {
-            let plan = r.plan;
-            plan_area::store(area, plan);
-            Got::Lanes(plan.count)
-        }
-    }
+    let r = sheet::read_sheet(s)?;
+    plan_area::store(area, r.plan);
+    Ok(r.plan.count)
 }
 
 // Writes the plan of an area, of either format, as a sheet. Bytes that are no area are outside the numbers.
-pub fn write_sheet(area: &[u8], buf: &mut [u8]) -> Written
+pub fn write_sheet(area: &[u8], buf: &mut [u8]) -> Result<usize, Unwritten>
     ensures { SheetWriteStep area.now buf.old result buf.new }
 {
     if area.len() < SIZE {
-        return Written::Refused(Unwritten::Outside);
+        return Err(Unwritten::Outside);
     }
     sheet_writer::write_sheet(plan_area::plan_in(area), buf)
 }

@@ -14,11 +14,11 @@ use native.Mathlib.Decide.{dec_le}
 use native.Mathlib.Omega.{arith}
 use lib.ListN.{length, drop, take}
 use lib.Seq.{sets, take_at}
-use Rattle.std.specs.Prelude.{if◌then◌else◌}
+use Rattle.std.specs.Prelude.{Result, Ok, Err, if◌then◌else◌}
 use Rattle.rules.specs.State.{Setting, setting_at}
 use Rattle.rules.specs.Setup.{framing_of}
 use Rattle.plan.specs.Judge.{known_format}
-use Rattle.plan.specs.Read.{setup_read, settings, setup_came}
+use Rattle.plan.specs.Read.{setup_read, settings}
 use Rattle.plan_writer.specs.Write.{Planned, planned, Within, shareds, written_size}
 use Rattle.plan_writer.proofs.Decided.{within_or_not}
 use Rattle.plan_writer.proofs.Numbered.{numbered-all}
@@ -30,21 +30,20 @@ use Rattle.sheet.proofs.Back.{accepted-sheet}
 use Rattle.sheet.proofs.Forth.{written_read}
 use Rattle.sheet_writer.specs.Write.{sheet_of, sheet_size, Bare, sheet_write_reply, WritesSheet}
 use Rattle.sheet_writer.specs.RoundTrip.{SheetReadsBack, SheetWritesBack, SheetSizeMost}
+use Rattle.sheet_writer.specs.declared.Unwritten.{Unwritten}
 use Rattle.sheet_writer.specs.declared.Unwritten.TheVariants.{Outside, NoSheet, Short}
-use Rattle.sheet_writer.specs.declared.Written.{Written}
-use Rattle.sheet_writer.specs.declared.Written.TheVariants.{Size, Refused}
 use Rattle.sheet_writer.proofs.Most.{sheet-most}
 
 -- ---- the answer
 
 module _ (p : Planned) (before : List ℕ) where
-  pub says-outside : (Within p → ⊥) → WritesSheet p before (Refused Outside) before
+  pub says-outside : (Within p → ⊥) → WritesSheet p before (Err Outside) before
   says-outside o = record { outside = λ n. (refl, refl); no_sheet = λ w b. absurd (o w); short = λ w b l. absurd (o w); written = λ w b l. absurd (o w) }
 
-  pub says-no-sheet : Within p → (Bare p → ⊥) → WritesSheet p before (Refused NoSheet) before
+  pub says-no-sheet : Within p → (Bare p → ⊥) → WritesSheet p before (Err NoSheet) before
   says-no-sheet w o = record { outside = λ n. absurd (n w); no_sheet = λ v b. (refl, refl); short = λ v b l. absurd (o b); written = λ v b l. absurd (o b) }
 
-  pub says-short : Within p → Bare p → length before < sheet_size p → WritesSheet p before (Refused Short) before
+  pub says-short : Within p → Bare p → length before < sheet_size p → WritesSheet p before (Err Short) before
   says-short w b l = record {
     outside = λ n. absurd (n w);
     no_sheet = λ v o. absurd (o b);
@@ -52,7 +51,7 @@ module _ (p : Planned) (before : List ℕ) where
     written = λ v c m. absurd (omega (arith, l, m));
   }
 
-  pub says-size : Within p → Bare p → (n : ℕ) → n ≡ sheet_size p → n ≤ length before → (after : List ℕ) → after ≡ sets before 0 (sheet_of p) → WritesSheet p before (Size n) after
+  pub says-size : Within p → Bare p → (n : ℕ) → n ≡ sheet_size p → n ≤ length before → (after : List ℕ) → after ≡ sets before 0 (sheet_of p) → WritesSheet p before (Ok n) after
   says-size w b n is room after e = record {
     outside = λ o. absurd (o w);
     no_sheet = λ v o. absurd (o b);
@@ -89,7 +88,7 @@ pub record Sized (p : Planned) (before : List ℕ) (k : ℕ) : Type 0 where
   pub room : sheet_size p ≤ length before
   pub is : k ≡ sheet_size p
 
-module _ (p : Planned) (before after : List ℕ) (a : Written) (h : WritesSheet p before a after) (k : ℕ) (e : sheet_write_reply a ≡ written_size k) where
+module _ (p : Planned) (before after : List ℕ) (a : Result ℕ Unwritten) (h : WritesSheet p before a after) (k : ℕ) (e : sheet_write_reply a ≡ written_size k) where
   wrote-room : Within p → Bare p → Sized p before k
   wrote-room w b =
       elim (dec_le (sheet_size p) (length before)) [
@@ -119,9 +118,10 @@ reads-back-calls plan before after a k h e =
 
 pub writes-back-calls : SheetWritesBack
 unfolding SheetWritesBack
-writes-back-calls s r k e o before after a h room =
+writes-back-calls s r e before after a h room =
     let p : Planned = record { format = r.plan.format; lanes = settings r.plan; count = r.plan.count } in
-    let is : read_sheet s ≡ setup_read p.format p.lanes p.count k = sym e ∙ ap (setup_came r.plan) o in
+    let k = r.next in
+    let is : read_sheet s ≡ setup_read p.format p.lanes p.count k = sym e in
     let x = accepted-sheet s p.format p.lanes p.count k is in
     let w : Within p = record { format = ap known_format x.format; setup = x.setup; count = x.are_there } in
     let h₁ : WritesSheet p before a after = subst (λ (y : List Setting). WritesSheet (record { format = r.plan.format; lanes = y; count = r.plan.count }) before a after) (numbered-all (settings r.plan) x.setup.size) h in

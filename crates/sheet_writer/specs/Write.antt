@@ -5,14 +5,12 @@
 --   WritesSheet   the promise: what is answered, and the buffer after it, for every plan and every buffer
 --
 -- Assumes nothing.
-use Rattle.std.specs.Prelude.{ℕ, ◌≤◌, ◌<◌, ◌≡◌, List, ◌++◌, length, drop}
+use Rattle.std.specs.Prelude.{ℕ, ◌≤◌, ◌<◌, ◌≡◌, List, ◌++◌, length, drop, Result, Ok, Err}
 use Rattle.rules.specs.Setup.{framing_of}
 use Rattle.plan_writer.specs.Write.{Planned, Within, WriteReply, written_size, not_written, shareds}
 use Rattle.sheet.specs.Text.{sheet_bytes}
 use Rattle.sheet_writer.specs.declared.Unwritten.{Unwritten}
 use Rattle.sheet_writer.specs.declared.Unwritten.TheVariants.{Outside, NoSheet, Short}
-use Rattle.sheet_writer.specs.declared.Written.{Written}
-use Rattle.sheet_writer.specs.declared.Written.TheVariants.{Size, Refused}
 
 -- R12.7. A line for each lane, by number.
 abbrev pub sheet_of : Planned → List ℕ
@@ -31,14 +29,14 @@ unwritten_sheet_number NoSheet = 82
 unwritten_sheet_number Short = 56
 
 -- The code's answer. These refusals have no place.
-abbrev pub sheet_write_reply : Written → WriteReply
-sheet_write_reply (Size n) = written_size n
-sheet_write_reply (Refused x) = not_written (unwritten_sheet_number x)
+abbrev pub sheet_write_reply : Result ℕ Unwritten → WriteReply
+sheet_write_reply (Ok n) = written_size n
+sheet_write_reply (Err x) = not_written (unwritten_sheet_number x)
 
 -- R14.16, R14.17, R14.21, R14.41. A plan outside the numbers is refused by 55, whatever else; one within them that has framing bytes or a shared lane by 82;
 -- one that a sheet can say by 56 where the buffer is shorter than its exact size; the buffer stays for all three. Else the answer is the size, the sheet stands
 -- first in the buffer, and the bytes past it stay.
-pub record WritesSheet (p : Planned) (before : List ℕ) (answer : Written) (after : List ℕ) : Type 0 where
+pub record WritesSheet (p : Planned) (before : List ℕ) (answer : Result ℕ Unwritten) (after : List ℕ) : Type 0 where
   pub outside : (Within p → ⊥) → (sheet_write_reply answer ≡ not_written 55) × (after ≡ before)
   pub no_sheet : Within p → (Bare p → ⊥) → (sheet_write_reply answer ≡ not_written 82) × (after ≡ before)
   pub short : Within p → Bare p → length before < sheet_size p → (sheet_write_reply answer ≡ not_written 56) × (after ≡ before)

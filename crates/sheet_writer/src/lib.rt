@@ -29,22 +29,15 @@ const LINE_FEED: u8 = 10;
 // The two spaces and the line feed of a line.
 const STOPS: usize = 3;
 
-// Why nothing was written. These have no place.
+// Why nothing was written, each with its number (R14.16, R14.17, R14.21). These have no place.
 #[derive(Clone, Copy)]
 pub enum Unwritten {
-    // 55: the plan is outside the numbers.
-    Outside,
-    // 82: the plan has framing bytes or a shared lane, which a sheet cannot say.
-    NoSheet,
-    // 56: the buffer is shorter than the exact size.
-    Short,
-}
-
-#[derive(Clone, Copy)]
-pub enum Written {
-    // The exact size: how many bytes were written.
-    Size(usize),
-    Refused(Unwritten),
+    // The plan is outside the numbers.
+    Outside = 55,
+    // The plan has framing bytes or a shared lane, which a sheet cannot say.
+    NoSheet = 82,
+    // The buffer is shorter than the exact size.
+    Short = 56,
 }
 
 // Writes a number and the byte that ends it, and answers the place behind it.
@@ -73,15 +66,10 @@ fn put_lanes(a: &mut [u8], lanes: [Lane; LANES])
     ensures { a.new ≡ sets a.old 0 (sheet_bytes (numbered (map setting_of lanes))) }
 {
     let mut at = 0;
-    let mut k = 0;
-    while k < LANES {
-        let lane = lanes[k];
-        if lane.weight == 0 {
-            k += 1;
-            continue;
+    for (k, lane) in lanes.iter().enumerate() {
+        if lane.weight != 0 {
+            at = put_line(a, at, k as u64, lane.weight as u64, lane.longest as u64);
         }
-        at = put_line(a, at, k as u64, lane.weight as u64, lane.longest as u64);
-        k += 1;
     }
 }
 
@@ -111,37 +99,32 @@ fn sheet_size(lanes: [Lane; LANES]) -> usize
     ensures { result ≡ length (sheet_bytes (numbered (map setting_of lanes))) }
 {
     let mut n = 0;
-    let mut k = 0;
-    while k < LANES {
-        let lane = lanes[k];
-        if lane.weight == 0 {
-            k += 1;
-            continue;
+    for (k, lane) in lanes.iter().enumerate() {
+        if lane.weight != 0 {
+            n += width(k as u64) + width(lane.weight as u64) + width(lane.longest as u64) + STOPS;
         }
-        n += width(k as u64) + width(lane.weight as u64) + width(lane.longest as u64) + STOPS;
-        k += 1;
     }
     n
 }
 
-// Writes the sheet of a plan.
-pub fn write_sheet(plan: Plan, buf: &mut [u8]) -> Written
+// Writes the sheet of a plan, and answers the exact size: how many bytes were written.
+pub fn write_sheet(plan: Plan, buf: &mut [u8]) -> Result<usize, Unwritten>
     ensures { WritesSheet (planned plan) buf.old result buf.new }
 {
     if !within(plan) {
-        return Written::Refused(Unwritten::Outside);
+        return Err(Unwritten::Outside);
     }
     let lanes = plan.lanes;
     if line_framing(lanes) != 0 {
-        return Written::Refused(Unwritten::NoSheet);
+        return Err(Unwritten::NoSheet);
     }
     if shared_lanes(lanes) != 0 {
-        return Written::Refused(Unwritten::NoSheet);
+        return Err(Unwritten::NoSheet);
     }
     let size = sheet_size(lanes);
     if buf.len() < size {
-        return Written::Refused(Unwritten::Short);
+        return Err(Unwritten::Short);
     }
     put_lanes(buf, lanes);
-    Written::Size(size)
+    Ok(size)
 }

@@ -1,13 +1,13 @@
 -- From what is read of a table to what it shows. Assumes nothing.
 use Prim.Native.Nat.{ℕ}
-use mathlib.Core.Path.{◌≡◌, refl, sym, ap, subst, ◌∙◌}
+use mathlib.Core.Path.{◌≡◌, refl, sym, ap, ◌∙◌}
 use mathlib.Core.Bool.{Bool, true, false}
 use mathlib.Core.List.{List}
+use mathlib.Core.Logic.{inl, inr}
 use mathlib.Core.Option.{none, some}
 use lib.Dec.{ltb, eqb}
 use borrow.Author.Tests.{le-ltb, eqb-true}
-use Rattle.std.specs.Prelude.{if◌then◌else◌}
-use Rattle.waiting.specs.Waiting.{held}
+use Rattle.std.specs.Prelude.{if◌then◌else◌, Result, Err}
 use Rattle.rules.specs.State.{Lane, group, holds, lane_at, no_lane}
 use Rattle.table.specs.Means.{given_of, meant, RowAgrees}
 use Rattle.table.specs.declared.LaneRow.{LaneRow}
@@ -18,13 +18,11 @@ use Rattle.good.proofs.Encodes.{good-sound}
 use Rattle.paged.specs.Paged.{part_of, device_of, GoodUnit}
 use Rattle.scheduler.proofs.Steps.{encoded-alike}
 use Rattle.engine.proofs.RowIs.{RowIs, row_is, row-weighs}
-use Rattle.rules.specs.declared.Refusal.TheVariants as why
+use Rattle.rules.specs.declared.Refusal.{Refusal}
+use Rattle.rules.specs.declared.Refusal.TheVariants.{NotGood, NoLane}
 use Rattle.show.specs.Views.{Ask, clock, lane, backlog, waits, edition, wait, clock_is, view_refused, backlog_is, setting_is, edition_is, waiting_edition, view}
-use Rattle.show.specs.Shows.{view_reply, Shows, FindIs}
+use Rattle.show.specs.Shows.{view_reply, Shows, RowFound, FindIs}
 use Rattle.show.specs.declared.Shown.{Shown}
-use Rattle.show.specs.declared.Shown.TheVariants.{Refused}
-use Rattle.show.specs.declared.Found.{Found}
-use Rattle.show.specs.declared.Found.TheVariants.{NotGood, NoLane, Row}
 
 -- what a unit shows is not of its tie order
 view-alike : (a : Ask) (d e : Device) → AlikeDevice d e → view d a ≡ view e a
@@ -36,10 +34,10 @@ view-alike (waits k t i) d e a = rw a.state.lanes
 view-alike edition d e a = rw (a.edition, a.waiting)
 view-alike (wait k n) d e a = rw a.state.lanes
 
-pub bad-shows : (a : Ask) (t : List ℕ) → (GoodUnit t → ⊥) → Shows a t (Refused why.NotGood)
-bad-shows a t b = record { not_good = λ _. refl; shown = λ g. absurd (b g) }
+pub bad-shows : (a : Ask) (t : List ℕ) (x : Refusal) → (GoodUnit t → ⊥) × (x ≡ NotGood) → Shows a t (Err x)
+bad-shows a t x (bad, e) = rw e (record { not_good = λ _. refl; shown = λ g. absurd (bad g) })
 
-pub good-shows : (a : Ask) (t : List ℕ) (r : Shown) → GoodUnit t → view_reply r ≡ view (device_of t) a → Shows a t r
+pub good-shows : (a : Ask) (t : List ℕ) (r : Result Shown Refusal) → GoodUnit t → view_reply r ≡ view (device_of t) a → Shows a t r
 good-shows a t r g e = record { not_good = λ b. absurd (b g); shown = λ _ d n. e ∙ view-alike a (device_of t) d (encoded-alike t d n) }
 
 pub shows-clock : (t : List ℕ) (v : ℕ) → v ≡ (meant t).clock → clock_is v ≡ view (device_of t) clock
@@ -61,26 +59,33 @@ shows-edition t n m e f = ap (λ (x : ℕ). edition_is x m) e ∙ ap (edition_is
 
 -- ---- a lane that is not in the setup
 
-module _ (d : Device) (k : ℕ) (e : lane_at d.state k ≡ no_lane) where
-  none-lane : view_refused 11 none ≡ view d (lane k)
-  unfolding view device_of
+module _ (k : ℕ) (d : Device) (e : lane_at d.state k ≡ no_lane) where
+  pub none-lane : view_refused 11 none ≡ view d (lane k)
+  unfolding view
   none-lane = rw e
 
-  none-backlog : view_refused 11 none ≡ view d (backlog k)
-  unfolding view device_of
+  pub none-backlog : view_refused 11 none ≡ view d (backlog k)
+  unfolding view
   none-backlog = rw e
 
-  none-waits : (j i : ℕ) → view_refused 11 none ≡ view d (waits k j i)
-  unfolding view device_of
+  pub none-waits : (j i : ℕ) → view_refused 11 none ≡ view d (waits k j i)
+  unfolding view
   none-waits j i = rw e
 
-  none-wait : (n : ℕ) → view_refused 11 none ≡ view d (wait k n)
-  unfolding view device_of
+  pub none-wait : (n : ℕ) → view_refused 11 none ≡ view d (wait k n)
+  unfolding view
   none-wait n = rw e
+
+-- the refusal of `find` is right for what is asked of lane k
+pub find-refused : (a : Ask) (t : List ℕ) (k : ℕ) (x : Refusal) → FindIs t k (Err x) → ((d : Device) → lane_at d.state k ≡ no_lane → view_refused 11 none ≡ view d a)
+    → Shows a t (Err x)
+unfolding device_of
+find-refused a t k x (inl bad) absent = bad-shows a t x bad
+find-refused a t k x (inr ((good, none-there), e)) absent = rw e (good-shows a t (Err NoLane) good (absent (device_of t) none-there))
 
 -- ---- a lane by its row
 
-module _ (t : List ℕ) (k : ℕ) (l : LaneRow) (f : FindIs t k (Row l)) where
+module _ (t : List ℕ) (k : ℕ) (l : LaneRow) (f : RowFound t k l) where
   abbrev pub lane-k : Lane
   lane-k = lane_at (meant t) k
 
@@ -104,34 +109,3 @@ module _ (t : List ℕ) (k : ℕ) (l : LaneRow) (f : FindIs t k (Row l)) where
   pub shows-backlog : backlog_is l.count l.time.0 ≡ view (device_of t) (backlog k)
   unfolding view device_of
   shows-backlog = rw (weighs, found.held, time-is (holds lane-k) refl)
-
--- ---- by what was found
-
-found_as : (t : List ℕ) (k : ℕ) (r q : Found) → r ≡ q → FindIs t k r → FindIs t k q
-found_as t k r q e f = subst (FindIs t k) e f
-
-pub find-bad : (a : Ask) (t : List ℕ) (k : ℕ) (r : Found) → r ≡ NotGood → FindIs t k r → Shows a t (Refused why.NotGood)
-find-bad a t k r e f = bad-shows a t (found_as t k r NotGood e f)
-
-pub find-row : (t : List ℕ) (k : ℕ) (r : Found) (l : LaneRow) → r ≡ Row l → FindIs t k r → FindIs t k (Row l)
-find-row t k r l e f = found_as t k r (Row l) e f
-
-module _ (t : List ℕ) (k : ℕ) (r : Found) (e : r ≡ NoLane) (f : FindIs t k r) where
-  absent : GoodUnit t × (lane_at (meant t) k ≡ no_lane)
-  absent = found_as t k r NoLane e f
-
-  held-as : lane_at (meant t) k ≡ no_lane → lane_at (device_of t).state k ≡ no_lane
-  unfolding device_of
-  held-as e = e
-
-  pub find-no-lane : Shows (lane k) t (Refused why.NoLane)
-  find-no-lane = good-shows (lane k) t (Refused why.NoLane) absent.0 (none-lane (device_of t) k (held-as absent.1))
-
-  pub find-no-backlog : Shows (backlog k) t (Refused why.NoLane)
-  find-no-backlog = good-shows (backlog k) t (Refused why.NoLane) absent.0 (none-backlog (device_of t) k (held-as absent.1))
-
-  pub find-no-waits : (j i : ℕ) → Shows (waits k j i) t (Refused why.NoLane)
-  find-no-waits j i = good-shows (waits k j i) t (Refused why.NoLane) absent.0 (none-waits (device_of t) k (held-as absent.1) j i)
-
-  pub find-no-wait : (n : ℕ) → Shows (wait k n) t (Refused why.NoLane)
-  find-no-wait n = good-shows (wait k n) t (Refused why.NoLane) absent.0 (none-wait (device_of t) k (held-as absent.1) n)

@@ -4,10 +4,11 @@ use native.Mathlib.Omega.{arith}
 use mathlib.Core.Path.{◌≡◌, refl, sym, ap, subst, ◌∙◌}
 use mathlib.Core.Bool.{true, false, false≢true}
 use mathlib.Core.List.{List, []}
-use mathlib.Core.Option.{none}
+use mathlib.Core.Logic.{inl, inr}
 use lib.Dec.{leb, ltb}
 use lib.ListN.{length, get_or}
 use borrow.Author.Tests.{lt-ltb, le-ltb, lt-leb}
+use Rattle.std.specs.Prelude.{Ok, Err}
 use Rattle.words.proofs.Runs.{get_d-tab}
 use Rattle.rounds.specs.Round as round
 use Rattle.rounds.specs.Round.{no_rec}
@@ -19,6 +20,8 @@ use Rattle.waiting.specs.Waiting.{Waiting, plain, shared, queue_of, known, is_sh
 use Rattle.waiting.specs.Waiting.{with_train}
 use Rattle.waiting.proofs.Laws.{held-most, queue-nothing}
 use Rattle.rules.specs.State.{Lane, lane_at, lane_depth}
+use Rattle.rules.specs.declared.Refusal.{Refusal}
+use Rattle.rules.specs.declared.Refusal.TheVariants.{NothingHeld, NoTrain}
 use Rattle.table.specs.Layout.{cells, place_in_lane, entry_at, train_number}
 use Rattle.table.specs.Means.{rec_of, rec_at, lane_ring, shared_at, waiting_of, meant}
 use Rattle.table.specs.declared.LaneRow.{LaneRow}
@@ -26,10 +29,8 @@ use Rattle.table.specs.declared.Entry.{Entry}
 use Rattle.table.proofs.Footprint.{lane-is}
 use Rattle.table.proofs.Rows.{waiting-row, waiting-plain, waiting_none, waiting-shared, waiting-kind, length-ring}
 use Rattle.paged.specs.Paged.{device_of}
-use Rattle.show.specs.Views.{waits, view_refused, record_is, view}
-use Rattle.show.specs.Shows.{RowFound, SpotIs}
-use Rattle.show.specs.declared.Spot.{Spot}
-use Rattle.show.specs.declared.Spot.TheVariants.{NoTrain, Nothing, At}
+use Rattle.show.specs.Views.{waits, record_is, view}
+use Rattle.show.specs.Shows.{view_reply, RowFound, SpotIs}
 use Rattle.show.proofs.Shows.{weighs, found}
 
 -- which trains a lane knows, by its kind
@@ -63,13 +64,13 @@ module _ (t : List ℕ) (k : ℕ) (l : LaneRow) (f : RowFound t k l) where
     knows : j < 8 → known q j ≡ true
     knows h = known_shared q j (kind ∙ is) ∙ lt-ltb j 8 h
 
-    pub spot-no-train : 8 ≤ j → SpotIs t k j i NoTrain
-    spot-no-train h = known_shared q j (kind ∙ is) ∙ le-ltb j 8 h
+    pub spot-no-train : 8 ≤ j → SpotIs t k j i (Err NoTrain)
+    spot-no-train h = inl (known_shared q j (kind ∙ is) ∙ le-ltb j 8 h, refl)
 
-    pub spot-idle : j < 8 → l.count ≡ 0 → SpotIs t k j i Nothing
+    pub spot-idle : j < 8 → l.count ≡ 0 → SpotIs t k j i (Err NothingHeld)
     spot-idle h e =
         let nothing-there : queue_of q j ≡ [] = ap (λ (w : Waiting). queue_of w j) (waits-is ∙ waiting_none (cells t) k l e) ∙ queue-nothing l.shared j in
-        (knows h, omega (arith, ap length nothing-there))
+        inr (knows h, omega (arith, ap length nothing-there), refl)
 
     module _ (h : j < 8) (some-held : 0 < l.count) where
       abbrev n : ℕ
@@ -86,10 +87,10 @@ module _ (t : List ℕ) (k : ℕ) (l : LaneRow) (f : RowFound t k l) where
 
       -- m is the train's number, as it was read
       module _ (m : ℕ) (e : m ≡ n) where
-        pub spot_past : count_of m ≤ i → SpotIs t k j i Nothing
-        spot_past p = (knows h, omega (arith, size, ap count_of e))
+        pub spot_past : count_of m ≤ i → SpotIs t k j i (Err NothingHeld)
+        spot_past p = inr (knows h, omega (arith, size, ap count_of e), refl)
 
-        pub spot-train : i < count_of m → SpotIs t k j i (At (8 * j + (head_of m + i) % 8))
+        pub spot-train : i < count_of m → SpotIs t k j i (Ok (8 * j + (head_of m + i) % 8))
         unfolding turns.train_ring rec_at
         spot-train p = rw e (
           knows h,
@@ -100,8 +101,8 @@ module _ (t : List ℕ) (k : ℕ) (l : LaneRow) (f : RowFound t k l) where
   -- ---- a lane that is not shared
 
   module _ (is : l.shared ≡ false) (i : ℕ) where
-    pub spot-other : (j : ℕ) → (j ≡ 0 → ⊥) → SpotIs t k j i NoTrain
-    spot-other j n = known-plain q j (kind ∙ is) ∙ lt-leb j 0 (omega arith)
+    pub spot-other : (j : ℕ) → (j ≡ 0 → ⊥) → SpotIs t k j i (Err NoTrain)
+    spot-other j n = inl (known-plain q j (kind ∙ is) ∙ lt-leb j 0 (omega arith), refl)
 
     queue-is : queue_of q 0 ≡ lane_ring (cells t) k l.head l.count
     unfolding queue_of
@@ -113,31 +114,24 @@ module _ (t : List ℕ) (k : ℕ) (l : LaneRow) (f : RowFound t k l) where
     knows-0 : known q 0 ≡ true
     knows-0 = known-plain q 0 (kind ∙ is)
 
-    pub spot-none : (j : ℕ) → j ≡ 0 → l.count ≤ i → SpotIs t k j i Nothing
-    spot-none j e p = subst (λ (x : ℕ). SpotIs t k x i Nothing) (sym e) (knows-0, omega (arith, size-plain))
+    pub spot-none : (j : ℕ) → j ≡ 0 → l.count ≤ i → SpotIs t k j i (Err NothingHeld)
+    spot-none j e p = subst (λ (x : ℕ). SpotIs t k x i (Err NothingHeld)) (sym e) (inr (knows-0, omega (arith, size-plain), refl))
 
-    pub spot-plain : (j : ℕ) → j ≡ 0 → i < l.count → SpotIs t k j i (At (l.head + i))
+    pub spot-plain : (j : ℕ) → j ≡ 0 → i < l.count → SpotIs t k j i (Ok (l.head + i))
     unfolding lane_ring
     spot-plain j e p =
-        subst (λ (x : ℕ). SpotIs t k x i (At (l.head + i))) (sym e)
+        subst (λ (x : ℕ). SpotIs t k x i (Ok (l.head + i))) (sym e)
         (knows-0, omega (arith, size-plain), ap (λ (x : List round.BareRec). get_or x i no_rec) queue-is ∙ get_d-tab l.count i _ no_rec p)
 
   -- ---- what the lane shows by it
 
-  module _ (j i : ℕ) (r : Spot) (found_at : SpotIs t k j i r) where
-    spot-as : (x : Spot) → r ≡ x → SpotIs t k j i x
-    spot-as x e = subst (SpotIs t k j i) e found_at
-
-    pub shows-no-train : r ≡ NoTrain → view_refused 70 none ≡ view (device_of t) (waits k j i)
+  module _ (j i : ℕ) where
+    pub shows-missing : (x : Refusal) → SpotIs t k j i (Err x) → view_reply (Err x) ≡ view (device_of t) (waits k j i)
     unfolding view device_of
-    shows-no-train is = rw (weighs t k l f, spot-as NoTrain is)
+    shows-missing x (inl (unknown, e)) = rw (e, weighs t k l f, unknown)
+    shows-missing x (inr (knows-j, past, e)) = rw (e, weighs t k l f, knows-j, le-ltb i (length (queue_of q j)) past)
 
-    pub shows_nothing : r ≡ Nothing → view_refused 16 none ≡ view (device_of t) (waits k j i)
+    pub shows-record : (p : ℕ) → SpotIs t k j i (Ok p) → (e : Entry) → e ≡ entry_at (cells t) (place_in_lane k p) → record_is k (with_train j (rec_of e)) ≡ view (device_of t) (waits k j i)
     unfolding view device_of
-    shows_nothing is = let e = spot-as Nothing is in rw (weighs t k l f, e.0, le-ltb i (length (queue_of q j)) e.1)
-
-    pub shows-record : (p : ℕ) → r ≡ At p → (e : Entry) → e ≡ entry_at (cells t) (place_in_lane k p) → record_is k (with_train j (rec_of e)) ≡ view (device_of t) (waits k j i)
-    unfolding view device_of
-    shows-record p is x read =
-        let e = spot-as (At p) is in
-        rw (weighs t k l f, e.0, lt-ltb i (length (queue_of q j)) e.1, e.2) (ap (λ (y : Entry). record_is k (with_train j (rec_of y))) read)
+    shows-record p at x read =
+        rw (weighs t k l f, at.0, lt-ltb i (length (queue_of q j)) at.1, at.2) (ap (λ (y : Entry). record_is k (with_train j (rec_of y))) read)

@@ -8,7 +8,7 @@ use mathlib.Core.Logic.{◌⊎◌, inl, inr}
 use mathlib.Core.Option.{none}
 use lib.ListN.{length, drop}
 use borrow.Author.Tests.{lt-ltb, le-ltb}
-use Rattle.std.specs.Prelude.{if◌then◌else◌}
+use Rattle.std.specs.Prelude.{if◌then◌else◌, Err}
 use Rattle.rules.specs.State.{Setting, Lane, no_setting, setting_at, setup_of, charge, room_of}
 use Rattle.rules.specs.Setup.{Setup, InNumbers, framing_of, longest_charge, margin}
 use Rattle.rules.specs.Waits.{worst_of}
@@ -24,9 +24,7 @@ use Rattle.engine.proofs.RowIs.{absent-lane}
 use Rattle.paged.specs.Paged.{device_of, GoodUnit}
 use Rattle.show.specs.Views.{wait, wait_is, view_refused, view}
 use Rattle.show.specs.Worst.{lane_most, numbers_of, no_room, BothWorst}
-use Rattle.show.specs.Shows.{view_reply, FindIs}
-use Rattle.show.specs.declared.Shown.TheVariants.{Refused}
-use Rattle.show.specs.declared.Found.TheVariants.{Row}
+use Rattle.show.specs.Shows.{view_reply, RowFound}
 use Rattle.show.specs.declared.WorstWait.{WorstWait}
 use Rattle.show.proofs.Shows.{found, weighs}
 
@@ -77,7 +75,7 @@ most-absent t k h e = ap (λ (g : Setting). charge g g.longest) (sym (setting-la
 
 -- ---- of a lane that was found
 
-module _ (t : List ℕ) (k : ℕ) (l : LaneRow) (f : FindIs t k (Row l)) where
+module _ (t : List ℕ) (k : ℕ) (l : LaneRow) (f : RowFound t k l) where
   abbrev gs : List Setting
   gs = setup_of (meant t)
 
@@ -125,13 +123,13 @@ module _ (t : List ℕ) (k : ℕ) (l : LaneRow) (f : FindIs t k (Row l)) where
         rw (weighs t k l f, (found t k l f).given, lt-ltb n (room_of (given_of l)) low')
         (ap (λ (y : ℕ). wait_is y r.tight) (b.0 ∙ ap (λ (h : ℕ). worst_of (margin h) (given_of l) n) same-framing) ∙ ap (wait_is (worst_of (margin (framing_of gs)) (given_of l) n)) b.1)
 
-    pub shows-no-room : m ≤ n → (r : Refusal) → r ≡ no_room x.shared → view_reply (Refused r) ≡ view (device_of t) (wait k n)
+    pub shows-no-room : m ≤ n → (r : Refusal) → r ≡ no_room x.shared → view_reply (Err r) ≡ view (device_of t) (wait k n)
     unfolding view device_of
     shows-no-room high r e =
         let high' : room_of (given_of l) ≤ n = omega (arith, room-is) in
         rw (weighs t k l f, (found t k l f).given, le-ltb n (room_of (given_of l)) high')
-        (ap (λ (y : Refusal). view_reply (Refused y)) (e ∙ ap (λ (y : LaneNumbers). no_room y.shared) is) ∙ go l.shared)
+        (ap (λ (y : Refusal). view_reply (Err y)) (e ∙ ap (λ (y : LaneNumbers). no_room y.shared) is) ∙ go l.shared)
       where
-        go : (b : Bool) → view_reply (Refused (no_room b)) ≡ view_refused (if b then 71 else 13) none
+        go : (b : Bool) → view_reply (Err (no_room b)) ≡ view_refused (if b then 71 else 13) none
         go true = refl
         go false = refl

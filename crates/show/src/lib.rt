@@ -7,9 +7,10 @@
 // The setup in force is what `lane` tells of the lanes 0 to 63.
 #![tactic(auto)]
 
-ghost use Rattle.std.specs.Prelude.{◌≡◌, ◌+◌, ◌≤◌, ◌<◌, max};
+ghost use Rattle.std.specs.Prelude.{◌≡◌, ◌+◌, ◌≤◌, ◌<◌, max, OnOk, IfErr};
 ghost use Rattle.rules.specs.State.{setup_of, room_of};
 ghost use Rattle.rules.specs.Setup.{longest_charge};
+ghost use Rattle.rules.specs.declared.Refusal.TheVariants.{NotGood};
 ghost use Rattle.table.specs.Means.{meant};
 ghost use Rattle.editions.specs.Part.{last_in, new_in};
 ghost use Rattle.paged.specs.Paged.{part_of, GoodUnit};
@@ -64,152 +65,115 @@ pub enum Shown {
     Record(Record),
     Edition(Editions),
     Wait(WorstWait),
-    Refused(Refusal),
+}
+
+// Refuses bytes that are no good table.
+fn tested(t: &[u8]) -> Result<(), Refusal>
+    ensures good { OnOk result (GoodUnit t.now) }
+    ensures bad { IfErr result (λ x. (GoodUnit t.now → ⊥) × (x ≡ NotGood)) }
+{
+    if !good_unit(t) {
+        return Err(Refusal::NotGood);
+    }
+    Ok(())
 }
 
 // A lane's row, if the table is good and its setup has the lane.
-#[derive(Clone, Copy)]
-pub enum Found {
-    NotGood,
-    NoLane,
-    Row(LaneRow),
-}
-
-fn find(t: &[u8], lane: u8) -> Found
+fn find(t: &[u8], lane: u8) -> Result<LaneRow, Refusal>
     ensures { FindIs t.now lane result }
 {
-    if !good_unit(t) {
-        return Found::NotGood;
-    }
+    tested(t)?;
     let k = lane as usize;
-    if 64 <= k {
-        return Found::NoLane;
+    if LANES <= k || !present(t, k) {
+        return Err(Refusal::NoLane);
     }
-    if !present(t, k) {
-        return Found::NoLane;
-    }
-    Found::Row(row(t, k))
+    Ok(row(t, k))
 }
 
 // The clock V.
-pub fn clock(t: &[u8]) -> Shown
+pub fn clock(t: &[u8]) -> Result<Shown, Refusal>
     ensures { Shows Views.clock t.now result }
 {
-    if !good_unit(t) {
-        return Shown::Refused(Refusal::NotGood);
-    }
-    Shown::Clock(table::clock(t))
+    tested(t)?;
+    Ok(Shown::Clock(table::clock(t)))
 }
 
 // What the setup gives a lane.
-pub fn lane(t: &[u8], lane: u8) -> Shown
+pub fn lane(t: &[u8], lane: u8) -> Result<Shown, Refusal>
     ensures { Shows (Views.lane lane) t.now result }
 {
-    match find(t, lane) {
-        Found::NotGood => Shown::Refused(Refusal::NotGood),
-        Found::NoLane => Shown::Refused(Refusal::NoLane),
-        Found::Row(l) => {
-            // while the lane is idle, the group that stands in its row means nothing
-            let p = pace_of(l);
-            let longest = l.longest;
-            let framing = l.framing;
-            Shown::Setting(Setting {
-                weight: l.weight,
-                longest,
-                framing,
-                group: p.group,
-                shared: l.shared,
-            })
-        }
-    }
+    let l = find(t, lane)?;
+    // while the lane is idle, the group that stands in its row means nothing
+    let p = pace_of(l);
+    Ok(Shown::Setting(Setting {
+        weight: l.weight,
+        longest: l.longest,
+        framing: l.framing,
+        group: p.group,
+        shared: l.shared,
+    }))
 }
 
 // How many records wait in a lane, and its time.
-pub fn backlog(t: &[u8], lane: u8) -> Shown
+pub fn backlog(t: &[u8], lane: u8) -> Result<Shown, Refusal>
     ensures { Shows (Views.backlog lane) t.now result }
 {
-    match find(t, lane) {
-        Found::NotGood => Shown::Refused(Refusal::NotGood),
-        Found::NoLane => Shown::Refused(Refusal::NoLane),
-        Found::Row(l) => {
-            let time = l.time;
-            Shown::Backlog(LaneQueue {
-                count: l.count,
-                time,
-            })
-        }
-    }
+    let l = find(t, lane)?;
+    Ok(Shown::Backlog(LaneQueue {
+        count: l.count,
+        time: l.time,
+    }))
 }
 
-// Where a record stands among the lane's places, if it is there.
-#[derive(Clone, Copy)]
-pub enum Spot {
-    NoTrain,
-    Nothing,
-    At(u64),
-}
-
-// The record of a train of lane `k` that has `i` of its train before it; `l` is the lane's row. While a shared lane is idle, its trains' numbers mean nothing.
-fn seek(t: &[u8], k: usize, l: LaneRow, train: u8, i: u64) -> Spot
+// Where the record of a train of lane `k` that has `i` of its train before it stands among the lane's places; `l` is the lane's row. While a shared lane is
+// idle, its trains' numbers mean nothing.
+fn seek(t: &[u8], k: usize, l: LaneRow, train: u8, i: u64) -> Result<u64, Refusal>
     requires { RowFound t.now k l }
     ensures { SpotIs t.now k train i result }
 {
     if l.shared {
         if 8 <= train {
-            return Spot::NoTrain;
+            return Err(Refusal::NoTrain);
         }
         if l.count == 0 {
-            return Spot::Nothing;
+            return Err(Refusal::NothingHeld);
         }
         let number = table::train(t, k, train as usize);
         if number / COUNT_UNIT % 16 <= i {
-            return Spot::Nothing;
+            return Err(Refusal::NothingHeld);
         }
-        return Spot::At(TRAIN_DEPTH * (train as u64) + (number % TRAIN_DEPTH + i) % TRAIN_DEPTH);
+        return Ok(TRAIN_DEPTH * (train as u64) + (number % TRAIN_DEPTH + i) % TRAIN_DEPTH);
     }
     if train != 0 {
-        return Spot::NoTrain;
+        return Err(Refusal::NoTrain);
     }
     if l.count <= i {
-        return Spot::Nothing;
+        return Err(Refusal::NothingHeld);
     }
-    Spot::At(l.head + i)
+    Ok(l.head + i)
 }
 
 // The record of a train of a lane that has `i` of its train before it; in a lane that is not shared the train is 0.
-pub fn record(t: &[u8], lane: u8, train: u8, i: u64) -> Shown
+pub fn record(t: &[u8], lane: u8, train: u8, i: u64) -> Result<Shown, Refusal>
     ensures { Shows (Views.waits lane train i) t.now result }
 {
-    match find(t, lane) {
-        Found::NotGood => Shown::Refused(Refusal::NotGood),
-        Found::NoLane => Shown::Refused(Refusal::NoLane),
-        Found::Row(l) => {
-            match seek(t, lane as usize, l, train, i) {
-                Spot::NoTrain => Shown::Refused(Refusal::NoTrain),
-                Spot::Nothing => Shown::Refused(Refusal::NothingHeld),
-                Spot::At(p) => {
-                    let e = record_at(t, lane as usize, p);
-                    let length = e.length;
-                    Shown::Record(Record {
-                        lane,
-                        train,
-                        mark: e.mark,
-                        length,
-                    })
-                }
-            }
-        }
-    }
+    let l = find(t, lane)?;
+    let p = seek(t, lane as usize, l, train, i)?;
+    let e = record_at(t, lane as usize, p);
+    Ok(Shown::Record(Record {
+        lane,
+        train,
+        mark: e.mark,
+        length: e.length,
+    }))
 }
 
 // The edition last taken, and that of the page that waits.
-pub fn edition(t: &[u8]) -> Shown
+pub fn edition(t: &[u8]) -> Result<Shown, Refusal>
     ensures { Shows Views.edition t.now result }
 {
-    if !good_unit(t) {
-        return Shown::Refused(Refusal::NotGood);
-    }
-    Shown::Edition(editions_of(t))
+    tested(t)?;
+    Ok(Shown::Edition(editions_of(t)))
 }
 
 // The editions of a good table.
@@ -244,7 +208,7 @@ fn most_of(t: &[u8], k: usize) -> u64
 fn greater(a: u64, b: u64) -> u64
     ensures { result ≡ max a b }
 {
-    if a < b { b } else { a }
+    a.max(b)
 }
 
 // What the costliest record of the setup is charged for.
@@ -253,11 +217,9 @@ fn costliest(t: &[u8]) -> u64
     ensures { (result ≡ longest_charge (setup_of (meant t.now))) × (result ≤ 1564) }
 {
     let mut most = 0u64;
-    let mut k = 0usize;
-    while k < LANES {
+    for k in 0..LANES {
         let here = most_of(t, k);
         most = greater(most, here);
-        k += 1;
     }
     most
 }
@@ -266,12 +228,10 @@ fn costliest(t: &[u8]) -> u64
 fn numbers(l: LaneRow) -> LaneNumbers
     ensures { result ≡ numbers_of l }
 {
-    let longest = l.longest;
-    let framing = l.framing;
     LaneNumbers {
         weight: l.weight,
-        longest,
-        framing,
+        longest: l.longest,
+        framing: l.framing,
         shared: l.shared,
     }
 }
@@ -307,18 +267,12 @@ fn no_room(shared: bool) -> Refusal
 }
 
 // How long a record can wait at worst that was put to a lane and reported `ahead`.
-pub fn wait(t: &[u8], lane: u8, ahead: u64) -> Shown
+pub fn wait(t: &[u8], lane: u8, ahead: u64) -> Result<Shown, Refusal>
     ensures { Shows (Views.wait lane ahead) t.now result }
 {
-    match find(t, lane) {
-        Found::NotGood => Shown::Refused(Refusal::NotGood),
-        Found::NoLane => Shown::Refused(Refusal::NoLane),
-        Found::Row(l) => {
-            let given = numbers(l);
-            if room(given) <= ahead {
-                return Shown::Refused(no_room(given.shared));
-            }
-            Shown::Wait(both(t, given, ahead))
-        }
+    let given = numbers(find(t, lane)?);
+    if room(given) <= ahead {
+        return Err(no_room(given.shared));
     }
+    Ok(Shown::Wait(both(t, given, ahead)))
 }

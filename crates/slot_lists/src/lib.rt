@@ -156,11 +156,9 @@ pub fn lower(t: &mut [u8], d: u64)
     requires { Long t.old × (back_at t.old < 2 ^ 36) × (d < 2 ^ 63) }
     ensures { Lowered t.old t.new d }
 {
-    let mut g = LOWEST;
-    while g < GROUPS_END {
+    for g in LOWEST..GROUPS_END {
         let start = word(t, STARTS + g);
         set_word(t, STARTS + g, earlier_by(start, d));
-        g += 1;
     }
     let back = word(t, BACK);
     set_word(t, BACK, (back + d) % ROUND);

@@ -19,11 +19,7 @@ pub struct Came {
 // Whether an argument stands behind the program's name; one that is longer than the buffer does too.
 fn has_argument(rt: HostRuntime) -> bool {
     let mut buffer = [0u8; 1];
-    match rt.arg(1, &mut buffer) {
-        Ok(_) => true,
-        Err(FillError::TooLong) => true,
-        Err(FillError::NotPresent) => false,
-    }
+    !matches!(rt.arg(1, &mut buffer), Err(FillError::NotPresent))
 }
 
 // Whether the program was started without arguments, as it must be; else it says so, with a line of help.

@@ -11,8 +11,9 @@ use lib.ListN.{get_or}
 use lib.Count.{count_trailing_zeros}
 use Rattle.table.specs.Layout.{present_word}
 use Rattle.table.specs.Means.{present_at, Next}
-use Rattle.words.specs.Bits.{bit}
+use Rattle.words.specs.Bits.{bit, Lowest}
 use Rattle.words.proofs.Bits.{bit-above, bit-shift, low-set}
+use Rattle.words.proofs.Walk.{Left, none_left, next-on, next-present, none_between}
 
 module _ (lanes from : ℕ) where
   at : (i : ℕ) → from ≤ i → bit (i - from) (lanes / 2 ^ from) ≡ bit i lanes
@@ -52,6 +53,14 @@ module _ (lanes from : ℕ) where
           absent = λ i p q. sym (at i p) ∙ (low-set 64 (lanes / 2 ^ from) pos low).1 (i - from) (omega arith);
           present = λ q. set;
         }
+
+-- ---- the walk by the set bits of the word
+
+pub next-bit : {lanes left n k rest : ℕ} → Left lanes left n → Lowest left k rest → Next lanes n k
+next-bit l b = record { on = next-on l b; ends = omega (arith, b.small); absent = none_between l b; present = λ q. next-present l b }
+
+pub next-end : {lanes left n : ℕ} → Left lanes left n → left ≡ 0 → Next lanes n 64
+next-end l z = record { on = l.ends; ends = omega arith; absent = λ i p q. none_left l z i p; present = λ q. absurd (omega arith) }
 
 -- ---- a bit of the word, and a lane in the setup
 

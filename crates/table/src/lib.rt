@@ -210,10 +210,8 @@ pub fn clear_lengths(t: &mut [u8], k: usize)
     ensures { Now t.old t.new (clear_cells (cells t.old) (lengths_cell + length_words * k) length_words) }
 {
     let from = LENGTHS + LENGTH_WORDS * k;
-    let mut i = 0;
-    while i < LENGTH_WORDS {
+    for i in 0..LENGTH_WORDS {
         set_cell(t, from + i, 0);
-        i += 1;
     }
 }
 
@@ -255,10 +253,8 @@ pub fn clear_trains(t: &mut [u8], k: usize)
     ensures { Now t.old t.new (clear_cells (cells t.old) (trains_cell + 4 * k) 4) }
 {
     let from = TRAIN_NUMBERS + TRAIN_WORDS * k;
-    let mut i = 0;
-    while i < TRAIN_WORDS {
+    for i in 0..TRAIN_WORDS {
         set_word(t, from + i, 0);
-        i += 1;
     }
 }
 
@@ -307,7 +303,7 @@ pub fn charged(l: LaneRow, length: Bytes) -> Bytes
     requires { (l.framing.0 ≤ 64) × (length.0 < 2 ^ 32) }
     ensures { (result.0 ≡ charge (given_of l) length.0) × (result.0 ≤ length.0 + 64) }
 {
-    Bytes(length.0 + l.framing.0)
+    length + l.framing
 }
 
 // c and the group of a lane, worked out from its setting. The one division is made here.

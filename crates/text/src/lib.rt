@@ -12,12 +12,9 @@ pub fn put_word(a: &mut [u8], at: usize, word: &[u8]) -> usize
     requires { at + length word.now ≤ length a.old }
     ensures { (a.new ≡ sets a.old at word.now) × (result ≡ at + length word.now) }
 {
-    let mut i = 0;
-    while i < word.len() {
-        a[at + i] = word[i];
-        i += 1;
-    }
-    at + i
+    let end = at + word.len();
+    a[at..end].copy_from_slice(word);
+    end
 }
 
 // How many decimal digits a number has.
@@ -38,10 +35,8 @@ fn put_digits(a: &mut [u8], at: usize, k: usize, n: u64)
     requires { at + k ≤ length a.old }
     ensures { a.new ≡ sets a.old at (digits k n) }
 {
-    let mut i = k;
     let mut left = n;
-    while 0 < i {
-        i -= 1;
+    for i in (0..k).rev() {
         a[at + i] = (48 + left % 10) as u8;
         left /= 10;
     }
@@ -96,11 +91,7 @@ pub fn put_number(a: &mut [u8], at: usize, n: u64) -> usize
 fn magnitude(z: i64) -> u64
     ensures { result ≡ nat_abs z }
 {
-    if z < 0 {
-        ((-(z + 1)) as u64) + 1
-    } else {
-        z as u64
-    }
+    z.unsigned_abs()
 }
 
 // Writes a number in decimal, with a minus sign below zero.

@@ -1,19 +1,21 @@
--- What the answer of a comparison of times says: b is what `not_after` or `before` answered. Assumes nothing.
-use Prim.Native.Nat.{ℕ, ◌≤◌, ◌<◌}
-use mathlib.Core.Path.{◌≡◌, sym, ◌∙◌}
-use mathlib.Core.Bool.{Bool, true, false}
-use lib.Dec.{leb, ltb}
-use borrow.Author.Tests.{leb-true, leb-false, ltb-true, ltb-false}
+-- What `a < b` and `a <= b` of two times answered says of their numbers. Assumes nothing.
+use Rattle.std.proofs.Common.{ℕ, ◌≡◌, ◌<◌, ◌≤◌, max, true, false, rules}
+use Rattle.std.specs.Ordering.{nat_cmp, is_lt, is_le, ord_max}
+use Rattle.units.specs.declared.Clock.{Clock}
 
-module _ {b : Bool} (x y : ℕ) where
-  pub is-not-after : b ≡ leb x y → b ≡ true → x ≤ y
-  is-not-after e t = leb-true x y (sym e ∙ t)
+module _ (x y : ℕ) where
+  pub is-before : true ≡ is_lt (nat_cmp x y) → x < y
+  is-before = search rules
 
-  pub is-after : b ≡ leb x y → b ≡ false → y < x
-  is-after e f = leb-false x y (sym e ∙ f)
+  pub is-not-before : false ≡ is_lt (nat_cmp x y) → y ≤ x
+  is-not-before = search rules
 
-  pub is-before : b ≡ ltb x y → b ≡ true → x < y
-  is-before e t = ltb-true x y (sym e ∙ t)
+  pub is-not-after : true ≡ is_le (nat_cmp x y) → x ≤ y
+  is-not-after = search rules
 
-  pub is-not-before : b ≡ ltb x y → b ≡ false → y ≤ x
-  is-not-before e f = ltb-false x y (sym e ∙ f)
+  pub is-after : false ≡ is_le (nat_cmp x y) → y < x
+  is-after = search rules
+
+-- and what the later of two times is
+pub later-is : (a b : Clock) {r : Clock} → r ≡ ord_max (λ (x y : Clock). nat_cmp x.0 y.0) a b → r.0 ≡ max a.0 b.0
+later-is = search rules

@@ -5,24 +5,65 @@
 //   Clock   clock units (virtual time): the clock V, starts, finishes and slots
 //   Rate    clock units for each byte: c of a lane, 1,024 of the line
 //
-// Bytes and clock units are never added to each other. Only `lane_charge` and `line_charge` turn the first into the second. Times are compared by
-// `not_after`, `before` and `same_time`, so that the crates above compare a time with a time.
+// Each is ordered by its number, and bytes are added to bytes, times to times: an operator takes two values of one type. So bytes and clock units are never
+// added to each other, nor compared. Only `lane_charge` and `line_charge` turn the first into the second.
 //
 // These are inner functions: a `requires` says what the crates above keep. Ranges (R1.2, R1.11, R6.5): weight 1 to 1,024, so c is 1,024 to 1,048,576;
 // group index 16 to 31; the clock below 2^62 + 2^44.
 #![tactic(auto)]
 
-ghost use Rattle.std.specs.Prelude.{◌≡◌, ◌+◌, ◌*◌, ◌^◌, ◌<◌, ◌≤◌, max, min, eqb, leb, ltb};
+ghost use Rattle.std.specs.Prelude.{◌≡◌, ◌+◌, ◌-◌, ◌*◌, ◌^◌, ◌<◌, ◌≤◌};
 ghost use Rattle.units.specs.Numbers.{per_byte, line_rate, Least, round_down};
 
-#[derive(Clone, Copy)]
+use std::ops::{Add, Sub};
+
+#[derive(Clone, Copy, PartialEq, Eq, PartialOrd, Ord)]
 pub struct Bytes(pub u64);
 
-#[derive(Clone, Copy)]
+#[derive(Clone, Copy, PartialEq, Eq, PartialOrd, Ord)]
 pub struct Clock(pub u64);
 
-#[derive(Clone, Copy)]
+#[derive(Clone, Copy, PartialEq, Eq, PartialOrd, Ord)]
 pub struct Rate(pub u64);
+
+// Two lengths together.
+impl Add for Bytes {
+    type Output = Bytes;
+
+    ghost can_add = { λ a b. a.0 + b.0 < 2 ^ 64 };
+
+    ghost add_gives = { λ a b r. r.0 ≡ a.0 + b.0 };
+
+    fn add(self, other: Bytes) -> Bytes {
+        Bytes(self.0 + other.0)
+    }
+}
+
+// A time, some clock units later.
+impl Add for Clock {
+    type Output = Clock;
+
+    ghost can_add = { λ time units. time.0 + units.0 < 2 ^ 64 };
+
+    ghost add_gives = { λ time units r. r.0 ≡ time.0 + units.0 };
+
+    fn add(self, units: Clock) -> Clock {
+        Clock(self.0 + units.0)
+    }
+}
+
+// A time, some clock units earlier.
+impl Sub for Clock {
+    type Output = Clock;
+
+    ghost can_sub = { λ time units. units.0 ≤ time.0 };
+
+    ghost sub_gives = { λ time units r. r.0 ≡ time.0 - units.0 };
+
+    fn sub(self, units: Clock) -> Clock {
+        Clock(self.0 - units.0)
+    }
+}
 
 // R1.9: the clock units that a byte costs the line, whatever its lane.
 pub const LINE_RATE: u64 = 1024;
@@ -95,48 +136,5 @@ pub fn rounded_finish(rounded: Clock, index: u32) -> Clock
     requires { (rounded.0 ≤ 2 ^ 63) × (index ≤ 31) }
     ensures { result.0 ≡ rounded.0 + 2 * 2 ^ index }
 {
-    plus(rounded, two_slots(index))
-}
-
-// A time, some clock units later.
-pub fn plus(time: Clock, units: Clock) -> Clock
-    requires { time.0 + units.0 < 2 ^ 64 }
-    ensures { result.0 ≡ time.0 + units.0 }
-{
-    Clock(time.0 + units.0)
-}
-
-// Whether time `a` is at most `b`.
-pub fn not_after(a: Clock, b: Clock) -> bool
-    ensures { result ≡ leb a.0 b.0 }
-{
-    a.0 <= b.0
-}
-
-// Whether time `a` is below `b`.
-pub fn before(a: Clock, b: Clock) -> bool
-    ensures { result ≡ ltb a.0 b.0 }
-{
-    a.0 < b.0
-}
-
-// Whether two times are the same.
-pub fn same_time(a: Clock, b: Clock) -> bool
-    ensures { result ≡ eqb a.0 b.0 }
-{
-    a.0 == b.0
-}
-
-// The greater of two times.
-pub fn later(a: Clock, b: Clock) -> Clock
-    ensures { result.0 ≡ max a.0 b.0 }
-{
-    if a.0 < b.0 { b } else { a }
-}
-
-// The lesser of two times.
-pub fn earlier(a: Clock, b: Clock) -> Clock
-    ensures { result.0 ≡ min a.0 b.0 }
-{
-    if b.0 < a.0 { b } else { a }
+    rounded + two_slots(index)
 }

@@ -27,7 +27,7 @@ fn line_bytes(own: Clock, slots: Clock, margin: Clock) -> u64
     requires { (own.0 < 2 ^ 44) × (slots.0 ≤ 2 ^ 33) × (margin.0 < 2 ^ 32) }
     ensures { result ≡ (own.0 + slots.0 + margin.0 + 1023) / line_rate }
 {
-    (own.0 + slots.0 + margin.0 + (LINE_RATE - 1)) / LINE_RATE
+    ((own + slots + margin).0 + (LINE_RATE - 1)) / LINE_RATE
 }
 
 // What `count` records of this length are charged in their lane, if each is charged `times` as much.
@@ -52,12 +52,12 @@ pub fn worst_wait(l: LaneNumbers, ahead: u64, margin: Clock) -> u64
     ensures { result ≡ worst_of margin.0 (setting_of_numbers l) ahead }
 {
     let c = lane_rate(l.weight);
-    let most = l.longest.0 + l.framing.0;
-    let slots = four_slots(Bytes(most), c);
+    let most = l.longest + l.framing;
+    let slots = four_slots(most, c);
     if l.shared {
         let own = charge_of(8 * ahead + 21, 1 + l.framing.0, l.longest.0, c);
         return line_bytes(own, slots, margin);
     }
-    let own = charge_of(ahead, 1, most, c);
+    let own = charge_of(ahead, 1, most.0, c);
     line_bytes(own, slots, margin)
 }

@@ -17,8 +17,7 @@ ghost use Rattle.walk.specs.Walks.{line_count, Walks, Closes};
 
 use answers::Tally;
 use editions::set_taken;
-use plan::Outcome;
-use requests::{END, Head, Quick, Request};
+use requests::{END, Request};
 use rules::Refusal;
 use table::SIZE;
 
@@ -47,12 +46,6 @@ pub struct Walked {
     pub why: Stop,
 }
 
-fn wide(b: u8) -> u64
-    ensures { (result ≡ b) × (result < 256) }
-{
-    b as u64
-}
-
 // At the end field: a byte after it is out of order.
 fn closed(s: &[u8], at: usize) -> Stop
     ensures { why_of result ≡ session_closed s.now at }
@@ -79,26 +72,24 @@ fn walk(s: &[u8], from: usize, limit: u64, t: &mut [u8], a: &mut [u8], start: us
         let mut q = Request::Take;
         let mut next = at;
         match requests::quick_at(s, at) {
-            Quick::Whole(whole, behind) => {
+            Some((whole, behind)) => {
                 q = whole;
                 next = behind;
             }
-            Quick::Other => match requests::head_at(s, at) {
-                Head::Refused(x) => {
+            None => match requests::head_at(s, at) {
+                Err(x) => {
                     why = Stop::Refused(x);
                     break 'fields;
                 }
-                Head::Right(tag, size) => {
+                Ok((tag, size)) => {
                     let mut value = 0;
-                    let mut i = 0;
-                    while i < size {
+                    for i in 0..size {
                         let p = at + 3 + i;
                         if p >= s.len() {
                             why = Stop::Refused(Refusal::Cut(at));
                             break 'fields;
                         }
-                        value = value * 256 + wide(s[p]);
-                        i += 1;
+                        value = value * 256 + s[p] as u64;
                     }
                     next = at + 3 + size;
                     if tag == END {
@@ -155,10 +146,8 @@ pub fn begun(s: &[u8], limit: u64, t: &mut [u8], a: &mut [u8]) -> RunResult
     requires { (table_size ≤ length t.old) × (limit ≤ 1000) × (64 * (limit + 2) ≤ length a.old) }
     ensures { Follows t.old t.new a.old a.new result (script s.now limit) }
 {
-    let reading = plan::read_plan(s, 0);
-    let outcome = reading.outcome;
-    match outcome {
-        Outcome::Refused(x) => {
+    match plan::read_plan(s, 0) {
+        Err(x) => {
             let written = lines::put_no(a, 0, x);
             RunResult {
                 answered: 0,
@@ -166,13 +155,12 @@ pub fn begun(s: &[u8], limit: u64, t: &mut [u8], a: &mut [u8]) -> RunResult
                 why: Stop::Refused(x),
             }
         }
-        Outcome::Read(at) => {
+        Ok(reading) => {
             let plan = reading.plan;
-            let lanes = plan.lanes;
             // A run's table has taken no settings page.
             set_taken(&mut t[SIZE..], 0);
-            fresh::write(t, lanes);
-            requested(s, at, limit, t, a, plan.count as u64)
+            fresh::write(t, plan.lanes);
+            requested(s, reading.next, limit, t, a, plan.count as u64)
         }
     }
 }

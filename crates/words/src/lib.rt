@@ -7,6 +7,8 @@
 ghost use Rattle.std.specs.Prelude.{◌≡◌, ◌+◌, ◌*◌, ◌^◌, ◌<◌, ◌≤◌, length, get_or};
 ghost use Rattle.words.specs.Runs.{elements_from};
 ghost use Rattle.words.specs.Words.{le_val, word_at, put_word};
+ghost use Rattle.words.specs.Bits.{NextBit, LastBit};
+ghost use Rattle.std.specs.Iterator.{at_most};
 
 // The byte at `a`, as a number below 256.
 fn byte(t: &[u8], a: usize) -> u64
@@ -55,4 +57,38 @@ pub fn set_word(t: &mut [u8], i: usize, v: u64)
     t[a + 5] = (v / 1099511627776 % 256) as u8;
     t[a + 6] = (v / 281474976710656 % 256) as u8;
     t[a + 7] = (v / 72057594037927936 % 256) as u8;
+}
+
+// The set bits of a word, from the lowest up; under `rev`, from the highest down.
+#[derive(Clone, Copy)]
+pub struct SetBits(pub u64);
+
+impl Iterator for SetBits {
+    type Item = u32;
+
+    ghost next_gives = { λ s r t. NextBit s.0 r t.0 };
+
+    ghost remaining = { λ s. at_most s.0 };
+
+    fn next(&mut self) -> Option<u32> {
+        if self.0 == 0 {
+            return None;
+        }
+        let lowest = u64::trailing_zeros(self.0);
+        self.0 = self.0 & (self.0 - 1);
+        Some(lowest)
+    }
+}
+
+impl DoubleEndedIterator for SetBits {
+    ghost next_back_gives = { λ s r t. LastBit s.0 r t.0 };
+
+    fn next_back(&mut self) -> Option<u32> {
+        if self.0 == 0 {
+            return None;
+        }
+        let highest = 63 - u64::leading_zeros(self.0);
+        self.0 -= 1u64 << highest;
+        Some(highest)
+    }
 }

@@ -13,14 +13,15 @@ use Rattle.table.specs.Layout.{table_size}
 use Rattle.old_table.specs.Old.{OldTable}
 use Rattle.convert.specs.Converts.{TakenOver, Converts, convert_reply}
 use Rattle.convert.specs.Takes.{OldTakes, old_done, old_then, refuses, takes, UntilTen}
-use Rattle.convert.specs.declared.Converting.{Converting}
-use Rattle.convert.specs.declared.Converting.TheVariants.{Converted, Refused}
 use Rattle.convert.proofs.Takes.{Along, along-over, along-take}
 use Rattle.zenfrosta.specs.Crossing.{code, values, words_in}
 use Rattle.zenfrosta.specs.Heard.{heard}
 use Rattle.zenfrosta.specs.Old.{convert_code, HeardTakes, nothing, short, whole, GoesOn, HostConverts}
 use Rattle.zenfrosta.proofs.Heard.{heard-back}
 use Rattle.zenfrosta.proofs.HostMakes.{number-not-0}
+use Rattle.std.specs.Prelude.{Result}
+use Rattle.std.specs.Prelude.{Ok}
+use Rattle.std.specs.Prelude.{Err}
 
 -- what the host hears of takes is what they answered, and so as from the old table
 heard-takes : {t t' u u' : List ℕ} {rs qs : List Reply} → Along t u → OldTakes t rs t' → HeardTakes u qs u' → UntilTen rs qs
@@ -39,7 +40,7 @@ heard-takes {t} {u = u} p (old_then {u = t₁} (takes g after) more) (whole {u =
     inr (one.same ∙ sym hears, heard-takes one.next more rest)
 
 module _ (old before after : List ℕ) where
-  done : Converts old before Converted after → GoesOn old before after
+  done : Converts old before (Ok tt) after → GoesOn old before after
   done c =
       let g = c.was_good refl in
       let over = by-room g (le-or-lt table_size (length before)) in
@@ -53,7 +54,7 @@ module _ (old before after : List ℕ) where
       by-room g (inl h) = (c.converts h g).1
       by-room g (inr h) = let is = (c.short h).0 in let z : ◌≡◌ {A = ℕ} 0 1 = cc in absurd (omega arith)
 
-  stays : (x : Refusal) → Converts old before (Refused x) after → after ≡ before
+  stays : (x : Refusal) → Converts old before (Err x) after → after ≡ before
   stays x c = by-room (le-or-lt table_size (length before))
     where
       bad : table_size ≤ length before → OldTable old → ⊥
@@ -67,13 +68,13 @@ pub host-converts : HostConverts
 unfolding HostConverts
 host-converts old before after out out' r x = (when-done, when-refused)
   where
-    goes_on : (a : Converting) → Converts old before a after → convert_code (convert_reply a) ≡ 0 → GoesOn old before after
-    goes_on Converted c e = done old before after c
-    goes_on (Refused y) c e = absurd (number-not-0 y e)
+    goes_on : (a : Result (Unit {0}) Refusal) → Converts old before a after → convert_code (convert_reply a) ≡ 0 → GoesOn old before after
+    goes_on (Ok u) c e = done old before after c
+    goes_on (Err y) c e = absurd (number-not-0 y e)
 
-    unchanged : (a : Converting) → Converts old before a after → (convert_code (convert_reply a) ≡ 0 → ⊥) → after ≡ before
-    unchanged Converted c ne = absurd (ne refl)
-    unchanged (Refused y) c ne = stays old before after y c
+    unchanged : (a : Result (Unit {0}) Refusal) → Converts old before a after → (convert_code (convert_reply a) ≡ 0 → ⊥) → after ≡ before
+    unchanged (Ok u) c ne = absurd (ne refl)
+    unchanged (Err y) c ne = stays old before after y c
 
     when-done : r ≡ 0 → GoesOn old before after
     when-done zero = go (le-or-lt 32 (length out))

@@ -14,21 +14,21 @@ use Rattle.rules.specs.Calls.{refused}
 use Rattle.rules.specs.Reads.{number, place_of}
 use Rattle.pages.specs.Device.{answered}
 use Rattle.scheduler.specs.Step.{offering}
-use Rattle.scheduler.specs.declared.Offering.{Offering}
-use Rattle.scheduler.specs.declared.Offering.TheVariants.{InForce, Waits, Old}
-use Rattle.scheduler.specs.declared.Offering.TheVariants as offers
+use Rattle.scheduler.specs.declared.Offered.{Offered}
+use Rattle.scheduler.specs.declared.Offered.TheVariants.{InForce, Waits}
+use Rattle.scheduler.specs.declared.NotTaken.{NotTaken}
+use Rattle.scheduler.specs.declared.NotTaken.TheVariants.{Old, Refused}
 use Rattle.rules.specs.declared.Refusal.{Refusal}
 use Rattle.rules.specs.declared.Refusal.TheVariants.{Cut, UnknownTag, WrongLength, OutOfOrder, WeightsOver, TableShort, NotGood, NoLane, BadLength, LaneFull, StillHolds, NothingHeld, RunBounds, InputLong, FormatOutside, LaneOutside, WeightOutside, LongestOutside, FramingOutside, WrongByte, SheetCut, NoSheet, NoTrain, TrainFull}
 use Rattle.plan.specs.Read.{read_setup, SetupReply, setup_refused, setup_read}
 use Rattle.table.specs.Layout.{table_size}
 use Rattle.scheduler.specs.Make as making
 use Rattle.scheduler.specs.Make.{MakeStep}
-use Rattle.scheduler.specs.declared.Making.{Making}
-use Rattle.scheduler.specs.declared.Making.TheVariants.{Made, Refused}
 use Rattle.scheduler.proofs.Begins.{by-make}
 use Rattle.zenfrosta.specs.Crossing.{refusal_words, make_code, make_values, offer_code, offer_values, Spoken}
 use Rattle.zenfrosta.specs.declared.Four.{Four}
 use Rattle.zenfrosta.specs.Heard.{heard_offer, Begun, HostMakes}
+use Rattle.std.specs.Prelude.{Result, Ok, Err}
 
 -- no refusal has the number 0
 pub number-not-0 : (x : Refusal) → number x ≡ 0 → ⊥
@@ -62,15 +62,15 @@ place-back : (p : Option ℕ) → (if eqb (refusal_words p).b 1 then some (refus
 place-back none = refl
 place-back (some p) = refl
 
-pub offer-back : (o : Offering) → heard_offer (offer_code (offering o)) (offer_values (offering o)) ≡ offering o
+pub offer-back : (o : Result Offered NotTaken) → heard_offer (offer_code (offering o)) (offer_values (offering o)) ≡ offering o
 unfolding heard_offer
-offer-back InForce = refl
-offer-back Waits = refl
-offer-back Old = refl
-offer-back (offers.Refused x) = rw (ne_eqb (number x) 0 (number-not-0 x)) (ap (λ (p : Option ℕ). answered (refused (number x) p)) (place-back (place_of x)))
+offer-back (Ok InForce) = refl
+offer-back (Ok Waits) = refl
+offer-back (Err Old) = refl
+offer-back (Err (Refused x)) = rw (ne_eqb (number x) 0 (number-not-0 x)) (ap (λ (p : Option ℕ). answered (refused (number x) p)) (place-back (place_of x)))
 
-module _ (setup before t out out' : List ℕ) (n : ℕ) (m : MakeStep setup before (Made n) t) (w : Spoken out (make_values (making.made n)) out') where
-  by-plan : table_size ≤ length before → (y : SetupReply) → read_setup setup ≡ y → making.TableBySetup y before (Made n) t → Begun setup t out'
+module _ (setup before t out out' : List ℕ) (n : ℕ) (m : MakeStep setup before (Ok n) t) (w : Spoken out (make_values (making.made n)) out') where
+  by-plan : table_size ≤ length before → (y : SetupReply) → read_setup setup ≡ y → making.TableBySetup y before (Ok n) t → Begun setup t out'
   by-plan h (setup_refused k p) e f = let is = f.0 in let z : ◌≡◌ {A = ℕ} 0 1 = cc in absurd (omega arith)
   by-plan h (setup_read v gs k at) e f =
       let is = f.0 in
@@ -81,7 +81,7 @@ module _ (setup before t out out' : List ℕ) (n : ℕ) (m : MakeStep setup befo
         format = v;
         at = at;
         reads_it = e ∙ ap (λ (x : ℕ). setup_read v gs x at) (lanes ∙ told);
-        led = by-make gs t (record { setup = setup; before = before; answer = Made n; format = v; lanes = k; at = at; reads_it = e; room = h; makes = m });
+        led = by-make gs t (record { setup = setup; before = before; answer = Ok n; format = v; lanes = k; at = at; reads_it = e; room = h; makes = m });
       }
 
   by-room : (table_size ≤ length before) ⊎ (length before < table_size) → Begun setup t out'
@@ -92,9 +92,9 @@ pub host-makes : HostMakes
 unfolding HostMakes
 host-makes setup before t out out' r x zero = go (le-or-lt 32 (length out))
   where
-    made : (a : Making) → MakeStep setup before a t → r ≡ make_code (making.make_reply a) → Spoken out (make_values (making.make_reply a)) out' → Begun setup t out'
-    made (Made n) m c w = by-room setup before t out out' n m w (le-or-lt table_size (length before))
-    made (Refused y) m c w = absurd (number-not-0 y (sym c ∙ zero))
+    made : (a : Result ℕ Refusal) → MakeStep setup before a t → r ≡ make_code (making.make_reply a) → Spoken out (make_values (making.make_reply a)) out' → Begun setup t out'
+    made (Ok n) m c w = by-room setup before t out out' n m w (le-or-lt table_size (length before))
+    made (Err y) m c w = absurd (number-not-0 y (sym c ∙ zero))
 
     go : (32 ≤ length out) ⊎ (length out < 32) → Begun setup t out'
     go (inl h) = let told = x.told h in made told.0 told.1 told.2 told.3

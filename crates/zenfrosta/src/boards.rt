@@ -1,30 +1,13 @@
 // The desk's board for hosts: the journal's calls, exported (R13.7, R13.9). Answers cross as those of lib.rt do (specs/Board.antt).
-ghost use Rattle.std.specs.Prelude.{◌≡◌, ◌≤◌, length};
-ghost use Rattle.journal.specs.Reads.{board_listed, plain_told, shown, beginning, refused_by};
+ghost use Rattle.std.specs.Prelude.{◌≡◌, ◌≤◌, length, Ok};
+ghost use Rattle.journal.specs.Reads.{plain_told, shown, beginning, refused_by};
 ghost use Rattle.journal.specs.Step.{board_size};
 ghost use Rattle.zenfrosta.specs.Crossing.{Spoken};
 ghost use Rattle.zenfrosta.specs.Board.{board_code, board_values, CrossesBegin, CrossesRecord, CrossesClear, CrossesLine};
 
 use crate::{Four, one, speak};
-use journal::{Begun, Refusal, Shown, Told};
-
-// The number of a refusal.
-fn number(x: Refusal) -> u64
-    ensures { result ≡ (board_listed x).0 }
-{
-    match x {
-        Refusal::Cut(_) => 1,
-        Refusal::UnknownTag(_) => 2,
-        Refusal::WrongLength(_) => 3,
-        Refusal::BoardShort => 7,
-        Refusal::NotABoard => 29,
-        Refusal::KindUnknown => 30,
-        Refusal::NoFreeLine => 31,
-        Refusal::OutOfTurn => 32,
-        Refusal::DoesNotFollow => 33,
-        Refusal::NotCleared => 34,
-    }
-}
+use desk_line::Line;
+use journal::Refusal;
 
 // A place, and 1: there is one.
 fn placed(place: u64) -> Four
@@ -62,59 +45,64 @@ fn refuse(out: &mut [u8], x: Refusal) -> u64
     ensures { (result ≡ board_code (refused_by x)) × Spoken out.old (board_values (refused_by x)) out.new }
 {
     let w = refusal_words(x);
-    speak(out, w.a, w.b, w.c, w.d);
-    number(x)
+    speak(out, w);
+    u64::from(x)
 }
 
 // Tells the line that record or clear changed.
-fn tell_line(out: &mut [u8], x: Told) -> u64
+fn tell_line(out: &mut [u8], x: Result<u8, Refusal>) -> u64
     requires { 32 ≤ length out.old }
     ensures { (result ≡ board_code (plain_told x)) × Spoken out.old (board_values (plain_told x)) out.new }
 {
     match x {
-        Told::Line(k) => {
-            speak(out, k as u64, 0, 0, 0);
+        Ok(k) => {
+            speak(out, one(k as u64));
             0
         }
-        Told::Refused(f) => refuse(out, f),
+        Err(f) => refuse(out, f),
+    }
+}
+
+// The words of what stands on a line, all 0 where it is free.
+fn line_words(x: Option<Line>) -> Four
+    ensures { result ≡ board_values (shown (Ok x)) }
+{
+    match x {
+        None => one(0),
+        Some(l) => Four {
+            a: l.kind as u64,
+            b: l.train as u64,
+            c: l.cell as u64,
+            d: l.sequence as u64,
+        },
     }
 }
 
 // Tells what stands on a line.
-fn tell_shown(out: &mut [u8], x: Shown) -> u64
+fn tell_shown(out: &mut [u8], x: Result<Option<Line>, Refusal>) -> u64
     requires { 32 ≤ length out.old }
     ensures { (result ≡ board_code (shown x)) × Spoken out.old (board_values (shown x)) out.new }
 {
     match x {
-        Shown::Free => {
-            speak(out, 0, 0, 0, 0);
+        Ok(l) => {
+            speak(out, line_words(l));
             0
         }
-        Shown::Holds(l) => {
-            speak(
-                out,
-                l.kind as u64,
-                l.train as u64,
-                l.cell as u64,
-                l.sequence as u64,
-            );
-            0
-        }
-        Shown::Refused(f) => refuse(out, f),
+        Err(f) => refuse(out, f),
     }
 }
 
 // Tells how beginning a board went.
-fn tell_begun(out: &mut [u8], x: Begun) -> u64
+fn tell_begun(out: &mut [u8], x: Result<(), Refusal>) -> u64
     requires { 32 ≤ length out.old }
     ensures { (result ≡ board_code (beginning x)) × Spoken out.old (board_values (beginning x)) out.new }
 {
     match x {
-        Begun::Begun => {
-            speak(out, 0, 0, 0, 0);
+        Ok(()) => {
+            speak(out, one(0));
             0
         }
-        Begun::Refused(f) => refuse(out, f),
+        Err(f) => refuse(out, f),
     }
 }
 

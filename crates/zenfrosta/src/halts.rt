@@ -1,36 +1,42 @@
 // The small halt, exported (R20.6). Its answers cross as those of lib.rt do (specs/Halts.antt).
-ghost use Rattle.std.specs.Prelude.{◌≡◌, ◌≤◌, length};
+ghost use Rattle.std.specs.Prelude.{◌≡◌, ◌≤◌, length, Err};
 ghost use Rattle.rules.specs.Calls as Calls;
 ghost use Rattle.halt.specs.Halt.{halt_reply};
 ghost use Rattle.zenfrosta.specs.Crossing.{make_code, make_values, Spoken};
 ghost use Rattle.zenfrosta.specs.Halts.{CrossesHalt, CrossesHaltMaking};
 
-use crate::{refusal_words, speak, tell};
-use halt::Making;
+use crate::{one, refuse, speak, tell};
+use halt::NotMade;
 use units::Bytes;
 
 // 90: a good setup that is not the halt's.
 const NOT_A_HALT: u64 = 90;
 
+// Tells why no table was made.
+fn refuse_making(out: &mut [u8], x: NotMade) -> u64
+    requires { 32 ≤ length out.old }
+    ensures { (result ≡ make_code (halt_reply (Err x))) × Spoken out.old (make_values (halt_reply (Err x))) out.new }
+{
+    match x {
+        NotMade::NotAHalt => {
+            speak(out, one(0));
+            NOT_A_HALT
+        }
+        NotMade::Refused(f) => refuse(out, f),
+    }
+}
+
 // Tells how making went.
-fn tell_made(out: &mut [u8], x: Making) -> u64
+fn tell_made(out: &mut [u8], x: Result<usize, NotMade>) -> u64
     requires { 32 ≤ length out.old }
     ensures { (result ≡ make_code (halt_reply x)) × Spoken out.old (make_values (halt_reply x)) out.new }
 {
     match x {
-        Making::Made(n) => {
-            speak(out, n as u64, 0, 0, 0);
+        Ok(n) => {
+            speak(out, one(n as u64));
             0
         }
-        Making::NotAHalt => {
-            speak(out, 0, 0, 0, 0);
-            NOT_A_HALT
-        }
-        Making::Refused(f) => {
-            let w = refusal_words(f);
-            speak(out, w.a, w.b, w.c, w.d);
-            lines::number(f)
-        }
+        Err(f) => refuse_making(out, f),
     }
 }
 

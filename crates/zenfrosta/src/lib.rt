@@ -26,9 +26,7 @@ pub mod sheets;
 pub mod version;
 pub mod views;
 
-use lines::Place;
 use rules::{Answer, Record, Refusal};
-use scheduler::Making;
 use units::Bytes;
 use words::set_word;
 
@@ -45,11 +43,7 @@ pub struct Four {
 fn complement(z: i64) -> u64
     ensures { result ≡ of_z w64 z }
 {
-    if z < 0 {
-        18446744073709551615 - ((-(z + 1)) as u64)
-    } else {
-        z as u64
-    }
+    z.cast_unsigned()
 }
 
 fn one(a: u64) -> Four
@@ -68,13 +62,13 @@ fn refusal_words(x: Refusal) -> Four
     ensures { result ≡ refusal_words (Reads.place_of x) }
 {
     match lines::place_of(x) {
-        Place::At(p) => Four {
+        Some(p) => Four {
             a: p as u64,
             b: 1,
             c: 0,
             d: 0,
         },
-        Place::Nowhere => one(0),
+        None => one(0),
     }
 }
 
@@ -90,9 +84,9 @@ fn record_words(r: Record) -> Four
     }
 }
 
-// The words that tell an answer.
+// The words that tell an answer that is no refusal.
 fn words_of(x: Answer) -> Four
-    ensures { result ≡ values (Reads.reads x) }
+    ensures { result ≡ values (Reads.answer x) }
 {
     match x {
         Answer::Accepted(n) => one(n),
@@ -106,43 +100,41 @@ fn words_of(x: Answer) -> Four
         },
         Answer::Lag(z) => one(complement(z)),
         Answer::Restarted => one(0),
-        Answer::Refused(x) => refusal_words(x),
-    }
-}
-
-fn code_of(x: Answer) -> u64
-    ensures { result ≡ code (Reads.reads x) }
-{
-    match x {
-        Answer::Accepted(_) => 0,
-        Answer::Taken(_) => 0,
-        Answer::Seen(_) => 0,
-        Answer::Sets(_) => 0,
-        Answer::Lag(_) => 0,
-        Answer::Restarted => 0,
-        Answer::Refused(x) => lines::number(x),
     }
 }
 
 // Writes the four words.
-fn speak(out: &mut [u8], a: u64, b: u64, c: u64, d: u64)
+fn speak(out: &mut [u8], w: Four)
     requires { 32 ≤ length out.old }
-    ensures { Spoken out.old (four a b c d) out.new }
+    ensures { Spoken out.old w out.new }
 {
-    set_word(out, 0, a);
-    set_word(out, 1, b);
-    set_word(out, 2, c);
-    set_word(out, 3, d);
+    set_word(out, 0, w.a);
+    set_word(out, 1, w.b);
+    set_word(out, 2, w.c);
+    set_word(out, 3, w.d);
+}
+
+// Tells a refusal: its place into the buffer, and its number.
+fn refuse(out: &mut [u8], x: Refusal) -> u64
+    requires { 32 ≤ length out.old }
+    ensures { (result ≡ Reads.number x) × Spoken out.old (refusal_words (Reads.place_of x)) out.new }
+{
+    speak(out, refusal_words(x));
+    lines::number(x)
 }
 
 // Tells an answer: its words into the buffer, and its code.
-fn tell(out: &mut [u8], x: Answer) -> u64
+fn tell(out: &mut [u8], x: Result<Answer, Refusal>) -> u64
     requires { 32 ≤ length out.old }
     ensures { (result ≡ code (Reads.reads x)) × Spoken out.old (values (Reads.reads x)) out.new }
 {
-    let w = words_of(x);
-    speak(out, w.a, w.b, w.c, w.d);
-    code_of(x)
+    match x {
+        Ok(a) => {
+            speak(out, words_of(a));
+            0
+        }
+        Err(f) => refuse(out, f),
+    }
 }
 
 // The fixed size of a table, in bytes.
@@ -162,15 +154,11 @@ pub extern "C" fn zf_make(setup: &[u8], table: &mut [u8], out: &mut [u8]) -> u64
         return 255;
     }
     match scheduler::make(setup, table) {
-        Making::Made(n) => {
-            speak(out, n as u64, 0, 0, 0);
+        Ok(n) => {
+            speak(out, one(n as u64));
             0
         }
-        Making::Refused(x) => {
-            let w = refusal_words(x);
-            speak(out, w.a, w.b, w.c, w.d);
-            lines::number(x)
-        }
+        Err(x) => refuse(out, x),
     }
 }
 

@@ -1,34 +1,46 @@
 // Settings pages offered to a table, exported (R13.9): the call of crate scheduler. Answers cross as those of lib.rt do (specs/Crossing.antt).
-ghost use Rattle.std.specs.Prelude.{◌≡◌, ◌≤◌, length};
+ghost use Rattle.std.specs.Prelude.{◌≡◌, ◌≤◌, length, Ok, Err};
 ghost use Rattle.scheduler.specs.Step.{offering};
 ghost use Rattle.zenfrosta.specs.Crossing.{offer_code, offer_values, Spoken, CrossesOffer};
 
-use crate::{refusal_words, speak};
-use scheduler::Offering;
+use crate::{Four, one, refuse, speak};
+use scheduler::{NotTaken, Offered};
+
+// The words of a page that is taken: 0 where it is in force, 1 where it waits.
+fn offered_words(x: Offered) -> Four
+    ensures { result ≡ offer_values (offering (Ok x)) }
+{
+    match x {
+        Offered::InForce => one(0),
+        Offered::Waits => one(1),
+    }
+}
+
+// Tells why a page is not taken.
+fn refuse_offer(out: &mut [u8], x: NotTaken) -> u64
+    requires { 32 ≤ length out.old }
+    ensures { (result ≡ offer_code (offering (Err x))) × Spoken out.old (offer_values (offering (Err x))) out.new }
+{
+    match x {
+        NotTaken::Old => {
+            speak(out, one(0));
+            60
+        }
+        NotTaken::Refused(f) => refuse(out, f),
+    }
+}
 
 // Tells the answer to an offer.
-fn tell_offer(out: &mut [u8], x: Offering) -> u64
+fn tell_offer(out: &mut [u8], x: Result<Offered, NotTaken>) -> u64
     requires { 32 ≤ length out.old }
     ensures { (result ≡ offer_code (offering x)) × Spoken out.old (offer_values (offering x)) out.new }
 {
     match x {
-        Offering::InForce => {
-            speak(out, 0, 0, 0, 0);
+        Ok(o) => {
+            speak(out, offered_words(o));
             0
         }
-        Offering::Waits => {
-            speak(out, 1, 0, 0, 0);
-            0
-        }
-        Offering::Old => {
-            speak(out, 0, 0, 0, 0);
-            60
-        }
-        Offering::Refused(f) => {
-            let w = refusal_words(f);
-            speak(out, w.a, w.b, w.c, w.d);
-            lines::number(f)
-        }
+        Err(f) => refuse_offer(out, f),
     }
 }
 

@@ -5,24 +5,20 @@ ghost use Rattle.convert.specs.Converts.{convert_reply};
 ghost use Rattle.zenfrosta.specs.Crossing.{Spoken};
 ghost use Rattle.zenfrosta.specs.Old.{convert_code, convert_values, CrossesConverting};
 
-use crate::{refusal_words, speak};
-use convert::Converting;
+use crate::{one, refuse, speak};
+use rules::Refusal;
 
 // Tells how converting went.
-fn tell_converted(out: &mut [u8], x: Converting) -> u64
+fn tell_converted(out: &mut [u8], x: Result<(), Refusal>) -> u64
     requires { 32 ≤ length out.old }
     ensures { (result ≡ convert_code (convert_reply x)) × Spoken out.old (convert_values (convert_reply x)) out.new }
 {
     match x {
-        Converting::Converted => {
-            speak(out, 0, 0, 0, 0);
+        Ok(()) => {
+            speak(out, one(0));
             0
         }
-        Converting::Refused(f) => {
-            let w = refusal_words(f);
-            speak(out, w.a, w.b, w.c, w.d);
-            lines::number(f)
-        }
+        Err(f) => refuse(out, f),
     }
 }
 

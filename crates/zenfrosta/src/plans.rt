@@ -7,25 +7,21 @@ ghost use Rattle.plan_area.specs.Step.{area_reply};
 ghost use Rattle.zenfrosta.specs.Crossing.{Spoken};
 ghost use Rattle.zenfrosta.specs.Plans.{read_code, read_values, write_code, write_values, CrossesSetupRead, CrossesSetupWrite};
 
-use crate::{refusal_words, speak};
-use plan_area::Got;
-use plan_writer::{Unwritten, Written};
+use crate::{one, refuse, speak};
+use plan_writer::Unwritten;
+use rules::Refusal;
 
 // Tells how reading went.
-pub(crate) fn tell_got(out: &mut [u8], x: Got) -> u64
+pub(crate) fn tell_got(out: &mut [u8], x: Result<usize, Refusal>) -> u64
     requires { 32 ≤ length out.old }
     ensures { (result ≡ read_code (area_reply x)) × Spoken out.old (read_values (area_reply x)) out.new }
 {
     match x {
-        Got::Lanes(n) => {
-            speak(out, n as u64, 0, 0, 0);
+        Ok(n) => {
+            speak(out, one(n as u64));
             0
         }
-        Got::Refused(f) => {
-            let w = refusal_words(f);
-            speak(out, w.a, w.b, w.c, w.d);
-            lines::number(f)
-        }
+        Err(f) => refuse(out, f),
     }
 }
 
@@ -33,24 +29,21 @@ pub(crate) fn tell_got(out: &mut [u8], x: Got) -> u64
 fn unwritten_code(x: Unwritten) -> u64
     ensures { result ≡ unwritten_number x }
 {
-    match x {
-        Unwritten::Outside => 55,
-        Unwritten::Short => 56,
-    }
+    x as u64
 }
 
 // Tells how writing went.
-fn tell_written(out: &mut [u8], x: Written) -> u64
+fn tell_written(out: &mut [u8], x: Result<usize, Unwritten>) -> u64
     requires { 32 ≤ length out.old }
     ensures { (result ≡ write_code (write_reply x)) × Spoken out.old (write_values (write_reply x)) out.new }
 {
     match x {
-        Written::Size(n) => {
-            speak(out, n as u64, 0, 0, 0);
+        Ok(n) => {
+            speak(out, one(n as u64));
             0
         }
-        Written::Refused(f) => {
-            speak(out, 0, 0, 0, 0);
+        Err(f) => {
+            speak(out, one(0));
             unwritten_code(f)
         }
     }

@@ -4,7 +4,6 @@ ghost use Rattle.walk.specs.Follows.{why_of};
 ghost use Rattle.zenfrosta.specs.Crossing.{stop_code, run_values, CrossesRun};
 
 use crate::{Four, speak};
-use lines::Place;
 use walk::{RunResult, Stop};
 
 fn stop_code(why: Stop) -> u64
@@ -36,13 +35,13 @@ fn run_words(x: RunResult) -> Four
             d: 0,
         },
         Stop::Refused(f) => match lines::place_of(f) {
-            Place::At(p) => Four {
+            Some(p) => Four {
                 a: x.answered,
                 b: x.written as u64,
                 c: 3,
                 d: p as u64,
             },
-            Place::Nowhere => Four {
+            None => Four {
                 a: x.answered,
                 b: x.written as u64,
                 c: 2,
@@ -68,7 +67,7 @@ pub extern "C" fn zf_run(
     }
     let result = session::run(session, limit, table, answers);
     let w = run_words(result);
-    speak(out, w.a, w.b, w.c, w.d);
+    speak(out, w);
     let why = result.why;
     stop_code(why)
 }

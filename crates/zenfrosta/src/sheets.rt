@@ -6,32 +6,28 @@ ghost use Rattle.zenfrosta.specs.Crossing.{Spoken};
 ghost use Rattle.zenfrosta.specs.Plans.{write_code, write_values, CrossesSheetRead, CrossesSheetWrite};
 
 use crate::plans::tell_got;
-use crate::speak;
-use sheet_writer::{Unwritten, Written};
+use crate::{one, speak};
+use sheet_writer::Unwritten;
 
 // The number of a refusal of writing.
 fn unwritten_code(x: Unwritten) -> u64
     ensures { result ≡ unwritten_sheet_number x }
 {
-    match x {
-        Unwritten::Outside => 55,
-        Unwritten::NoSheet => 82,
-        Unwritten::Short => 56,
-    }
+    x as u64
 }
 
 // Tells how writing went.
-fn tell_written(out: &mut [u8], x: Written) -> u64
+fn tell_written(out: &mut [u8], x: Result<usize, Unwritten>) -> u64
     requires { 32 ≤ length out.old }
     ensures { (result ≡ write_code (sheet_write_reply x)) × Spoken out.old (write_values (sheet_write_reply x)) out.new }
 {
     match x {
-        Written::Size(n) => {
-            speak(out, n as u64, 0, 0, 0);
+        Ok(n) => {
+            speak(out, one(n as u64));
             0
         }
-        Written::Refused(f) => {
-            speak(out, 0, 0, 0, 0);
+        Err(f) => {
+            speak(out, one(0));
             unwritten_code(f)
         }
     }

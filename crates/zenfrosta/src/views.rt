@@ -2,11 +2,12 @@
 ghost use Rattle.std.specs.Prelude.{◌≡◌, ◌≤◌, length};
 ghost use Rattle.plan_area.specs.Area.{shared_part};
 ghost use Rattle.show.specs.Views as Views;
-ghost use Rattle.show.specs.Shows.{view_reply};
+ghost use Rattle.show.specs.Shows.{view_of, view_reply};
 ghost use Rattle.zenfrosta.specs.Crossing.{Spoken};
 ghost use Rattle.zenfrosta.specs.Views.{view_code, view_values, CrossesView};
 
-use crate::{record_words, refusal_words, speak};
+use crate::{Four, one, record_words, refuse, speak};
+use rules::Refusal;
 use show::Shown;
 
 // What a shared lane's word has more, as in a plan area.
@@ -16,48 +17,51 @@ fn shared_part(shared: bool) -> u64
     if shared { 4294967296 } else { 0 }
 }
 
+// The words of what is shown.
+fn shown_words(x: Shown) -> Four
+    ensures { result ≡ view_values (view_of x) }
+{
+    match x {
+        Shown::Clock(v) => one(v.0),
+        Shown::Setting(g) => Four {
+            a: g.weight,
+            b: g.longest.0,
+            c: g.framing.0,
+            d: (g.group as u64) + shared_part(g.shared),
+        },
+        Shown::Backlog(q) => Four {
+            a: q.count,
+            b: q.time.0,
+            c: 0,
+            d: 0,
+        },
+        Shown::Record(r) => record_words(r),
+        Shown::Edition(e) => Four {
+            a: e.last,
+            b: e.waiting,
+            c: 0,
+            d: 0,
+        },
+        Shown::Wait(w) => Four {
+            a: w.asked,
+            b: w.tight,
+            c: 0,
+            d: 0,
+        },
+    }
+}
+
 // Tells what a table shows.
-fn tell_view(out: &mut [u8], x: Shown) -> u64
+fn tell_view(out: &mut [u8], x: Result<Shown, Refusal>) -> u64
     requires { 32 ≤ length out.old }
     ensures { (result ≡ view_code (view_reply x)) × Spoken out.old (view_values (view_reply x)) out.new }
 {
     match x {
-        Shown::Clock(v) => {
-            speak(out, v.0, 0, 0, 0);
+        Ok(s) => {
+            speak(out, shown_words(s));
             0
         }
-        Shown::Setting(g) => {
-            speak(
-                out,
-                g.weight,
-                g.longest.0,
-                g.framing.0,
-                (g.group as u64) + shared_part(g.shared),
-            );
-            0
-        }
-        Shown::Backlog(q) => {
-            speak(out, q.count, q.time.0, 0, 0);
-            0
-        }
-        Shown::Record(r) => {
-            let w = record_words(r);
-            speak(out, w.a, w.b, w.c, w.d);
-            0
-        }
-        Shown::Edition(e) => {
-            speak(out, e.last, e.waiting, 0, 0);
-            0
-        }
-        Shown::Wait(w) => {
-            speak(out, w.asked, w.tight, 0, 0);
-            0
-        }
-        Shown::Refused(f) => {
-            let w = refusal_words(f);
-            speak(out, w.a, w.b, w.c, w.d);
-            lines::number(f)
-        }
+        Err(f) => refuse(out, f),
     }
 }
 

@@ -1,49 +1,46 @@
 -- `lower_lanes` meets its contract. Assumes nothing.
-use Prim.Native.Nat.{ℕ, ◌-◌, ◌≤◌, ◌<◌}
-use mathlib.Core.Path.{◌≡◌, refl, subst, ◌∙◌}
+use Prim.Native.Nat.{ℕ, ◌+◌}
+use mathlib.Core.Path.{◌≡◌, refl, sym, ap, subst, ◌∙◌}
 use native.Mathlib.Omega.{arith}
-use lib.ListN.{length}
-use Rattle.words.specs.Bits.{bit}
-use Rattle.table.specs.Means.{meant, Sound, Leaves}
+use lib.ListN.{get_or}
+use Rattle.words.specs.declared.SetBits.{SetBits}
+use Rattle.words.proofs.Walk.{Left, left-all, next-present, left-after}
+use Rattle.table.specs.Layout.{cells, present_word}
+use Rattle.table.specs.Means.{meant, Leaves}
 use Rattle.table.proofs.Leave.{sound-after}
+use Rattle.table.proofs.Next.{next-bit, next-end}
 use Rattle.fresh.proofs.Leaves.{still-weight}
 use Rattle.back.specs.Back.{lowered_to}
-use Rattle.back.proofs.Lanes.{lower-none, lower-same, lower-above, lower-more}
-use borrow.Author.Rules.{rules}
+use Rattle.back.proofs.Lanes.{lower-none, lower_skip, lower-same, lower-above, lower-more}
 use Rattle.back.proofs.lower_lanes.Goals as goal
 
 pub loop-k-init : goal.loop-k-init
 loop-k-init c =
-    let x = c.next_present-k.ensures in
-    let s = c in
-    (lower-none s.args.t.now s.args.d.0 _ c.cell-lanes.ensures _ x, s.requires.0, refl, x.ends, x.present)
+    let t = c.args.t.now in
+    let word : c.into_iter-k-iterator.result.0 ≡ get_or (cells t) present_word 0 = ap (λ (s : SetBits). s.0) c.into_iter-k-iterator.ensures.into_iter_gives ∙ c.cell.ensures in
+    (0, subst (λ (x : ℕ). Left (get_or (cells t) present_word 0) x 0) (sym word) (left-all _), lower-none t c.args.d.0, c.requires.0)
 
 pub lower_lane-requires : goal.lower_lane-requires
 lower_lane-requires c =
+    let t = c.args.t.now in
+    let d = c.args.d.0 in
     let l = c.loop-k in
-    let lt = c.loop-k-test.true in
-    let s = c in
-    let w = c.cell-lanes.ensures in
-    (l.invariant.1, lt, still-weight s.args.t.now _ _ w s.requires.0 l.k lt (lower-same s.args.t.now s.args.d.0 _ w _ l.k lt l.invariant.0) (l.invariant.4 lt), lower-above s.args.t.now s.args.d.0 _ w _ l.k lt l.invariant.0 s.requires.1)
-
-pub loop-k-smaller : goal.loop-k-smaller
-loop-k-smaller c = omega (arith, c.next_present-k-in-loop-k.ensures.on, c.loop-k-test.true)
+    let w = l.invariant in
+    let next = c.in-Some.ensures.steps in
+    let here = lower_skip t d _ refl w.0 _ (next-bit w.1 next) w.2 in
+    (w.3, next.small, still-weight t _ _ refl c.requires.0 c.in-Some.k next.small (lower-same t d _ refl l.t _ next.small here) (next-present w.1 next), lower-above t d _ refl l.t _ next.small here c.requires.1)
 
 pub loop-k-preserved : goal.loop-k-preserved
 loop-k-preserved c =
+    let t = c.args.t.now in
+    let d = c.args.d.0 in
     let l = c.loop-k in
+    let w = l.invariant in
     let r = c.lower_lane in
-    let s = c in
-    let x = c.next_present-k-in-loop-k.ensures in
-    let after = lower-more s.args.t.now s.args.d.0 _ c.cell-lanes.ensures _ l.k c.loop-k-test.true l.invariant.0 _ _ r.ensures x in
-    (after, sound-after l.invariant.1 r.ensures r.auto.t, r.auto.t ∙ l.invariant.2, x.ends, x.present)
-
-pub shape_of-t : goal.shape_of-t
-shape_of-t c = c.loop-k.invariant.2
+    let next = c.in-Some.ensures.steps in
+    let here = lower_skip t d _ refl w.0 _ (next-bit w.1 next) w.2 in
+    (c.in-Some.k + 1, left-after w.1 next, lower-more t d _ refl l.t _ next.small here _ r.ensures, sound-after w.3 r.ensures r.auto.t)
 
 pub returns : goal.returns
 returns c =
-    let l = c.loop-k in
-    let s = c in
-    let e : l.k ≡ 64 = omega (arith, l.invariant.3, c.loop-k-test.false) in
-    subst (λ (k : ℕ). Leaves s.args.t.now l.t (lowered_to k s.args.d.0 (meant s.args.t.now))) e l.invariant.0
+    let w = c.loop-k.invariant in lower_skip c.args.t.now c.args.d.0 _ refl w.0 64 (next-end w.1 c.in-None.ensures.steps.0) w.2

@@ -1,20 +1,13 @@
--- `lower_lanes` meets its contract. Assumes nothing.
-use Prim.Native.Nat.{ℕ, ◌-◌, ◌≤◌, ◌<◌}
-use mathlib.Core.Path.{◌≡◌, refl, subst, ◌∙◌}
-use native.Mathlib.Omega.{arith}
-use lib.ListN.{length}
-use Rattle.words.specs.Bits.{bit}
+-- `lower_lanes` meets its contract. The loop's invariant: the lanes below some number are lowered, and what is left of the word are its bits from there
+-- on. Assumes nothing.
+use Prim.Native.Nat.{ℕ}
+use lib.ListN.{get_or}
+use Rattle.words.proofs.Walk.{Left}
+use Rattle.table.specs.Layout.{cells, present_word}
 use Rattle.table.specs.Means.{meant, Sound, Leaves}
-use Rattle.table.proofs.Leave.{sound-after}
-use Rattle.fresh.proofs.Leaves.{still-weight}
 use Rattle.back.specs.Back.{lowered_to}
-use Rattle.back.proofs.Lanes.{lower-none, lower-same, lower-above, lower-more}
-use borrow.Author.Rules.{rules}
 use Rattle.back.proofs.lower_lanes.Given as goal
 
 abbrev pub invariant-loop-k : goal.invariant-loop-k
 invariant-loop-k l =
-    Leaves l.initial.t l.t (lowered_to l.k l.d.0 (meant l.initial.t)) × Sound l.t × (length l.t ≡ length l.initial.t) × (l.k ≤ 64) × (l.k < 64 → bit l.k l.lanes ≡ 1)
-
-abbrev pub decreases-loop-k : goal.decreases-loop-k
-decreases-loop-k l = 64 - l.k
+    (n : ℕ) × Left (get_or (cells l.initial.t) present_word 0) l.k-iterator.0 n × Leaves l.initial.t l.t (lowered_to n l.d.0 (meant l.initial.t)) × Sound l.t

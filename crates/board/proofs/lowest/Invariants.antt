@@ -1,13 +1,10 @@
 -- `lowest` meets its contract. Assumes nothing.
 use mathlib.Core.Path.{◌≡◌}
 use mathlib.Core.Bool.{false}
-use Prim.Native.Nat.{ℕ, ◌-◌, ◌≤◌, ◌<◌}
+use Prim.Native.Nat.{ℕ, ◌<◌}
 use Rattle.desk.specs.Board.{line_at, is_free}
 use Rattle.board.specs.Layout.{board_of}
 use Rattle.board.proofs.lowest.Given as goal
 
 abbrev pub invariant-loop-k : goal.invariant-loop-k
-invariant-loop-k l = (l.k ≤ 64) × ((j : ℕ) → j < l.k → is_free (line_at (board_of l.t) j) ≡ false)
-
-abbrev pub decreases-loop-k : goal.decreases-loop-k
-decreases-loop-k l = 64 - l.k
+invariant-loop-k l = (j : ℕ) → j < l.k → is_free (line_at (board_of l.t) j) ≡ false

@@ -1,6 +1,5 @@
 -- `sound` meets its contract. Assumes nothing.
 use mathlib.Core.Path.{◌≡◌}
-use Prim.Native.Nat.{◌-◌}
 use lib.ListN.{length}
 use Rattle.board.specs.Layout.{BoardRoom, board_of, SeenBelow}
 use Rattle.board.proofs.Means.{Passed}
@@ -8,6 +7,3 @@ use Rattle.board.proofs.sound.Given as goal
 
 abbrev pub invariant-loop-k : goal.invariant-loop-k
 invariant-loop-k l = BoardRoom l.t × Passed l.t l.k × SeenBelow (board_of l.t) l.k l.seen × (length l.seen ≡ 16)
-
-abbrev pub decreases-loop-k : goal.decreases-loop-k
-decreases-loop-k l = 64 - l.k

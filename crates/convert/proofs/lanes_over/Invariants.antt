@@ -1,19 +1,11 @@
--- `lanes_over` meets its contract. The loop's invariant: the lanes below the next one are taken over. Assumes nothing.
-use Prim.Native.Nat.{◌-◌, ◌≤◌, ◌<◌}
-use mathlib.Core.Path.{◌≡◌, refl, subst, ◌∙◌}
-use native.Mathlib.Omega.{arith}
-use lib.ListN.{length}
-use Rattle.words.specs.Bits.{bit}
-use Rattle.table.specs.Layout.{Behind}
-use Rattle.table.proofs.Stores.{behind-refl, behind-then}
-use Rattle.table.proofs.Next.{bit-present}
+-- `lanes_over` meets its contract. The loop's invariant: the lanes below some number are taken over, and what is left of the word are its bits from
+-- there on. Assumes nothing.
+use Prim.Native.Nat.{ℕ}
+use lib.ListN.{get_or}
+use Rattle.words.proofs.Walk.{Left}
+use Rattle.table.specs.Layout.{Behind, cells, present_word}
 use Rattle.convert.specs.Over.{Over}
-use Rattle.convert.proofs.Lanes.{over_none, over-more}
-use borrow.Author.Rules.{rules}
 use Rattle.convert.proofs.lanes_over.Given as goal
 
 abbrev pub invariant-loop-k : goal.invariant-loop-k
-invariant-loop-k l = Over l.old l.new l.k × Behind l.initial.new l.new × (length l.new ≡ length l.initial.new) × (l.k ≤ 64) × (l.k < 64 → bit l.k l.lanes ≡ 1)
-
-abbrev pub decreases-loop-k : goal.decreases-loop-k
-decreases-loop-k l = 64 - l.k
+invariant-loop-k l = (n : ℕ) × Left (get_or (cells l.old) present_word 0) l.k-iterator.0 n × Over l.old l.new n × Behind l.initial.new l.new

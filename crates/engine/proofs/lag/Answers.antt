@@ -14,6 +14,7 @@ use Rattle.engine.proofs.RowIs.{RowIs, row-weighs, read-row, absent-lane, far-la
 use Rattle.engine.proofs.Replies.{refusal-says, lag-none, lag-busy, lag-idle, idle-small}
 use borrow.Author.Rules.{rules}
 use mathlib.Core.Bool.{not}
+use Rattle.units.proofs.Compare.{later-is}
 use Rattle.engine.proofs.lag.Goals as goal
 
 pub returns-then-k-ge64 : goal.returns-then-k-ge64
@@ -36,7 +37,7 @@ difference-requires c =
     let s = a in
     let v = c.clock-v.ensures in
     let idle = count-idle (lane_at (meant s.args.t.now) s.args.lane) (s.requires.good.waiting s.args.lane) (row-known.held ∙ c.if-l-eq0.true) in
-    (omega (arith, v, s.requires.good.clock), omega (arith, c.later.ensures, v, s.requires.good.clock, row-known.idle idle, idle-small (meant s.args.t.now) s.args.lane s.requires.good idle))
+    (omega (arith, v, s.requires.good.clock), omega (arith, (later-is c.row-l.result.time c.clock-v.result c.max.ensures), v, s.requires.good.clock, row-known.idle idle, idle-small (meant s.args.t.now) s.args.lane s.requires.good idle))
 
 pub returns-then-l-eq0 : goal.returns-then-l-eq0
 returns-then-l-eq0 c =
@@ -45,7 +46,7 @@ returns-then-l-eq0 c =
     let a = c in
     let s = a in
     let idle = count-idle (lane_at (meant s.args.t.now) s.args.lane) (s.requires.good.waiting s.args.lane) (row-known.held ∙ c.if-l-eq0.true) in
-    lag-idle _ _ (row-weighs _ _ row-known) idle _ (to_z-of_z w64 c.difference.result (record { sfits = c.difference.type_inv }) ∙ c.difference.ensures ∙ rw (c.later.ensures, c.clock-v.ensures, row-known.idle idle))
+    lag-idle _ _ (row-weighs _ _ row-known) idle _ (to_z-of_z w64 c.difference.result (record { sfits = c.difference.type_inv }) ∙ c.difference.ensures ∙ rw ((later-is c.row-l.result.time c.clock-v.result c.max.ensures), c.clock-v.ensures, row-known.idle idle))
 
 pub difference-requires-2 : goal.difference-requires-2
 difference-requires-2 c =

@@ -1,6 +1,7 @@
 -- `serve_lane` meets its contract. Assumes nothing.
-use mathlib.Core.Path.{refl, sym, ◌∙◌}
+use mathlib.Core.Path.{refl, sym, ap, ◌∙◌}
 use native.Mathlib.Omega.{arith}
+use Rattle.units.specs.declared.Bytes.{Bytes}
 use Rattle.table.specs.Means.{meant}
 use Rattle.choice.proofs.Held.{start-early}
 use Rattle.engine.proofs.RowIs.{row-rate}
@@ -35,8 +36,8 @@ lane_charge-requires c =
     let tk = c.take_first-e in
     (omega (arith, c.charged-charge.ensures.1, short _ (meant _) _ _ _ a _ _ tk.ensures tk.auto.t), row-rate _ _ (lane_row _ (meant _) _ _ _ a _ c.row-l.ensures.0) (lane-holds _ (meant _) _ _ _ a))
 
-pub plus-finish-requires : goal.plus-finish-requires
-plus-finish-requires c =
+pub add-finish-requires : goal.add-finish-requires
+add-finish-requires c =
     let ch = c.requires in
     let a = at-chosen _ ch.0 _ ch.1 in
     let tk = c.take_first-e in
@@ -47,7 +48,7 @@ refile-r-requires c =
     let ch = c.requires in
     let a = at-chosen _ ch.0 _ ch.1 in
     let tk = c.take_first-e in
-    let ef = finish-is _ (meant _) _ _ _ a _ _ tk.ensures tk.auto.t _ c.row-l.ensures.0 _ _ c.charged-charge.ensures.0 (c.plus-finish.ensures ∙ rw c.lane_charge.ensures) in (
+    let ef = finish-is _ (meant _) _ _ _ a _ _ tk.ensures tk.auto.t _ c.row-l.ensures.0 _ _ c.charged-charge.ensures.0 (c.add-finish.ensures ∙ rw c.lane_charge.ensures) in (
       omega (arith, tk.auto.t, ch.0.sound.room),
       solid-after _ (meant _) _ _ _ a _ _ tk.ensures tk.auto.t,
       ch.1.low,
@@ -67,8 +68,8 @@ line_charge-requires c =
     let tk = c.take_first-e in
     omega (arith, c.charged-charge.ensures.1, short _ (meant _) _ _ _ a _ _ tk.ensures tk.auto.t)
 
-pub plus-requires : goal.plus-requires
-plus-requires c =
+pub add-requires : goal.add-requires
+add-requires c =
     let ch = c.requires in
     let a = at-chosen _ ch.0 _ ch.1 in
     let tk = c.take_first-e in
@@ -81,17 +82,17 @@ settle-requires c =
     let tk = c.take_first-e in
     let rf = c.refile-r in
     let er = c.row-l.ensures.0 in
-    let ef = finish-is _ (meant _) _ _ _ a _ _ tk.ensures tk.auto.t _ er _ _ c.charged-charge.ensures.0 (c.plus-finish.ensures ∙ rw c.lane_charge.ensures) in
+    let ef = finish-is _ (meant _) _ _ _ a _ _ tk.ensures tk.auto.t _ er _ _ c.charged-charge.ensures.0 (c.add-finish.ensures ∙ rw c.lane_charge.ensures) in
     let em = more-is _ (meant _) _ _ _ a _ _ tk.ensures tk.auto.t _ er in (
       sound₂ _ (meant _) _ _ _ a _ _ tk.ensures tk.auto.t _ _ ef _ em rf.auto.t _ rf.ensures,
       rf.ensures.solid,
       early₂ _ (meant _) _ _ _ a _ _ tk.ensures tk.auto.t _ _ ef _ em rf.auto.t _ rf.ensures,
-      omega (arith, c.plus.ensures, c.line_charge.ensures, c.charged-charge.ensures.1, short _ (meant _) _ _ _ a _ _ tk.ensures tk.auto.t, c.clock-v.ensures, ch.0.good.clock),
-      start-now _ (meant _) _ _ _ a _ _ tk.ensures tk.auto.t _ _ ef _ em rf.auto.t _ rf.ensures _ (omega (arith, c.plus.ensures, c.clock-v.ensures, start-reached _ (meant _) _ _ _ a)),
+      omega (arith, c.add.ensures, c.line_charge.ensures, c.charged-charge.ensures.1, short _ (meant _) _ _ _ a _ _ tk.ensures tk.auto.t, c.clock-v.ensures, ch.0.good.clock),
+      start-now _ (meant _) _ _ _ a _ _ tk.ensures tk.auto.t _ _ ef _ em rf.auto.t _ rf.ensures _ (omega (arith, c.add.ensures, c.clock-v.ensures, start-reached _ (meant _) _ _ _ a)),
     )
 
-pub overflow_cast-result : goal.overflow_cast-result
-overflow_cast-result c =
+pub record_of-requires : goal.record_of-requires
+record_of-requires c =
     let ch = c.requires in
     omega (arith, lane-small _ (meant _) _ _ _ (at-chosen _ ch.0 _ ch.1))
 
@@ -100,10 +101,11 @@ returns c =
     let ch = c.requires in
     let tk = c.take_first-e in
     let rf = c.refile-r in
+    let told = c.record_of.ensures in
     let a = at-chosen _ ch.0 _ ch.1 in
     let er = c.row-l.ensures.0 in
-    let ef = finish-is _ (meant _) _ _ _ a _ _ tk.ensures tk.auto.t _ er _ _ c.charged-charge.ensures.0 (c.plus-finish.ensures ∙ rw c.lane_charge.ensures) in
+    let ef = finish-is _ (meant _) _ _ _ a _ _ tk.ensures tk.auto.t _ er _ _ c.charged-charge.ensures.0 (c.add-finish.ensures ∙ rw c.lane_charge.ensures) in
     let em = more-is _ (meant _) _ _ _ a _ _ tk.ensures tk.auto.t _ er in
     handed _ _ _ _ a _ _ tk.ensures tk.auto.t _ _ ef _ em rf.auto.t _ rf.ensures _ _ _ c.settle.auto.t
-    (time-is _ (meant _) _ _ _ a _ _ tk.ensures tk.auto.t _ er _ _ _ c.clock-v.ensures c.charged-charge.ensures.0 (c.plus.ensures ∙ rw c.line_charge.ensures))
-    c.settle.ensures refl refl refl refl
+    (time-is _ (meant _) _ _ _ a _ _ tk.ensures tk.auto.t _ er _ _ _ c.clock-v.ensures c.charged-charge.ensures.0 (c.add.ensures ∙ rw c.line_charge.ensures))
+    c.settle.ensures told.0 told.1 told.2 (ap (λ (b : Bytes). b.0) told.3)

@@ -9,12 +9,12 @@ use borrow.Author.Rules.{rules}
 use Rattle.engine.proofs.take.Goals as goal
 
 pub serve_lane-requires : goal.serve_lane-requires
-serve_lane-requires c = (c.requires, subst (ChoiceIs _) c.in-Serve.is c.chosen-choice.ensures)
+serve_lane-requires c = (c.requires, c.in-Some.ensures)
 
-pub returns-in-Serve : goal.returns-in-Serve
-returns-in-Serve c =
+pub returns : goal.returns
+returns c =
     let s = c in take-does s.args.t.now _ c.serve_lane.result s.requires c.serve_lane.ensures
 
-pub returns-in-Idle : goal.returns-in-Idle
-returns-in-Idle c =
-    let s = c in refusal-does take s.args.t.now NothingHeld s.requires refl (take_none (meant s.args.t.now) (subst (ChoiceIs _) c.in-Idle.is c.chosen-choice.ensures))
+pub returns-in_default : goal.returns-in_default
+returns-in_default c =
+    let s = c in refusal-does take s.args.t.now NothingHeld s.requires refl (take_none (meant s.args.t.now) c.in_default.ensures)

@@ -1,42 +1,43 @@
-use Rattle.fresh.proofs.Leaves.{still-weight, rest-none, rest-same, rest_more}
+-- `rest_lanes` meets its contract. Assumes nothing.
+use Rattle.fresh.proofs.Leaves.{still-weight, rest-none, rest_skip, rest-same, rest_more}
 use Rattle.fresh.specs.Makes.{rested_to}
+use Rattle.words.specs.declared.SetBits.{SetBits}
+use Rattle.words.proofs.Walk.{Left, left-all, next-present, left-after}
+use Rattle.table.specs.Layout.{cells, present_word}
+use Rattle.table.specs.Means.{meant, Leaves}
 use Rattle.table.proofs.Leave.{sound-after}
-use Rattle.table.specs.Means.{meant, Sound, Leaves}
-use Rattle.words.specs.Bits.{bit}
-use lib.ListN.{length}
-use borrow.Author.Rules.{rules}
-use Prim.Native.Nat.{ℕ, ◌-◌, ◌≤◌, ◌<◌}
-use mathlib.Core.Path.{◌≡◌, refl, subst, ◌∙◌}
+use Rattle.table.proofs.Next.{next-bit, next-end}
+use lib.ListN.{get_or}
+use Prim.Native.Nat.{ℕ, ◌+◌}
+use mathlib.Core.Path.{◌≡◌, refl, sym, ap, subst, ◌∙◌}
 use native.Mathlib.Omega.{arith}
 use Rattle.fresh.proofs.rest_lanes.Goals as goal
 
 pub loop-k-init : goal.loop-k-init
 loop-k-init c =
-    let x = c.next_present-k.ensures in
-    (rest-none c.args.t.now _ c.cell-lanes.ensures _ x, c.requires, refl, x.ends, x.present)
+    let t = c.args.t.now in
+    let word : c.into_iter-k-iterator.result.0 ≡ get_or (cells t) present_word 0 = ap (λ (s : SetBits). s.0) c.into_iter-k-iterator.ensures.into_iter_gives ∙ c.cell.ensures in
+    (0, subst (λ (x : ℕ). Left (get_or (cells t) present_word 0) x 0) (sym word) (left-all _), rest-none t, c.requires)
 
 pub rest_lane-requires : goal.rest_lane-requires
 rest_lane-requires c =
+    let t = c.args.t.now in
     let l = c.loop-k in
-    let lt = c.loop-k-test.true in
-    (l.invariant.1, lt, still-weight c.args.t.now _ _ c.cell-lanes.ensures c.requires l.k lt (rest-same c.args.t.now _ c.cell-lanes.ensures _ l.k lt l.invariant.0) (l.invariant.4 lt))
-
-pub loop-k-smaller : goal.loop-k-smaller
-loop-k-smaller c = omega (arith, c.next_present-k-in-loop-k.ensures.on, c.loop-k-test.true)
+    let w = l.invariant in
+    let next = c.in-Some.ensures.steps in
+    let here = rest_skip t _ refl w.0 _ (next-bit w.1 next) w.2 in
+    (w.3, next.small, still-weight t _ _ refl c.requires c.in-Some.k next.small (rest-same t _ refl l.t _ next.small here) (next-present w.1 next))
 
 pub loop-k-preserved : goal.loop-k-preserved
 loop-k-preserved c =
+    let t = c.args.t.now in
     let l = c.loop-k in
+    let w = l.invariant in
     let r = c.rest_lane in
-    let x = c.next_present-k-in-loop-k.ensures in
-    let after = rest_more c.args.t.now _ c.cell-lanes.ensures _ l.k c.loop-k-test.true l.invariant.0 _ _ r.ensures x in
-    (after, sound-after l.invariant.1 r.ensures r.auto.t, r.auto.t ∙ l.invariant.2, x.ends, x.present)
-
-pub shape_of-t : goal.shape_of-t
-shape_of-t c = c.loop-k.invariant.2
+    let next = c.in-Some.ensures.steps in
+    let here = rest_skip t _ refl w.0 _ (next-bit w.1 next) w.2 in
+    (c.in-Some.k + 1, left-after w.1 next, rest_more t _ refl l.t _ next.small here _ r.ensures, sound-after w.3 r.ensures r.auto.t)
 
 pub returns : goal.returns
 returns c =
-    let l = c.loop-k in
-    let e : l.k ≡ 64 = omega (arith, l.invariant.3, c.loop-k-test.false) in
-    subst (λ (k : ℕ). Leaves c.args.t.now l.t (rested_to k (meant c.args.t.now))) e l.invariant.0
+    let w = c.loop-k.invariant in rest_skip c.args.t.now _ refl w.0 64 (next-end w.1 c.in-None.ensures.steps.0) w.2

@@ -1,18 +1,13 @@
-use Rattle.fresh.proofs.Leaves.{still-weight, rest-none, rest-same, rest_more}
+-- `rest_lanes` meets its contract. The loop's invariant: the lanes below some number rest, and what is left of the word are its bits from there on.
+-- Assumes nothing.
 use Rattle.fresh.specs.Makes.{rested_to}
-use Rattle.table.proofs.Leave.{sound-after}
+use Rattle.words.proofs.Walk.{Left}
+use Rattle.table.specs.Layout.{cells, present_word}
 use Rattle.table.specs.Means.{meant, Sound, Leaves}
-use Rattle.words.specs.Bits.{bit}
-use lib.ListN.{length}
-use borrow.Author.Rules.{rules}
-use Prim.Native.Nat.{ℕ, ◌-◌, ◌≤◌, ◌<◌}
-use mathlib.Core.Path.{◌≡◌, refl, subst, ◌∙◌}
-use native.Mathlib.Omega.{arith}
+use lib.ListN.{get_or}
+use Prim.Native.Nat.{ℕ}
 use Rattle.fresh.proofs.rest_lanes.Given as goal
 
 abbrev pub invariant-loop-k : goal.invariant-loop-k
 invariant-loop-k l =
-    Leaves l.initial.t l.t (rested_to l.k (meant l.initial.t)) × Sound l.t × (length l.t ≡ length l.initial.t) × (l.k ≤ 64) × (l.k < 64 → bit l.k l.lanes ≡ 1)
-
-abbrev pub decreases-loop-k : goal.decreases-loop-k
-decreases-loop-k l = 64 - l.k
+    (n : ℕ) × Left (get_or (cells l.initial.t) present_word 0) l.k-iterator.0 n × Leaves l.initial.t l.t (rested_to n (meant l.initial.t)) × Sound l.t

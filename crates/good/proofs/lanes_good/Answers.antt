@@ -3,51 +3,44 @@
 use Prim.Native.Nat.{ℕ}
 use mathlib.Core.List.{List}
 use native.Mathlib.Omega.{arith}
-use lib.Count.{trailing_le}
-use Rattle.table.specs.Layout.{cells}
 use Rattle.lane_test.specs.Says.{LaneGood}
 use Rattle.good.specs.Pass.{PassSays}
 use Rattle.good.proofs.Kept.{today}
-use Rattle.good.proofs.Walk.{Tested, Walked, walked_none, walked_all, walked_on, rest-less, lane-small, lane_here, lane-stops, note-takes, row-framed}
-use borrow.Author.Rules.{rules}
-use mathlib.Core.Path.{ap}
+use Rattle.good.proofs.Walk.{Tested, walked_none, walked_all, walked_on, lane_here, lane-stops, note-takes, row-framed}
+use mathlib.Core.Path.{ap, ◌∙◌}
 use mathlib.Core.Bool.{not}
+use Rattle.words.specs.declared.SetBits.{SetBits}
 use Rattle.good.proofs.lanes_good.Goals as goal
 
 abbrev tested : (v : ℕ) (w : List ℕ) → Tested v w
 tested v w = record { kept = today w; Passes = LaneGood v w; fine = λ k g. g.fine }
 
-pub loop-rest-init : goal.loop-rest-init
-loop-rest-init c = search (walked_none, rules)
-
-pub overflow_cast-k : goal.overflow_cast-k
-overflow_cast-k c = omega (arith, trailing_le 64 c.loop-rest.rest)
+pub loop-lane-init : goal.loop-lane-init
+loop-lane-init c = walked_none _ _ (ap (λ (s : SetBits). s.0) c.into_iter-lane-iterator.ensures.into_iter_gives ∙ c.cell.ensures)
 
 pub row-l-requires : goal.row-l-requires
-row-l-requires c = search (lane-small, rules)
+row-l-requires c = (omega arith, c.in-Some.ensures.steps.small)
 
 pub lane_good-good-requires : goal.lane_good-good-requires
 lane_good-good-requires c =
     let pre = c.requires in
     let r = c.row-l.ensures in
-    let walked = c.loop-rest.invariant in
-    let some = c.loop-rest-test.true in
-    (omega (arith, pre.0), lane-small walked some, lane_here walked some, r.0, r.1, omega (arith, r.2), pre.1, row-framed (today _) r.0 pre.2)
+    let next = c.in-Some.ensures.steps in
+    (omega (arith, pre.0), next.small, lane_here c.loop-lane.invariant next, r.0, r.1, omega (arith, r.2), pre.1, row-framed (today _) r.0 pre.2)
 
 pub returns-then-not-good : goal.returns-then-not-good
 unfolding PassSays
-returns-then-not-good c = search lane-stops
+returns-then-not-good c =
+    lane-stops c.loop-lane.invariant c.in-Some.ensures.steps c.lane_good-good.result c.lane_good-good.ensures (ap not c.if-not-good.true)
 
 pub note-found-requires : goal.note-found-requires
 note-found-requires c =
-    note-takes c.loop-rest.invariant c.loop-rest-test.true c.lane_good-good.result c.lane_good-good.ensures (ap not c.if-not-good.false) _ c.row-l.ensures.0
+    note-takes c.loop-lane.invariant c.in-Some.ensures.steps c.lane_good-good.result c.lane_good-good.ensures (ap not c.if-not-good.false) _ c.row-l.ensures.0
 
-pub loop-rest-smaller : goal.loop-rest-smaller
-loop-rest-smaller c = search rest-less
-
-pub loop-rest-preserved : goal.loop-rest-preserved
-loop-rest-preserved c = search walked_on
+pub loop-lane-preserved : goal.loop-lane-preserved
+loop-lane-preserved c =
+    walked_on c.loop-lane.invariant c.in-Some.ensures.steps c.lane_good-good.result c.lane_good-good.ensures (ap not c.if-not-good.false) _ c.row-l.ensures.0 _ c.note-found.ensures
 
 pub returns : goal.returns
 unfolding PassSays
-returns c = walked_all c.loop-rest.invariant c.loop-rest-test.false
+returns c = walked_all c.loop-lane.invariant c.in-None.ensures.steps.0

@@ -9,7 +9,4 @@ use Rattle.inner.proofs.Calls.{So, so-none, so-more, so-all}
 use Rattle.inner.proofs.work.Given as goal
 
 abbrev pub invariant-loop-i : goal.invariant-loop-i
-invariant-loop-i l = So l.calls l.initial.t l.t l.i × (length l.t ≡ length l.initial.t) × (l.i ≤ l.many)
-
-abbrev pub decreases-loop-i : goal.decreases-loop-i
-decreases-loop-i l = l.many - l.i
+invariant-loop-i l = So l.calls l.initial.t l.t l.i

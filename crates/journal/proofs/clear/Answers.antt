@@ -3,7 +3,7 @@ use mathlib.Core.Path.{sym, subst}
 use native.Mathlib.Omega.{arith}
 use Rattle.desk.specs.Calls.{clear}
 use Rattle.journal.specs.Step.{BoardStep}
-use Rattle.journal.specs.declared.Told.TheVariants.{Line}
+use Rattle.std.specs.Prelude.{Ok}
 use Rattle.journal.proofs.Steps.{found-board, found_none, bad-step, clear-absent, clear-joined, clear-done}
 use mathlib.Core.Path.{ap}
 use mathlib.Core.Bool.{not}
@@ -28,4 +28,4 @@ pub set_line-requires : goal.set_line-requires
 set_line-requires c = ((found-board c.args.t.now c.sound.result c.sound.ensures (ap not c.if-not-sound.false)).room, omega (arith, c.find-k.ensures.within, c.if-k-eq-LINES.false))
 
 pub returns : goal.returns
-returns c = subst (BoardStep (clear c.args.train) c.args.t.now (Line c.find-k.result)) (sym c.set_line.ensures) (clear-done c.args.t.now c.args.train c.find-k.result (found-board c.args.t.now c.sound.result c.sound.ensures (ap not c.if-not-sound.false)) c.find-k.ensures c.line_at-l.result c.line_at-l.ensures (omega arith) (omega (arith, c.find-k.ensures.within, c.if-k-eq-LINES.false)) (omega arith))
+returns c = subst (BoardStep (clear c.args.train) c.args.t.now (Ok c.find-k.result)) (sym c.set_line.ensures) (clear-done c.args.t.now c.args.train c.find-k.result (found-board c.args.t.now c.sound.result c.sound.ensures (ap not c.if-not-sound.false)) c.find-k.ensures c.line_at-l.result c.line_at-l.ensures (omega arith) (omega (arith, c.find-k.ensures.within, c.if-k-eq-LINES.false)) (omega arith))

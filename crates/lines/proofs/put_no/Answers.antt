@@ -12,16 +12,16 @@ use Rattle.lines.proofs.put_no.Goals as goal
 
 pub put_line-requires : goal.put_line-requires
 put_line-requires c =
-    let long : length (no_line c.number-n.result (some c.in-At.p)) ≤ 64 = no-most c.number-n.result (some c.in-At.p) (omega (arith, c.number-n.ensures.1), search rules) in
+    let long : length (no_line c.number-n.result (some c.in-Some.p)) ≤ 64 = no-most c.number-n.result (some c.in-Some.p) (omega (arith, c.number-n.ensures.1), search rules) in
     omega (arith, c.requires, long)
 
-pub returns-in-At : goal.returns-in-At
-returns-in-At c =
-    let with-place : no_line (number c.args.x) (place_of c.args.x) ≡ no_line c.number-n.result (some c.in-At.p) = rw (← c.number-n.ensures.0, ← c.place_of.ensures, c.in-At.is) in
-    let long : length (no_line c.number-n.result (some c.in-At.p)) ≤ 64 = no-most c.number-n.result (some c.in-At.p) (omega (arith, c.number-n.ensures.1), search rules) in
+pub returns-in-Some : goal.returns-in-Some
+returns-in-Some c =
+    let with-place : no_line (number c.args.x) (place_of c.args.x) ≡ no_line c.number-n.result (some c.in-Some.p) = rw (← c.number-n.ensures.0, ← c.place_of.ensures, c.in-Some.is) in
+    let long : length (no_line c.number-n.result (some c.in-Some.p)) ≤ 64 = no-most c.number-n.result (some c.in-Some.p) (omega (arith, c.number-n.ensures.1), search rules) in
     rw with-place (record { wrote = c.put_line.ensures; most = long })
 
-pub returns-in-Nowhere : goal.returns-in-Nowhere
-returns-in-Nowhere c =
-    let without-place : no_line (number c.args.x) (place_of c.args.x) ≡ no_line c.number-n.result none = rw (← c.number-n.ensures.0, ← c.place_of.ensures, c.in-Nowhere.is) in
+pub returns-in-None : goal.returns-in-None
+returns-in-None c =
+    let without-place : no_line (number c.args.x) (place_of c.args.x) ≡ no_line c.number-n.result none = rw (← c.number-n.ensures.0, ← c.place_of.ensures, c.in-None.is) in
     rw without-place c.put_one.ensures

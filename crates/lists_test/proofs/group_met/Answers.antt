@@ -1,15 +1,18 @@
--- `group_met` meets its contract. The loop's invariant: the lists below b are walked, and b is the next that has lanes, or past the last. Assumes nothing.
-use mathlib.Core.Path.{◌≡◌, ap}
-use Prim.Native.Nat.{ℕ, ◌-◌, ◌/◌, ◌^◌, ◌<◌}
+-- `group_met` meets its contract. Assumes nothing.
+use mathlib.Core.Path.{◌≡◌, sym, ap, subst, ◌∙◌}
+use Prim.Native.Nat.{ℕ, ◌+◌, ◌/◌, ◌^◌, ◌<◌}
 use native.Mathlib.Omega.{arith}
 use lib.Pow.{shr_le}
-use Rattle.words.specs.Bits.{bit}
+use Rattle.words.specs.declared.SetBits.{SetBits}
+use Rattle.words.proofs.Walk.{Left, left-all, next-present, left-after}
+use Rattle.table.proofs.Next.{next-bit, next-end}
 use Rattle.words.specs.Words.{word_at}
 use Rattle.slot_lists.specs.Lists.{map_word}
 use Rattle.lists_test.specs.Stored.{RingSays, GroupSays}
-use Rattle.lists_test.proofs.ListWalk.{Walked, walk_none, walk-next, walk_step, walk-bad, walk-all, next_word}
+use Rattle.lists_test.proofs.ListWalk.{walk_none, walk-next, walk_step, walk-bad, walk-all}
 use Rattle.lists_test.proofs.GroupWords.{slot_small, not-whole, not_first, ring-told, group-fine}
 use Rattle.lists_test.proofs.WordBits.{bit-under}
+use Rattle.std.specs.Prelude.{None}
 use borrow.Author.Rules.{rules}
 use Rattle.lists_test.proofs.group_met.Goals as goal
 
@@ -36,8 +39,9 @@ returns-then-map-first-eq0 c =
 
 pub loop-b-init : goal.loop-b-init
 loop-b-init c =
-    let n = next_word _ _ _ _ c.word-map.ensures c.next_present-b.ensures in
-    (walk-next _ _ _ _ _ _ (walk_none _ _ _) n, n.present)
+    let map = word_at c.args.t.now (map_word c.args.g) in
+    let word : c.into_iter-b-iterator.result.0 ≡ map = ap (λ (s : SetBits). s.0) c.into_iter-b-iterator.ensures.into_iter_gives ∙ c.word-map.ensures in
+    (0, subst (λ (x : ℕ). Left map x 0) (sym word) (left-all map), walk_none _ _ _)
 
 pub overflow_add-at-in-loop-b : goal.overflow_add-at-in-loop-b
 overflow_add-at-in-loop-b c =
@@ -48,35 +52,39 @@ pub ring_number-requires : goal.ring_number-requires
 ring_number-requires c =
     let s = c in
     let narrow : word_at s.args.t.now (map_word s.args.g) < 2 ^ 32 = omega (arith, c.if-map-ge-END.false, c.word-map.ensures) in
-    (s.requires.1, s.requires.2, bit-under 32 _ _ narrow (c.loop-b.invariant.1 c.loop-b-test.true))
+    (s.requires.1, s.requires.2, bit-under 32 _ _ narrow (next-present c.loop-b.invariant.1 c.in-Some.ensures.steps))
 
-pub ring_met-r-requires : goal.ring_met-r-requires
-ring_met-r-requires c =
+pub ring_met-requires : goal.ring_met-requires
+ring_met-requires c =
     let s = c in
     (s.requires.0, c.ring_number.ensures.1, s.requires.1, s.requires.2, ap (λ (x : ℕ). x / 2 ^ s.args.g) s.requires.3, omega (arith, shr_le s.args.back s.args.g, s.requires.4))
 
-pub returns-in-Bad : goal.returns-in-Bad
+pub returns-in_err-met : goal.returns-in_err-met
 unfolding GroupSays RingSays
-returns-in-Bad c =
+returns-in_err-met c =
     let s = c in
-    let w = c.loop-b in
-    let has = w.invariant.1 c.loop-b-test.true in
+    let w = c.loop-b.invariant in
+    let next = c.in-Some.ensures.steps in
+    let has = next-present w.1 next in
     let map = c.word-map.ensures in
     let narrow : word_at s.args.t.now (map_word s.args.g) < 2 ^ 32 = omega (arith, c.if-map-ge-END.false, map) in
-    walk-bad _ _ _ _ _ w.invariant.0 (bit-under 32 _ _ narrow has) has
-    (ring-told s.args.t.now s.args.g _ _ s.args.back map c.word-start.ensures s.requires.3 w.b _ w.met c.ring_met-r.result _ c.ring_number.ensures.0 c.ring_met-r.ensures c.in-Bad.is)
+    let here = walk-next _ _ _ _ _ _ w.2 (next-bit w.1 next) in
+    let is : c.from_residual.result ≡ None = search rules in
+    rw is (walk-bad _ _ _ _ _ here (bit-under 32 _ _ narrow has) has
+    (ring-told s.args.t.now s.args.g _ _ s.args.back map c.word-start.ensures s.requires.3 c.in-Some.b _ c.loop-b.met c.ring_met.result _ c.ring_number.ensures.0 c.ring_met.ensures c.in_err-met.was))
 
 pub loop-b-preserved : goal.loop-b-preserved
 unfolding RingSays
 loop-b-preserved c =
     let s = c in
-    let w = c.loop-b in
-    let has = w.invariant.1 c.loop-b-test.true in
+    let w = c.loop-b.invariant in
+    let next = c.in-Some.ensures.steps in
+    let has = next-present w.1 next in
     let map = c.word-map.ensures in
     let narrow : word_at s.args.t.now (map_word s.args.g) < 2 ^ 32 = omega (arith, c.if-map-ge-END.false, map) in
-    let fine = ring-told s.args.t.now s.args.g _ _ s.args.back map c.word-start.ensures s.requires.3 w.b _ w.met c.ring_met-r.result _ c.ring_number.ensures.0 c.ring_met-r.ensures c.in-Lanes.is in
-    let n = next_word _ _ _ _ map c.next_present-b-in-loop-b.ensures in
-    (walk-next _ _ _ _ _ _ (walk_step _ _ _ _ _ w.invariant.0 (bit-under 32 _ _ narrow has) has _ fine.0 fine.1) n, n.present)
+    let here = walk-next _ _ _ _ _ _ w.2 (next-bit w.1 next) in
+    let fine = ring-told s.args.t.now s.args.g _ _ s.args.back map c.word-start.ensures s.requires.3 c.in-Some.b _ c.loop-b.met c.ring_met.result _ c.ring_number.ensures.0 c.ring_met.ensures c.in_ok-met.was in
+    (c.in-Some.b + 1, left-after w.1 next, walk_step _ _ _ _ _ here (bit-under 32 _ _ narrow has) has _ fine.0 fine.1)
 
 pub returns : goal.returns
 unfolding GroupSays
@@ -84,6 +92,7 @@ returns c =
     let s = c in
     let map = c.word-map.ensures in
     let start = c.word-start in
+    let w = c.loop-b.invariant in
     let narrow : word_at s.args.t.now (map_word s.args.g) < 2 ^ 32 = omega (arith, c.if-map-ge-END.false, map) in
-    let all = walk-all _ _ _ _ _ c.loop-b.invariant.0 c.loop-b-test.false narrow in
+    let all = walk-all _ _ _ 64 _ (walk-next _ _ _ _ _ _ w.2 (next-end w.1 c.in-None.ensures.steps.0)) (omega arith) narrow in
     (group-fine s.args.t.now s.args.g _ _ s.args.back map start.ensures s.requires.3 narrow (omega (arith, start.type_inv)) c.if-own-g.false (omega (arith, c.if-map-first-eq0.false)) all.0, all.1)

@@ -1,14 +1,14 @@
 use mathlib.Core.Path.{◌≡◌, sym, ap, subst, ◌∙◌}
-use Prim.Native.Nat.{ℕ, ◌-◌, ◌%◌, ◌^◌, ◌<◌}
+use Prim.Native.Nat.{ℕ, ◌+◌, ◌%◌, ◌^◌, ◌<◌}
 use native.Mathlib.Omega.{arith}
-use Rattle.words.specs.Bits.{bit}
+use Rattle.words.specs.declared.SetBits.{SetBits}
+use Rattle.words.proofs.Walk.{Left, left-all, next-present, left-after}
+use Rattle.table.proofs.Next.{next-bit, next-end}
 use Rattle.slot_lists.specs.Lists.{groups_at}
 use Rattle.lists_test.specs.Stored.{GroupSays}
-use Rattle.lists_test.specs.declared.Met.{Met}
+use Rattle.std.specs.Prelude.{Option}
 use Rattle.lists_test.proofs.WordBits.{bit-under, bit-over}
-use Rattle.lists_test.proofs.ListWalk.{next_word}
-use Rattle.lists_test.proofs.GroupWalk.{Passed, pass-none, pass-next, pass_step, pass-bad, pass_same, pass-other, pass-empty}
-use borrow.Author.Rules.{rules}
+use Rattle.lists_test.proofs.GroupWalk.{pass-none, pass-next, pass_step, pass-bad, pass_same, pass-other, pass-empty}
 use Rattle.lists_test.proofs.lists_good.Goals as goal
 
 pub returns-then-back-ne0 : goal.returns-then-back-ne0
@@ -31,50 +31,49 @@ returns-then-groups-ge-END c = λ stored. omega (arith, c.if-groups-ge-END.true,
 
 pub loop-g-init : goal.loop-g-init
 loop-g-init c =
-    let n = next_word _ _ _ _ c.word-groups.ensures c.next_present-g.ensures in
-    (pass-next _ _ _ _ (pass-none _) n, n.present, omega arith)
+    let groups = groups_at c.args.t.now in
+    let word : c.into_iter-g-iterator.result.0 ≡ groups = ap (λ (s : SetBits). s.0) c.into_iter-g-iterator.ensures.into_iter_gives ∙ c.word-groups.ensures in
+    (0, subst (λ (x : ℕ). Left groups x 0) (sym word) (left-all groups), pass-none _, omega arith)
 
-pub group_met-r-requires : goal.group_met-r-requires
-group_met-r-requires c =
+pub group_met-requires : goal.group_met-requires
+group_met-requires c =
     let s = c in
-    let has = c.loop-g.invariant.1 c.loop-g-test.true in
+    let has = next-present c.loop-g.invariant.1 c.in-Some.ensures.steps in
     let high : groups_at s.args.t.now < 2 ^ 32 = omega (arith, c.if-groups-ge-END.false, c.word-groups.ensures) in
     let low : groups_at s.args.t.now % 65536 ≡ 0 = ap (λ (x : ℕ). x % 65536) (sym c.word-groups.ensures) ∙ c.if-groups-ne0.false in
     let back = c.word-back.ensures in
     (s.requires, bit-over _ _ low has, omega (arith, bit-under 32 _ _ high has), back, omega (arith, c.if-back-ge-BACK_END.false))
 
-pub returns-in-Bad : goal.returns-in-Bad
+pub returns-in_default : goal.returns-in_default
 unfolding GroupSays
-returns-in-Bad c =
+returns-in_default c =
     let s = c in
-    let w = c.loop-g in
-    let has = w.invariant.1 c.loop-g-test.true in
+    let w = c.loop-g.invariant in
+    let next = c.in-Some.ensures.steps in
+    let has = next-present w.1 next in
     let high : groups_at s.args.t.now < 2 ^ 32 = omega (arith, c.if-groups-ge-END.false, c.word-groups.ensures) in
     let low : groups_at s.args.t.now % 65536 ≡ 0 = ap (λ (x : ℕ). x % 65536) (sym c.word-groups.ensures) ∙ c.if-groups-ne0.false in
-    pass-bad _ _ _ w.invariant.0 (omega (arith, bit-under 32 _ _ high has)) has _ (bit-over _ _ low has) (subst (λ (r : Met). GroupSays s.args.t.now w.g w.met r) c.in-Bad.is c.group_met-r.ensures)
-
-pub loop-g-smaller : goal.loop-g-smaller
-loop-g-smaller c = omega (arith, c.next_present-g-in-loop-g.ensures.on, c.loop-g-test.true)
+    pass-bad _ _ _ (pass-next _ _ _ _ w.2 (next-bit w.1 next)) (omega (arith, bit-under 32 _ _ high has)) has _ (bit-over _ _ low has) (subst (λ (r : Option ℕ). GroupSays s.args.t.now c.in-Some.g c.loop-g.met r) c.in_default.is c.group_met.ensures)
 
 pub loop-g-preserved : goal.loop-g-preserved
 unfolding GroupSays
 loop-g-preserved c =
     let s = c in
-    let w = c.loop-g in
-    let has = w.invariant.1 c.loop-g-test.true in
+    let w = c.loop-g.invariant in
+    let next = c.in-Some.ensures.steps in
+    let has = next-present w.1 next in
     let high : groups_at s.args.t.now < 2 ^ 32 = omega (arith, c.if-groups-ge-END.false, c.word-groups.ensures) in
-    let fine = subst (λ (r : Met). GroupSays s.args.t.now w.g w.met r) c.in-Lanes.is c.group_met-r.ensures in
-    let n = next_word _ _ _ _ c.word-groups.ensures c.next_present-g-in-loop-g.ensures in
-    (pass-next _ _ _ _ (pass_step _ _ _ w.invariant.0 (omega (arith, bit-under 32 _ _ high has)) has _ fine.0 fine.1) n, n.present, omega (arith, c.in-Lanes.known_told-1-own.given))
+    let fine = subst (λ (r : Option ℕ). GroupSays s.args.t.now c.in-Some.g c.loop-g.met r) c.in-Some-group_met.is c.group_met.ensures in
+    (c.in-Some.g + 1, left-after w.1 next, pass_step _ _ _ (pass-next _ _ _ _ w.2 (next-bit w.1 next)) (omega (arith, bit-under 32 _ _ high has)) has _ fine.0 fine.1, omega arith)
 
 pub returns-then-met-lanes : goal.returns-then-met-lanes
 returns-then-met-lanes c =
     let s = c in
-    let w = c.loop-g in
-    pass-other _ _ _ _ w.invariant.0 c.loop-g-test.false (omega (arith, c.if-groups-ge-END.false, c.word-groups.ensures)) w.invariant.2 s.ranges.lanes.fits c.if-met-lanes.true
+    let w = c.loop-g.invariant in
+    pass-other _ 64 _ _ (pass-next _ _ _ _ w.2 (next-end w.1 c.in-None.ensures.steps.0)) (omega arith) (omega (arith, c.if-groups-ge-END.false, c.word-groups.ensures)) w.3 s.ranges.lanes.fits c.if-met-lanes.true
 
 pub returns : goal.returns
 returns c =
-    let w = c.loop-g in
+    let w = c.loop-g.invariant in
     let back = c.word-back.ensures in
-    pass_same _ _ _ _ w.invariant.0 c.loop-g-test.false (omega (arith, c.if-groups-ge-END.false, c.word-groups.ensures)) (ap (λ (x : ℕ). x % 2147483648) (sym back) ∙ c.if-back-ne0.false) (omega (arith, back, c.if-back-ge-BACK_END.false)) (ap (λ (x : ℕ). x % 65536) (sym c.word-groups.ensures) ∙ c.if-groups-ne0.false) c.if-met-lanes.false
+    pass_same _ 64 _ _ (pass-next _ _ _ _ w.2 (next-end w.1 c.in-None.ensures.steps.0)) (omega arith) (omega (arith, c.if-groups-ge-END.false, c.word-groups.ensures)) (ap (λ (x : ℕ). x % 2147483648) (sym back) ∙ c.if-back-ne0.false) (omega (arith, back, c.if-back-ge-BACK_END.false)) (ap (λ (x : ℕ). x % 65536) (sym c.word-groups.ensures) ∙ c.if-groups-ne0.false) c.if-met-lanes.false

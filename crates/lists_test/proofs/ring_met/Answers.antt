@@ -1,12 +1,11 @@
 use mathlib.Core.Path.{◌≡◌, sym, subst}
-use Prim.Native.Nat.{ℕ, ◌+◌, ◌-◌, ◌^◌, ◌<◌}
+use Prim.Native.Nat.{ℕ, ◌+◌, ◌^◌, ◌<◌}
 use native.Mathlib.Omega.{arith}
 use Rattle.words.specs.Bits.{bit}
 use Rattle.words.proofs.Bits.{add-below, shift_one}
 use Rattle.lane_test.proofs.Setting.{says-yes, says-no}
 use Rattle.lists_test.specs.Stored.{FitsSlot, RingSays}
-use Rattle.lists_test.proofs.RingWalk.{Read, read_none, read-far, read_twice, read-misfit, read_more, read_all}
-use borrow.Author.Rules.{rules}
+use Rattle.lists_test.proofs.RingWalk.{Read, read-far, read_twice, read-misfit, read_more, read_all}
 use mathlib.Core.Path.{ap}
 use mathlib.Core.Bool.{not}
 use Rattle.lists_test.proofs.ring_met.Goals as goal
@@ -14,14 +13,6 @@ use Rattle.lists_test.proofs.ring_met.Goals as goal
 pub returns-then-n-eq0 : goal.returns-then-n-eq0
 unfolding RingSays
 returns-then-n-eq0 c = λ fine new. omega (arith, c.if-n-eq0.true, c.held-n.ensures.0, fine.some_lane)
-
-pub loop-j-init : goal.loop-j-init
-loop-j-init c = (read_none _ _ _ _ _, c.ranges.before.fits)
-
-pub entry-k-requires : goal.entry-k-requires
-entry-k-requires c =
-    let s = c in
-    (s.requires.0, s.requires.1, omega (arith, c.loop-j-test.true, c.held-n.ensures.1), omega (arith, c.loop-j-test.true, c.held-n.ensures.0))
 
 pub returns-then-k-ge-LANES : goal.returns-then-k-ge-LANES
 unfolding RingSays

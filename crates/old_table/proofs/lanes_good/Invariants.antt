@@ -11,8 +11,5 @@ use Rattle.old_table.proofs.lanes_good.Given as goal
 abbrev tested : (v : ℕ) (w : List ℕ) → Tested v w
 tested v w = record { kept = old w; Passes = OldLaneGood v w; fine = λ k g. g.fine }
 
-abbrev pub invariant-loop-rest : goal.invariant-loop-rest
-invariant-loop-rest l = Walked (tested l.v.0 (cells l.t)) l.rest l.found
-
-abbrev pub decreases-loop-rest : goal.decreases-loop-rest
-decreases-loop-rest l = l.rest
+abbrev pub invariant-loop-lane : goal.invariant-loop-lane
+invariant-loop-lane l = Walked (tested l.v.0 (cells l.t)) l.lane-iterator.0 l.found

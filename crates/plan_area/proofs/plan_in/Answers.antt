@@ -1,25 +1,11 @@
 -- `plan_in` meets its contract. Assumes nothing.
-use Prim.Native.Nat.{ℕ, ◌/◌, ◌-◌}
-use borrow.Author.Rules.{rules}
-use mathlib.Core.Logic.{⊎_elim}
+use Prim.Native.Nat.{ℕ, ◌/◌}
 use mathlib.Core.Path.{sym, ap, subst, ◌∙◌}
-use native.Mathlib.Omega.{arith}
 use Rattle.plan_area.specs.Area.{framing_in, setting_in, plan_in, narrowed, Gives}
 use Rattle.plan_area.proofs.Narrow.{narrow_gives}
-use Rattle.plan_area.proofs.Filled.{Filled, fill_none, fill_more, fill-skip, fill-all}
+use Rattle.plan_area.proofs.Filled.{fill_more, fill-skip, fill-all}
 use Rattle.plan_area.proofs.plan_in.Goals as goal
 use Rattle.plan_area.proofs.plan_in.Goals.{then-l-ne0, else-l-ne0}
-
-pub loop-k-init : goal.loop-k-init
-loop-k-init c = fill_none c.args.area.now c.no_lanes-lanes.result c.no_lanes-lanes.ensures
-
-pub word-requires : goal.word-requires
-word-requires c =
-    let s = c in omega (arith, s.requires, c.loop-k-test.true)
-
-pub overflow_add-count : goal.overflow_add-count
-overflow_add-count c =
-    let l = c.loop-k in omega (arith, l.invariant.few, l.invariant.low)
 
 pub loop-k-preserved : goal.loop-k-preserved
 loop-k-preserved c =

@@ -1,16 +1,18 @@
 -- `read_setup` meets its contract. Assumes nothing.
+use Rattle.std.proofs.lemmas.Result.{err_from_is_err_and}
 use Rattle.plan_area.proofs.Steps.{read_short, read-refused, setup-good, setup-low, read-stored}
-use borrow.Author.Rules.{rules}
 use Rattle.plan_area.proofs.read_setup.Goals as goal
 
 pub returns-then-area-lt-SIZE : goal.returns-then-area-lt-SIZE
 returns-then-area-lt-SIZE c = search read_short
 
 pub store-requires : goal.store-requires
-store-requires c = search (setup-good, setup-low)
+store-requires c = (c.if-area-lt-SIZE.false, setup-good _ _ c.in_ok-r.ensures, setup-low _ _ c.in_ok-r.ensures)
 
-pub returns-in-Refused : goal.returns-in-Refused
-returns-in-Refused c = search read-refused
+pub returns-in_err-r : goal.returns-in_err-r
+returns-in_err-r c =
+    let p = err_from_is_err_and c.from_residual.result c.from_residual.ensures.1 in
+    rw (p.1, p.2) (read-refused c.if-area-lt-SIZE.false _ c.in_err-r.ensures)
 
-pub returns-in-Read : goal.returns-in-Read
-returns-in-Read c = search read-stored
+pub returns : goal.returns
+returns c = read-stored c.if-area-lt-SIZE.false _ c.in_ok-r.ensures _ c.store.auto.area c.store.ensures

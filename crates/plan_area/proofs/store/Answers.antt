@@ -1,13 +1,12 @@
 -- `store` meets its contract. Assumes nothing.
-use Prim.Native.Nat.{◌+◌, ◌-◌}
-use borrow.Author.Rules.{rules}
+use Prim.Native.Nat.{◌+◌}
 use mathlib.Core.List.{map}
 use mathlib.Core.Path.{sym, ap, ◌∙◌}
 use native.Mathlib.Omega.{arith}
 use Rattle.words.specs.Words.{put_word}
 use Rattle.plan.specs.Read.{setting_of}
-use Rattle.plan_area.specs.Area.{AreaRoom, plan_lane_word}
-use Rattle.plan_area.proofs.Stored.{Stored, line-is, store-none, rest-first, lane-is, store-more, store-all}
+use Rattle.plan_area.specs.Area.{plan_lane_word}
+use Rattle.plan_area.proofs.Stored.{line-is, store-none, rest-first, lane-is, store-more, store-all}
 use Rattle.plan_area.proofs.store.Goals as goal
 
 pub loop-k-init : goal.loop-k-init
@@ -17,10 +16,6 @@ loop-k-init c =
     let h-is = line-is s.args.plan.lanes s.requires.1 f.result f.ensures in
     store-none s.args.area.now _ s.args.plan.format f.result c.set_word.ensures (map setting_of s.args.plan.lanes) s.requires.0 h-is (omega (arith, h-is, s.requires.1.framing_high)) s.requires.2
 
-pub set_word-requires-in-loop-k : goal.set_word-requires-in-loop-k
-set_word-requires-in-loop-k c =
-    let l = c.loop-k in omega (arith, l.invariant.0.size, l.invariant.1, c.loop-k-test.true)
-
 pub loop-k-preserved : goal.loop-k-preserved
 loop-k-preserved c =
     let s = c in
@@ -28,9 +23,6 @@ loop-k-preserved c =
     let gs = map setting_of s.args.plan.lanes in
     let word-is = c.lane_word.ensures ∙ ap plan_lane_word (sym (lane-is s.args.plan.lanes l.k)) in
     (store-more s.args.plan.format gs _ l.area l.k l.invariant.0 l.invariant.1 c.loop-k-test.true (s.requires.1.each l.k) _ (c.set_word-in-loop-k.ensures ∙ ap (put_word l.area (l.k + 1)) word-is), l.invariant.1)
-
-pub shape_of-area : goal.shape_of-area
-shape_of-area c = c.loop-k.invariant.0.size ∙ c.set_word.auto.t
 
 pub returns : goal.returns
 returns c =

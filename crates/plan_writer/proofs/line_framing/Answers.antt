@@ -1,23 +1,17 @@
 -- `line_framing` meets its contract. Assumes nothing.
-use Prim.Native.Nat.{◌-◌}
-use borrow.Author.Rules.{rules}
-use mathlib.Core.Logic.{⊎_elim}
-use Rattle.plan_writer.proofs.Lane.{Line, line-none, line-more, line_same, line-all}
+use Rattle.plan_writer.proofs.Lane.{line-more, line_same, line-all}
 use Rattle.plan_writer.proofs.line_framing.Goals as goal
-use Rattle.plan_writer.proofs.line_framing.Goals.{then-h-framing, else-h-framing}
+use Rattle.plan_writer.proofs.line_framing.Goals.{then-h-l, else-h-l}
 
-pub loop-k-init : goal.loop-k-init
-loop-k-init c = line-none _
-
-pub loop-k-preserved : goal.loop-k-preserved
-loop-k-preserved c =
+pub loop-l-preserved : goal.loop-l-preserved
+loop-l-preserved c =
     let s = c in
-    let l = c.loop-k in
-    let lt = c.loop-k-test.true in
-    elim c.if-h-framing.branch [
-      | then-h-framing w ↦ rw w.h-is (line-more s.args.lanes l.k l.h l.invariant lt w.if-h-framing.true)
-      | else-h-framing w ↦ rw w.h-is (line_same s.args.lanes l.k l.h l.invariant lt w.if-h-framing.false)
+    let l = c.loop-l in
+    let lt = c.loop-l-test.true in
+    elim c.if-h-l.branch [
+      | then-h-l w ↦ rw w.h-is (line-more s.args.lanes l.l-index l.h l.invariant lt w.if-h-l.true)
+      | else-h-l w ↦ rw w.h-is (line_same s.args.lanes l.l-index l.h l.invariant lt w.if-h-l.false)
     ]
 
 pub returns : goal.returns
-returns c = line-all c.args.lanes c.loop-k.k c.loop-k.h c.loop-k.invariant c.loop-k-test.false
+returns c = line-all c.args.lanes c.loop-l.l-index c.loop-l.h c.loop-l.invariant c.loop-l-test.false

@@ -1,12 +1,6 @@
-use Prim.Native.Nat.{◌-◌}
-use borrow.Author.Rules.{rules}
-use mathlib.Core.Logic.{⊎_elim}
-use Rattle.plan_writer.proofs.Writing.{Laying, lay-none, lay-numbers, lay-room, lay-more, lay-skip, lay-all}
+use Rattle.plan_writer.proofs.Writing.{lay-numbers, lay-room, lay-more, lay-skip, lay-all}
 use Rattle.plan_writer.proofs.put_lanes.Goals as goal
 use Rattle.plan_writer.proofs.put_lanes.Goals.{then-l-ne0, else-l-ne0}
-
-pub loop-k-init : goal.loop-k-init
-loop-k-init c = lay-none _ _ _
 
 pub put_fields-p-requires : goal.put_fields-p-requires
 put_fields-p-requires c =
@@ -26,9 +20,6 @@ loop-k-preserved c =
       | then-l-ne0 w ↦ rw (w.a-is, w.p-is, w.put_fields-p.ensures.1) (lay-more s.args.a.now s.args.at s.args.lanes l.a l.p l.k l.invariant lt s.requires.0 w.if-l-ne0.true _ w.put_fields-p.auto.a w.put_fields-p.ensures.0)
       | else-l-ne0 w ↦ rw (w.a-is, w.p-is) (lay-skip s.args.a.now s.args.at s.args.lanes l.a l.p l.k l.invariant lt s.requires.0 w.if-l-ne0.false)
     ]
-
-pub shape_of-a : goal.shape_of-a
-shape_of-a c = c.loop-k.invariant.size
 
 pub returns : goal.returns
 returns c =

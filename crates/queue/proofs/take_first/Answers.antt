@@ -31,8 +31,8 @@ lane_charge-requires c =
     let f = c.first-e in
     (omega (arith, c.charged.ensures.1, f.ensures.1), subst (λ (l : LaneRow). l.rate.0 ≤ 2 ^ 20) (sym r.ensures.0) (take-rate t k s.requires.0 s.requires.1 s.requires.2 s.requires.3))
 
-pub plus-finish-requires : goal.plus-finish-requires
-plus-finish-requires c =
+pub add-finish-requires : goal.add-finish-requires
+add-finish-requires c =
     let s = c in
     let t = s.args.t.now in
     let k = s.args.k in
@@ -89,7 +89,7 @@ returns-then-l c =
     let k = s.args.k in
     let r = c.row-l in
     let f = c.first-e in
-    let x = c.plus-finish in
+    let x = c.add-finish in
     let same : x.result.0 ≡ (lane_at (meant t) k).finish = x.ensures ∙ ap (λ (y : ℕ). r.result.time.0 + y) (c.lane_charge.ensures ∙ ap (λ (y : ℕ). y * r.result.rate.0) c.charged.ensures.0) ∙ finish-row t k s.requires.0 s.requires.1 s.requires.2 s.requires.3 f.result f.ensures.0 r.result r.ensures.0 in
     let kind : r.result.shared ≡ true = search rules in
     let t₁ = c.turn.new.t in
@@ -103,7 +103,7 @@ returns c =
     let k = s.args.k in
     let r = c.row-l in
     let f = c.first-e in
-    let x = c.plus-finish in
+    let x = c.add-finish in
     let same : x.result.0 ≡ (lane_at (meant t) k).finish = x.ensures ∙ ap (λ (y : ℕ). r.result.time.0 + y) (c.lane_charge.ensures ∙ ap (λ (y : ℕ). y * r.result.rate.0) c.charged.ensures.0) ∙ finish-row t k s.requires.0 s.requires.1 s.requires.2 s.requires.3 f.result f.ensures.0 r.result r.ensures.0 in
     let kind : r.result.shared ≡ false = search rules in
     let t₁ = c.set_row-2.new.t in

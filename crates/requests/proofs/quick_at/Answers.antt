@@ -18,4 +18,4 @@ pub returns : goal.returns
 unfolding call_of
 returns c =
     let s = c in
-    item-quick s.args.s.now s.args.at 32 7 c.if-tag-ne-PUT.false (sym c.u16_at-2.ensures.0 ∙ c.if-u16_at-ne7.false) refl (λ e. omega arith) (omega arith) ∙ rw (c.u32_at.ensures, c.u16_at-3.ensures.0)
+    item-quick s.args.s.now s.args.at 32 7 c.if-tag-ne-PUT.false (sym c.u16_at-2.ensures.0 ∙ c.if-u16_at-ne7.false) refl (λ e. omega arith) (omega arith) ∙ rw (c.u32_at.ensures.0, c.u16_at-3.ensures.0)

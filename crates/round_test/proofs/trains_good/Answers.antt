@@ -4,26 +4,12 @@ use mathlib.Core.Path.{◌≡◌, sym, ap, subst, ◌∙◌}
 use Rattle.words.proofs.Bits.{shift_one}
 use Rattle.round_test.specs.Shared.{numbers_at, lengths_at}
 use Rattle.round_test.proofs.Answers.{says-true, says-false}
-use Rattle.round_test.proofs.Tally.{Tallying, tallying-none, one-small, small, head-only, waits, covers, not-head, too_much, tally-says}
+use Rattle.round_test.proofs.Tally.{Tallying, tallying-none, one-small, small, head-only, waits, covers, tally-says}
 use Rattle.round_test.proofs.trains_good.Goals as goal
 use Rattle.round_test.proofs.trains_good.Goals.{then-holds+then-covered+else-train-longest, then-holds+else-covered, else-holds+else-train-ge-COUNT_UNIT}
 
 pub loop-k-init : goal.loop-k-init
 loop-k-init c = tallying-none _ _ _
-
-pub overflow_add-trains : goal.overflow_add-trains
-overflow_add-trains c = record { fits = omega (arith, c.loop-k-test.true, c.requires.0) }
-
-pub half-train-requires : goal.half-train-requires
-half-train-requires c = omega (arith, c.loop-k-test.true, c.requires.0)
-
-pub holds-requires : goal.holds-requires
-holds-requires c = c.half-train.ensures.1
-
-pub overflow_add-tally : goal.overflow_add-tally
-overflow_add-tally c =
-    let k = c.loop-k.k in
-    record { fits = omega (arith, shift_one k (omega (arith, c.loop-k-test.true)), one-small _ _ _ _ _ c.loop-k.invariant c.loop-k-test.true) }
 
 pub overflow_add-tally-then-holds : goal.overflow_add-tally-then-holds
 overflow_add-tally-then-holds c =
@@ -31,40 +17,11 @@ overflow_add-tally-then-holds c =
     let lt = c.loop-k-test.true in
     record { fits = omega (arith, shift_one l.k (omega (arith, lt)), one-small _ _ _ _ _ l.invariant lt, small _ _ _ _ _ l.invariant lt) }
 
-pub covered-requires : goal.covered-requires
-covered-requires c = (c.requires.1, c.loop-k-test.true)
-
-pub returns-then-train-longest : goal.returns-then-train-longest
-returns-then-train-longest c =
-    let s = c in
-    let l = s.loop-k in
-    too_much _ _ _ _ _ l.invariant s.loop-k-test.true _ s.half-train.ensures.0 _ _
-    (says-true c.covered.result c.covered.ensures c.if-covered.true) c.if-train-longest.true
-
-pub overflow_mul-tally : goal.overflow_mul-tally
-overflow_mul-tally c =
-    let l = c.loop-k in
-    let lt = c.loop-k-test.true in
-    record { fits = omega (arith, shift_one l.k (omega (arith, lt)), one-small _ _ _ _ _ l.invariant lt) }
-
 pub overflow_add-tally-then-covered : goal.overflow_add-tally-then-covered
 overflow_add-tally-then-covered c =
     let l = c.loop-k in
     let lt = c.loop-k-test.true in
     record { fits = omega (arith, shift_one l.k (omega (arith, lt)), one-small _ _ _ _ _ l.invariant lt, small _ _ _ _ _ l.invariant lt) }
-
-pub returns-then-train-ge-COUNT_UNIT : goal.returns-then-train-ge-COUNT_UNIT
-returns-then-train-ge-COUNT_UNIT c =
-    let s = c in
-    let l = s.loop-k in
-    not-head _ _ _ _ _ l.invariant s.loop-k-test.true _ s.half-train.ensures.0 _ _
-    (says-false s.holds.result s.holds.ensures c.if-holds.false) c.if-train-ge-COUNT_UNIT.true
-
-pub overflow_add-k : goal.overflow_add-k
-overflow_add-k c = record { fits = omega (arith, c.loop-k-test.true) }
-
-pub loop-k-smaller : goal.loop-k-smaller
-loop-k-smaller c = omega (arith, c.loop-k-test.true)
 
 pub loop-k-preserved : goal.loop-k-preserved
 loop-k-preserved c =
@@ -86,9 +43,6 @@ loop-k-preserved c =
       | else-holds+else-train-ge-COUNT_UNIT w ↦
           to _ _ w.tally-is (head-only _ _ _ _ _ l.invariant lt _ is w.if-train-ge-COUNT_UNIT.false (omega arith))
     ]
-
-pub wanted-requires : goal.wanted-requires
-wanted-requires c = c.requires.2
 
 pub returns : goal.returns
 returns c =

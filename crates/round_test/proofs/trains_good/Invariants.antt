@@ -1,10 +1,6 @@
-use Prim.Native.Nat.{◌-◌}
 use Rattle.round_test.specs.Shared.{numbers_at, lengths_at}
 use Rattle.round_test.proofs.Tally.{Tallying}
 use Rattle.round_test.proofs.trains_good.Given as goal
 
 abbrev pub invariant-loop-k : goal.invariant-loop-k
 invariant-loop-k l = Tallying l.longest (numbers_at l.t l.trains) (lengths_at l.lens l.lengths) l.tally l.k
-
-abbrev pub decreases-loop-k : goal.decreases-loop-k
-decreases-loop-k l = 8 - l.k

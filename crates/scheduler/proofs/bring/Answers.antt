@@ -8,7 +8,7 @@ use Rattle.editions.specs.Part.{PartRoom, last_in, new_in}
 use Rattle.editions.proofs.Lent.{tail_all}
 use Rattle.table.specs.Layout.{SIZE}
 use Rattle.paged.proofs.Units.{good-rests}
-use Rattle.scheduler.proofs.Offered.{offer-old, offer-waits, offer-forced}
+use Rattle.scheduler.proofs.PageOffers.{offer-old, offer-waits, offer-forced}
 use Rattle.scheduler.proofs.bring.Goals as goal
 
 pub returns-then-number-taken : goal.returns-then-number-taken

@@ -1,7 +1,9 @@
 -- `make` meets its contract. Assumes nothing.
-use Rattle.scheduler.proofs.Made.{make-short, make-refused, make-made}
-use Rattle.plan_area.proofs.Steps.{setup-good}
+use mathlib.Core.Path.{◌≡◌}
 use native.Mathlib.Omega.{arith}
+use Rattle.std.specs.Prelude.{Err}
+use Rattle.plan_area.proofs.Steps.{setup-good}
+use Rattle.scheduler.proofs.Made.{make-short, make-refused, make-made}
 use borrow.Author.Rules.{rules}
 use Rattle.scheduler.proofs.make.Goals as goal
 
@@ -9,16 +11,12 @@ pub returns-then-t-lt-SIZE : goal.returns-then-t-lt-SIZE
 returns-then-t-lt-SIZE c = make-short c.args.setup.now c.args.t.now c.if-t-lt-SIZE.true
 
 pub come_in_force-requires : goal.come_in_force-requires
-come_in_force-requires c =
-    let r = c.read_setup-r in
-    (c.if-t-lt-SIZE.false, omega arith, setup-good c.args.setup.now r.result r.ensures c.in-Read.field-0 c.in-Read.is)
+come_in_force-requires c = (c.if-t-lt-SIZE.false, omega arith, setup-good c.args.setup.now c.in_ok-plan.field-0 c.in_ok-plan.ensures)
 
-pub returns-in-Refused : goal.returns-in-Refused
-returns-in-Refused c = make-refused c.args.setup.now c.args.t.now _ c.if-t-lt-SIZE.false c.read_setup-r.result c.read_setup-r.ensures c.in-Refused.is
+pub returns-in_err-plan : goal.returns-in_err-plan
+returns-in_err-plan c =
+    let is : c.from_residual.result ≡ Err c.in_err-plan.field-0.0 = search rules in
+    rw is (make-refused c.args.setup.now c.args.t.now _ c.if-t-lt-SIZE.false c.in_err-plan.ensures)
 
-pub returns-in-Read : goal.returns-in-Read
-returns-in-Read c =
-    let s = c in
-    let r = c.read_setup-r in
-    let w = c.come_in_force in
-    make-made s.args.setup.now s.args.t.now _ c.if-t-lt-SIZE.false r.result c.in-Read.field-0 r.ensures c.in-Read.is w.auto.t w.ensures
+pub returns : goal.returns
+returns c = make-made c.args.setup.now c.args.t.now _ c.if-t-lt-SIZE.false c.in_ok-plan.field-0 c.in_ok-plan.ensures c.come_in_force.auto.t c.come_in_force.ensures

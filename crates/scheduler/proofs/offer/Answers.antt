@@ -1,9 +1,11 @@
 -- `offer` meets its contract. Assumes nothing.
-use borrow.Author.Rules.{rules}
-use Rattle.scheduler.proofs.Steps.{says-yes, says-no, bad-step}
-use Rattle.scheduler.proofs.Offered.{read-page-good, offer-read, offer-refused}
-use mathlib.Core.Path.{ap}
+use mathlib.Core.Path.{◌≡◌, ap}
 use mathlib.Core.Bool.{not}
+use Rattle.std.specs.Prelude.{Err}
+use Rattle.scheduler.specs.declared.NotTaken.TheVariants.{Refused}
+use Rattle.scheduler.proofs.Steps.{says-yes, says-no, bad-step}
+use Rattle.scheduler.proofs.PageOffers.{read-page-good, offer-read, offer-refused}
+use borrow.Author.Rules.{rules}
 use Rattle.scheduler.proofs.offer.Goals as goal
 
 pub returns-then-not-good_unit : goal.returns-then-not-good_unit
@@ -11,22 +13,15 @@ returns-then-not-good_unit c = bad-step _ c.args.t.now (says-no c.good_unit.resu
 
 pub bring-requires : goal.bring-requires
 bring-requires c =
-    let s = c in
     let g = c.good_unit in
-    let r = c.read_page-r in
-    let w = read-page-good s.args.page.now r.result r.ensures _ c.in-Read.is in
+    let w = read-page-good c.args.page.now c.in_ok-r.r c.in_ok-r.ensures in
     (says-yes g.result g.ensures (ap not c.if-not-good_unit.false), w.0, w.1)
 
-pub returns-in-Refused : goal.returns-in-Refused
-returns-in-Refused c =
-    let s = c in
+pub returns-in_err-r : goal.returns-in_err-r
+returns-in_err-r c =
     let g = c.good_unit in
-    let r = c.read_page-r in
-    offer-refused s.args.page.now r.result r.ensures _ s.args.t.now (says-yes g.result g.ensures (ap not c.if-not-good_unit.false)) c.in-Refused.is
+    let is : c.from_residual.result ≡ Err (Refused c.in_err-r.field-0.0) = search rules in
+    rw is (offer-refused c.args.page.now _ c.args.t.now c.in_err-r.ensures (says-yes g.result g.ensures (ap not c.if-not-good_unit.false)))
 
-pub returns-in-Read : goal.returns-in-Read
-returns-in-Read c =
-    let s = c in
-    let r = c.read_page-r in
-    let b = c.bring in
-    offer-read s.args.page.now r.result r.ensures _ s.args.t.now _ b.result c.in-Read.is b.ensures
+pub returns : goal.returns
+returns c = offer-read c.args.page.now c.in_ok-r.r c.in_ok-r.ensures c.args.t.now _ c.bring.result c.bring.ensures

@@ -1,5 +1,4 @@
 -- `put_lanes` meets its contract. Assumes nothing.
-use Prim.Native.Nat.{◌-◌}
 use mathlib.Core.List.{map}
 use Rattle.plan.specs.Read.{setting_of}
 use Rattle.plan_writer.specs.Write.{numbered}
@@ -7,7 +6,4 @@ use Rattle.sheet_writer.proofs.Writing.{Writing}
 use Rattle.sheet_writer.proofs.put_lanes.Given as goal
 
 abbrev pub invariant-loop-k : goal.invariant-loop-k
-invariant-loop-k l = Writing (numbered (map setting_of l.lanes)) l.initial.a l.a l.at l.k
-
-abbrev pub decreases-loop-k : goal.decreases-loop-k
-decreases-loop-k l = 64 - l.k
+invariant-loop-k l = Writing (numbered (map setting_of l.fn.lanes)) l.initial.a l.a l.at l.k

@@ -11,16 +11,16 @@ use Rattle.show.proofs.WorstWaits.{most-more, most-all}
 use Rattle.show.proofs.costliest.Goals as goal
 
 pub loop-k-init : goal.loop-k-init
-loop-k-init c = (omega arith, omega arith)
+loop-k-init c = omega arith
 
 pub loop-k-preserved : goal.loop-k-preserved
 loop-k-preserved c =
     let l = c.loop-k in
     let s = c in
-    (omega arith, most-more s.args.t.now s.requires l.k l.most l.invariant.1 (omega arith) c.most_of-here.result c.greater-most.result c.most_of-here.ensures c.greater-most.ensures)
+    most-more s.args.t.now s.requires l.k l.most l.invariant (omega arith) c.most_of-here.result c.greater-most.result c.most_of-here.ensures c.greater-most.ensures
 
 pub returns : goal.returns
 returns c =
     let l = c.loop-k in
     let s = c in
-    most-all s.args.t.now s.requires l.k l.most l.invariant.1 (omega arith)
+    most-all s.args.t.now s.requires l.k l.most l.invariant (omega arith)

@@ -11,7 +11,4 @@ use Rattle.show.proofs.WorstWaits.{most-more, most-all}
 use Rattle.show.proofs.costliest.Given as goal
 
 abbrev pub invariant-loop-k : goal.invariant-loop-k
-invariant-loop-k l = (l.k ≤ 64) × (max l.most (longest_charge (drop l.k (setup_of (meant l.t)))) ≡ longest_charge (setup_of (meant l.t)))
-
-abbrev pub decreases-loop-k : goal.decreases-loop-k
-decreases-loop-k l = 64 - l.k
+invariant-loop-k l = max l.most (longest_charge (drop l.k (setup_of (meant l.t)))) ≡ longest_charge (setup_of (meant l.t))

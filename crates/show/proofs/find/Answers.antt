@@ -1,39 +1,20 @@
 -- `find` meets its contract. Assumes nothing.
-use mathlib.Core.Path.{sym, ◌∙◌}
-use borrow.Author.Tests.{not-true, not-false}
-use Rattle.scheduler.proofs.Steps.{says-yes, says-no}
-use Rattle.engine.proofs.RowIs.{absent-lane, far-lane}
-use native.Mathlib.Omega.{arith}
-use borrow.Author.Rules.{rules}
-use mathlib.Core.Path.{ap}
+use mathlib.Core.Path.{◌≡◌, refl, sym, ap, ◌∙◌}
 use mathlib.Core.Bool.{not}
+use mathlib.Core.Logic.{inr}
+use borrow.Author.Tests.{not-true}
+use Rattle.rules.specs.State.{lane_at, no_lane}
+use Rattle.table.specs.Means.{meant}
+use Rattle.engine.proofs.RowIs.{absent-lane, far-lane}
 use Rattle.show.proofs.find.Goals as goal
+use Rattle.show.proofs.find.Goals.{then-k-ge-LANES-via-then-k-ge-LANES, then-k-ge-LANES-via-else-k-ge-LANES+then-not-present}
 
-pub returns-then-not-good_unit : goal.returns-then-not-good_unit
-returns-then-not-good_unit c = says-no c.good_unit.result c.good_unit.ensures (ap not c.if-not-good_unit.true)
-
-pub returns-then-k-ge64 : goal.returns-then-k-ge64
-returns-then-k-ge64 c =
-    let s = c in
-    (says-yes c.good_unit.result c.good_unit.ensures (ap not c.if-not-good_unit.false), far-lane s.args.t.now s.args.lane c.if-k-ge64.true)
-
-pub present-requires : goal.present-requires
-present-requires c =
-    let g = says-yes c.good_unit.result c.good_unit.ensures (ap not c.if-not-good_unit.false) in
-    (omega (arith, g.core.room), c.if-k-ge64.false)
-
-pub returns-then-not-present : goal.returns-then-not-present
-returns-then-not-present c =
-    let s = c in
-    let g = says-yes c.good_unit.result c.good_unit.ensures (ap not c.if-not-good_unit.false) in
-    (g, absent-lane s.args.t.now s.args.lane c.if-k-ge64.false (sym c.present.ensures ∙ not-true c.present.result (ap not c.if-not-present.true)))
-
-pub row-requires : goal.row-requires
-row-requires c =
-    let g = says-yes c.good_unit.result c.good_unit.ensures (ap not c.if-not-good_unit.false) in
-    (omega (arith, g.core.room), c.if-k-ge64.false)
-
-pub returns : goal.returns
-returns c =
-    let g = says-yes c.good_unit.result c.good_unit.ensures (ap not c.if-not-good_unit.false) in
-    (g, c.if-k-ge64.false, sym c.present.ensures ∙ not-false c.present.result (ap not c.if-not-present.false), c.row.ensures.0, c.row.ensures.1)
+pub returns-then-k-ge-LANES : goal.returns-then-k-ge-LANES
+returns-then-k-ge-LANES c =
+    let t = c.args.t.now in
+    let absent : lane_at (meant t) c.args.lane ≡ no_lane = elim c.then-k-ge-LANES.branch [
+      | then-k-ge-LANES-via-then-k-ge-LANES w ↦ far-lane t c.args.lane w.if-k-ge-LANES.true
+      | then-k-ge-LANES-via-else-k-ge-LANES+then-not-present w ↦
+          absent-lane t c.args.lane w.if-k-ge-LANES.false (sym w.present.ensures ∙ not-true w.present.result (ap not w.if-not-present.true))
+    ] in
+    inr ((c.in_ok-tested.ensures.good, absent), refl)

@@ -1,26 +1,17 @@
 -- `lane` meets its contract. Assumes nothing.
+use Rattle.std.proofs.lemmas.Result.{err_from_is_err_and}
 use Rattle.show.specs.Views.{lane}
-use Rattle.show.proofs.Shows.{good-shows, find-bad, find-row, find-no-lane, row-numbers, shows-setting}
-use borrow.Author.Rules.{rules}
+use Rattle.show.proofs.Shows.{good-shows, find-refused, none-lane, shows-setting}
 use Rattle.show.proofs.lane.Goals as goal
 
-pub pace_of-p-requires : goal.pace_of-p-requires
-pace_of-p-requires c =
-    let s = c in
-    row-numbers s.args.t.now s.args.lane _ (find-row s.args.t.now s.args.lane _ _ c.in-Row.is c.find.ensures)
+pub returns-in_err-l : goal.returns-in_err-l
+returns-in_err-l c =
+    let p = err_from_is_err_and c.from_residual.result c.from_residual.ensures.1 in
+    rw (p.1, p.2) (find-refused (lane _) c.args.t.now c.args.lane _ c.in_err-l.ensures (none-lane _))
 
-pub returns-in-NotGood : goal.returns-in-NotGood
-returns-in-NotGood c =
-    find-bad (lane _) c.args.t.now c.args.lane _ c.in-NotGood.is c.find.ensures
-
-pub returns-in-NoLane : goal.returns-in-NoLane
-returns-in-NoLane c =
-    find-no-lane c.args.t.now c.args.lane _ c.in-NoLane.is c.find.ensures
-
-pub returns-in-Row : goal.returns-in-Row
-returns-in-Row c =
-    let s = c in
-    let t = s.args.t.now in
+pub returns : goal.returns
+returns c =
+    let t = c.args.t.now in
     let p = c.pace_of-p in
-    let f = find-row t s.args.lane _ _ c.in-Row.is c.find.ensures in
-    good-shows (lane _) t _ f.0 (shows-setting t s.args.lane _ f p.result.group p.ensures.0.grouped)
+    let f = c.in_ok-l.ensures in
+    good-shows (lane _) t _ f.0 (shows-setting t c.args.lane _ f p.result.group p.ensures.0.grouped)

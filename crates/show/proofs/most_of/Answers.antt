@@ -1,7 +1,6 @@
 -- `most_of` meets its contract. Assumes nothing.
 use mathlib.Core.Path.{sym, ◌∙◌}
 use borrow.Author.Tests.{not-true, not-false}
-use borrow.Author.Rules.{rules}
 use Rattle.show.specs.Shows.{RowFound}
 use Rattle.show.proofs.WorstWaits.{most-absent, row_small, row-most-is}
 use mathlib.Core.Path.{ap}

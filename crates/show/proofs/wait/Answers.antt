@@ -1,42 +1,27 @@
 -- `wait` meets its contract. Assumes nothing.
-use borrow.Author.Rules.{rules}
+use Rattle.std.proofs.lemmas.Result.{err_from_is_err_and}
 use Rattle.show.specs.Views.{wait}
-use Rattle.show.proofs.Shows.{good-shows, find-bad, find-row, find-no-wait}
-use Rattle.show.proofs.WorstWaits.{in-range, shows-wait, shows-no-room}
+use Rattle.show.proofs.Shows.{good-shows, find-refused, none-wait}
+use Rattle.show.proofs.WorstWaits.{shows-wait, shows-no-room}
 use Rattle.show.proofs.wait.Goals as goal
+
+pub returns-in_err-find : goal.returns-in_err-find
+returns-in_err-find c =
+    let p = err_from_is_err_and c.from_residual.result c.from_residual.ensures.1 in
+    rw (p.1, p.2) (find-refused (wait _ _) c.args.t.now c.args.lane _ c.in_err-find.ensures (λ d e. none-wait _ d e _))
 
 pub returns-then-room-ahead : goal.returns-then-room-ahead
 returns-then-room-ahead c =
-    let n = c in
-    let k = n in
-    let s = k in
-    let t = s.args.t.now in
-    let f = find-row t s.args.lane _ _ k.in-Row.is k.find.ensures in
+    let t = c.args.t.now in
+    let f = c.in_ok-find.ensures in
+    let n = c.numbers-given in
     good-shows (wait _ _) t _ f.0
-    (shows-no-room t s.args.lane _ f n.numbers-given.result n.numbers-given.ensures _ c.room.ensures s.args.ahead c.if-room-ahead.true c.no_room.result c.no_room.ensures)
+    (shows-no-room t c.args.lane _ f n.result n.ensures _ c.room.ensures c.args.ahead c.if-room-ahead.true c.no_room.result c.no_room.ensures)
 
-pub both-requires : goal.both-requires
-both-requires c =
-    let n = c in
-    let k = n in
-    let s = k in
-    let f = find-row s.args.t.now s.args.lane _ _ k.in-Row.is k.find.ensures in
-    (f.0, in-range s.args.t.now s.args.lane _ f n.numbers-given.result n.numbers-given.ensures _ c.room.ensures s.args.ahead c.if-room-ahead.false)
-
-pub returns-in-NotGood : goal.returns-in-NotGood
-returns-in-NotGood c =
-    let s = c in find-bad (wait _ _) s.args.t.now s.args.lane _ c.in-NotGood.is c.find.ensures
-
-pub returns-in-NoLane : goal.returns-in-NoLane
-returns-in-NoLane c =
-    let s = c in find-no-wait s.args.t.now s.args.lane _ c.in-NoLane.is c.find.ensures _
-
-pub returns-else-room-ahead : goal.returns-else-room-ahead
-returns-else-room-ahead c =
-    let n = c in
-    let k = n in
-    let s = k in
-    let t = s.args.t.now in
-    let f = find-row t s.args.lane _ _ k.in-Row.is k.find.ensures in
+pub returns : goal.returns
+returns c =
+    let t = c.args.t.now in
+    let f = c.in_ok-find.ensures in
+    let n = c.numbers-given in
     good-shows (wait _ _) t _ f.0
-    (shows-wait t s.args.lane _ f n.numbers-given.result n.numbers-given.ensures _ c.room.ensures s.args.ahead c.if-room-ahead.false c.both.result c.both.ensures)
+    (shows-wait t c.args.lane _ f n.result n.ensures _ c.room.ensures c.args.ahead c.if-room-ahead.false c.both.result c.both.ensures)

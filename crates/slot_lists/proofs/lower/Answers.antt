@@ -1,40 +1,37 @@
 -- `lower` meets its contract. Assumes nothing.
-use mathlib.Core.Path.{◌≡◌, refl, sym, ap, subst, ◌∙◌}
+use mathlib.Core.Path.{◌≡◌, sym, ap, subst, ◌∙◌}
 use mathlib.Core.List.{List}
-use Prim.Native.Nat.{ℕ, ◌+◌, ◌-◌, ◌%◌, ◌^◌, ◌≤◌}
+use Prim.Native.Nat.{ℕ, ◌+◌, ◌-◌, ◌%◌, ◌^◌}
 use native.Mathlib.Omega.{arith}
-use lib.ListN.{length}
 use Rattle.words.specs.Words.{word_at}
 use Rattle.rings.specs.Rings.{Long}
 use Rattle.slot_lists.specs.Lists.{back_word, back_at, start_word}
 use Rattle.slot_lists.specs.Changes.{Lowered}
 use Rattle.slot_lists.proofs.Lowered.{SoFar, none_yet, one_more, lowered-as}
-use borrow.Author.Rules.{rules}
 use Rattle.slot_lists.proofs.lower.Goals as goal
 
 pub loop-g-init : goal.loop-g-init
-loop-g-init c = (none_yet _ _, refl, omega arith, omega arith)
+loop-g-init c = none_yet _ _
 
 pub loop-g-preserved : goal.loop-g-preserved
 loop-g-preserved c =
     let s = c in
     let l = c.loop-g in
     let b = c.earlier_by in
-    let long : Long l.t = omega (arith, l.invariant.1, s.requires.0) in
+    let long : Long l.t = omega arith in
     let x : b.result ≡ word_at l.t (start_word l.g) - s.args.d = b.ensures ∙ ap (λ (y : ℕ). y - s.args.d) c.word-start.ensures in
-    (subst (λ (u : List ℕ). SoFar s.args.t.now u s.args.d (l.g + 1)) (sym c.set_word.ensures) (one_more s.args.t.now l.t s.args.d l.g b.result l.invariant.0 long l.invariant.2 c.loop-g-test.true (omega (arith, b.type_inv)) x), omega (arith, c.set_word.auto.t, l.invariant.1), omega (arith, l.invariant.2), omega (arith, c.loop-g-test.true))
+    subst (λ (u : List ℕ). SoFar s.args.t.now u s.args.d (l.g + 1)) (sym c.set_word.ensures)
+    (one_more s.args.t.now l.t s.args.d l.g b.result l.invariant long (omega arith) c.loop-g-test.true (omega (arith, b.type_inv)) x)
 
 pub overflow_add-back : goal.overflow_add-back
-overflow_add-back c =
-    let s = c in
-    omega (arith, c.word-back.ensures, s.requires.1, s.requires.2, c.loop-g.invariant.0.others back_word (λ a b. omega arith))
+overflow_add-back c = omega (arith, c.loop-g.invariant.others back_word (λ a b. omega arith))
 
 pub returns : goal.returns
 returns c =
     let s = c in
     let l = c.loop-g in
-    let e : l.g ≡ 32 = omega (arith, l.invariant.3, c.loop-g-test.false) in
-    let all : SoFar s.args.t.now l.t s.args.d 32 = subst (SoFar s.args.t.now l.t s.args.d) e l.invariant.0 in
+    let e : l.g ≡ 32 = omega arith in
+    let all : SoFar s.args.t.now l.t s.args.d 32 = subst (SoFar s.args.t.now l.t s.args.d) e l.invariant in
     let back : c.word-back.result ≡ back_at s.args.t.now = c.word-back.ensures ∙ all.others back_word (λ a b. omega arith) in
     let x : (c.word-back.result + s.args.d) % 2 ^ 36 ≡ (back_at s.args.t.now + s.args.d) % 2 ^ 36 = ap (λ (y : ℕ). (y + s.args.d) % 2 ^ 36) back in
-    subst (λ (u : List ℕ). Lowered s.args.t.now u s.args.d) (sym c.set_word-2.ensures) (lowered-as s.args.t.now l.t s.args.d _ all (omega (arith, l.invariant.1, s.requires.0)) (omega arith) x)
+    subst (λ (u : List ℕ). Lowered s.args.t.now u s.args.d) (sym c.set_word-2.ensures) (lowered-as s.args.t.now l.t s.args.d _ all (omega arith) (omega arith) x)

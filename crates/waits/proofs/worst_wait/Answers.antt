@@ -30,7 +30,7 @@ returns-then-l c =
     let shared : s.args.l.shared ≡ true = search rules in
     c.line_bytes.ensures
     ∙ shared-as (setting_of_numbers s.args.l) _ s.args.ahead s.args.margin.0 own.result.0 four.four_slots-slots.result.0 four.lane_rate-c.ensures.0
-    four.four_slots-slots.ensures.0 shared own.ensures.0
+    (four.four_slots-slots.ensures.0 ∙ rw c.add-most.ensures) shared own.ensures.0
 
 pub charge_of-own-requires-2 : goal.charge_of-own-requires-2
 charge_of-own-requires-2 c =
@@ -46,4 +46,4 @@ returns c =
     let alone : s.args.l.shared ≡ false = search rules in
     c.line_bytes-2.ensures
     ∙ plain-as (setting_of_numbers s.args.l) _ s.args.ahead s.args.margin.0 own.result.0 four.four_slots-slots.result.0 four.lane_rate-c.ensures.0
-    four.four_slots-slots.ensures.0 alone own.ensures.0
+    (four.four_slots-slots.ensures.0 ∙ rw c.add-most.ensures) alone (own.ensures.0 ∙ rw c.add-most.ensures)

@@ -1,93 +1,53 @@
 -- `walk` meets its contract. The loop over fields knows `Stands`, the loop over a value's bytes `Reading`. Assumes nothing.
-use Prim.Native.Nat.{ℕ, ◌+◌, ◌-◌, ◌≤◌, ◌<◌}
+use Prim.Native.Nat.{ℕ, ◌+◌, ◌≤◌, ◌<◌}
 use native.Mathlib.Omega.{arith}
 use mathlib.Core.Path.{◌≡◌, refl, sym, ap, ◌∙◌}
-use mathlib.Core.Logic.{⊎_elim}
 use lib.ListN.{length}
-use borrow.Author.Rules.{rules}
 use Rattle.fields.specs.Bytes.{byte_at}
 use Rattle.rules.specs.declared.Refusal.TheVariants.{Cut}
 use Rattle.requests.specs.Request.{head_is, head_at, right, call_is, request_item_at, request}
 use Rattle.requests.proofs.Heads.{head-whole, head-short, item-wrong, item-cut, item-last}
-use Rattle.walk.proofs.Reading.{Reading, read_none, read_more, read_fits, read-request}
-use Rattle.walk.proofs.Walking.{Stands, stands-first, stands-room, stands-next, same_area, text-most, two-lines, stops, walk-limit, walk-bad, walk-last}
+use Rattle.walk.proofs.Reading.{read_none, read_more, read_fits, read-request}
+use Rattle.walk.proofs.Walking.{stands-next, text-most, two-lines, stops, walk-limit, walk-bad, walk-last}
 use Rattle.walk.specs.declared.Stop.TheVariants.{Limit, Refused}
 use Rattle.walk.proofs.walk.Goals as goal
-use Rattle.walk.proofs.walk.Goals.{in-Whole, in-Other+in-Right+else-loop-i-test+else-tag-eq-END}
+use Rattle.walk.proofs.walk.Goals.{in-Some, in-None+in-Ok+else-loop-i-test+else-tag-eq-END}
 
 -- ---- what is known at a place of the code
 
 -- ---- the needs
 
-pub fields-init : goal.fields-init
-fields-init c = (stands-first _ _ _ _ _ _ c.requires.0, refl, refl)
-
 pub loop-i-init : goal.loop-i-init
 loop-i-init c =
-    let head-is : head_at c.args.s.now c.fields.at ≡ right c.in-Right.tag c.in-Right.size = sym c.head_at.ensures ∙ ap head_is c.in-Right.is in
+    let head-is : head_at c.args.s.now c.fields.at ≡ right c.in-Ok.tag c.in-Ok.size = sym c.head_at.ensures ∙ ap head_is c.in-Ok.is in
     (read_none _ _ _ (head-whole _ _ _ _ head-is) (head-short _ _ _ _ head-is), refl)
-
-pub overflow_add-p : goal.overflow_add-p
-overflow_add-p c = omega (arith, c.loop-i.invariant.0.within)
-
-pub overflow_add-p-in-loop-i : goal.overflow_add-p-in-loop-i
-overflow_add-p-in-loop-i c = omega (arith, c.loop-i.invariant.0.within)
 
 pub overflow_mul-value : goal.overflow_mul-value
 overflow_mul-value c =
     let small : (k : ℕ) → byte_at c.args.s.now k < 256 = λ k. omega (arith, c.type_inv.s k) in
     omega (arith, read_fits c.loop-i.invariant.0 small c.loop-i-test.true)
 
-pub bounds-s-p : goal.bounds-s-p
-bounds-s-p c = omega (arith, c.if-p-s.false)
-
 pub overflow_add-value : goal.overflow_add-value
 overflow_add-value c =
     let small : (k : ℕ) → byte_at c.args.s.now k < 256 = λ k. omega (arith, c.type_inv.s k) in
-    omega (arith, read_fits c.loop-i.invariant.0 small c.loop-i-test.true, c.wide.ensures.1)
-
-pub overflow_add-i : goal.overflow_add-i
-overflow_add-i c = omega (arith, c.loop-i.invariant.0.within)
-
-pub loop-i-smaller : goal.loop-i-smaller
-loop-i-smaller c = omega (arith, c.loop-i-test.true)
+    omega (arith, read_fits c.loop-i.invariant.0 small c.loop-i-test.true, c.type_inv.s (c.fields.at + 3 + c.loop-i.i))
 
 pub loop-i-preserved : goal.loop-i-preserved
-loop-i-preserved c = (read_more c.loop-i.invariant.0 c.loop-i-test.true c.if-p-s.false c.wide.result c.wide.ensures.0, c.loop-i.invariant.1)
-
-pub overflow_add-next : goal.overflow_add-next
-overflow_add-next c =
-    let whole : c.fields.at + 3 + c.in-Right.size ≤ length c.args.s.now = omega (arith, c.loop-i-test.false, c.loop-i.invariant.0.few, c.loop-i.invariant.0.within) in
-    omega (arith, whole)
-
-pub overflow_add-next-in-Right : goal.overflow_add-next-in-Right
-overflow_add-next-in-Right c =
-    let whole : c.fields.at + 3 + c.in-Right.size ≤ length c.args.s.now = omega (arith, c.loop-i-test.false, c.loop-i.invariant.0.few, c.loop-i.invariant.0.within) in
-    omega (arith, whole)
-
-pub answer-done-requires : goal.answer-done-requires
-answer-done-requires c =
-    let f = c.fields in
-    let s = c in
-    let e = c.fields-test.true in
-    (f.invariant.0.made, stands-room f.invariant.0 s.requires.2 e s.requires.3, omega (arith, e, s.requires.1))
-
-pub fields-smaller : goal.fields-smaller
-fields-smaller c = omega (arith, c.fields-test.true)
+loop-i-preserved c = (read_more c.loop-i.invariant.0 c.loop-i-test.true c.if-p-s.false _ refl, c.loop-i.invariant.1)
 
 pub fields-preserved : goal.fields-preserved
 fields-preserved c =
     let small : (k : ℕ) → byte_at c.args.s.now k < 256 = λ k. omega (arith, c.type_inv.s k) in
     let found : request_item_at c.args.s.now c.fields.at ≡ request (call_is c.match-quick_at.q) c.match-quick_at.next =
     elim c.match-quick_at.branch [
-      | in-Whole w ↦ rw (w.q-is, w.next-is) (rw w.in-Whole.is at c.quick_at.ensures)
-      | in-Other+in-Right+else-loop-i-test+else-tag-eq-END w ↦
-          rw (w.q-is, w.next-is) (read-request w.loop-i.invariant.0 small w.in-Right.tag (sym w.head_at.ensures ∙ ap head_is w.in-Right.is) w.loop-i-test.false w.if-tag-eq-END.false _ w.request_of-q.ensures)
+      | in-Some w ↦ rw (w.q-is, w.next-is) (rw w.in-Some.is at c.quick_at.ensures)
+      | in-None+in-Ok+else-loop-i-test+else-tag-eq-END w ↦
+          rw (w.q-is, w.next-is) (read-request w.loop-i.invariant.0 small w.in-Ok.tag (sym w.head_at.ensures ∙ ap head_is w.in-Ok.is) w.loop-i-test.false w.if-tag-eq-END.false _ w.request_of-q.ensures)
     ] in
     let goes_on : c.match-quick_at.why ≡ Limit =
     elim c.match-quick_at.branch [
-      | in-Whole w ↦ w.why-is ∙ c.fields.invariant.1
-      | in-Other+in-Right+else-loop-i-test+else-tag-eq-END w ↦ w.why-is ∙ w.loop-i.invariant.1 ∙ c.fields.invariant.1
+      | in-Some w ↦ w.why-is ∙ c.fields.invariant.1
+      | in-None+in-Ok+else-loop-i-test+else-tag-eq-END w ↦ w.why-is ∙ w.loop-i.invariant.1 ∙ c.fields.invariant.1
     ] in
     let f = c.fields in
     (stands-next f.invariant.0 c.fields-test.true _ _ found c.answer-done.ensures, goes_on, c.answer-done.auto.t ∙ f.invariant.2)
@@ -98,18 +58,18 @@ returns-after-fields c =
     let s = c in
     rw f.invariant.1 (stops f.invariant.0 Limit (walk-limit _ _ _ _ _ _ c.fields-test.false) (omega (arith, text-most f.invariant.0 s.requires.2, f.invariant.0.few)))
 
-pub returns-in-Refused : goal.returns-in-Refused
-returns-in-Refused c =
+pub returns-in-Err : goal.returns-in-Err
+returns-in-Err c =
     let f = c.fields in
     let s = c in
     let e = c.fields-test.true in
-    stops f.invariant.0 (Refused c.in-Refused.x)
-    (walk-bad _ _ _ _ _ _ e _ _ (item-wrong _ _ _ _ (sym c.head_at.ensures ∙ ap head_is c.in-Refused.is)))
+    stops f.invariant.0 (Refused c.in-Err.x)
+    (walk-bad _ _ _ _ _ _ e _ _ (item-wrong _ _ _ _ (sym c.head_at.ensures ∙ ap head_is c.in-Err.is)))
     (omega (arith, text-most f.invariant.0 s.requires.2, e))
 
 pub returns-then-p-s : goal.returns-then-p-s
 returns-then-p-s c =
-    let head-is : head_at c.args.s.now c.fields.at ≡ right c.in-Right.tag c.in-Right.size = sym c.head_at.ensures ∙ ap head_is c.in-Right.is in
+    let head-is : head_at c.args.s.now c.fields.at ≡ right c.in-Ok.tag c.in-Ok.size = sym c.head_at.ensures ∙ ap head_is c.in-Ok.is in
     let f = c.fields in
     let s = c in
     let e = c.fields-test.true in
@@ -119,8 +79,8 @@ returns-then-p-s c =
 
 pub returns-then-tag-eq-END : goal.returns-then-tag-eq-END
 returns-then-tag-eq-END c =
-    let head-is : head_at c.args.s.now c.fields.at ≡ right c.in-Right.tag c.in-Right.size = sym c.head_at.ensures ∙ ap head_is c.in-Right.is in
-    let whole : c.fields.at + 3 + c.in-Right.size ≤ length c.args.s.now = omega (arith, c.loop-i-test.false, c.loop-i.invariant.0.few, c.loop-i.invariant.0.within) in
+    let head-is : head_at c.args.s.now c.fields.at ≡ right c.in-Ok.tag c.in-Ok.size = sym c.head_at.ensures ∙ ap head_is c.in-Ok.is in
+    let whole : c.fields.at + 3 + c.in-Ok.size ≤ length c.args.s.now = omega (arith, c.loop-i-test.false, c.loop-i.invariant.0.few, c.loop-i.invariant.0.within) in
     let f = c.fields in
     let s = c in
     let e = c.fields-test.true in

@@ -25,6 +25,3 @@ returns-in-Lag c =
 
 pub returns-in-Restarted : goal.returns-in-Restarted
 returns-in-Restarted c = c.one-in-Restarted.ensures ∙ rw c.in-Restarted.is
-
-pub returns-in-Refused : goal.returns-in-Refused
-returns-in-Refused c = c.refusal_words.ensures ∙ rw c.in-Refused.is

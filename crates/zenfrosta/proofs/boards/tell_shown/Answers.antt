@@ -1,16 +1,21 @@
--- `tell_shown` meets its contract. Assumes nothing.
+-- `boards::tell_shown` meets its contract. Assumes nothing.
+use mathlib.Core.Path.{◌≡◌, refl, ◌∙◌}
+use Rattle.std.specs.Prelude.{Option, Some, None, Ok, Err}
+use Rattle.desk_line.specs.declared.Line.{Line}
+use Rattle.journal.specs.Reads.{shown}
+use Rattle.zenfrosta.specs.Board.{board_code}
 use Rattle.zenfrosta.proofs.Spoken.{told-as}
-use borrow.Author.Rules.{rules}
 use Rattle.zenfrosta.proofs.boards.tell_shown.Goals as goal
 
-pub returns-in-Free : goal.returns-in-Free
-returns-in-Free c =
-    let e = c.in-Free.is in (rw e, told-as _ _ _ _ (rw e) c.speak.ensures)
+-- what stands on a line is told by 0
+shown-code : (l : Option Line) → 0 ≡ board_code (shown (Ok l))
+shown-code None = refl
+shown-code (Some l) = refl
 
-pub returns-in-Holds : goal.returns-in-Holds
-returns-in-Holds c =
-    let e = c.in-Holds.is in (rw e, told-as _ _ _ _ (rw e) c.speak-in-Holds.ensures)
+pub returns-in-Ok : goal.returns-in-Ok
+returns-in-Ok c =
+    let e = c.in-Ok.is in (rw e (shown-code c.in-Ok.l), told-as _ _ _ _ (c.line_words.ensures ∙ rw e) c.speak.ensures)
 
-pub returns-in-Refused : goal.returns-in-Refused
-returns-in-Refused c =
-    let e = c.in-Refused.is in let w = c.refuse.ensures in (rw e w.0, rw e w.1)
+pub returns-in-Err : goal.returns-in-Err
+returns-in-Err c =
+    let e = c.in-Err.is in let w = c.refuse.ensures in (rw e w.0, rw e w.1)

@@ -1,25 +1,22 @@
--- `tell_offer` meets its contract. Assumes nothing.
-use mathlib.Core.Path.{◌∙◌}
+-- `offers::tell_offer` meets its contract. Assumes nothing.
+use mathlib.Core.Path.{◌≡◌, refl, ◌∙◌}
+use Rattle.std.specs.Prelude.{Option, Some, None, Ok, Err}
+use Rattle.scheduler.specs.Step.{offering}
+use Rattle.scheduler.specs.declared.Offered.{Offered}
+use Rattle.scheduler.specs.declared.Offered.TheVariants.{InForce, Waits}
+use Rattle.zenfrosta.specs.Crossing.{offer_code}
 use Rattle.zenfrosta.proofs.Spoken.{told-as}
-use borrow.Author.Rules.{rules}
 use Rattle.zenfrosta.proofs.offers.tell_offer.Goals as goal
 
-pub returns-in-InForce : goal.returns-in-InForce
-returns-in-InForce c =
-    let e = c.in-InForce.is in
-    (rw e, told-as _ _ _ _ (rw e) c.speak.ensures)
+-- a page that is taken is told by 0
+offered-code : (o : Offered) → 0 ≡ offer_code (offering (Ok o))
+offered-code InForce = refl
+offered-code Waits = refl
 
-pub returns-in-Waits : goal.returns-in-Waits
-returns-in-Waits c =
-    let e = c.in-Waits.is in
-    (rw e, told-as _ _ _ _ (rw e) c.speak-in-Waits.ensures)
+pub returns-in-Ok : goal.returns-in-Ok
+returns-in-Ok c =
+    let e = c.in-Ok.is in (rw e (offered-code c.in-Ok.o), told-as _ _ _ _ (c.offered_words.ensures ∙ rw e) c.speak.ensures)
 
-pub returns-in-Old : goal.returns-in-Old
-returns-in-Old c =
-    let e = c.in-Old.is in
-    (rw e, told-as _ _ _ _ (rw e) c.speak-in-Old.ensures)
-
-pub returns-in-Refused : goal.returns-in-Refused
-returns-in-Refused c =
-    let e = c.in-Refused.is in
-    (c.number.ensures.0 ∙ rw e, told-as _ _ _ _ (c.refusal_words-w.ensures ∙ rw e) c.speak-in-Refused.ensures)
+pub returns-in-Err : goal.returns-in-Err
+returns-in-Err c =
+    let e = c.in-Err.is in let w = c.refuse_offer.ensures in (rw e w.0, rw e w.1)

@@ -23,8 +23,8 @@ returns-in-End c = rw c.in-End.is
 pub returns-in-Limit : goal.returns-in-Limit
 returns-in-Limit c = rw c.in-Limit.is
 
-pub returns-in-At : goal.returns-in-At
-returns-in-At c = at-refusal _ _ _ c.in-Refused.is (sym (ap place_is c.in-At.is) ∙ c.place_of.ensures)
+pub returns-in-Some : goal.returns-in-Some
+returns-in-Some c = at-refusal _ _ _ c.in-Refused.is (sym (ap place_is c.in-Some.is) ∙ c.place_of.ensures)
 
-pub returns-in-Nowhere : goal.returns-in-Nowhere
-returns-in-Nowhere c = at-refusal _ _ _ c.in-Refused.is (sym (ap place_is c.in-Nowhere.is) ∙ c.place_of.ensures)
+pub returns-in-None : goal.returns-in-None
+returns-in-None c = at-refusal _ _ _ c.in-Refused.is (sym (ap place_is c.in-None.is) ∙ c.place_of.ensures)

@@ -4,10 +4,10 @@ use Rattle.zenfrosta.proofs.Spoken.{told-as}
 use borrow.Author.Rules.{rules}
 use Rattle.zenfrosta.proofs.sheets.tell_written.Goals as goal
 
-pub returns-in-Size : goal.returns-in-Size
-returns-in-Size c =
-    let e = c.in-Size.is in (rw e, told-as _ _ _ _ (rw e) c.speak.ensures)
+pub returns-in-Ok : goal.returns-in-Ok
+returns-in-Ok c =
+    let e = c.in-Ok.is in (rw e, told-as _ _ _ _ (c.one.ensures ∙ rw e) c.speak.ensures)
 
-pub returns-in-Refused : goal.returns-in-Refused
-returns-in-Refused c =
-    let e = c.in-Refused.is in (c.unwritten_code.ensures ∙ rw e, told-as _ _ _ _ (rw e) c.speak-in-Refused.ensures)
+pub returns-in-Err : goal.returns-in-Err
+returns-in-Err c =
+    let e = c.in-Err.is in (c.unwritten_code.ensures ∙ rw e, told-as _ _ _ _ (c.one-in-Err.ensures ∙ rw e) c.speak-in-Err.ensures)

@@ -1,9 +1,0 @@
--- `judge::within` meets its contract. Assumes nothing.
-use borrow.Author.Tests.{le-leb, lt-leb}
-use Rattle.sheet.proofs.judge.within.Goals as goal
-
-pub returns-then-low-n : goal.returns-then-low-n
-returns-then-low-n c = rw (le-leb c.args.low c.args.n c.if-low-n.true)
-
-pub returns-else-low-n : goal.returns-else-low-n
-returns-else-low-n c = rw (lt-leb c.args.low c.args.n c.if-low-n.false)
