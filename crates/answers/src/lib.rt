@@ -16,10 +16,11 @@ ghost use Rattle.lines.specs.Line.{Words32, Line};
 ghost use Rattle.answers.specs.Lines.{InSetup, line_by};
 ghost use Rattle.answers.specs.Answers.{Made, Answers};
 
-use lines::{put_accepted, put_lag, put_no, put_record, put_restarted, put_sets, put_verb};
+use lines::{put_accepted, put_lag, put_no, put_record, put_restarted, put_sets};
 use requests::Request;
 use rules::{Answer, Refusal};
 use table::row;
+use text::put_word;
 
 // How far the answers have come: the requests answered, and the place behind their lines.
 #[derive(Clone, Copy)]
@@ -65,11 +66,11 @@ fn tell_done(t: &[u8], a: &mut [u8], at: usize, x: Answer) -> usize
     match x {
         Answer::Accepted(n) => put_accepted(a, at, n),
         Answer::Taken(r) => {
-            let p = put_verb(a, at, false);
+            let p = put_word(a, at, b"take");
             put_record(a, p, r, shared_lane(t, r.lane))
         }
         Answer::Seen(r) => {
-            let p = put_verb(a, at, true);
+            let p = put_word(a, at, b"look");
             put_record(a, p, r, shared_lane(t, r.lane))
         }
         Answer::Sets(w) => put_sets(a, at, w),

@@ -1,7 +1,7 @@
--- The tests of one line: two words, a train, a free line; and the steps of a search. Assumes nothing.
+-- The tests of one line: two words, a train, a free line; and the bits of the trains passed. Assumes nothing.
 use Prim.Native.Nat.{ℕ, ◌+◌, ◌≤◌, ◌<◌, ◌/◌, ◌%◌, ◌^◌}
 use native.Mathlib.Omega.{arith}
-use mathlib.Core.Path.{◌≡◌, refl, sym, subst, ◌∙◌}
+use mathlib.Core.Path.{◌≡◌, sym, subst, ◌∙◌}
 use mathlib.Core.Bool.{Bool, true, false, false≢true}
 use mathlib.Core.Logic.{⊎_elim}
 use mathlib.Core.Option.{Option}
@@ -9,12 +9,12 @@ use mathlib.Core.List.{List}
 use lib.Dec.{eqb, leb}
 use lib.ListN.{length, get_or, set}
 use lib.Seq.{get_or-set_same, get_or-set_other}
-use borrow.Author.Tests.{eq-eqb, ne_eqb, lt-ltb, le-ltb, eqb-true, eqb-false}
+use borrow.Author.Tests.{eq-eqb, ne_eqb, lt-ltb, le-ltb, eqb-false}
 use Rattle.words.specs.Bits.{bit}
 use Rattle.words.proofs.Runs.{le-or-lt, eq-or-ne}
 use Rattle.words.proofs.Bits.{bit-add-same, bit-add-other}
-use Rattle.desk.specs.Board.{Handover, Board, line_at, is_of, is_free}
-use Rattle.board.specs.Layout.{BitMarked, TrainOf, SeenBelow, SeenHere, handover_of, well_formed, Parted, Found}
+use Rattle.desk.specs.Board.{Handover, Board, is_of, is_free}
+use Rattle.board.specs.Layout.{BitMarked, TrainOf, SeenBelow, SeenHere, handover_of, well_formed, Parted}
 use Rattle.desk_line.specs.declared.Line.{Line}
 
 -- ---- two words
@@ -61,29 +61,7 @@ module _ (l : Line) (x : Option Handover) (e : handover_of l ≡ x) where
   pub free-kind : eqb l.kind 0 ≡ is_free x
   free-kind = ⊎_elim (λ (z : l.kind ≡ 0). rw (← e, eq-eqb l.kind 0 z)) (λ (n : l.kind ≡ 0 → ⊥). rw (← e, ne_eqb l.kind 0 n)) (eq-or-ne l.kind 0)
 
--- ---- a search
-
-module _ (p : Option Handover → Bool) (b : Board) where
-  pub missed_more : (k : ℕ) → ((j : ℕ) → j < k → p (line_at b j) ≡ false) → p (line_at b k) ≡ false → (j : ℕ) → j < k + 1 → p (line_at b j) ≡ false
-  missed_more k f e j h = ⊎_elim (λ (q : j ≡ k). rw q e) (λ (q : j ≡ k → ⊥). f j (omega arith)) (eq-or-ne j k)
-
-  pub found_at : (n k : ℕ) → k ≤ n → ((j : ℕ) → j < k → p (line_at b j) ≡ false) → p (line_at b k) ≡ true → Found p b n k
-  found_at n k h f e = record { within = h; missed = f; hit = λ q. e }
-
-  pub found_none : (n k : ℕ) → k ≡ n → ((j : ℕ) → j < k → p (line_at b j) ≡ false) → Found p b n n
-  found_none n k e f = record { within = omega arith; missed = λ j h. f j (omega arith); hit = λ q. absurd (omega arith) }
-
 -- ---- whether a line's train is on a line below
-
-pub parted-free : (b : Board) (k : ℕ) → ((u : ℕ) → false ≡ is_of u (line_at b k)) → Parted true b k
-parted-free b k f j u h x y = false≢true (f u ∙ y)
-
-pub parted-by : (b : Board) (k u r : ℕ) → ((v : ℕ) → eqb u v ≡ is_of v (line_at b k)) → Found (is_of u) b k r → Parted (eqb r k) b k
-parted-by b k u r f w =
-    ⊎_elim
-    (λ (e : r ≡ k). subst (λ v. Parted v b k) (sym (eq-eqb r k e)) (λ j v h x y. let z = eqb-true u v (f v ∙ y) in false≢true (sym (w.missed j (omega arith)) ∙ (rw (← z) at x))))
-    (λ (n : r ≡ k → ⊥). let lt : r < k = omega (arith, w.within) in subst (λ v. Parted v b k) (sym (ne_eqb r k n)) (r, u, lt, w.hit lt, sym (f u) ∙ eq-eqb u u refl))
-    (eq-or-ne r k)
 
 pub parted-known : (b : Board) (k : ℕ) (v w : Bool) → Parted v b k → v ≡ w → Parted w b k
 parted-known b k v w p e = subst (λ x. Parted x b k) e p
@@ -104,11 +82,6 @@ two-bits x n = ⊎_elim (λ (h : x % 2 ≤ 0). omega arith) (λ (h : 0 < x % 2).
 
 pub bit-unset : (k s : ℕ) → eqb (bit k s) 1 ≡ false → bit k s ≡ 0
 bit-unset k s e = two-bits (s / 2 ^ k) (eqb-false (bit k s) 1 e)
-
-pub parted-unmarked : (b : Board) (k u s : ℕ) → SeenHere b k s → ((v : ℕ) → eqb u v ≡ is_of v (line_at b k)) → eqb (bit (u % 64) s) 1 ≡ false → Parted true b k
-parted-unmarked b k u s seen f e j v h x y =
-    let z : u ≡ v = eqb-true u v (f v ∙ y) in
-    eqb-false (bit (u % 64) s) 1 e (seen j u h (rw (← z) at x) (rw (← z) at y))
 
 pub seen_none : (b : Board) (s : List ℕ) → SeenBelow b 0 s
 seen_none b s j u h = absurd (omega arith)

@@ -11,12 +11,15 @@
 --   well_formed                two words are a line: the test of 29, for one line
 --   NoBoard, TellsBoard       R11.4: the bytes show none; what the test of 29 says of bytes
 --   Decided                   bytes show a board or none
---   Found                     where a test first passes on the lines below n
+--   Found                     where a test first passes on the lines below n; n where it passes on none
+--   FoundFirst                the same of an answer: None where it passes on none, else a line below n
 --   Parted                    whether a line's train stands on no line below
 --   BitMarked, TrainOf        a word with one more bit set; the train of a line
 --   SeenBelow, SeenHere       the bits of the trains that the test has passed: of all, and of one line's train
 --
 -- Assumes nothing.
+use Rattle.std.specs.Prelude as core
+use Rattle.std.specs.Prelude.{Some, None}
 use Rattle.std.specs.Prelude.{ℕ, ◌+◌, ◌*◌, ◌/◌, ◌%◌, ◌≤◌, ◌<◌, ◌≡◌, Bool, true, false, ◌⊎◌, List, eqb, ltb, leb, length, get_or, if◌then◌else◌}
 use Rattle.std.proofs.Math.Option.{Option, none, some}
 use Rattle.words.specs.Runs.{tab}
@@ -102,6 +105,10 @@ pub record Found (p : Option Handover → Bool) (b : Board) (n r : ℕ) : Type 0
   pub within : r ≤ n
   pub missed : (j : ℕ) → j < r → p (line_at b j) ≡ false
   pub hit : r < n → p (line_at b r) ≡ true
+
+abbrev pub FoundFirst : (Option Handover → Bool) → Board → ℕ → core.Option ℕ → Type 0
+FoundFirst p b n None = Found p b n n
+FoundFirst p b n (Some k) = Found p b n k × (k < n)
 
 -- ---- the bits of the trains that were passed
 

@@ -9,7 +9,7 @@
 ghost use Rattle.std.specs.Prelude.{◌≡◌, ◌+◌, ◌*◌, ◌/◌, ◌%◌, ◌^◌, ◌<◌, ◌≤◌, eqb};
 ghost use Rattle.desk.specs.Board.{line_at, is_of, is_free};
 ghost use Rattle.words.specs.Words.{word_at, put_word};
-ghost use Rattle.board.specs.Layout.{BoardRoom, board_of, handover_of, well_formed, TellsBoard, Parted, Found, BitMarked, TrainOf, SeenHere};
+ghost use Rattle.board.specs.Layout.{BoardRoom, board_of, handover_of, well_formed, TellsBoard, Parted, FoundFirst, BitMarked, TrainOf, SeenHere};
 ghost use Rattle.words.specs.Bits.{bit};
 
 use desk_line::Line;
@@ -87,30 +87,30 @@ fn is_free(t: &[u8], k: usize) -> bool
     l.kind == 0
 }
 
-// The first line below `n` that is of a train; `n` where there is none.
-pub fn find(t: &[u8], train: u32, n: usize) -> usize
+// The first line below `n` that is of a train.
+pub fn find(t: &[u8], train: u32, n: usize) -> Option<usize>
     requires { BoardRoom t.now × (n ≤ 64) }
-    ensures { Found (is_of train) (board_of t.now) n result }
+    ensures { FoundFirst (is_of train) (board_of t.now) n result }
 {
     for k in 0..n {
         if is_of(t, k, train) {
-            return k;
+            return Some(k);
         }
     }
-    n
+    None
 }
 
-// The lowest free line; 64 where there is none.
-pub fn lowest(t: &[u8]) -> usize
+// The lowest free line.
+pub fn lowest(t: &[u8]) -> Option<usize>
     requires { BoardRoom t.now }
-    ensures { Found is_free (board_of t.now) 64 result }
+    ensures { FoundFirst is_free (board_of t.now) 64 result }
 {
     for k in 0..LINES {
         if is_free(t, k) {
-            return k;
+            return Some(k);
         }
     }
-    LINES
+    None
 }
 
 // Whether two words are a line: free, joined, or left with a sequence of 1 or more.
@@ -186,7 +186,7 @@ fn parted(t: &[u8], k: usize, seen: u64) -> bool
     if !marked(seen, l.train) {
         return true;
     }
-    find(t, l.train, k) == k
+    find(t, l.train, k).is_none()
 }
 
 // Whether the bytes show a board that the rules can make.

@@ -13,7 +13,7 @@ use Rattle.table.specs.Means.{present_at, Next}
 use Rattle.table.proofs.Next.{bit-absent}
 use Rattle.table.proofs.Footprint.{Outside, others-kept, present-kept, row_kept, lane-kept, housed-kept}
 use Rattle.table.proofs.Rows.{lane-absent}
-use Rattle.old_table.proofs.Reading.{old-absent}
+use Rattle.old_table.specs.Kept.{old-absent}
 use Rattle.convert.specs.Over.{Carried, LaneOver, LaneMoved, Over}
 
 -- a lane that is not in the setup is nothing in either

@@ -22,7 +22,7 @@ use Rattle.table.proofs.Footprint.{present-kept}
 use Rattle.table.proofs.Agrees.{paced-retimed}
 use Rattle.table.proofs.Rows.{retimed, row_put, lane-put, entry-put, waiting-plain}
 use Rattle.old_table.specs.Old.{old_row_at, old_ring, old_queue, OldTable}
-use Rattle.old_table.proofs.Reading.{old-present}
+use Rattle.old_table.specs.Kept.{old-present}
 use Rattle.old_table.proofs.Whole.{old-lanes, lane-lengths}
 use Rattle.convert.specs.Over.{Carried, NoPlace, LaneMoved, unrolled}
 

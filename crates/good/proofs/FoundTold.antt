@@ -32,7 +32,7 @@ use Rattle.lists_test.proofs.Exact.{agrees-stored}
 use Rattle.lane_test.specs.Says.{LaneFine}
 use Rattle.good.specs.Pass.{FoundSays, holds_at, eligible_at}
 use Rattle.good.specs.declared.Found.{Found}
-use Rattle.good.proofs.Kept.{Kept, given-kept, waiting_kept}
+use Rattle.good.specs.Kept.{Kept, given-kept, waiting_kept}
 use Rattle.good.proofs.Sums.{any_some, word_some}
 use Rattle.good.proofs.Told.{Told, Means, one, lane_of, far-lane, each_lane, by-holds, weights-are, setup-size, held-bit}
 

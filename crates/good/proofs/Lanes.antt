@@ -26,7 +26,7 @@ use Rattle.lane_test.specs.Says.{LaneFine}
 use Rattle.table.proofs.Agrees.{paced-group}
 use Rattle.good.specs.Pass.{Noted, FoundSays, sum_to, holds_at, eligible_at}
 use Rattle.good.specs.declared.Found.{Found}
-use Rattle.good.proofs.Kept.{Kept, given-kept, waiting_kept}
+use Rattle.good.specs.Kept.{Kept, given-kept, waiting_kept}
 
 pub found_none : (v : ℕ) (w : List ℕ) (lane : ℕ → Lane) (P : ℕ → Type 0) → FoundSays v w lane P 0 (record { weights = 0; held = 0; eligible = false })
 unfolding sum_to word_of any_below

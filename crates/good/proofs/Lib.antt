@@ -1,4 +1,3 @@
-pub mod Kept
 pub mod Lanes
 pub mod Walk
 pub mod Sums

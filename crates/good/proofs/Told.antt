@@ -25,7 +25,7 @@ use Rattle.slot_lists.specs.Lists.{back_at, list_at, start_at, Solid}
 use Rattle.filing.specs.Filing.{in_aRow, Agrees}
 use Rattle.lane_test.specs.Says.{LaneFine}
 use Rattle.good.specs.Pass.{sum_to, weight_at, holds_at}
-use Rattle.good.proofs.Kept.{Kept}
+use Rattle.good.specs.Kept.{Kept}
 use Rattle.good.proofs.Sums.{sum-map, sum-tab}
 
 -- a good state, and what is stored of it agrees

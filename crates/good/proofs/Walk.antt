@@ -17,7 +17,7 @@ use Rattle.lane_test.specs.Says.{Says, LaneFine}
 use Rattle.lane_test.proofs.Setting.{says-yes, says-no}
 use Rattle.good.specs.Pass.{Noted, FoundSays}
 use Rattle.good.specs.declared.Found.{Found}
-use Rattle.good.proofs.Kept.{Kept}
+use Rattle.good.specs.Kept.{Kept}
 use Rattle.good.proofs.Lanes.{found_none, found-next, found-noted, note-weight, note-group}
 
 -- how a table keeps its lanes, and its test of one

@@ -15,7 +15,7 @@ use Rattle.lane_test.specs.Says.{Says, LaneFine, LaneGood}
 use Rattle.good.specs.Pass.{FoundSays}
 use Rattle.good.specs.Table.{GoodTable}
 use Rattle.good.specs.declared.Found.{Found}
-use Rattle.good.proofs.Kept.{today}
+use Rattle.good.specs.Kept.{today}
 use Rattle.good.proofs.Told.{Told, Means, told-fine, told-framing}
 use Rattle.good.proofs.FoundTold.{found-told, told-found}
 

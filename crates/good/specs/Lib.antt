@@ -1,3 +1,4 @@
 pub mod Pass
 pub mod Table
 pub mod Encodes
+pub mod Kept

@@ -6,18 +6,19 @@
 // (crate `lists_test`).
 #![tactic(auto)]
 
-ghost use Rattle.std.specs.Prelude.{◌≡◌, true, ◌+◌, ◌^◌, ◌<◌, ◌≤◌, get_or};
-ghost use Rattle.table.specs.Layout.{Room, cells, framing_word};
-ghost use Rattle.table.specs.Means.{lane_of};
+ghost use Rattle.std.specs.Prelude.{ℕ, List, ◌≡◌, true, ◌+◌, ◌^◌, ◌<◌, ◌≤◌, get_or};
+ghost use Rattle.table.specs.Layout.{Front, Room, cells, framing_word};
+ghost use Rattle.table.specs.Means.{present_at};
 ghost use Rattle.rings.specs.Rings.{Long};
-ghost use Rattle.lane_test.specs.Says.{Says, LaneGood};
+ghost use Rattle.lane_test.specs.Says.{Says, LaneFine, LaneGood};
 ghost use Rattle.lists_test.specs.Stored.{ListsStored};
+ghost use Rattle.rules.specs.State.{lane_depth};
+ghost use Rattle.good.specs.Kept.{Kept, today};
 ghost use Rattle.good.specs.Pass.{Noted, PassSays};
 ghost use Rattle.good.specs.Table.{GoodTable};
 
-use lane_test::lane_good;
 use lists_test::lists_good;
-use table::{DEPTH, DEPTH_NUMBER, FRAMING, LaneRow, PRESENT, SIZE, cell, clock, row};
+use table::{DEPTH, DEPTH_NUMBER, FRAMING, LaneRow, PRESENT, SIZE, cell, clock};
 use units::{Clock, rounded_start};
 use words::SetBits;
 
@@ -55,10 +56,54 @@ pub fn note(f: Found, k: usize, l: LaneRow, v: Clock) -> Found
     Found { weights, held, ..f }
 }
 
+// How a layout keeps its lanes: how the row of one is read, and its test.
+pub trait Layout {
+    ghost room: { List ℕ → Type 0 };
+
+    ghost depth: { ℕ };
+
+    ghost kept: { (w : List ℕ) → Kept w };
+
+    ghost passes: { ℕ → List ℕ → ℕ → Type 0 };
+
+    fn row(t: &[u8], k: usize) -> LaneRow
+        requires { room t.now × (k < 64) }
+        ensures { (result ≡ (kept (cells t.now)).row k) × (result.head < depth) × (result.rate.0 < 2 ^ 24) };
+
+    fn lane_good(t: &[u8], k: usize, l: LaneRow, v: Clock) -> bool
+        requires { room t.now × (k < 64) × (present_at (cells t.now) k ≡ true) × (l ≡ (kept (cells t.now)).row k) × (l.head < depth) × (l.rate.0 < 2 ^ 24) × (v.0 < 2 ^ 63) × (l.framing.0 ≤ 64) }
+        ensures { Says result (passes v.0 (cells t.now) k) };
+
+    ghost fine: { (v : ℕ) (w : List ℕ) (k : ℕ) → passes v w k → LaneFine v ((kept w).row k) ((kept w).lane k) };
+}
+
+// Today's layout.
+struct Today;
+
+impl Layout for Today {
+    ghost room = { Room };
+
+    ghost depth = { lane_depth };
+
+    ghost kept = { today };
+
+    ghost passes = { LaneGood };
+
+    ghost fine = { λ v w k g. g.fine };
+
+    fn row(t: &[u8], k: usize) -> LaneRow {
+        table::row(t, k)
+    }
+
+    fn lane_good(t: &[u8], k: usize, l: LaneRow, v: Clock) -> bool {
+        lane_test::lane_good(t, k, l, v)
+    }
+}
+
 // The pass over the lanes of the setup: what it found, or none where a lane is not good.
-fn lanes_good(t: &[u8], v: Clock) -> Option<Found>
-    requires { Room t.now × (v.0 < 2 ^ 63) × (get_or (cells t.now) framing_word 0 ≤ 64) }
-    ensures { PassSays v.0 (cells t.now) (lane_of (cells t.now)) (LaneGood v.0 (cells t.now)) result }
+pub fn lanes_good<L: Layout>(t: &[u8], v: Clock) -> Option<Found>
+    requires { Front t.now × L.room t.now × (v.0 < 2 ^ 63) × (get_or (cells t.now) framing_word 0 ≤ 64) }
+    ensures { PassSays v.0 (cells t.now) (L.kept (cells t.now)).lane (L.passes v.0 (cells t.now)) result }
 {
     let mut found = Found {
         weights: 0,
@@ -67,8 +112,8 @@ fn lanes_good(t: &[u8], v: Clock) -> Option<Found>
     };
     for lane in SetBits(cell(t, PRESENT)) {
         let k = lane as usize;
-        let l = row(t, k);
-        let good = lane_good(t, k, l, v);
+        let l = L::row(t, k);
+        let good = L::lane_good(t, k, l, v);
         if !good {
             return None;
         }
@@ -127,7 +172,7 @@ pub fn good(t: &[u8]) -> bool
     if cell(t, FRAMING) > MOST_FRAMING {
         return false;
     }
-    match lanes_good(t, v) {
+    match lanes_good::<Today>(t, v) {
         None => false,
         Some(f) => found_good(t, f),
     }

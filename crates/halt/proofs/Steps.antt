@@ -2,7 +2,7 @@
 use Prim.Native.Nat.{ℕ, ◌≤◌, ◌<◌}
 use native.Mathlib.Omega.{arith}
 use mathlib.Core.Path.{◌≡◌, refl, sym, ap, subst}
-use mathlib.Core.Bool.{Bool, true, false, not, false≢true}
+use mathlib.Core.Bool.{Bool, true, false, false≢true}
 use mathlib.Core.List.{List}
 use mathlib.Core.Option.{none}
 use lib.ListN.{length}
@@ -15,8 +15,6 @@ use Rattle.rules.specs.declared.Refusal.TheVariants.{NotGood, TableShort}
 use Rattle.plan.specs.Read.{read_setup, SetupReply, setup_refused, setup_read}
 use Rattle.table.specs.Layout.{table_size}
 use Rattle.pages.specs.Device.{answered}
-use Rattle.lane_test.specs.Says.{Says}
-use Rattle.lane_test.proofs.Setting.{says-yes, says-no}
 use Rattle.engine.specs.Does.{Unchanged}
 use Rattle.paged.specs.Paged.{GoodUnit}
 use Rattle.scheduler.specs.Step.{Step}
@@ -26,12 +24,12 @@ use Rattle.halt.specs.Halt.{HaltTable, HaltStep, OtherPlan, OwnPlan, Judged, Hal
 use Rattle.halt.specs.declared.NotMade.TheVariants.{NotAHalt, Refused}
 
 module _ (c : Call) (t : List ℕ) where
-  pub refused-step : (b : Bool) → (GoodUnit t → Says b (HaltTable t)) → not b ≡ true → HaltStep c t (Err NotGood) t
-  refused-step b s e = record { other = λ _. (refl, refl); same = λ h. absurd (says-no b (s h.good) e h) }
+  pub refused-step : (x : Refusal) → (HaltTable t → ⊥) × (x ≡ NotGood) → HaltStep c t (Err x) t
+  refused-step x (bad, e) = rw e (record { other = λ _. (refl, refl); same = λ h. absurd (bad h) })
 
   -- bytes that are no good table have the scheduler's own 10
-  pub same_step : (a : Result Answer Refusal) (u : List ℕ) (b : Bool) → (GoodUnit t → Says b (HaltTable t)) → not b ≡ false → Step c t a u → HaltStep c t a u
-  same_step a u b s e p = record { other = λ n. ten (reads a) (p.not_good (λ g. n (says-yes b (s g) e))) p.unchanged; same = λ _. p }
+  pub same_step : (a : Result Answer Refusal) (u : List ℕ) → (GoodUnit t → HaltTable t) → Step c t a u → HaltStep c t a u
+  same_step a u own p = record { other = λ n. ten (reads a) (p.not_good (λ g. n (own g))) p.unchanged; same = λ _. p }
     where
       ten : (r : Reply) → answered r ≡ answered (refused 10 none) → Unchanged r t u → (r ≡ refused 10 none) × (u ≡ t)
       ten r q k = let same : r ≡ refused 10 none = cc in (same, subst (λ (x : Reply). Unchanged x t u) same k)

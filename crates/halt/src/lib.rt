@@ -7,10 +7,11 @@
 // The four weights sum to 1,024, which is all that a setup may give (R1.2). So the first four lanes tell the whole setup, of a plan and of a table.
 #![tactic(auto)]
 
-ghost use Rattle.std.specs.Prelude.{◌<◌, ◌≡◌, map};
+ghost use Rattle.std.specs.Prelude.{◌<◌, ◌≡◌, map, OnOk, IfErr};
 ghost use Rattle.rules.specs.State.{lane_at};
 ghost use Rattle.rules.specs.Setup.{Setup};
 ghost use Rattle.rules.specs.Calls as Calls;
+ghost use Rattle.rules.specs.declared.Refusal.TheVariants.{NotGood};
 ghost use Rattle.plan.specs.Read.{setting_of, read_setup};
 ghost use Rattle.table.specs.Layout.{Front};
 ghost use Rattle.table.specs.Means.{meant};
@@ -135,6 +136,17 @@ fn is_halt(t: &[u8]) -> bool
     has_lane(t, 3, 128)
 }
 
+// Refuses by 10 what is no table of the halt's; bytes that are no good table it may pass, which the scheduler's calls refuse by the same number.
+fn halted(t: &[u8]) -> Result<(), Refusal>
+    ensures good { OnOk result (GoodUnit t.now → HaltTable t.now) }
+    ensures bad { IfErr result (λ x. (HaltTable t.now → ⊥) × (x ≡ NotGood)) }
+{
+    if !is_halt(t) {
+        return Err(Refusal::NotGood);
+    }
+    Ok(())
+}
+
 // Makes the halt's fresh table in the lent bytes, whatever they held: 7, then what is wrong with the setup, then 90. The answer: the number of its lanes.
 pub fn make(setup: &[u8], t: &mut [u8]) -> Result<usize, NotMade>
     ensures { HaltMake setup.now t.old result t.new }
@@ -153,9 +165,7 @@ pub fn make(setup: &[u8], t: &mut [u8]) -> Result<usize, NotMade>
 pub fn put(t: &mut [u8], lane: u8, mark: u32, length: Bytes) -> Result<Answer, Refusal>
     ensures { HaltStep (Calls.put lane 0 mark length.0) t.old result t.new }
 {
-    if !is_halt(t) {
-        return Err(Refusal::NotGood);
-    }
+    halted(t)?;
     scheduler::put(t, lane, 0, mark, length)
 }
 
@@ -163,9 +173,7 @@ pub fn put(t: &mut [u8], lane: u8, mark: u32, length: Bytes) -> Result<Answer, R
 pub fn take(t: &mut [u8]) -> Result<Answer, Refusal>
     ensures { HaltStep Calls.take t.old result t.new }
 {
-    if !is_halt(t) {
-        return Err(Refusal::NotGood);
-    }
+    halted(t)?;
     scheduler::take(t)
 }
 
@@ -173,9 +181,7 @@ pub fn take(t: &mut [u8]) -> Result<Answer, Refusal>
 pub fn look(t: &[u8]) -> Result<Answer, Refusal>
     ensures { HaltStep Calls.look t.now result t.now }
 {
-    if !is_halt(t) {
-        return Err(Refusal::NotGood);
-    }
+    halted(t)?;
     scheduler::look(t)
 }
 
@@ -183,9 +189,7 @@ pub fn look(t: &[u8]) -> Result<Answer, Refusal>
 pub fn sets(t: &[u8]) -> Result<Answer, Refusal>
     ensures { HaltStep Calls.sets t.now result t.now }
 {
-    if !is_halt(t) {
-        return Err(Refusal::NotGood);
-    }
+    halted(t)?;
     scheduler::sets(t)
 }
 
@@ -193,9 +197,7 @@ pub fn sets(t: &[u8]) -> Result<Answer, Refusal>
 pub fn lag(t: &[u8], lane: u8) -> Result<Answer, Refusal>
     ensures { HaltStep (Calls.lag lane) t.now result t.now }
 {
-    if !is_halt(t) {
-        return Err(Refusal::NotGood);
-    }
+    halted(t)?;
     scheduler::lag(t, lane)
 }
 
@@ -203,8 +205,6 @@ pub fn lag(t: &[u8], lane: u8) -> Result<Answer, Refusal>
 pub fn restart(t: &mut [u8]) -> Result<Answer, Refusal>
     ensures { HaltStep Calls.restart t.old result t.new }
 {
-    if !is_halt(t) {
-        return Err(Refusal::NotGood);
-    }
+    halted(t)?;
     scheduler::restart(t)
 }

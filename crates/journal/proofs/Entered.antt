@@ -1,7 +1,7 @@
 -- How a record meets its promise. Assumes nothing.
 use Prim.Native.Nat.{ℕ, ◌<◌}
 use native.Mathlib.Omega.{arith}
-use mathlib.Core.Path.{◌≡◌, refl, sym, ap, subst, ◌∙◌}
+use mathlib.Core.Path.{◌≡◌, refl, sym, ap, ◌∙◌}
 use mathlib.Core.Bool.{Bool, true, false, not, false≢true}
 use mathlib.Core.Logic.{⊎_elim}
 use mathlib.Core.List.{List}
@@ -157,7 +157,3 @@ record-faulty g t x m p s q e = rw e (λ n. absurd (n (board_of t) s), λ b h. q
 
 pub record-said : (g : Reading) (t : List ℕ) (a : Told) (u : List ℕ) (r : Handover) → g ≡ says r → BoardStep (enter_record r) t a u → RecordSays g t a u
 record-said g t a u r e s = rw e s
-
--- a search that ended at 64 found none
-pub found-64 : (p : Option Handover → Bool) (b : Board) (k : ℕ) → k ≡ 64 → Found p b 64 k → Found p b 64 64
-found-64 p b k e f = subst (λ i. Found p b 64 i) e f

@@ -155,10 +155,9 @@ fn enter_first(t: &mut [u8], r: Line) -> Result<u8, Refusal>
     requires { ShowsBoard t.old (board_of t.old) × InField (rec_line r) × (Calls.known_kind r.kind ≡ true) × Found (is_of r.train) (board_of t.old) 64 64 }
     ensures { BoardStep (Calls.enter_record (rec_line r)) t.old result t.new }
 {
-    let k = lowest(t);
-    if k == LINES {
+    let Some(k) = lowest(t) else {
         return Err(Refusal::NoFreeLine);
-    }
+    };
     if r.kind != JOINED {
         return Err(Refusal::DoesNotFollow);
     }
@@ -191,11 +190,10 @@ fn enter(t: &mut [u8], r: Line) -> Result<u8, Refusal>
     if !known(r.kind) {
         return Err(Refusal::KindUnknown);
     }
-    let k = find(t, r.train, LINES);
-    if k == LINES {
-        return enter_first(t, r);
+    match find(t, r.train, LINES) {
+        None => enter_first(t, r),
+        Some(k) => enter_later(t, r, k),
     }
-    enter_later(t, r, k)
 }
 
 // Enters the handover record of a field, the one in front (R11.6), and answers the line that was changed.
@@ -216,10 +214,9 @@ pub fn clear(t: &mut [u8], train: u32) -> Result<u8, Refusal>
     if !sound(t) {
         return Err(Refusal::NotABoard);
     }
-    let k = find(t, train, LINES);
-    if k == LINES {
+    let Some(k) = find(t, train, LINES) else {
         return Err(Refusal::NotCleared);
-    }
+    };
     let l = line_at(t, k);
     if l.kind != LEFT {
         return Err(Refusal::NotCleared);

@@ -1,12 +1,12 @@
 -- What the answer of a test says, and laws behind the tests of a setting: c by its two bounds, the group by the slot. Assumes nothing.
-use Rattle.std.proofs.Common.{◌≡◌, ℕ, zero, suc, ◌+◌, ◌-◌, ◌*◌, ◌^◌, ◌<◌, ◌≤◌, Bool, true, false, not, sym, ap, ◌∙◌, mul-le-mul, arith, pow_mono}
+use Rattle.std.proofs.Common.{◌≡◌, ℕ, zero, suc, ◌+◌, ◌*◌, ◌^◌, ◌<◌, ◌≤◌, Bool, true, false, not, sym, ap, ◌∙◌, mul-le-mul, arith, pow_mono}
 use mathlib.Core.Bool.{false≢true}
 use native.Mathlib.Nat.{two-pow-succ}
 use native.Mathlib.Decide.{dec_le}
 use Rattle.units.specs.Numbers.{per_byte, least_power, Least}
 use Rattle.units.proofs.PerByte.{rate-weight-ge, rate-weight-lt, rate-ge}
 use Rattle.units.proofs.Group.{power-least, least-unique, group-le}
-use Rattle.rules.specs.State.{charge, rate, group}
+use Rattle.rules.specs.State.{charge, group}
 use Rattle.table.specs.Means.{given_of}
 use Rattle.table.specs.declared.LaneRow.{LaneRow}
 use Rattle.lane_test.specs.Says.{Says}

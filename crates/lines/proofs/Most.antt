@@ -11,13 +11,13 @@ use mathlib.Core.Bool.{Bool, true, false}
 use mathlib.Core.List.{List, [], ◌∷◌, ◌++◌}
 use mathlib.Core.Option.{Option, none, some}
 use lib.ListN.{length, length-append}
-use lib.Seq.{length-sets}
+use lib.Seq.{sets, length-sets}
 use Rattle.text.specs.Decimal.{decimal, signed}
 use Rattle.text.proofs.Widths.{decimal-le}
 use Rattle.text.proofs.Signed.{signed-most}
 use Rattle.rules.specs.Calls.{Reply, accepted, taken, seen, words, lagged, restarted, refused}
 use Rattle.lines.proofs.Writing.{line-long, wrote-both}
-use Rattle.lines.specs.Line.{spaced, text_line, put_ok, take_word, look_word, verb, sets_word, no_word, record_line, no_line, line_of, Short, Wrote, Line}
+use Rattle.lines.specs.Line.{spaced, text_line, put_ok, take_word, look_word, sets_word, no_word, record_line, no_line, line_of, Short, Wrote, Line}
 
 -- the numbers that the types allow, by their bits
 byte : (n : ℕ) → n < 2 ^ 8 → length (decimal n) ≤ 3
@@ -85,18 +85,15 @@ record-split : (word : List ℕ) (shared : Bool) (l t m n : ℕ) → record_line
 record-split word true l t m n = refl
 record-split word false l t m n = refl
 
-verb-short : (look : Bool) → length (verb look) ≤ 10
-verb-short true = omega arith
-verb-short false = omega arith
-
-module _ (look shared : Bool) (l t m n : ℕ) (h : Short (taken l t m n)) {a b : List ℕ} {at p : ℕ} (u : Wrote a b at (verb look) p) where
+module _ (word : List ℕ) (short : length word ≤ 10) (shared : Bool) (l t m n : ℕ) (h : Short (taken l t m n)) (a b : List ℕ) (at p : ℕ)
+    (u : (b ≡ sets a at word) × (p ≡ at + length word)) where
   pub record-fits : at + 64 ≤ length a → p + length (record_line [] shared l t m n) ≤ length b
   record-fits r =
-      let e : length b ≡ length a = ap length u.is ∙ length-sets a at (verb look) in
-      omega (arith, u.past, record-most (verb look) shared l t m n (verb-short look) h, ap length (record-split (verb look) shared l t m n), length-append (verb look) (record_line [] shared l t m n))
+      let e : length b ≡ length a = ap length u.0 ∙ length-sets a at word in
+      omega (arith, u.1, record-most word shared l t m n short h, ap length (record-split word shared l t m n), length-append word (record_line [] shared l t m n))
 
-  pub record-line : {d : List ℕ} {q : ℕ} → Wrote b d p (record_line [] shared l t m n) q → Line a d at (record_line (verb look) shared l t m n) q
+  pub record-line : {d : List ℕ} {q : ℕ} → Wrote b d p (record_line [] shared l t m n) q → Line a d at (record_line word shared l t m n) q
   record-line v = record {
-    wrote = rw (record-split (verb look) shared l t m n) (wrote-both (verb look) (record_line [] shared l t m n) u v);
-    most = record-most (verb look) shared l t m n (verb-short look) h;
+    wrote = rw (record-split word shared l t m n) (wrote-both word (record_line [] shared l t m n) (record { is = u.0; past = u.1 }) v);
+    most = record-most word shared l t m n short h;
   }

@@ -44,11 +44,6 @@ take_word = 116 ∷ 97 ∷ 107 ∷ 101 ∷ []
 abbrev pub look_word : List ℕ
 look_word = 108 ∷ 111 ∷ 111 ∷ 107 ∷ []
 
--- the word of a record's line
-abbrev pub verb : Bool → List ℕ
-verb true = look_word
-verb false = take_word
-
 -- "sets"
 abbrev pub sets_word : List ℕ
 sets_word = 115 ∷ 101 ∷ 116 ∷ 115 ∷ []

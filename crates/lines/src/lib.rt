@@ -8,7 +8,7 @@ ghost use Rattle.std.specs.Prelude.{◌≡◌, ◌+◌, ◌≤◌, ◌<◌, [], 
 ghost use Rattle.text.specs.Decimal.{decimal};
 ghost use Rattle.rules.specs.Calls.{words};
 ghost use Rattle.rules.specs.Reads.{number, place_of};
-ghost use Rattle.lines.specs.Line.{place_is, text_line, put_ok, restart_ok, verb, record_line, sets_word, lag_line, no_line, lanes_line, end_line, Words32, Wrote, Line};
+ghost use Rattle.lines.specs.Line.{place_is, text_line, put_ok, restart_ok, record_line, sets_word, lag_line, no_line, lanes_line, end_line, Words32, Wrote, Line};
 
 use rules::{Record, Refusal, SetWords};
 use text::{put_number, put_signed, put_word};
@@ -83,18 +83,6 @@ fn put_any(a: &mut [u8], at: usize, x: Record, shared: bool) -> usize
     }
     let ns = [x.lane as u64, x.mark as u64, n.0];
     put_line(a, at, &[], &ns)
-}
-
-// `look` or `take`: the word of a record's line.
-pub fn put_verb(a: &mut [u8], at: usize, look: bool) -> usize
-    requires { at + 4 ≤ length a.old }
-    ensures { Wrote a.old a.new at (verb look) result }
-{
-    if look {
-        put_word(a, at, b"look")
-    } else {
-        put_word(a, at, b"take")
-    }
 }
 
 // `L M N` behind `take` or `look`, of a shared lane with the train behind. Mark and length of up to four digits, as most are, are written without a loop.

@@ -16,12 +16,13 @@ use Rattle.lane_test.specs.Says.{TimeGood, LaneFine}
 use Rattle.lane_test.proofs.Lane.{fine-made, fine-waiting, fine-time}
 use Rattle.good.specs.Pass.{FoundSays}
 use Rattle.good.specs.declared.Found.{Found}
-use Rattle.good.proofs.Kept.{waiting_kept}
+use Rattle.good.specs.Kept.{waiting_kept}
 use Rattle.good.proofs.Told.{Told, lane_of, each_lane, told-fine, told-framing}
 use Rattle.good.proofs.FoundTold.{found-told, told-found}
 use Rattle.old_table.specs.Old.{old_size, old_row_at, old_queue, old_lane, old_meant, OldTable}
 use Rattle.old_table.specs.Tested.{OldLaneGood}
-use Rattle.old_table.proofs.Reading.{old, old-means, length-queue}
+use Rattle.old_table.specs.Kept.{old}
+use Rattle.old_table.proofs.Reading.{old-means, length-queue}
 
 -- ---- a lane
 

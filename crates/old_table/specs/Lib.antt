@@ -1,2 +1,3 @@
 pub mod Old
 pub mod Tested
+pub mod Kept

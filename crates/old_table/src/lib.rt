@@ -6,22 +6,21 @@
 // exactly if they are a good table of that time (`OldTable`, specs/Old.antt).
 #![tactic(auto)]
 
-ghost use Rattle.std.specs.Prelude.{◌≡◌, true, ◌^◌, ◌<◌, ◌≤◌, get_or};
+ghost use Rattle.std.specs.Prelude.{◌≡◌, true, ◌^◌, ◌<◌, ◌≤◌};
 ghost use Rattle.rules.specs.Older.{old_depth};
 ghost use Rattle.rounds.specs.Good.{Lengths};
-ghost use Rattle.table.specs.Layout.{Front, cells, framing_word};
+ghost use Rattle.table.specs.Layout.{Front, cells};
 ghost use Rattle.table.specs.Means.{present_at};
 ghost use Rattle.lane_test.specs.Says.{Says};
-ghost use Rattle.good.specs.Pass.{PassSays};
-ghost use Rattle.old_table.specs.Old.{old_row_at, old_entry_at, old_ring, old_lane, OldTable};
+ghost use Rattle.old_table.specs.Old.{old_row_at, old_entry_at, old_ring, OldTable};
+ghost use Rattle.old_table.specs.Kept.{old};
 ghost use Rattle.old_table.specs.Tested.{OldLaneGood};
 
-use good::{Found, found_good, note};
+use good::{Layout, found_good, lanes_good};
 use lane_test::{numbers_good, pace_good, time_good};
 use rings::END;
-use table::{CLOCK, Entry, FRAMING, LENGTHS, LaneRow, PRESENT, RATE_UNIT, ROW_WORDS, ROWS, cell};
+use table::{CLOCK, Entry, FRAMING, LENGTHS, LaneRow, RATE_UNIT, ROW_WORDS, ROWS, cell};
 use units::{Bytes, Clock, Rate};
-use words::SetBits;
 
 // The fixed size of such a table, in bytes: 45,056, where the slot lists end.
 pub const SIZE: usize = END;
@@ -120,26 +119,27 @@ fn lane_good(t: &[u8], k: usize, l: LaneRow, v: Clock) -> bool
     true
 }
 
-// The pass over the lanes of the setup: what it found, or none where a lane is not good.
-fn lanes_good(t: &[u8], v: Clock) -> Option<Found>
-    requires { Front t.now × (v.0 < 2 ^ 63) × (get_or (cells t.now) framing_word 0 ≤ 64) }
-    ensures { PassSays v.0 (cells t.now) (old_lane (cells t.now)) (OldLaneGood v.0 (cells t.now)) result }
-{
-    let mut found = Found {
-        weights: 0,
-        held: 0,
-        eligible: false,
-    };
-    for lane in SetBits(cell(t, PRESENT)) {
-        let k = lane as usize;
-        let l = row(t, k);
-        let good = lane_good(t, k, l, v);
-        if !good {
-            return None;
-        }
-        found = note(found, k, l, v);
+// The layout of that time.
+struct Older;
+
+impl Layout for Older {
+    ghost room = { Front };
+
+    ghost depth = { old_depth };
+
+    ghost kept = { old };
+
+    ghost passes = { OldLaneGood };
+
+    ghost fine = { λ v w k g. g.fine };
+
+    fn row(t: &[u8], k: usize) -> LaneRow {
+        row(t, k)
     }
-    Some(found)
+
+    fn lane_good(t: &[u8], k: usize, l: LaneRow, v: Clock) -> bool {
+        lane_good(t, k, l, v)
+    }
 }
 
 // Whether the bytes are a good table of that time.
@@ -156,7 +156,7 @@ pub fn good(t: &[u8]) -> bool
     if cell(t, FRAMING) > MOST_FRAMING {
         return false;
     }
-    match lanes_good(t, v) {
+    match lanes_good::<Older>(t, v) {
         None => false,
         Some(f) => found_good(t, f),
     }

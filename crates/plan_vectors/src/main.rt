@@ -12,7 +12,7 @@
 // vectors.py writes the vectors and the expected lines.
 #![tactic(auto)]
 
-ghost use Rattle.std.specs.Prelude.{◌<◌, ◌≤◌, length};
+ghost use Rattle.std.specs.Prelude.{◌<◌, ◌≤◌, length, IfSome};
 
 use plan::Reading;
 use printed_plan::{number, word};
@@ -29,8 +29,7 @@ const LINE: usize = 4096;
 #[derive(Clone, Copy)]
 struct Line {
     len: usize,
-    half: bool,
-    high: u8,
+    high: Option<u8>,
     comment: bool,
     place: usize,
 }
@@ -42,59 +41,42 @@ struct Vector {
     next: usize,
 }
 
-// A hexadecimal digit's value, and 16 for any other byte.
-fn digit(b: u8) -> u8
-    ensures { result ≤ 16 }
+// A hexadecimal digit's value.
+fn digit(b: u8) -> Option<u8>
+    ensures { IfSome result (λ d. d < 16) }
 {
-    if b < b'0' {
-        return 16;
+    match b {
+        b'0'..=b'9' => Some(b - b'0'),
+        b'A'..=b'F' => Some(b - b'A' + 10),
+        _ => None,
     }
-    if b <= b'9' {
-        return b - b'0';
-    }
-    if b < b'A' {
-        return 16;
-    }
-    if b <= b'F' {
-        return b - b'A' + 10;
-    }
-    16
 }
 
+// A line with one more digit. Where there is no room for the byte that it ends, the line stays.
 fn put_digit(l: Line, d: u8, bytes: &mut [u8]) -> Line
     requires { d < 16 }
 {
-    let len = l.len;
-    if !l.half {
-        return Line {
-            len: len,
-            half: true,
-            high: d,
-            comment: l.comment,
-            place: l.place,
-        };
-    }
-    if len < bytes.len() {
-        if l.high < 16 {
-            bytes[len] = l.high * 16 + d;
-            return Line {
-                len: len + 1,
-                half: false,
-                high: 0,
-                comment: l.comment,
-                place: l.place,
-            };
+    match l.high {
+        None => Line { high: Some(d), ..l },
+        Some(high) => {
+            if l.len < bytes.len() {
+                bytes[l.len] = high << 4 | d;
+                return Line {
+                    len: l.len + 1,
+                    high: None,
+                    ..l
+                };
+            }
+            l
         }
     }
-    l
 }
 
 fn step(l: Line, b: u8, bytes: &mut [u8]) -> Line {
     if l.comment {
         return l;
     }
-    let d = digit(b);
-    if d < 16 {
+    if let Some(d) = digit(b) {
         return put_digit(l, d, bytes);
     }
     let mut place = l.place;
@@ -107,11 +89,9 @@ fn step(l: Line, b: u8, bytes: &mut [u8]) -> Line {
         }
     }
     Line {
-        len: l.len,
-        half: l.half,
-        high: l.high,
         comment: b == b'#',
         place: place,
+        ..l
     }
 }
 
@@ -122,8 +102,7 @@ fn read_line(text: &[u8], from: usize, bytes: &mut [u8]) -> Vector
 {
     let mut l = Line {
         len: 0,
-        half: false,
-        high: 0,
+        high: None,
         comment: false,
         place: 0,
     };

@@ -3,33 +3,13 @@
 // No line here knows whether a lane is shared. `answer` leaves the train out, `answer_with_train` writes it behind every record.
 #![tactic(auto)]
 
+pub use printed_plan::{number, refusal, word};
 use rules::{Answer, Record, Refusal, SetWords};
 use std::io::Stdout;
-
-pub fn word(out: Stdout, w: &[u8]) {
-    let _ = out.write_all(w);
-}
 
 pub fn line(out: Stdout, w: &[u8]) {
     word(out, w);
     word(out, b"\n");
-}
-
-pub fn number(out: Stdout, before: &[u8], n: u64) {
-    word(out, before);
-    let _ = out.print(n);
-}
-
-fn place(out: Stdout, p: Option<usize>) {
-    if let Some(at) = p {
-        number(out, b" ", at as u64);
-    }
-}
-
-// A refusal of making, with its place; one of the calls, which has none.
-pub fn refusal(out: Stdout, x: Refusal) {
-    number(out, b"no ", lines::number(x));
-    place(out, lines::place_of(x));
 }
 
 fn record(out: Stdout, before: &[u8], r: Record) {

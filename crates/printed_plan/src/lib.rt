@@ -25,6 +25,7 @@ fn place(out: Stdout, p: Option<usize>) {
     }
 }
 
+// A refusal, with its place where it has one.
 pub fn refusal(out: Stdout, x: Refusal) {
     number(out, b"no ", lines::number(x));
     place(out, lines::place_of(x));

@@ -6,7 +6,7 @@ use mathlib.Core.List.{List}
 use native.Mathlib.Omega.{arith}
 use Rattle.rounds.specs.Round as round
 use Rattle.waiting.specs.Waiting.{shared, first, enter, GoodWaiting}
-use Rattle.waiting.proofs.Laws.{Enters, moved, first-stays, held-enter, held-most, good-enter}
+use Rattle.waiting.proofs.Laws.{Enters, first-stays, held-enter, held-most, good-enter}
 use Rattle.rules.specs.State.{Lane, lane_at, lane_depth, holds, some?}
 use Rattle.rules.specs.Calls.{appended}
 use Rattle.rules.proofs.Moves.{busy-first}

@@ -4,8 +4,7 @@ use mathlib.Core.Bool.{true, false, false≢true}
 use Prim.Native.Nat.{ℕ, ◌+◌, ◌*◌, ◌≤◌, ◌<◌}
 use mathlib.Core.List.{List}
 use native.Mathlib.Omega.{arith}
-use lib.ListN.{length, set}
-use Rattle.waiting.specs.Waiting.{plain, shared}
+use lib.ListN.{set}
 use Rattle.rules.specs.State.{lane_depth}
 use Rattle.table.specs.Layout.{Now, cells, lengths_cell, length_words, trains_cell, place_in_lane, round_word, round_at, put_entry, clear_cells, train_number}
 use Rattle.table.specs.Means.{shared_at, PlacesFit}

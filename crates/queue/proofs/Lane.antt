@@ -3,7 +3,6 @@ use mathlib.Core.Path.{◌≡◌, refl, sym, ap, ◌∙◌}
 use mathlib.Core.Bool.{true, false, false≢true}
 use Prim.Native.Nat.{ℕ, zero, suc, ◌+◌, ◌≤◌, ◌<◌}
 use mathlib.Core.List.{List}
-use mathlib.Core.Option.{some}
 use native.Mathlib.Omega.{arith}
 use lib.Seq.{set-get_or}
 use lib.ListN.{length, set, get_or}
@@ -26,7 +25,7 @@ use Rattle.table.proofs.Footprint.{lane-is}
 use Rattle.table.proofs.Leave.{leave-lane}
 use Rattle.table.proofs.Untouched.{row_same, present-same, outside_trans, outside-row}
 use Rattle.table.proofs.Rows.{retimed, row_put, lane-put, housed-put, lane-present, given-row, waiting-row, waiting_none, waiting-shared, waiting-held}
-use Rattle.queue.specs.Queue.{waiting, Ready, QueueMoved}
+use Rattle.queue.specs.Queue.{Ready, QueueMoved}
 
 -- ---- then the row is stored, with the clock word x and n records from the place h on
 

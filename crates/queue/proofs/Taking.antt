@@ -5,7 +5,6 @@ use Prim.Native.Nat.{ℕ, ◌+◌, ◌-◌, ◌*◌, ◌^◌, ◌≤◌, ◌<◌
 use mathlib.Core.List.{List}
 use mathlib.Core.Option.{some, Option, none}
 use native.Mathlib.Omega.{arith}
-use lib.ListN.{length}
 use Rattle.units.proofs.PerByte.{rate-le}
 use Rattle.rounds.specs.Round as round
 use Rattle.rounds.specs.Good.{GoodShared}
@@ -13,9 +12,9 @@ use Rattle.rounds.proofs.Held.{hand-held}
 use Rattle.rounds.proofs.KeepHand.{hand-out-good}
 use Rattle.turns.specs.Turns as turns
 use Rattle.turns.specs.Turns.{named_of, Ordered, head_of, turn_of}
-use Rattle.waiting.specs.Waiting.{shared, first, hand_out, tail, GoodWaiting, with_train, item_of}
+use Rattle.waiting.specs.Waiting.{first, hand_out, tail, GoodWaiting, with_train, item_of}
 use Rattle.waiting.proofs.Laws.{moved, item-some, held-most}
-use Rattle.rules.specs.State.{Rec, Lane, lane_at, lane_depth, first_of, holds, some?, charge, rate}
+use Rattle.rules.specs.State.{Rec, Lane, lane_at, lane_depth, first_of, holds, some?, charge}
 use Rattle.rules.specs.Calls.{served}
 use Rattle.slot_lists.specs.Lists.{list_at}
 use Rattle.filing.specs.Filing.{in_aRow}

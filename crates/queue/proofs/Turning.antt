@@ -9,7 +9,6 @@ use Rattle.turns.specs.Turns as turns
 use Rattle.turns.specs.Turns.{head_of, count_of, deficit_of, named_of, turn_of, Ordered, NamesTrains, Light, HandsOutTurn}
 use Rattle.turns.specs.declared.Change.{Change}
 use Rattle.turns.proofs.Good.{good-known, good-light, turn-known, turn-count, turn-covers}
-use Rattle.waiting.specs.Waiting.{shared}
 use Rattle.table.specs.Layout.{CELLS, Now, cells, place_in_lane, round_word, round_at, entry_at, train_number, put_train}
 use Rattle.table.specs.Means.{rec_at, shared_at}
 use Rattle.table.specs.declared.Entry.{Entry}

@@ -9,7 +9,7 @@ use borrow.Author.Tests.{ltb-true}
 use Rattle.rounds.specs.Round as round
 use Rattle.rounds.specs.Round.{train_count}
 use Rattle.waiting.specs.Waiting.{Waiting, shared, first, enter, held, known, GoodWaiting}
-use Rattle.waiting.proofs.Laws.{Enters, moved, first-nothing, held-nothing, first-enter}
+use Rattle.waiting.proofs.Laws.{Enters, first-nothing, held-nothing, first-enter}
 use Rattle.rules.specs.State.{Lane, lane_at, lane_depth, holds}
 use Rattle.rules.specs.Calls.{woken}
 use Rattle.slot_lists.specs.Lists.{list_at}

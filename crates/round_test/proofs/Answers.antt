@@ -1,20 +1,12 @@
 -- What an answer says: of a comparison, of another statement, and where it was tested. Assumes nothing.
-use Prim.Native.Nat.{ℕ, ◌≤◌}
-use native.Mathlib.Nat.{not-le_of_lt}
+use Prim.Native.Nat.{ℕ}
 use mathlib.Core.Path.{◌≡◌, refl, sym}
 use mathlib.Core.Bool.{Bool, true, false, false≢true}
-use lib.Dec.{leb, eqb}
-use borrow.Author.Tests.{leb-true, leb-false, eqb-true, eqb-false}
+use lib.Dec.{eqb}
+use borrow.Author.Tests.{eqb-true, eqb-false}
 use Rattle.round_test.specs.Shared.{Says}
 
--- a comparison says what it tests, of any statement that comes to it
-pub says-leb : (P : Type 0) (a b : ℕ) → (a ≤ b → P) → (P → a ≤ b) → Says (leb a b) P
-says-leb P a b f g = go (leb a b) refl
-  where
-    go : (c : Bool) → leb a b ≡ c → Says c P
-    go true e = f (leb-true a b e)
-    go false e = λ p. absurd (not-le_of_lt (leb-false a b e) (g p))
-
+-- an equation's test says what it tests, of any statement that comes to it
 pub says-eqb : (P : Type 0) (a b : ℕ) → (a ≡ b → P) → (P → a ≡ b) → Says (eqb a b) P
 says-eqb P a b f g = go (eqb a b) refl
   where

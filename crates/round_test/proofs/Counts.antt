@@ -54,9 +54,3 @@ module _ (ts : ℕ → ℕ) where
 
     pub held_fits : held + counts < 2 ^ 64
     held_fits = omega (arith, c.is, c.small.0, c.small.1, are)
-
-  pub counted-all : (held k : ℕ) → Counted held k → 8 ≤ k → held % 4294967296 + held / 4294967296 ≡ held_below ts 8
-  counted-all held k c end = omega (arith, c.is, c.small.0, c.small.1, c.within) ∙ c.sum ∙ ap (held_below ts) eight
-    where
-      eight : k ≡ 8
-      eight = omega (arith, c.within)

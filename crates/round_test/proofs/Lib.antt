@@ -3,7 +3,6 @@ pub mod Marks
 pub mod Walk
 pub mod Answers
 pub mod Counts
-pub mod Reading
 pub mod Tally
 pub mod Fill
 pub mod Lane

@@ -14,6 +14,7 @@ use Rattle.rules.specs.Setup.{Setup}
 use Rattle.rules.specs.Calls.{refused}
 use Rattle.rules.specs.Reads.{number, place_of}
 use Rattle.rules.specs.declared.Refusal.{Refusal}
+use Rattle.rules.specs.declared.Refusal.TheVariants.{NotGood}
 use Rattle.pages.specs.Device.{Page, offer, unread, answered, in_force_now, waits_now, in_force_of, newest_edition, DeviceOutcome, do_offer, device_step, device_step_by}
 use Rattle.page.specs.Read.{read_page, page_reply, page_read, PageReply, page_refused}
 use Rattle.page.specs.Promises.{PagesWithin, PageRefusesInside}
@@ -26,13 +27,13 @@ use Rattle.table.specs.Means.{meant}
 use Rattle.paged.specs.Paged.{part_of, device_of, EncodesDevice, GoodUnit}
 use Rattle.paged.specs.Settles.{LeadsDevice}
 use Rattle.paged.proofs.Units.{device-encoded}
-use Rattle.scheduler.specs.Step.{UnitStep, place_in, offered_as, offering, OfferStep}
+use Rattle.scheduler.specs.Step.{UnitStep, place_in, offered, offered_as, offering, OfferStep}
 use Rattle.std.specs.Prelude.{Result, Ok, Err}
 use Rattle.scheduler.specs.declared.Offered.{Offered}
 use Rattle.scheduler.specs.declared.Offered.TheVariants.{InForce, Waits}
 use Rattle.scheduler.specs.declared.NotTaken.{NotTaken}
 use Rattle.scheduler.specs.declared.NotTaken.TheVariants.{Old, Refused}
-use Rattle.scheduler.proofs.Steps.{unit-step}
+use Rattle.scheduler.proofs.Steps.{bad-step, unit-step}
 
 -- ---- a page that was read
 
@@ -99,6 +100,9 @@ module _ (bytes : List ℕ) (r : Reading) (e : page_reply (Ok r) ≡ read_page b
   pub offer-read : (t u : List ℕ) (o : Result Offered NotTaken)
       → UnitStep (offer (record { edition = r.edition; settings = settings r.plan })) t (offering o) u → OfferStep bytes t o u
   offer-read t u o p = subst (λ (x : PageReply). UnitStep (offered_as x) t (offering o) u) e p
+
+pub offer-bad : (bytes t : List ℕ) (x : Refusal) → (GoodUnit t → ⊥) × (x ≡ NotGood) → OfferStep bytes t (Err (Refused x)) t
+offer-bad bytes t x h = bad-step (offered bytes) t x h
 
 pub offer-refused : (bytes : List ℕ) (x : Refusal) (t : List ℕ) → page_reply (Err x) ≡ read_page bytes → GoodUnit t → OfferStep bytes t (Err (Refused x)) t
 unfolding PageRefusesInside device_step_by

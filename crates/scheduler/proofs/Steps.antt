@@ -9,10 +9,11 @@ use lib.ListN.{length, drop}
 use lib.Seq.{drop-drop}
 use Rattle.rules.specs.State.{State}
 use Rattle.rules.specs.Calls.{Call, put, take, look, sets, lag, restart, Reply, refused, step}
-use Rattle.rules.specs.Reads.{reads}
+use Rattle.rules.specs.Reads.{number, place_of, reads}
 use Rattle.rules.specs.declared.Answer.{Answer}
 use Rattle.std.specs.Prelude.{Result}
 use Rattle.rules.specs.declared.Refusal.{Refusal}
+use Rattle.rules.specs.declared.Refusal.TheVariants.{NotGood}
 use Rattle.alike.specs.AlikeDevice.{AlikeDevice, RespectsDevice, DeviceRespects}
 use Rattle.alike.proofs.Alike.{alike-trans}
 use Rattle.alike.proofs.AlikeDevice.{device-respects}
@@ -54,8 +55,8 @@ alike-encoded t d e a h = record {
 -- ---- any call
 
 -- a table that is not good
-pub bad-step : (c : DeviceCall) (t : List ℕ) → (GoodUnit t → ⊥) → UnitStep c t (answered (refused 10 none)) t
-bad-step c t b = record {
+bad-unit : (c : DeviceCall) (t : List ℕ) → (GoodUnit t → ⊥) → UnitStep c t (answered (refused 10 none)) t
+bad-unit c t b = record {
   not_good = λ h. refl;
   reply = λ g. absurd (b g);
   device = λ g. absurd (b g);
@@ -63,6 +64,10 @@ bad-step c t b = record {
   rest = refl;
   size = refl;
 }
+
+-- the refusal of a table that is not good
+pub bad-step : (c : DeviceCall) (t : List ℕ) (x : Refusal) → (GoodUnit t → ⊥) × (x ≡ NotGood) → UnitStep c t (answered (refused (number x) (place_of x))) t
+bad-step c t x (bad, e) = rw e (bad-unit c t bad)
 
 -- a good one: the promise of the unit that the table means is one of every unit that it encodes, since no call tells these apart
 pub unit-step : (c : DeviceCall) (t : List ℕ) (r : DeviceReply) (u : List ℕ) → GoodUnit t → r ≡ (device_step (device_of t) c).reply

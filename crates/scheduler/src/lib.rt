@@ -11,8 +11,9 @@
 #![tactic(auto)]
 
 ghost use Rattle.rules.specs.Calls as Calls;
-ghost use Rattle.std.specs.Prelude.{◌≡◌, true};
+ghost use Rattle.std.specs.Prelude.{◌≡◌, true, OnOk, IfErr};
 ghost use Rattle.rules.specs.Setup.{Setup};
+ghost use Rattle.rules.specs.declared.Refusal.TheVariants.{NotGood};
 ghost use Rattle.pages.specs.Device.{offer};
 ghost use Rattle.plan.specs.Judge.{known_format};
 ghost use Rattle.plan.specs.Read.{settings};
@@ -56,6 +57,17 @@ impl From<Refusal> for NotTaken {
     }
 }
 
+// Refuses bytes that are no good table.
+pub fn tested(t: &[u8]) -> Result<(), Refusal>
+    ensures good { OnOk result (GoodUnit t.now) }
+    ensures bad { IfErr result (λ x. (GoodUnit t.now → ⊥) × (x ≡ NotGood)) }
+{
+    if !good_unit(t) {
+        return Err(Refusal::NotGood);
+    }
+    Ok(())
+}
+
 // Makes the fresh table of a setup in the lent bytes, whatever they held. The answer: the number of its lanes.
 pub fn make(setup: &[u8], t: &mut [u8]) -> Result<usize, Refusal>
     ensures { MakeStep setup.now t.old result t.new }
@@ -72,9 +84,7 @@ pub fn make(setup: &[u8], t: &mut [u8]) -> Result<usize, Refusal>
 pub fn put(t: &mut [u8], lane: u8, train: u8, mark: u32, length: Bytes) -> Result<Answer, Refusal>
     ensures { Step (Calls.put lane train mark length.0) t.old result t.new }
 {
-    if !good_unit(t) {
-        return Err(Refusal::NotGood);
-    }
+    tested(t)?;
     engine::put(t, lane, train, mark, length)
 }
 
@@ -82,9 +92,7 @@ pub fn put(t: &mut [u8], lane: u8, train: u8, mark: u32, length: Bytes) -> Resul
 pub fn take(t: &mut [u8]) -> Result<Answer, Refusal>
     ensures { Step Calls.take t.old result t.new }
 {
-    if !good_unit(t) {
-        return Err(Refusal::NotGood);
-    }
+    tested(t)?;
     let taken = engine::take(t)?;
     settle(t);
     Ok(taken)
@@ -94,9 +102,7 @@ pub fn take(t: &mut [u8]) -> Result<Answer, Refusal>
 pub fn look(t: &[u8]) -> Result<Answer, Refusal>
     ensures { Step Calls.look t.now result t.now }
 {
-    if !good_unit(t) {
-        return Err(Refusal::NotGood);
-    }
+    tested(t)?;
     engine::look(t)
 }
 
@@ -104,9 +110,7 @@ pub fn look(t: &[u8]) -> Result<Answer, Refusal>
 pub fn sets(t: &[u8]) -> Result<Answer, Refusal>
     ensures { Step Calls.sets t.now result t.now }
 {
-    if !good_unit(t) {
-        return Err(Refusal::NotGood);
-    }
+    tested(t)?;
     engine::sets(t)
 }
 
@@ -114,9 +118,7 @@ pub fn sets(t: &[u8]) -> Result<Answer, Refusal>
 pub fn lag(t: &[u8], lane: u8) -> Result<Answer, Refusal>
     ensures { Step (Calls.lag lane) t.now result t.now }
 {
-    if !good_unit(t) {
-        return Err(Refusal::NotGood);
-    }
+    tested(t)?;
     engine::lag(t, lane)
 }
 
@@ -124,9 +126,7 @@ pub fn lag(t: &[u8], lane: u8) -> Result<Answer, Refusal>
 pub fn restart(t: &mut [u8]) -> Result<Answer, Refusal>
     ensures { Step Calls.restart t.old result t.new }
 {
-    if !good_unit(t) {
-        return Err(Refusal::NotGood);
-    }
+    tested(t)?;
     engine::restart(t)
 }
 
@@ -134,9 +134,7 @@ pub fn restart(t: &mut [u8]) -> Result<Answer, Refusal>
 pub fn offer(t: &mut [u8], page: &[u8]) -> Result<Offered, NotTaken>
     ensures { OfferStep page.now t.old result t.new }
 {
-    if !good_unit(t) {
-        return Err(NotTaken::Refused(Refusal::NotGood));
-    }
+    tested(t)?;
     let r = read_page(page)?;
     bring(t, r.edition, r.plan)
 }

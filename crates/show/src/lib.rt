@@ -7,10 +7,9 @@
 // The setup in force is what `lane` tells of the lanes 0 to 63.
 #![tactic(auto)]
 
-ghost use Rattle.std.specs.Prelude.{◌≡◌, ◌+◌, ◌≤◌, ◌<◌, max, OnOk, IfErr};
+ghost use Rattle.std.specs.Prelude.{◌≡◌, ◌+◌, ◌≤◌, ◌<◌, max};
 ghost use Rattle.rules.specs.State.{setup_of, room_of};
 ghost use Rattle.rules.specs.Setup.{longest_charge};
-ghost use Rattle.rules.specs.declared.Refusal.TheVariants.{NotGood};
 ghost use Rattle.table.specs.Means.{meant};
 ghost use Rattle.editions.specs.Part.{last_in, new_in};
 ghost use Rattle.paged.specs.Paged.{part_of, GoodUnit};
@@ -19,8 +18,8 @@ ghost use Rattle.waits.specs.Lane.{setting_of_numbers, InRange};
 ghost use Rattle.show.specs.Worst.{lane_most, numbers_of, no_room, BothWorst};
 ghost use Rattle.show.specs.Shows.{Shows, FindIs, RowFound, SpotIs};
 
-use paged::good_unit;
 use rules::{Record, Refusal};
+use scheduler::tested;
 use table::{LANES, LaneRow, pace_of, present, record_at, row};
 use turns::{COUNT_UNIT, TRAIN_DEPTH};
 use units::{Bytes, Clock, line_charge};
@@ -67,23 +66,12 @@ pub enum Shown {
     Wait(WorstWait),
 }
 
-// Refuses bytes that are no good table.
-fn tested(t: &[u8]) -> Result<(), Refusal>
-    ensures good { OnOk result (GoodUnit t.now) }
-    ensures bad { IfErr result (λ x. (GoodUnit t.now → ⊥) × (x ≡ NotGood)) }
-{
-    if !good_unit(t) {
-        return Err(Refusal::NotGood);
-    }
-    Ok(())
-}
-
 // A lane's row, if the table is good and its setup has the lane.
 fn find(t: &[u8], lane: u8) -> Result<LaneRow, Refusal>
     ensures { FindIs t.now lane result }
 {
-    tested(t)?;
     let k = lane as usize;
+    tested(t)?;
     if LANES <= k || !present(t, k) {
         return Err(Refusal::NoLane);
     }

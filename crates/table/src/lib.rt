@@ -12,7 +12,7 @@
 ghost use Rattle.std.specs.Prelude.{◌≡◌, ◌+◌, ◌*◌, ◌^◌, ◌<◌, ◌≤◌, get_or, set};
 ghost use Rattle.table.specs.Layout.{Room, Front, marks_cell, lengths_cell, length_words, trains_cell, Now, cells, row_at, put_row, put_pace, put_ring, entry_at, put_entry, place_in_lane, clear_cells, round_word, round_at, train_number, put_train};
 ghost use Rattle.rules.specs.State.{charge, lane_depth};
-ghost use Rattle.table.specs.Means.{present_at, Next, given_of, meant, RowAgrees, Paces, Sound, Leaves, with_clock};
+ghost use Rattle.table.specs.Means.{present_at, given_of, meant, RowAgrees, Paces, Sound, Leaves, with_clock};
 
 use digits::{half, quarter, set_half, set_quarter};
 use parts::{PLACES, TRAINS};
@@ -265,21 +265,6 @@ pub fn present(t: &[u8], k: usize) -> bool
 {
     let lanes = cell(t, PRESENT);
     (lanes >> (k as u32)) % 2 == 1
-}
-
-// The first lane from `from` on that is in the setup, `lanes` being the word of present lanes; 64 where there is none.
-pub fn next_present(lanes: u64, from: usize) -> usize
-    requires { from ≤ 64 }
-    ensures { Next lanes from result }
-{
-    if from >= LANES {
-        return LANES;
-    }
-    let rest = lanes >> (from as u32);
-    if rest == 0 {
-        return LANES;
-    }
-    from + (u64::trailing_zeros(rest) as usize)
 }
 
 // The clock V.

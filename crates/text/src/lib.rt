@@ -3,7 +3,7 @@
 // Characters are ASCII bytes. These are inner functions: each requires that what it writes fits; specs/Decimal.antt says what that is.
 #![tactic(auto)]
 
-ghost use Rattle.std.specs.Prelude.{◌≡◌, [], ◌∷◌, ◌+◌, ◌/◌, ◌%◌, ◌<◌, ◌≤◌, nat_abs, length};
+ghost use Rattle.std.specs.Prelude.{◌≡◌, [], ◌∷◌, ◌+◌, ◌/◌, ◌%◌, ◌<◌, ◌≤◌, length};
 ghost use Rattle.std.proofs.lemmas.List.Edits.{sets};
 ghost use Rattle.text.specs.Decimal.{digits, Width, decimal, signed};
 
@@ -87,19 +87,12 @@ pub fn put_number(a: &mut [u8], at: usize, n: u64) -> usize
     at + k
 }
 
-// A number without its sign.
-fn magnitude(z: i64) -> u64
-    ensures { result ≡ nat_abs z }
-{
-    z.unsigned_abs()
-}
-
 // Writes a number in decimal, with a minus sign below zero.
 pub fn put_signed(a: &mut [u8], at: usize, z: i64) -> usize
     requires { at + length (signed z) ≤ length a.old }
     ensures { (a.new ≡ sets a.old at (signed z)) × (result ≡ at + length (signed z)) }
 {
-    let n = magnitude(z);
+    let n = z.unsigned_abs();
     if z < 0 {
         a[at] = 45;
         put_number(a, at + 1, n)

@@ -6,7 +6,6 @@ use mathlib.Core.Bool.{true, false, not}
 use lib.Dec.{eqb}
 use borrow.Author.Tests.{eq-eqb, ne_eqb}
 use Rattle.turns.specs.Turns.{head_of, count_of, deficit_of, named_of, order_of, turn_of, Ordered, NamesTrains, Light, HandsOutTurn}
-use Rattle.turns.proofs.Round.{turned-small}
 use Rattle.turns.proofs.Handing.{hands-last-none, hands-last-some, hands-stays, hands-goes}
 
 module _ (t r length next : ℕ) (light : Light t) (some-held : 0 < count_of t) (o : Ordered r) (known : NamesTrains r) (some-named : 0 < named_of r) where
@@ -18,9 +17,6 @@ module _ (t r length next : ℕ) (light : Light t) (some-held : 0 < count_of t) 
 
   head-is : (t + 1) % 8 ≡ (head_of t + 1) % 8
   head-is = omega arith
-
-  pub worth-small : (w : ℕ) → w ≡ 16 ^ before → order_of r / 16 + turn_of r * w < 2 ^ 32
-  worth-small w q = rw q (turned-small r before o named-is)
 
   pub does-last : count_of t ≡ 1 → HandsOutTurn t r length next (record { train = (t + 1) % 8; round = order_of r / 16 + 2 ^ 32 * (named_of r - 1); begins = not (eqb (named_of r) 1) })
   does-last one = rw head-is (go before refl)

@@ -9,7 +9,7 @@ use lib.Seq.{set-set, get_or-set_same}
 use Rattle.std.specs.Prelude.{if◌then◌else◌}
 use Rattle.rounds.specs.Round.{BareRec, Train, Shared, no_train, queued?, train_holds, train_at, raised, added, join, shared_put, begin}
 use Rattle.turns.specs.Turns.{head_of, count_of, place_in_train, train_ring, train_of, trains_of, shared_of, fours, named_of, order_of, round_of, Ordered, Light, with, Puts}
-use Rattle.turns.proofs.Round.{round-made, ordered-made, ordered-joined, round-joined, joined_small}
+use Rattle.turns.proofs.Round.{round-made, ordered-made, ordered-joined, round-joined}
 use Rattle.turns.proofs.Train.{parts, ring-none, ring-cons, train-more, train-raised, trains-with, train-is, length-trains}
 
 -- a count that is not 0
@@ -102,6 +102,3 @@ module _ (L t r k : ℕ) (hk : k < 8) (light : Light t) (room : count_of t < 8) 
   pub puts-joins : (w : ℕ) → w ≡ 16 ^ named_of r → count_of t ≡ 0 → 0 < named_of r → named_of r < 8 → Puts L t r k (record { train = t + 8; round = r + 2 ^ 32 + k * w; begins = false })
   puts-joins w q z some-named few =
       rw q (record { lane = λ at ts is. joins-lane at ts is z some-named few; ordered = ordered-joined r k o few hk; small = omega (arith, more-small) })
-
-pub worth-small : (r k w : ℕ) → Ordered r → named_of r < 8 → k < 8 → w ≡ 16 ^ named_of r → order_of r + k * w < 2 ^ 32
-worth-small r k w o few hk q = rw q (joined_small r k o few hk)

@@ -91,9 +91,6 @@ module _ (r m : ℕ) (o : Ordered r) (named : named_of r ≡ suc m) where
   pub named-turned : named_of (turned + 2 ^ 32 * suc m) ≡ suc m
   named-turned = named-made turned (suc m) turned-fits (omega (arith, o.few))
 
-  pub turned-small : turned < 2 ^ 32
-  turned-small = omega (arith, turned-fits, worth-most (suc m) (omega (arith, o.few)))
-
 -- ---- one more at the end
 
 module _ (r k : ℕ) (o : Ordered r) (room : named_of r < 8) (train : k < 8) where
@@ -102,9 +99,6 @@ module _ (r k : ℕ) (o : Ordered r) (room : named_of r < 8) (train : k < 8) whe
 
   joined-fits : joined < 16 ^ suc (named_of r)
   joined-fits = fours-fit (named_of r) (order_of r) k o.fits (omega arith)
-
-  pub joined_small : joined < 2 ^ 32
-  joined_small = omega (arith, joined-fits, worth-most (suc (named_of r)) room)
 
   joined_is : r + 2 ^ 32 + k * 16 ^ named_of r ≡ joined + 2 ^ 32 * suc (named_of r)
   joined_is = omega arith

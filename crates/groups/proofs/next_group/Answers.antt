@@ -1,19 +1,10 @@
 -- `next_group` meets its contract. The loop's invariant: of the groups met so far the best is found. Assumes nothing.
-use mathlib.Core.Path.{refl, sym, ap, subst, ◌∙◌}
-use native.Mathlib.Omega.{arith}
-use Rattle.words.specs.declared.SetBits.{SetBits}
+use mathlib.Core.Path.{sym, subst}
 use Rattle.slot_lists.specs.Lists.{start_at}
 use Rattle.groups.specs.Front.{Leads}
-use Rattle.groups.proofs.Laws.{leads-none, leads-on, leads-more}
-use Rattle.groups.proofs.Walk.{walked_none, no_more, group-bounds, group-start, group-on, none_between, walked_on}
+use Rattle.groups.proofs.Laws.{leads-on, leads-more}
+use Rattle.groups.proofs.Walk.{no_more, group-bounds, group-start, group-on, none_between, walked_on}
 use Rattle.groups.proofs.next_group.Goals as goal
-
-pub loop-g-init : goal.loop-g-init
-loop-g-init c =
-    walked_none (ap (λ (s : SetBits). s.0) c.into_iter-g-iterator.ensures.into_iter_gives ∙ c.word.ensures) (leads-none _ c.args.v _ refl)
-
-pub word-start-requires : goal.word-start-requires
-word-start-requires c = omega (arith, (group-bounds c.loop-g.invariant c.in-Some.ensures.steps c.requires.1).1)
 
 pub prefer-best-requires : goal.prefer-best-requires
 prefer-best-requires c =

@@ -1,19 +1,10 @@
 -- `settled_clock` meets its contract. The loop's invariant: of the groups met so far the least start is found, and each is after v. Assumes nothing.
-use mathlib.Core.Path.{refl, sym, ap, subst, ◌∙◌}
-use native.Mathlib.Omega.{arith}
-use Rattle.words.specs.declared.SetBits.{SetBits}
+use mathlib.Core.Path.{refl, sym, subst}
 use Rattle.slot_lists.specs.Lists.{start_at}
 use Rattle.groups.specs.Front.{Earliest, stays}
-use Rattle.groups.proofs.Laws.{late-none, late-on, late-more, earliest-none, earliest-on, earliest-more, settles-none, settles-some}
-use Rattle.groups.proofs.Walk.{walked_none, no_more, group-bounds, group-start, group-on, none_between, walked_on}
+use Rattle.groups.proofs.Laws.{late-on, late-more, earliest-on, earliest-more, settles-none, settles-some}
+use Rattle.groups.proofs.Walk.{no_more, group-bounds, group-start, group-on, none_between, walked_on}
 use Rattle.groups.proofs.settled_clock.Goals as goal
-
-pub loop-g-init : goal.loop-g-init
-loop-g-init c =
-    walked_none (ap (λ (s : SetBits). s.0) c.into_iter-g-iterator.ensures.into_iter_gives ∙ c.word.ensures) (earliest-none _, late-none _ c.args.v)
-
-pub word-start-requires : goal.word-start-requires
-word-start-requires c = omega (arith, (group-bounds c.loop-g.invariant c.in-Some.ensures.steps c.requires.1).1)
 
 pub returns-then-start-v : goal.returns-then-start-v
 returns-then-start-v c =

@@ -1,15 +1,13 @@
 -- `put` meets its contract. Assumes nothing.
+use Rattle.std.proofs.lemmas.Result.{err_from_is_err_and}
 use Rattle.rules.specs.Calls.{put}
 use Rattle.halt.proofs.Steps.{refused-step, same_step}
-use borrow.Author.Rules.{rules}
-use mathlib.Core.Path.{ap}
-use mathlib.Core.Bool.{not}
 use Rattle.halt.proofs.put.Goals as goal
 
-pub returns-then-not-is_halt : goal.returns-then-not-is_halt
-returns-then-not-is_halt c = refused-step (put _ _ _ _) c.args.t.now c.is_halt.result c.is_halt.ensures (ap not c.if-not-is_halt.true)
+pub returns-in_err-halted : goal.returns-in_err-halted
+returns-in_err-halted c =
+    let p = err_from_is_err_and c.from_residual.result c.from_residual.ensures.1 in
+    rw (p.1, p.2) (refused-step (put _ _ _ _) c.args.t.now _ c.in_err-halted.ensures.bad)
 
 pub returns : goal.returns
-returns c =
-    let h = c.is_halt in
-    same_step (put _ _ _ _) c.args.t.now _ _ h.result h.ensures (ap not c.if-not-is_halt.false) c.put.ensures
+returns c = same_step (put _ _ _ _) c.args.t.now _ _ c.in_ok-halted.ensures.good c.put.ensures

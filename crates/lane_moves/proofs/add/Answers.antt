@@ -12,13 +12,7 @@ use Rattle.slot_lists.proofs.Bits.{bit-two}
 use Rattle.slot_lists.proofs.Laws.{map_on, map-off}
 use Rattle.lane_moves.proofs.Views.{same_word}
 use Rattle.lane_moves.proofs.Steps.{joined, marked, then-start, start_first, start-old, start-new, add-leaves}
-use borrow.Author.Rules.{rules}
 use Rattle.lane_moves.proofs.add.Goals as goal
-
-pub list_number-b-requires : goal.list_number-b-requires
-list_number-b-requires c =
-    let s = c in
-    (s.requires.5, omega (arith, c.word-back.ensures, s.requires.1.back_small), ap (λ (x : ℕ). x % 2 ^ 31) c.word-back.ensures ∙ s.requires.1.back_whole, s.requires.4)
 
 pub append-map-requires : goal.append-map-requires
 append-map-requires c =

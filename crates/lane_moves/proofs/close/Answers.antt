@@ -1,22 +1,14 @@
 -- `close` meets its contract. Assumes nothing.
-use mathlib.Core.Path.{◌≡◌, refl, sym, ap, subst, ◌∙◌}
+use mathlib.Core.Path.{◌≡◌, ap, subst, ◌∙◌}
 use Prim.Native.Nat.{ℕ, ◌+◌, ◌*◌, ◌%◌, ◌^◌, ◌<◌}
 use native.Mathlib.Nat.{mod-eq_of_lt, mul-le-mul_left}
 use native.Mathlib.Omega.{arith}
 use lib.Pow.{pow_mono}
 use Rattle.words.specs.Bits.{bit}
 use Rattle.slot_lists.specs.Changes.{GroupStored}
-use Rattle.lane_moves.specs.Moves.{empty, onward}
-use Rattle.lane_moves.proofs.Steps.{marked, then-start}
-use borrow.Author.Rules.{rules}
+use Rattle.lane_moves.specs.Moves.{onward}
+use Rattle.lane_moves.proofs.Steps.{then-start}
 use Rattle.lane_moves.proofs.close.Goals as goal
-
-pub returns-then-map-eq0 : goal.returns-then-map-eq0
-returns-then-map-eq0 c = empty c.if-map-eq0.true refl c.clear_group.ensures
-
-pub set_lists-requires : goal.set_lists-requires
-set_lists-requires c =
-    let s = c in (s.requires.0, s.requires.1, s.requires.2, ap (bit s.args.g) (sym s.requires.3) ∙ s.requires.4, omega (arith, c.if-map-eq0.false))
 
 pub returns-then-map-b-eq1 : goal.returns-then-map-b-eq1
 returns-then-map-b-eq1 c =
@@ -33,12 +25,6 @@ overflow_add-next c =
     let d = c.nearest-d.result in
     let small : d * 2 ^ s.args.g < 2 ^ 64 = omega (arith, c.nearest-d.ensures.near, mul-le-mul_left d (pow_mono {i = s.args.g} {j = 31} s.requires.2)) in
     omega (arith, mod-eq_of_lt small, c.nearest-d.ensures.near, s.requires.6, mul-le-mul_left d (pow_mono {i = s.args.g} {j = 31} s.requires.2))
-
-pub set_start-requires : goal.set_start-requires
-set_start-requires c =
-    let s = c in
-    let k = marked _ _ _ _ _ (omega (arith, c.if-map-eq0.false)) c.set_lists.ensures in
-    (omega (arith, s.requires.0, c.set_lists.auto.t), s.requires.1, s.requires.2, k.0, k.1)
 
 pub returns : goal.returns
 returns c =

@@ -9,13 +9,7 @@ use Rattle.slot_lists.specs.Lists.{groups_word, list_in, list_at, start_word, Fi
 use Rattle.slot_lists.proofs.Laws.{map_on, start-some}
 use Rattle.lane_moves.proofs.Views.{same_word}
 use Rattle.lane_moves.proofs.Steps.{refile-more, refile-last, rooms-after}
-use borrow.Author.Rules.{rules}
 use Rattle.lane_moves.proofs.refile.Goals as goal
-
-pub list_number-b-requires : goal.list_number-b-requires
-list_number-b-requires c =
-    let s = c in
-    (s.requires.5, omega (arith, c.word-back.ensures, s.requires.1.back_small), ap (λ (x : ℕ). x % 2 ^ 31) c.word-back.ensures ∙ s.requires.1.back_whole, s.requires.3)
 
 pub remove_first-left-requires : goal.remove_first-left-requires
 remove_first-left-requires c =
@@ -25,11 +19,6 @@ remove_first-left-requires c =
     let em = c.word-lists.ensures ∙ sym (map_on t g (start-some t g s.args.start s.requires.4).0) in
     let eb = c.list_number-b.ensures.0 ∙ ap (λ (x : ℕ). (s.args.start + x) / 2 ^ g % 32) c.word-back.ensures in
     (s.requires.0, s.requires.2, s.requires.3, c.list_number-b.ensures.1, subst (Fills t g) (sym em) (s.requires.1.fills g s.requires.2 s.requires.3), subst (λ (l : List ℕ). 0 < length l) (ap (λ (b : ℕ). list_at t g b) (sym eb) ∙ ap (λ (m : ℕ). list_in t g m c.list_number-b.result) (sym em)) s.requires.8)
-
-pub list_number-requires : goal.list_number-requires
-list_number-requires c =
-    let s = c in
-    (s.requires.6, omega (arith, c.word-back.ensures, s.requires.1.back_small), ap (λ (x : ℕ). x % 2 ^ 31) c.word-back.ensures ∙ s.requires.1.back_whole, s.requires.3)
 
 pub append-map-requires : goal.append-map-requires
 append-map-requires c =

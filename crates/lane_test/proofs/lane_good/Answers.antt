@@ -7,20 +7,10 @@ use Rattle.table.specs.Means.{RowAgrees, RowPaced, PlacesFit, given_of}
 use Rattle.table.specs.Layout.{cells}
 use Rattle.table.proofs.Agrees.{paced-group}
 use Rattle.rules.specs.State.{group, lane_depth}
-use Rattle.std.proofs.Common.{◌≡◌, ◌<◌, ◌≤◌, true, false, not, sym, subst, arith, rules}
+use Rattle.std.proofs.Common.{◌≡◌, ◌<◌, ◌≤◌, true, false, not, sym, subst, arith}
 use mathlib.Core.Path.{ap}
 use mathlib.Core.Bool.{not}
 use Rattle.lane_test.proofs.lane_good.Goals as goal
-
-pub returns-then-not-agrees : goal.returns-then-not-agrees
-returns-then-not-agrees c =
-    let s = c in
-    λ g. says-no c.numbers_good-agrees.result c.numbers_good-agrees.ensures (ap not c.if-not-agrees.true) (subst RowAgrees (sym s.requires.3) g.fine.agrees)
-
-pub rest_good-requires : goal.rest_good-requires
-rest_good-requires c =
-    let numbers : RowAgrees c.args.l = says-yes c.numbers_good-agrees.result c.numbers_good-agrees.ensures (ap not c.if-not-agrees.false) in
-    (numbers, c.if-l-eq0.true, c.requires.6)
 
 -- an idle lane has no place to look at
 pub returns-then-l-eq0 : goal.returns-then-l-eq0
@@ -34,19 +24,6 @@ pub returns-then-l-gt-DEPTH : goal.returns-then-l-gt-DEPTH
 returns-then-l-gt-DEPTH c =
     let s = c in
     λ g. let few : s.args.l.count ≤ lane_depth = subst (λ (l : LaneRow). l.count ≤ lane_depth) (sym s.requires.3) (lane_room s.args.v.0 (cells s.args.t.now) s.args.k s.requires.2 g) in omega (arith, few, c.if-l-gt-DEPTH.true)
-
-pub pace_good-paced-requires : goal.pace_good-paced-requires
-pace_good-paced-requires c =
-    let numbers : RowAgrees c.args.l = says-yes c.numbers_good-agrees.result c.numbers_good-agrees.ensures (ap not c.if-not-agrees.false) in
-    (numbers, c.requires.5)
-
-pub returns-then-not-paced : goal.returns-then-not-paced
-returns-then-not-paced c =
-    let some : 0 < c.args.l.count = omega (arith, c.if-l-eq0.false) in
-    let two = c in
-    let s = two in
-    λ g. says-no c.pace_good-paced.result c.pace_good-paced.ensures (ap not c.if-not-paced.true)
-    (subst (λ (l : LaneRow). 0 < l.count → RowPaced l) (sym s.requires.3) g.fine.paced some)
 
 pub time_good-timed-requires : goal.time_good-timed-requires
 time_good-timed-requires c =
@@ -64,24 +41,6 @@ returns-then-not-timed c =
     let v = s.args.v.0 in
     λ g. says-no c.time_good-timed.result c.time_good-timed.ensures (ap not c.if-not-timed.true)
     (subst (TimeGood v s.args.l) (sym paced.grouped) (subst (λ (l : LaneRow). TimeGood v l (group (given_of l))) (sym s.requires.3) (lane-time v (cells s.args.t.now) s.args.k s.requires.2 g)))
-
-pub places_good-places-requires : goal.places_good-places-requires
-places_good-places-requires c =
-    let numbers : RowAgrees c.args.l = says-yes c.numbers_good-agrees.result c.numbers_good-agrees.ensures (ap not c.if-not-agrees.false) in
-    let one = c in
-    let s = one in
-    let a = numbers in
-    (s.requires.0, s.requires.1, omega (arith, a.numbers.longest_low), omega (arith, a.numbers.longest_high))
-
-pub returns-then-not-places : goal.returns-then-not-places
-returns-then-not-places c =
-    let some : 0 < c.args.l.count = omega (arith, c.if-l-eq0.false) in
-    let two = c in
-    let s = two in
-    let w = cells s.args.t.now in
-    let k = s.args.k in
-    let e = s.requires.3 in
-    λ g. says-no c.places_good-places.result c.places_good-places.ensures (ap not c.if-not-places.true) (subst (PlacesFit w k) (sym e) (g.housed (subst (λ (l : LaneRow). 0 < l.count) e some)).places)
 
 -- a lane that is not shared has no train to look at
 pub returns-then-not-l : goal.returns-then-not-l
@@ -101,15 +60,6 @@ returns-then-not-l c =
     numbers paced three.if-l-gt-DEPTH.false
     (says-yes five.time_good-timed.result five.time_good-timed.ensures (ap not five.if-not-timed.false))
     (says-yes six.places_good-places.result six.places_good-places.ensures (ap not six.if-not-places.false)) c.if-not-l.true
-
-pub trains_good-requires : goal.trains_good-requires
-trains_good-requires c =
-    let numbers : RowAgrees c.args.l = says-yes c.numbers_good-agrees.result c.numbers_good-agrees.ensures (ap not c.if-not-agrees.false) in
-    let six = c in
-    let one = six in
-    let s = one in
-    let a = numbers in
-    (s.requires.0, s.requires.1, omega (arith, a.numbers.longest_low), omega (arith, a.numbers.longest_high), says-yes six.places_good-places.result six.places_good-places.ensures (ap not six.if-not-places.false))
 
 pub returns : goal.returns
 returns c =

@@ -1,5 +1,4 @@
 use Rattle.lane_test.proofs.Lane.{places-say}
-use Rattle.std.proofs.Common.{rules}
 use Rattle.lane_test.proofs.places_good.Goals as goal
 
 pub returns : goal.returns

@@ -1,4 +1,4 @@
-use Rattle.std.proofs.Common.{arith, rules}
+use Rattle.std.proofs.Common.{arith}
 use Rattle.rules.specs.State.{charge}
 use Rattle.units.proofs.Compare.{is-not-after, is-after}
 use Rattle.lane_test.proofs.time_good.Goals as goal

@@ -1,5 +1,5 @@
 use Rattle.lane_test.proofs.Trains.{fit_is, trains-say}
-use Rattle.std.proofs.Common.{◌+◌, ◌*◌, ◌/◌, arith, rules}
+use Rattle.std.proofs.Common.{◌+◌, ◌*◌, ◌/◌, arith}
 use Rattle.parts.specs.Parts.{marks_end}
 use Rattle.table.specs.Layout.{lengths_cell, length_words}
 use Rattle.lane_test.proofs.trains_good.Goals as goal

@@ -2,11 +2,10 @@
 use Prim.Native.Nat.{◌+◌, ◌≤◌}
 use mathlib.Core.List.{[], ◌∷◌}
 use native.Mathlib.Omega.{arith}
-use lib.ListN.{length, length-set}
+use lib.ListN.{length}
 use Rattle.lines.specs.Line.{put_ok, text_line}
 use Rattle.lines.proofs.Most.{one-most}
 use Rattle.lines.proofs.Writing.{Left, left_word, left-number, number_fits, left-feed, feed-fits}
-use borrow.Author.Rules.{rules}
 use Rattle.lines.proofs.put_accepted.Goals as goal
 
 pub put_spaced-q-requires : goal.put_spaced-q-requires
@@ -28,12 +27,6 @@ overflow_add-result c =
     let left-1 : Left c.args.a.now c.put_word-p.new.a c.args.at (text_line put_ok (c.args.n ∷ [])) c.put_word-p.result (text_line [] (c.args.n ∷ [])) = left_word put_ok (c.args.n ∷ []) (record { is = c.put_word-p.ensures.0; past = c.put_word-p.ensures.1 }) in
     let left-2 : Left c.args.a.now c.put_spaced-q.new.a c.args.at (text_line put_ok (c.args.n ∷ [])) c.put_spaced-q.result (text_line [] []) = left-number c.args.n [] left-1 c.put_spaced-q.ensures in
     omega (arith, feed-fits left-2 room)
-
-pub shape_of-a : goal.shape_of-a
-shape_of-a c =
-    let left-1 : Left c.args.a.now c.put_word-p.new.a c.args.at (text_line put_ok (c.args.n ∷ [])) c.put_word-p.result (text_line [] (c.args.n ∷ [])) = left_word put_ok (c.args.n ∷ []) (record { is = c.put_word-p.ensures.0; past = c.put_word-p.ensures.1 }) in
-    let left-2 : Left c.args.a.now c.put_spaced-q.new.a c.args.at (text_line put_ok (c.args.n ∷ [])) c.put_spaced-q.result (text_line [] []) = left-number c.args.n [] left-1 c.put_spaced-q.ensures in
-    simp length-set left-2.same
 
 pub returns : goal.returns
 returns c =

@@ -1,5 +1,4 @@
 -- `put_any` meets its contract. Assumes nothing.
-use borrow.Author.Rules.{rules}
 use Rattle.lines.proofs.put_any.Goals as goal
 
 pub put_line-requires : goal.put_line-requires

@@ -1,13 +1,11 @@
 -- `put_lag` meets its contract. Assumes nothing.
 use mathlib.Core.Bool.{false}
 use Prim.Native.Nat.{◌<◌}
-use mathlib.Core.Path.{◌∙◌}
 use mathlib.Core.List.{[], ◌∷◌, ◌++◌}
 use native.Mathlib.Omega.{arith}
-use lib.ListN.{length, length-set}
+use lib.ListN.{length}
 use mir.Syntax.{w64}
 use mir.ValLaws.{to_z-of_z}
-use borrow.Author.Rules.{rules}
 use Rattle.text.specs.Decimal.{signed}
 use Rattle.text.proofs.Signed.{signed-most}
 use Rattle.rules.specs.Calls.{lagged}
@@ -41,9 +39,6 @@ overflow_add-result c =
     let feed : c.put_signed-p.result < length c.put_signed-p.new.a = let s = c in
     omega (arith, s.requires, number.past, signed-most s.args.z s.ranges.z, c.put_signed-p.auto.a, c.put_word-p.auto.a) in
     omega (arith, feed)
-
-pub shape_of-a : goal.shape_of-a
-shape_of-a c = simp length-set (c.put_signed-p.auto.a ∙ c.put_word-p.auto.a)
 
 pub returns : goal.returns
 returns c =

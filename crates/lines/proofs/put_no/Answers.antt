@@ -2,7 +2,7 @@
 use Prim.Native.Nat.{◌≤◌}
 use native.Mathlib.Omega.{arith}
 use mathlib.Core.Path.{◌≡◌}
-use mathlib.Core.Option.{none, some}
+use mathlib.Core.Option.{some}
 use lib.ListN.{length}
 use Rattle.rules.specs.Reads.{number, place_of}
 use Rattle.lines.specs.Line.{no_line}
@@ -20,8 +20,3 @@ returns-in-Some c =
     let with-place : no_line (number c.args.x) (place_of c.args.x) ≡ no_line c.number-n.result (some c.in-Some.p) = rw (← c.number-n.ensures.0, ← c.place_of.ensures, c.in-Some.is) in
     let long : length (no_line c.number-n.result (some c.in-Some.p)) ≤ 64 = no-most c.number-n.result (some c.in-Some.p) (omega (arith, c.number-n.ensures.1), search rules) in
     rw with-place (record { wrote = c.put_line.ensures; most = long })
-
-pub returns-in-None : goal.returns-in-None
-returns-in-None c =
-    let without-place : no_line (number c.args.x) (place_of c.args.x) ≡ no_line c.number-n.result none = rw (← c.number-n.ensures.0, ← c.place_of.ensures, c.in-None.is) in
-    rw without-place c.put_one.ensures

@@ -5,7 +5,6 @@ use mathlib.Core.List.{[], ◌∷◌}
 use lib.ListN.{length}
 use Rattle.lines.specs.Line.{text_line}
 use Rattle.lines.proofs.Most.{one-most}
-use borrow.Author.Rules.{rules}
 use Rattle.lines.proofs.put_one.Goals as goal
 
 pub put_line-requires : goal.put_line-requires

@@ -1,6 +1,5 @@
 -- `put_record` meets its contract. Assumes nothing.
 use borrow.Author.Tests.{not-true}
-use borrow.Author.Rules.{rules}
 use mathlib.Core.Path.{ap}
 use mathlib.Core.Bool.{not}
 use Rattle.lines.proofs.put_record.Goals as goal

@@ -3,7 +3,6 @@ use mathlib.Core.Bool.{false}
 use native.Mathlib.Omega.{arith}
 use Rattle.rules.specs.Calls.{restarted}
 use Rattle.lines.proofs.Most.{line-most}
-use borrow.Author.Rules.{rules}
 use Rattle.lines.proofs.put_restarted.Goals as goal
 
 pub put_line-requires : goal.put_line-requires

@@ -9,7 +9,6 @@ use Rattle.table.specs.Means.{meant, Leaves, with_lane}
 use Rattle.table.specs.declared.LaneRow.{LaneRow}
 use Rattle.queue.specs.Queue.{waiting, Ready, Entered}
 use Rattle.queue.proofs.Appending.{append-joins, append-room, append-ready, append-leaves}
-use borrow.Author.Rules.{rules}
 use Rattle.queue.proofs.append.Goals as goal
 
 pub enter-requires : goal.enter-requires

@@ -10,7 +10,6 @@ use Rattle.table.specs.declared.LaneRow.{LaneRow}
 use Rattle.table.proofs.Rows.{retimed}
 use Rattle.queue.specs.Queue.{waiting, Cleared, Entered}
 use Rattle.queue.proofs.Waking.{wake-joins, wake-none, wake-train, wake-leaves}
-use borrow.Author.Rules.{rules}
 use Rattle.queue.proofs.begin.Goals as goal
 
 pub clear-requires : goal.clear-requires

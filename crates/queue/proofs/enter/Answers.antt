@@ -6,12 +6,6 @@ use Rattle.queue.proofs.Entering.{entry_of, entered-plain, entered-train}
 use borrow.Author.Rules.{rules}
 use Rattle.queue.proofs.enter.Goals as goal
 
-pub join-place-requires : goal.join-place-requires
-join-place-requires c =
-    let s = c in
-    let kind : s.args.l.shared ≡ true = search rules in
-    (s.requires.0, s.requires.1, s.requires.7 kind, s.requires.4)
-
 pub returns-then-l : goal.returns-then-l
 returns-then-l c =
     let s = c in

@@ -7,7 +7,6 @@ use Rattle.table.specs.Layout.{cells, round_at}
 use Rattle.table.specs.Means.{shared_at}
 use Rattle.table.specs.declared.LaneRow.{LaneRow}
 use Rattle.queue.proofs.Taking.{front-shared, first-item}
-use borrow.Author.Rules.{rules}
 use Rattle.queue.proofs.Held.{row-busy}
 use Rattle.queue.proofs.first.Goals as goal
 

@@ -70,9 +70,6 @@ set_row-requires c =
     let f = c.first-e in
     (omega (arith, c.turn.auto.t, s.requires.0.room), s.requires.1, r.ensures.1, omega (arith, subst (λ (l : LaneRow). l.count ≤ lane_depth) (sym r.ensures.0) (take-room t k s.requires.0 s.requires.1 s.requires.2 s.requires.3)))
 
-pub overflow_add-next : goal.overflow_add-next
-overflow_add-next c = record { fits = omega (arith, c.row-l.ensures.1) }
-
 pub set_row-requires-2 : goal.set_row-requires-2
 set_row-requires-2 c =
     let s = c in

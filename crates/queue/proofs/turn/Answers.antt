@@ -35,23 +35,6 @@ set_train-requires c =
     let r = c.round-r in
     (s.requires.0, s.requires.1, turn_below (cells t) k L _ ch.good ch.ordered ch.named r.ensures, omega (arith, c.hand_out-c.ensures.small))
 
-pub train-requires : goal.train-requires
-train-requires c =
-    let s = c in
-    let h = c.hand_out-c in
-    let begins : h.result.begins ≡ true = search rules in
-    (omega (arith, c.set_round.auto.t, c.set_train.auto.t, s.requires.0), s.requires.1, h.ensures.turn begins)
-
-pub overflow_mul-begun : goal.overflow_mul-begun
-overflow_mul-begun c =
-    let s = c in
-    record { fits = omega (arith, s.requires.2) }
-
-pub overflow_add-begun : goal.overflow_add-begun
-overflow_add-begun c =
-    let s = c in
-    record { fits = omega (arith, s.requires.2, c.train.ensures.1) }
-
 pub set_train-requires-then-c : goal.set_train-requires-then-c
 set_train-requires-then-c c =
     let s = c in

@@ -2,13 +2,10 @@
 use Rattle.table.specs.Means.{meant}
 use Rattle.queue.specs.Queue.{waiting}
 use Rattle.queue.proofs.Pacing.{Wakes, row-numbers, Paced, paced-here, sound-here, wakes-here, wake-whole, wake-group}
-use borrow.Author.Rules.{rules}
 use Rattle.queue.proofs.wake.Goals as goal
 
 -- ---- what is known at a place of the code
-
 -- ---- the needs
-
 pub pace_of-p-requires : goal.pace_of-p-requires
 pace_of-p-requires c =
     let wakes : Wakes (meant c.args.t.now) c.args.k c.args.start.0 (waiting c.args.e) = let q = c.requires in record { good = q.2; enters = q.3; weight = q.4; idle = q.5; start = q.6 } in

@@ -4,7 +4,6 @@ use mathlib.Core.Path.{sym, ap, ◌∙◌}
 use lib.ListN.{length, drop, length-drop}
 use lib.Seq.{take_all}
 use Rattle.turns.specs.Turns.{named_of, order_of}
-use Rattle.turns.proofs.Round.{worth-most}
 use Rattle.round_test.specs.Shared.{numbers_at, lengths_at}
 use Rattle.round_test.proofs.Fill.{end_is, ordered-is}
 use Rattle.round_test.proofs.Testing.{good-count}
@@ -21,11 +20,6 @@ returns-then-held-count c g =
     let s = c in
     let o = ordered-is s.args.round c.if-named-gt8.false c.if-order-end.false in
     c.if-held-count.true (c.held.ensures ∙ good-count s.args.longest s.args.round s.args.count (numbers_at s.args.t.now s.args.trains) (lengths_at s.args.t.now s.args.lengths) o (λ p. omega arith) s.requires.4 g)
-
-pub overflow_sub-end : goal.overflow_sub-end
-overflow_sub-end c =
-    let few = c.if-named-gt8.false in
-    omega (arith, end_is (c.args.round / 4294967296) few, worth-most (c.args.round / 4294967296) few)
 
 pub returns : goal.returns
 returns c =

@@ -1,20 +1,21 @@
 -- `look` meets its contract. Assumes nothing.
 use mathlib.Core.Path.{refl}
+use Rattle.std.proofs.lemmas.Result.{err_from_is_err_and}
 use Rattle.rules.specs.Calls.{look}
 use Rattle.pages.specs.Device.{ruled}
-use Rattle.scheduler.proofs.Steps.{says-yes, says-no, good-known, bad-step, says-step}
+use Rattle.scheduler.proofs.Steps.{good-known, bad-step, says-step}
 use Rattle.engine.proofs.Still.{look-still}
 use borrow.Author.Rules.{rules}
-use mathlib.Core.Path.{ap}
-use mathlib.Core.Bool.{not}
 use Rattle.scheduler.proofs.look.Goals as goal
 
-pub returns-then-not-good_unit : goal.returns-then-not-good_unit
-returns-then-not-good_unit c = bad-step (ruled look) c.args.t.now (says-no c.good_unit.result c.good_unit.ensures (ap not c.if-not-good_unit.true))
+pub returns-in_err-tested : goal.returns-in_err-tested
+returns-in_err-tested c =
+    let p = err_from_is_err_and c.from_residual.result c.from_residual.ensures.1 in
+    rw (p.1, p.2) (bad-step (ruled look) c.args.t.now _ c.in_err-tested.ensures.bad)
 
 pub look-requires : goal.look-requires
-look-requires c = good-known c.args.t.now (says-yes c.good_unit.result c.good_unit.ensures (ap not c.if-not-good_unit.false)).core
+look-requires c = good-known c.args.t.now c.in_ok-tested.ensures.good.core
 
 pub returns : goal.returns
 returns c =
-    says-step look c.args.t.now c.look.result refl (says-yes c.good_unit.result c.good_unit.ensures (ap not c.if-not-good_unit.false)) (look-still _) c.look.ensures
+    says-step look c.args.t.now c.look.result refl c.in_ok-tested.ensures.good (look-still _) c.look.ensures

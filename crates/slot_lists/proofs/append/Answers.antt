@@ -3,14 +3,13 @@ use mathlib.Core.Path.{ap, sym}
 use Prim.Native.Nat.{ℕ, ◌+◌}
 use native.Mathlib.Omega.{arith}
 use lib.ListN.{length}
-use Rattle.words.proofs.Bits.{shift_one, add-below}
+use Rattle.words.proofs.Bits.{shift_one}
 use Rattle.rings.specs.Rings.{ring_at}
 use Rattle.slot_lists.specs.Changes.{WithBit}
 use mathlib.Core.Bool.{true}
 use mathlib.Core.Path.{subst}
 use Rattle.slot_lists.proofs.Bits.{bit-two, bit-on}
 use Rattle.slot_lists.proofs.Laws.{list_on, append-push, append-begin}
-use borrow.Author.Rules.{rules}
 use Rattle.slot_lists.proofs.append.Goals as goal
 
 pub push-requires : goal.push-requires
@@ -19,12 +18,6 @@ push-requires c =
     let t = s.args.t.now in
     let e = list_on t s.args.g s.args.map s.args.b c.if-map-b-eq1.true in
     (s.requires.0, c.ring_number-i.ensures.1, s.requires.4, omega (arith, s.requires.6, ap length e, ap (λ (n : ℕ). length (ring_at t n)) c.ring_number-i.ensures.0))
-
-pub overflow_add-result : goal.overflow_add-result
-overflow_add-result c =
-    let s = c in
-    let none-set = bit-two s.args.b s.args.map c.if-map-b-eq1.false in
-    omega (arith, shift_one s.args.b (omega (arith, s.requires.3)), add-below 32 s.args.b s.args.map s.requires.3 s.requires.5.narrow none-set)
 
 pub returns-then-map-b-eq1 : goal.returns-then-map-b-eq1
 returns-then-map-b-eq1 c =

@@ -6,15 +6,9 @@ use Prim.Native.Nat.{ℕ, ◌-◌, ◌*◌, ◌%◌, ◌^◌}
 use native.Mathlib.Omega.{arith}
 use Rattle.words.proofs.Bits.{shift_one}
 use Rattle.slot_lists.specs.Changes.{WithBit, GroupStored}
-use Rattle.slot_lists.proofs.Bits.{bit-has, bit-off}
+use Rattle.slot_lists.proofs.Bits.{bit-off}
 use Rattle.slot_lists.proofs.Store.{stored-none}
-use borrow.Author.Rules.{rules}
 use Rattle.slot_lists.proofs.clear_group.Goals as goal
-
-pub overflow_sub-groups : goal.overflow_sub-groups
-overflow_sub-groups c =
-    let s = c in
-    omega (arith, shift_one s.args.g (omega (arith, s.requires.2)), (bit-has s.args.g s.args.groups s.requires.4).0)
 
 pub returns : goal.returns
 returns c =

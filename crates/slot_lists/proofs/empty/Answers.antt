@@ -6,7 +6,6 @@ use Rattle.words.specs.Words.{put_word}
 use Rattle.slot_lists.specs.Lists.{back_word}
 use Rattle.slot_lists.specs.Changes.{ListsEmptied}
 use Rattle.slot_lists.proofs.Emptied.{emptied-as}
-use borrow.Author.Rules.{rules}
 use Rattle.slot_lists.proofs.empty.Goals as goal
 
 pub returns : goal.returns

@@ -6,7 +6,6 @@ use lib.ListN.{get_or, length}
 use native.Mathlib.Omega.{arith}
 use Rattle.rings.specs.Rings.{ring_at}
 use Rattle.slot_lists.proofs.Laws.{list_on, list-some}
-use borrow.Author.Rules.{rules}
 use Rattle.slot_lists.proofs.first.Goals as goal
 
 pub entry-requires : goal.entry-requires

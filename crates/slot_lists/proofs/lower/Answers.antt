@@ -7,11 +7,8 @@ use Rattle.words.specs.Words.{word_at}
 use Rattle.rings.specs.Rings.{Long}
 use Rattle.slot_lists.specs.Lists.{back_word, back_at, start_word}
 use Rattle.slot_lists.specs.Changes.{Lowered}
-use Rattle.slot_lists.proofs.Lowered.{SoFar, none_yet, one_more, lowered-as}
+use Rattle.slot_lists.proofs.Lowered.{SoFar, one_more, lowered-as}
 use Rattle.slot_lists.proofs.lower.Goals as goal
-
-pub loop-g-init : goal.loop-g-init
-loop-g-init c = none_yet _ _
 
 pub loop-g-preserved : goal.loop-g-preserved
 loop-g-preserved c =
@@ -22,9 +19,6 @@ loop-g-preserved c =
     let x : b.result ≡ word_at l.t (start_word l.g) - s.args.d = b.ensures ∙ ap (λ (y : ℕ). y - s.args.d) c.word-start.ensures in
     subst (λ (u : List ℕ). SoFar s.args.t.now u s.args.d (l.g + 1)) (sym c.set_word.ensures)
     (one_more s.args.t.now l.t s.args.d l.g b.result l.invariant long (omega arith) c.loop-g-test.true (omega (arith, b.type_inv)) x)
-
-pub overflow_add-back : goal.overflow_add-back
-overflow_add-back c = omega (arith, c.loop-g.invariant.others back_word (λ a b. omega arith))
 
 pub returns : goal.returns
 returns c =

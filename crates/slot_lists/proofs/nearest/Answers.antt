@@ -1,6 +1,5 @@
 -- `nearest` meets its contract. Assumes nothing.
 use Rattle.slot_lists.proofs.Bits.{nearest-is}
-use borrow.Author.Rules.{rules}
 use Rattle.slot_lists.proofs.nearest.Goals as goal
 
 pub returns : goal.returns

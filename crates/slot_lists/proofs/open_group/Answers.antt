@@ -10,7 +10,6 @@ use Rattle.slot_lists.specs.Lists.{groups_word, start_word}
 use Rattle.slot_lists.specs.Changes.{WithBit, GroupStored}
 use Rattle.slot_lists.proofs.Bits.{bit-on}
 use Rattle.slot_lists.proofs.Store.{stored-new}
-use borrow.Author.Rules.{rules}
 use Rattle.slot_lists.proofs.open_group.Goals as goal
 
 pub overflow_add-groups : goal.overflow_add-groups

@@ -7,7 +7,6 @@ use Rattle.words.proofs.Bits.{shift_one}
 use Rattle.slot_lists.specs.Changes.{WithBit}
 use Rattle.slot_lists.proofs.Bits.{bit-has, bit-off}
 use Rattle.slot_lists.proofs.Laws.{list-some, ring-some, remove-more, remove-last}
-use borrow.Author.Rules.{rules}
 use Rattle.slot_lists.proofs.remove_first.Goals as goal
 
 pub pop-left-requires : goal.pop-left-requires

@@ -6,7 +6,6 @@ use Rattle.words.specs.Words.{word_at}
 use Rattle.slot_lists.specs.Lists.{start_word}
 use Rattle.slot_lists.specs.Changes.{GroupStored}
 use Rattle.slot_lists.proofs.Store.{stored-lists}
-use borrow.Author.Rules.{rules}
 use Rattle.slot_lists.proofs.set_lists.Goals as goal
 
 pub returns : goal.returns

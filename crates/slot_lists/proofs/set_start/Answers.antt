@@ -5,7 +5,6 @@ use Prim.Native.Nat.{ℕ}
 use Rattle.slot_lists.specs.Lists.{map_of}
 use Rattle.slot_lists.specs.Changes.{GroupStored}
 use Rattle.slot_lists.proofs.Store.{stored-start}
-use borrow.Author.Rules.{rules}
 use Rattle.slot_lists.proofs.set_start.Goals as goal
 
 pub returns : goal.returns

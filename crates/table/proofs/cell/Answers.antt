@@ -2,7 +2,6 @@ use mathlib.Core.Path.{sym, ap, ◌∙◌}
 use native.Mathlib.Omega.{arith}
 use Rattle.words.specs.Words.{word_at}
 use Rattle.table.proofs.Stores.{cell-is, word-before}
-use borrow.Author.Rules.{rules}
 use Rattle.table.proofs.cell.Goals as goal
 
 pub returns : goal.returns

@@ -1,5 +1,4 @@
 use Rattle.table.specs.Means.{state_of}
-use borrow.Author.Rules.{rules}
 use Rattle.table.proofs.clock.Goals as goal
 
 pub returns : goal.returns

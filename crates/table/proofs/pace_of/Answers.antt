@@ -4,7 +4,6 @@ use native.Mathlib.Nat.{mul-le-mul}
 use native.Mathlib.Omega.{arith}
 use Rattle.table.specs.Means.{given_of}
 use Rattle.table.proofs.Agrees.{setting-group, group-worked}
-use borrow.Author.Rules.{rules}
 use Rattle.table.proofs.pace_of.Goals as goal
 
 pub group_index-group-requires : goal.group_index-group-requires

@@ -1,5 +1,4 @@
 use Rattle.table.specs.Means.{present_at}
-use borrow.Author.Rules.{rules}
 use Rattle.table.proofs.present.Goals as goal
 
 pub returns : goal.returns

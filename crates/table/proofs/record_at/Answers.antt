@@ -1,7 +1,6 @@
 use native.Mathlib.Omega.{arith}
 use Rattle.table.specs.Layout.{place_in_lane}
 use Rattle.table.proofs.Places.{entry_read}
-use borrow.Author.Rules.{rules}
 use Rattle.table.proofs.record_at.Goals as goal
 
 pub returns : goal.returns

@@ -1,7 +1,6 @@
 use native.Mathlib.Omega.{arith}
 use Rattle.table.proofs.Stores.{row_of-eq}
 use Rattle.table.specs.Layout.{row_at}
-use borrow.Author.Rules.{rules}
 use Rattle.table.proofs.row.Goals as goal
 
 pub returns : goal.returns

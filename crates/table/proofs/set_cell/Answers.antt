@@ -8,7 +8,6 @@ use Rattle.digits.specs.Digits.{WordStored}
 use Rattle.digits.proofs.Bytes.{word-stored}
 use Rattle.table.specs.Layout.{Now, cells}
 use Rattle.table.proofs.Stores.{now-stored, word-before}
-use borrow.Author.Rules.{rules}
 use Rattle.table.proofs.set_cell.Goals as goal
 
 pub returns : goal.returns

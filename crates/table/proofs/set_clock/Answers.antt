@@ -5,7 +5,6 @@ use Rattle.table.proofs.Leave.{meant-now}
 use Rattle.table.proofs.Footprint.{clock-changed, clock-beside}
 use Rattle.table.proofs.Stores.{length-cells}
 use Rattle.table.specs.Layout.{cells}
-use borrow.Author.Rules.{rules}
 use Rattle.table.proofs.set_clock.Goals as goal
 
 pub returns : goal.returns

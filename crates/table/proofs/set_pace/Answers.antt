@@ -2,7 +2,6 @@ use mathlib.Core.Path.{subst}
 use Prim.Native.Nat.{ℕ}
 use lib.ListN.{set}
 use Rattle.table.specs.Layout.{Now, cells, lane_word, paced_word}
-use borrow.Author.Rules.{rules}
 use Rattle.table.proofs.set_pace.Goals as goal
 
 pub returns : goal.returns

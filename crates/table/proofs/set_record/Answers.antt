@@ -1,7 +1,6 @@
 use native.Mathlib.Omega.{arith}
 use Rattle.table.specs.Layout.{place_in_lane}
 use Rattle.table.proofs.Places.{length-stored, mark-stored, entry-stored}
-use borrow.Author.Rules.{rules}
 use Rattle.table.proofs.set_record.Goals as goal
 
 pub returns : goal.returns

@@ -1,6 +1,5 @@
 use Rattle.table.proofs.Stores.{now-then}
 use Rattle.table.specs.Layout.{put_row}
-use borrow.Author.Rules.{rules}
 use Rattle.table.proofs.set_row.Goals as goal
 
 pub returns : goal.returns

@@ -1,6 +1,5 @@
 use native.Mathlib.Omega.{arith}
 use Rattle.table.proofs.Places.{train-stored}
-use borrow.Author.Rules.{rules}
 use Rattle.table.proofs.set_train.Goals as goal
 
 pub returns : goal.returns

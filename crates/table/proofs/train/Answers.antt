@@ -1,6 +1,5 @@
 use native.Mathlib.Omega.{arith}
 use Rattle.table.proofs.Places.{train-read}
-use borrow.Author.Rules.{rules}
 use Rattle.table.proofs.train.Goals as goal
 
 pub returns : goal.returns

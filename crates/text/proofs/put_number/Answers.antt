@@ -28,9 +28,6 @@ bounds-a-at-then-n-lt1000 c = omega (arith, ap length (decimal-three _ c.if-n-lt
 pub put_two-requires-then-n-lt1000 : goal.put_two-requires-then-n-lt1000
 put_two-requires-then-n-lt1000 c = (simp length-set (omega (arith, ap length (decimal-three _ c.if-n-lt100.false c.if-n-lt1000.true))), omega arith)
 
-pub shape_of-a-then-n-lt1000 : goal.shape_of-a-then-n-lt1000
-shape_of-a-then-n-lt1000 c = c.put_two-then-n-lt1000.auto.a ∙ simp length-set
-
 pub returns-then-n-lt1000 : goal.returns-then-n-lt1000
 returns-then-n-lt1000 c = rw (decimal-three _ c.if-n-lt100.false c.if-n-lt1000.true) (c.put_two-then-n-lt1000.ensures ∙ rw (c.digit-then-n-lt1000.ensures, add-one), refl)
 

@@ -17,21 +17,18 @@ bounds-a-at c = let s = c in omega (arith, ap length (signed_below s.args.z s.ra
 pub put_number-requires : goal.put_number-requires
 put_number-requires c =
     let s = c in
-    simp length-set (omega (arith, ap length (signed_below s.args.z s.ranges.z c.if-z-lt0.true), ap (λ (n : ℕ). length (decimal n)) (c.magnitude-n.ensures ∙ ap nat_abs (to_z-of_z w64 s.args.z s.ranges.z))))
+    simp length-set (omega (arith, ap length (signed_below s.args.z s.ranges.z c.if-z-lt0.true), ap (λ (n : ℕ). length (decimal n)) (c.unsigned_abs-n.ensures.value ∙ ap nat_abs (to_z-of_z w64 s.args.z s.ranges.z))))
 
 pub put_number-requires-else-z-lt0 : goal.put_number-requires-else-z-lt0
 put_number-requires-else-z-lt0 c =
     let s = c in
-    omega (arith, ap length (signed-not-below s.args.z s.ranges.z c.if-z-lt0.false), ap (λ (n : ℕ). length (decimal n)) (c.magnitude-n.ensures ∙ ap nat_abs (to_z-of_z w64 s.args.z s.ranges.z)))
-
-pub shape_of-a-then-z-lt0 : goal.shape_of-a-then-z-lt0
-shape_of-a-then-z-lt0 c = c.put_number.auto.a ∙ simp length-set
+    omega (arith, ap length (signed-not-below s.args.z s.ranges.z c.if-z-lt0.false), ap (λ (n : ℕ). length (decimal n)) (c.unsigned_abs-n.ensures.value ∙ ap nat_abs (to_z-of_z w64 s.args.z s.ranges.z)))
 
 pub returns-then-z-lt0 : goal.returns-then-z-lt0
 returns-then-z-lt0 c =
     let s = c in
     let p = c.put_number.ensures in
-    let m : c.magnitude-n.result ≡ nat_abs s.args.z = c.magnitude-n.ensures ∙ ap nat_abs (to_z-of_z w64 s.args.z s.ranges.z) in
+    let m : c.unsigned_abs-n.result ≡ nat_abs s.args.z = c.unsigned_abs-n.ensures.value ∙ ap nat_abs (to_z-of_z w64 s.args.z s.ranges.z) in
     let text = signed_below s.args.z s.ranges.z c.if-z-lt0.true in
     (p.0 ∙ rw (add-one, m, text), omega (arith, p.1, ap length text, ap (λ (n : ℕ). length (decimal n)) m))
 
@@ -39,6 +36,6 @@ pub returns-else-z-lt0 : goal.returns-else-z-lt0
 returns-else-z-lt0 c =
     let s = c in
     let p = c.put_number-else-z-lt0.ensures in
-    let m : c.magnitude-n.result ≡ nat_abs s.args.z = c.magnitude-n.ensures ∙ ap nat_abs (to_z-of_z w64 s.args.z s.ranges.z) in
+    let m : c.unsigned_abs-n.result ≡ nat_abs s.args.z = c.unsigned_abs-n.ensures.value ∙ ap nat_abs (to_z-of_z w64 s.args.z s.ranges.z) in
     let text = signed-not-below s.args.z s.ranges.z c.if-z-lt0.false in
     (p.0 ∙ rw (m, text), omega (arith, p.1, ap length text, ap (λ (n : ℕ). length (decimal n)) m))

@@ -1,5 +1,4 @@
-use native.Mathlib.Omega.{arith}
-use Rattle.turns.proofs.HandingCode.{does-last, does-stay, does-go, worth-small}
+use Rattle.turns.proofs.HandingCode.{does-last, does-stay, does-go}
 use Rattle.turns.proofs.hand_out.Goals as goal
 
 -- src/lib.rt:82:9
@@ -15,27 +14,6 @@ returns-then-next-left c =
     let a = c.args in
     let p = c.requires in
     does-stay a.train a.round a.length a.next p.0 p.1 p.3 p.4 p.5 c.if-count-eq1.false c.if-next-left.true
-
--- src/lib.rt:99:23
-pub overflow_mul-result-2 : goal.overflow_mul-result-2
-overflow_mul-result-2 c =
-    let a = c.args in
-    let p = c.requires in
-    record { fits = omega (arith, worth-small a.train a.round a.length a.next p.0 p.1 p.3 p.4 p.5 c.place_worth.result c.place_worth.ensures.0) }
-
--- src/lib.rt:99:16
-pub overflow_add-result-2 : goal.overflow_add-result-2
-overflow_add-result-2 c =
-    let a = c.args in
-    let p = c.requires in
-    record { fits = omega (arith, worth-small a.train a.round a.length a.next p.0 p.1 p.3 p.4 p.5 c.place_worth.result c.place_worth.ensures.0) }
-
--- src/lib.rt:99:16
-pub overflow_add-result-3 : goal.overflow_add-result-3
-overflow_add-result-3 c =
-    let a = c.args in
-    let p = c.requires in
-    record { fits = omega (arith, p.3.few, worth-small a.train a.round a.length a.next p.0 p.1 p.3 p.4 p.5 c.place_worth.result c.place_worth.ensures.0) }
 
 -- src/lib.rt:72:1
 pub returns : goal.returns
