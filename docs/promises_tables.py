@@ -29,7 +29,7 @@ ROOTS = [
 # The crates whose functions without a `requires` are public calls, and the modules of them that are inner ones.
 PUBLIC = "scheduler session convert show halt plan plan_writer plan_area page sheet sheet_writer sheet_area journal good old_table".split()
 INNER = {"plan/judge.rt", "plan/parse.rt", "plan/reader.rt", "page/parse.rt", "sheet/form.rt", "sheet/judge.rt"}
-INNER_CALLS = {"plan::no_lanes", "plan_writer::line_framing", "plan_writer::shared_lanes"}
+INNER_CALLS = {"plan::no_lanes", "plan_writer::line_framing", "plan_writer::shared_lanes", "scheduler::tested"}
 
 # The contracts in which the index looks for a rule's definitions: the first that has them is named.
 CONTRACTS = [
