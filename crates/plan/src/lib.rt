@@ -76,27 +76,26 @@ pub fn no_lanes() -> [Lane; LANES]
     }; LANES]
 }
 
-// The lanes, with the one that a field describes, in a setup of this format and on a line with so many framing bytes.
-fn placed(mut lanes: [Lane; LANES], format: u16, framing: u8, field: SetupField) -> [Lane; LANES]
+// Puts the lane that a field describes among the lanes, in a setup of this format and on a line with so many framing bytes. In place: by value the lanes
+// were copied for each field.
+fn place(lanes: &mut [Lane; LANES], format: u16, framing: u8, field: SetupField)
     requires { Inside field × Numbered field }
-    ensures { map setting_of result ≡ placed format framing (map setting_of lanes) field }
+    ensures { map setting_of lanes.new ≡ placed format framing (map setting_of lanes.old) field }
 {
     match field {
-        SetupField::Format(_) => lanes,
+        SetupField::Format(_) => {}
         SetupField::Lane(l) => {
             let k = l.lane as usize;
             lanes[k] = lane_of(l, format, framing);
-            lanes
         }
-        SetupField::Framing(_) => lanes,
+        SetupField::Framing(_) => {}
         SetupField::Shared(l) => {
             let k = l as usize;
             let mut lane = lanes[k];
             lane.shared = true;
             lanes[k] = lane;
-            lanes
         }
-        SetupField::End => lanes,
+        SetupField::End => {}
     }
 }
 
@@ -129,8 +128,7 @@ pub fn read_plan(s: &[u8], at: usize) -> Result<Reading, Refusal>
                 next,
             });
         }
-        let more = placed(lanes, seen.format, seen.framing, field);
-        lanes = more;
+        place(&mut lanes, seen.format, seen.framing, field);
         seen = judge::after(seen, field);
         p = next;
     }

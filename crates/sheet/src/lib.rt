@@ -28,10 +28,10 @@ use rules::Refusal;
 // The format of a plan that comes from a sheet.
 const FORMAT: u16 = SECOND_FORMAT;
 
-// The lanes, with the one that a line describes.
-fn placed(mut lanes: [Lane; LANES], row: Row) -> [Lane; LANES]
+// Puts the lane that a line describes among the lanes. In place: by value the lanes were copied for each line.
+fn place(lanes: &mut [Lane; LANES], row: Row)
     requires { (row.lane.value ≤ 63) × ((row.weight.value ≤ 1024) × (row.longest.value ≤ 1500)) }
-    ensures { map setting_of result ≡ placed sheet_format 0 (map setting_of lanes) (fields.Lane (row_field row)) }
+    ensures { map setting_of lanes.new ≡ placed sheet_format 0 (map setting_of lanes.old) (fields.Lane (row_field row)) }
 {
     let k = row.lane.value as usize;
     lanes[k] = Lane {
@@ -40,7 +40,6 @@ fn placed(mut lanes: [Lane; LANES], row: Row) -> [Lane; LANES]
         framing: 0,
         shared: false,
     };
-    lanes
 }
 
 // Nothing of the line is read.
@@ -50,7 +49,9 @@ fn blank(f: Line) -> bool
     f.part == Part::Lane && !f.begun
 }
 
-// The plan of a sheet, and the place after its last line.
+// The plan of a sheet, and the place after its last line. Not inlined: there the compiler takes the 64 lanes of the answer apart, number by number, and puts
+// them together again.
+#[inline(never)]
 pub fn read_sheet(s: &[u8]) -> Result<Reading, Refusal>
     ensures { setup_reply result ≡ read_sheet s.now }
 {
@@ -74,8 +75,7 @@ pub fn read_sheet(s: &[u8]) -> Result<Reading, Refusal>
             }
             Step::Whole(row) => {
                 judge::judged(seen, row)?;
-                let more = placed(lanes, row);
-                lanes = more;
+                place(&mut lanes, row);
                 seen = after(seen, SetupField::Lane(judge::lane_field(row)));
                 f = form::begin(i + 1);
             }

@@ -31,8 +31,8 @@ pub returns-then-ends : goal.returns-then-ends
 returns-then-ends c =
     stand-end _ _ _ _ _ c.loop-field.invariant _ _ (moved _ _ _ _ _ _ c.next_at-next.ensures c.in_ok-field.ensures) (sym c.ends.ensures ∙ c.if-ends.true)
 
-pub placed-more-requires : goal.placed-more-requires
-placed-more-requires c =
+pub place-requires : goal.place-requires
+place-requires c =
     let k = taken_here _ _ _ _ _ c.loop-field.invariant _ _ (sym c.in_ok-field.ensures) in
     (k.inside, numbered _ _ c.loop-field.invariant.sound c.in_ok-field.field k.in_place)
 
@@ -41,5 +41,5 @@ loop-field-smaller c = omega (arith, moves _ _ _ _ _ c.loop-field.invariant _ _ 
 
 pub loop-field-preserved : goal.loop-field-preserved
 loop-field-preserved c =
-    rw (c.placed-more.ensures, c.after-seen.ensures)
+    rw (c.place.ensures, c.after-seen.ensures)
     (stand-next _ _ _ _ _ c.loop-field.invariant _ _ (moved _ _ _ _ _ _ c.next_at-next.ensures c.in_ok-field.ensures) (sym c.ends.ensures ∙ c.if-ends.false))

@@ -30,8 +30,8 @@ returns-in_err-judged-in-Whole c =
     let p = err_from_is_err_and c.from_residual.result c.from_residual.ensures.1 in
     rw (p.1, p.2) (stand-refused _ _ _ _ _ c.loop-i.invariant c.loop-i-test.true _ (step_is ∙ c.in-Whole.is) _ (sym c.in_err-judged-in-Whole.ensures))
 
-pub placed-more-requires : goal.placed-more-requires
-placed-more-requires c =
+pub place-requires : goal.place-requires
+place-requires c =
     let t = is-taken _ _ (sym c.in_ok-judged-in-Whole.ensures) in (t.number, (t.weight_high, t.longest_high))
 
 pub lane_field-requires : goal.lane_field-requires
@@ -49,7 +49,7 @@ loop-i-preserved c =
     elim c.match-read_byte.branch [
       | in-More w ↦ rw (w.lanes-is, w.seen-is, w.f-is) (stand-more _ _ _ _ _ l.invariant lt _ (step_is ∙ w.in-More.is))
       | in-Whole+in_ok-judged-in-Whole w ↦
-          rw (w.lanes-is, w.seen-is, w.f-is, w.begin-f-in-Whole.ensures, w.after-seen.ensures, w.lane_field.ensures, w.placed-more.ensures) (stand-taken _ _ _ _ _ l.invariant lt _ (step_is ∙ w.in-Whole.is) (sym w.in_ok-judged-in-Whole.ensures))
+          rw (w.lanes-is, w.seen-is, w.f-is, w.begin-f-in-Whole.ensures, w.after-seen.ensures, w.lane_field.ensures, w.place.ensures) (stand-taken _ _ _ _ _ l.invariant lt _ (step_is ∙ w.in-Whole.is) (sym w.in_ok-judged-in-Whole.ensures))
     ]
 
 pub returns-then-not-blank : goal.returns-then-not-blank
