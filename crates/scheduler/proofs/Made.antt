@@ -25,6 +25,9 @@ make-refused setup t x h e = record {
   size = refl;
 }
 
+-- what the check tries by itself where making hands back a refusal, whichever way the program comes there
+pub ruleset refusing = (make-refused)
+
 pub make-made : (setup t u : List ℕ) → table_size ≤ length t → (r : Reading) → setup_reply (Ok r) ≡ read_setup setup → length u ≡ length t
     → LeadsDevice t u (fresh_device (settings r.plan)) → MakeStep setup t (Ok r.plan.count) u
 make-made setup t u h r e len m = record {

@@ -69,6 +69,7 @@ pub fn tested(t: &[u8]) -> Result<(), Refusal>
 }
 
 // Makes the fresh table of a setup in the lent bytes, whatever they held. The answer: the number of its lanes.
+#[tactic(auto, using(crate::proofs::Made::refusing))]
 pub fn make(setup: &[u8], t: &mut [u8]) -> Result<usize, Refusal>
     ensures { MakeStep setup.now t.old result t.new }
 {
