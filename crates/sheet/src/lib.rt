@@ -49,8 +49,7 @@ fn blank(f: Line) -> bool
     f.part == Part::Lane && !f.begun
 }
 
-// The plan of a sheet, and the place after its last line. Not inlined: there the compiler takes the 64 lanes of the answer apart, number by number, and puts
-// them together again.
+// The plan of a sheet, and the place after its last line. Not inlined: a sheet of one line takes 1,316 instructions so, and 1,896 inlined.
 #[inline(never)]
 pub fn read_sheet(s: &[u8]) -> Result<Reading, Refusal>
     ensures { setup_reply result ≡ read_sheet s.now }
